@@ -39,7 +39,7 @@ def lines_of(text: str) -> list[str]:
     return text.removesuffix("\n").split("\n") if text else []
 
 
-def mark_behind(line: str) -> tuple[str, str]:
+def sync_line(line: str) -> tuple[str, str]:
     """A line that changes nothing, to be written behind a line of a script, and its answer, which that line never has.
 
     A user's line is answered by a user's lines, nobody's by `* E01` or `* E02`, the operator's never by `* E01`.
@@ -49,23 +49,23 @@ def mark_behind(line: str) -> tuple[str, str]:
 
 def answers(program: pathlib.Path, words: Sequence[str], lines: Sequence[str], folder: pathlib.Path) -> list[list[str]]:
     """What is answered to each line of a script. Raises ValueError where a plain run answers otherwise."""
-    script = "".join(f"{line}\n{mark_behind(line)[0]}\n" for line in lines)
-    told = iter(lines_of(run(program, ["/dev/stdin", *words], script, folder).stdout))
+    script = "".join(f"{line}\n{sync_line(line)[0]}\n" for line in lines)
+    output = iter(lines_of(run(program, ["/dev/stdin", *words], script, folder).stdout))
     divided = []
     for line in lines:
-        end = mark_behind(line)[1]
-        divided.append(list(iter(lambda: next(told), end)))
+        end = sync_line(line)[1]
+        divided.append(list(iter(lambda: next(output), end)))
     plain = run(program, ["/dev/stdin", *words], "".join(f"{line}\n" for line in lines), folder)
     if "".join(f"{part}\n" for answer in divided for part in answer) != plain.stdout:
         raise ValueError("marks between the lines of a script change what is answered")
     return divided
 
 
-def difference(told: str, stored: str) -> str:
+def difference(printed: str, stored: str) -> str:
     """The first lines that differ from the stored text; empty if there are none."""
-    if told == stored:
+    if printed == stored:
         return ""
-    now, wanted = told.split("\n"), stored.split("\n")
+    now, wanted = printed.split("\n"), stored.split("\n")
     same = 0
     while same < min(len(now), len(wanted)) and now[same] == wanted[same]:
         same += 1

@@ -43,9 +43,9 @@ def wrong_hour(page: str) -> Iterator[str]:
     named = list[str]()
     for _, files, lines in rows_of(page, "An hour: the headline and one vector addition"):
         named += files_in(files)
-        is_so = sum(read.get(it, 0) for it in files_in(files))
-        if number(lines) != is_so:
-            yield f"the hour's row of {files} has {is_so} lines"
+        actual = sum(read.get(it, 0) for it in files_in(files))
+        if number(lines) != actual:
+            yield f"the hour's row of {files} has {actual} lines"
     for name in sorted(read.keys() ^ set(named)):
         yield f"{name} is {'needed and not named' if name in read else 'named and not needed'} in the hour's table"
     if f"{sum(read.values())} lines in {len(read)} files" not in page:
@@ -65,13 +65,13 @@ def wrong_modules(page: str) -> Iterator[str]:
             yield f"the row of {name} differs in {', '.join(sorted(others))}"
         if not module:
             said = dict(re.findall(r"`(\w+)` \((\d+)\)", files))
-            is_so = {
+            actual = {
                 it: str(count)
                 for it, count in parts.items()
                 if it in said or name == "of other crates" and it not in apart
             }
-            if said != is_so or number(lines) != sum(map(int, is_so.values())):
-                yield f"the row {name} has {sum(map(int, is_so.values()))} lines: {', '.join(f'`{it}` ({count})' for it, count in is_so.items())}"
+            if said != actual or number(lines) != sum(map(int, actual.values())):
+                yield f"the row {name} has {sum(map(int, actual.values()))} lines: {', '.join(f'`{it}` ({count})' for it, count in actual.items())}"
     total = f"{counted.total_of(modules, parts):,}"
     headline = counted.files_of(counted.closure(counted.start_of(counted.HEADLINE)))
     for what in f"In all {total} lines", f"{sum(headline.values()):,} lines in {len(headline)} files":
@@ -85,13 +85,13 @@ def wrong_kit(page: str) -> Iterator[str]:
         crate: set(re.findall(r"`([\w.]+)`", modules))
         for crate, modules in re.findall(r"^\| `(\w+)` \| (.*) \|$", section, re.MULTILINE)
     }
-    is_so: dict[str, set[str]] = {}
+    actual: dict[str, set[str]] = {}
     for crate, module in counted.modules_of_kit(counted.definitions(())):
         if not module.startswith("declared."):
-            is_so.setdefault(crate, set()).add(module)
-    for crate in sorted(said.keys() | is_so.keys()):
-        if said.get(crate) != is_so.get(crate):
-            yield f"of {crate} these modules are cited: {', '.join(f'`{it}`' for it in sorted(is_so.get(crate, set())))}"
+            actual.setdefault(crate, set()).add(module)
+    for crate in sorted(said.keys() | actual.keys()):
+        if said.get(crate) != actual.get(crate):
+            yield f"of {crate} these modules are cited: {', '.join(f'`{it}`' for it in sorted(actual.get(crate, set())))}"
 
 
 CITED = re.compile(r"\((`[\w:]+`(?:: `\w+`(?:, `\w+`)*)?(?:; `[\w:]+`(?:: `\w+`(?:, `\w+`)*)?)*)\)")
@@ -117,7 +117,9 @@ def wrong_contracts(page: str) -> Iterator[str]:
             for name, _, cited in (it.partition(": ") for cell in contracts for it in cell.split("; ")):
                 if name.strip("`") not in clauses:
                     yield f"{crate} has no contract {name}"
-                for clause in set(re.findall(r"\w+", cited)) - clauses.get(name.strip("`"), {*re.findall(r"\w+", cited)}):
+                for clause in set(re.findall(r"\w+", cited)) - clauses.get(
+                    name.strip("`"), {*re.findall(r"\w+", cited)}
+                ):
                     yield f"the contract {name} of {crate} has no clause {clause}"
 
 

@@ -42,15 +42,15 @@ def declarations(file: Path) -> Iterator[Declaration]:
     sections: list[int] = []
     last = Declaration(str(file), "")
     for number, line in enumerate(NOTE.sub("", text).splitlines(), 1):
-        if begin := BEGIN.match(line):
-            indent = len(begin["indent"])
+        if start := BEGIN.match(line):
+            indent = len(start["indent"])
             while sections and sections[-1] >= indent:
                 sections.pop()
             if indent == (sections[-1] + 2 if sections else 0):
                 yield last
-                name = (begin["type"] or begin["name"] or "").strip("◌")
+                name = (start["type"] or start["name"] or "").strip("◌")
                 last = Declaration(f"{file}:{number}", name)
-                sections += [indent] if begin["section"] else []
+                sections += [indent] if start["section"] else []
         last.words |= words_of(line)
     yield last
 

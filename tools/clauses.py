@@ -76,7 +76,9 @@ def main(names: list[str]) -> int:
                 contracts[clause].add((crate, str(path), function))
     for clause, found in sorted(contracts.items(), key=lambda it: -len(it[1])):
         if len(found) > MOST_CONTRACTS:
-            crates = ", ".join(f"{crate} {count}" for crate, count in Counter(crate for crate, _, _ in found).most_common())
+            crates = ", ".join(
+                f"{crate} {count}" for crate, count in Counter(crate for crate, _, _ in found).most_common()
+            )
             print(f"{len(found)} contracts ({crates}): {clause}")
     return 0
 

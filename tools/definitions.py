@@ -267,11 +267,11 @@ def blocks_of(source: str, indent: str) -> Iterator[tuple[re.Match[str], list[st
     lines: list[str] = []
     head: re.Match[str] | None = None
     for line in source.split("\n"):
-        begun = item_at(line.removeprefix(indent)) if line.startswith(indent) else None
-        if begun:
+        started = item_at(line.removeprefix(indent)) if line.startswith(indent) else None
+        if started:
             if head:
                 yield head, lines
-            head, lines = begun, []
+            head, lines = started, []
         lines.append(line)
     if head:
         yield head, lines
@@ -356,8 +356,8 @@ def cited(text: Text, clause: str = "") -> set[Name]:
     kept: list[str] = []
     is_asked_for = True
     for line in text.text.split("\n"):
-        begun = CLAUSE.match(line)
-        is_asked_for = not clause or begun[1] == clause if begun else is_asked_for
+        started = CLAUSE.match(line)
+        is_asked_for = not clause or started[1] == clause if started else is_asked_for
         kept += [line] if is_asked_for else []
     return set(met(Text(text.path, "\n".join(kept), text.scope)))
 

@@ -24,7 +24,9 @@ from pathlib import Path
 
 from definitions import CLAUSE, CRATES, blocks_of, contracts, exported, head_of
 
-BLOCK = re.compile(r"(?:pub(?:\(\w+\))? )?(?P<kind>impl|trait)\b(?:<.*?>)? (?:(?P<trait>[\w:]+)(?:<.*>)? for )?(?P<owner>\w+)")
+BLOCK = re.compile(
+    r"(?:pub(?:\(\w+\))? )?(?P<kind>impl|trait)\b(?:<.*?>)? (?:(?P<trait>[\w:]+)(?:<.*>)? for )?(?P<owner>\w+)"
+)
 CALL = re.compile(r"(?:(?P<qualifier>\w+)(?:::<[^<>]*>)?::|(?P<dot>\.))?\b(?P<name>[A-Za-z_]\w*)\b")
 PAGE = Path("docs/GUARANTEES.md")
 LONGEST = 240  # characters of a cell
@@ -56,7 +58,9 @@ class Item:
 def item_of(head: re.Match[str], owner: str, trait: str, path: Path, lines: list[str], indent: str) -> Item:
     """A function, whose contract isn't in its body, or a constant."""
     text = "\n".join(lines)
-    return Item(head[2], owner, trait, path, text, text.removeprefix(head_of(lines, indent)) if head[1] == "fn" else text)
+    return Item(
+        head[2], owner, trait, path, text, text.removeprefix(head_of(lines, indent)) if head[1] == "fn" else text
+    )
 
 
 @cache
@@ -165,7 +169,9 @@ def changed_names(crate: str, edit: Path) -> str:
     """Return the functions and constants that an edit changes, or the files if it changes definitions alone."""
     names = sorted({it.title for it in changed(crate, edit)})
     lines = edit.read_text(encoding="utf-8").splitlines()
-    return " and ".join(f"`{it}`" for it in names or [it.removeprefix("file: ").strip() for it in lines if it.startswith("file: ")])
+    return " and ".join(
+        f"`{it}`" for it in names or [it.removeprefix("file: ").strip() for it in lines if it.startswith("file: ")]
+    )
 
 
 def rows_of_edits(crate: str) -> Iterator[str]:

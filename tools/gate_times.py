@@ -114,7 +114,7 @@ def edit_lines(checks: list[Check]) -> str:
 
 def main(out: str, command: list[str]) -> int:
     checks: dict[str, Check] = {}
-    begun = time.monotonic()
+    started = time.monotonic()
     with subprocess.Popen(command) as running:
         while running.poll() is None:
             for process in filter(str.isdigit, os.listdir("/proc")):
@@ -124,10 +124,12 @@ def main(out: str, command: list[str]) -> int:
                     pass
             time.sleep(0.5)
     used = resource.getrusage(resource.RUSAGE_CHILDREN)
-    minutes = [(used.ru_utime + used.ru_stime) / 60, (time.monotonic() - begun) / 60]
+    minutes = [(used.ru_utime + used.ru_stime) / 60, (time.monotonic() - started) / 60]
     with open(out, "w", encoding="utf-8") as it:
         it.write(f"{table(list(checks.values()))}\n\n{edit_lines(list(checks.values()))}\n")
-        it.write(f"{minutes[0]:.1f} minutes of processor in all, {minutes[1]:.1f} by the clock; status {running.returncode}\n")
+        it.write(
+            f"{minutes[0]:.1f} minutes of processor in all, {minutes[1]:.1f} by the clock; status {running.returncode}\n"
+        )
     return running.returncode
 
 

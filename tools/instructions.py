@@ -248,20 +248,20 @@ def list_in(output: str) -> str:
 
 def main() -> int:
     printed = list_in(PRINTED.read_text(encoding="latin-1"))
-    is_so = with_rules(printed)
+    actual = with_rules(printed)
     if sys.argv[1:] == ["write"]:
-        PAGE.write_text(is_so, encoding="ascii")
+        PAGE.write_text(actual, encoding="ascii")
     page = PAGE.read_text(encoding="ascii")
     names = [name for _, name in ROW.findall(printed)]
     unused = [it.pattern for it, _ in rules() if not any(map(it.fullmatch, names))]
     for it in unused:
         print(f"{RULES}: no instruction has the name {it}")
-    for line in sorted({*page.splitlines()} ^ {*is_so.splitlines()}):
-        print(f"{PAGE} {'lacks' if line in is_so else 'has wrongly'}: {line}")
+    for line in sorted({*page.splitlines()} ^ {*actual.splitlines()}):
+        print(f"{PAGE} {'lacks' if line in actual else 'has wrongly'}: {line}")
     different = elements_differ(printed)
     for line in different:
         print(line)
-    return 1 if unused or different or page != is_so else 0
+    return 1 if unused or different or page != actual else 0
 
 
 if __name__ == "__main__":

@@ -158,9 +158,9 @@ class Kind:
 
 def run(words: list[str]) -> tuple[float, str]:
     """The seconds that a program takes, and its standard error. Raises ValueError where it doesn't come to its end."""
-    begin = time.perf_counter()
+    start = time.perf_counter()
     ended = subprocess.run(words, capture_output=True, text=True, check=True)
-    taken = time.perf_counter() - begin
+    taken = time.perf_counter() - start
     if "--quantum" in words and "\n1 exit 0 " not in ended.stdout:
         raise ValueError(f"{' '.join(words)} doesn't come to its end: {ended.stdout[-300:]}")
     return taken, ended.stderr
@@ -194,7 +194,12 @@ def count(kind: Kind, program: str) -> int:
     """The machine instructions of an instruction of a kind."""
 
     def counted(turns: int) -> int:
-        words = ["valgrind", "--tool=callgrind", f"--callgrind-out-file={kind.room}/counts", *kind.on_vecmon(program, turns)]
+        words = [
+            "valgrind",
+            "--tool=callgrind",
+            f"--callgrind-out-file={kind.room}/counts",
+            *kind.on_vecmon(program, turns),
+        ]
         found = re.search(r"Collected : (\d+)", run(words)[1])
         assert found
         return int(found[1])
@@ -282,7 +287,9 @@ def draw(file: pathlib.Path, picture: pathlib.Path) -> None:
     import matplotlib.pyplot as plt
 
     grey = "#767676"  # legible on white and on black
-    plt.rcParams.update({"svg.hashsalt": "kinds", "svg.fonttype": "none", "font.size": 8, "text.color": grey, "axes.labelcolor": grey})
+    plt.rcParams.update(
+        {"svg.hashsalt": "kinds", "svg.fonttype": "none", "font.size": 8, "text.color": grey, "axes.labelcolor": grey}
+    )
     plt.rcParams.update({"axes.edgecolor": grey, "xtick.color": grey, "ytick.color": grey})
     lines = [it for it in read(file).values() if it.get("qemu_ns") and float(it["qemu_ns"]) > 5]
     lines.sort(key=lambda it: float(it["qemu_ns"]) / float(it["ns"]))
@@ -291,7 +298,12 @@ def draw(file: pathlib.Path, picture: pathlib.Path) -> None:
     places = range(len(lines))
     left.scatter([float(it["qemu_ns"]) / float(it["ns"]) for it in lines], places, s=9, color="#1f77b4")
     left.axvline(1, color=grey, linewidth=0.8)
-    left.set(xscale="log", xlabel="QEMU's time over vecmon's: right of the line vecmon is faster", yticks=places, yticklabels=names)
+    left.set(
+        xscale="log",
+        xlabel="QEMU's time over vecmon's: right of the line vecmon is faster",
+        yticks=places,
+        yticklabels=names,
+    )
     left.set_xticks(RATIOS, [f"{it:g}" for it in RATIOS])
     left.minorticks_off()
     left.set_ylim(-1, len(lines))

@@ -23,7 +23,9 @@ PACKED = re.compile(r"^<\{ (.*?) \}> <\{ (.*) \}>(, align \d+)?$")
 ATTRIBUTES = re.compile(r"( #\d+)? \{$", re.MULTILINE)  # of a definition; a group may have `alwaysinline`
 PROCESSOR = re.compile(r' "(?:frame-pointer|probe-stack|stack-probe-size|target-cpu)"="[^"]*"')
 POINTER_FACTS = re.compile(r", !(nonnull|align|dereferenceable|dereferenceable_or_null) !\d+")
-SIZED = re.compile(r"^\s*(?:%\S+ = )?(?:load|store|getelementptr|alloca)\b(.*?)(?:, ptr [^}\]>].*)?$")  # by the type that it names
+SIZED = re.compile(
+    r"^\s*(?:%\S+ = )?(?:load|store|getelementptr|alloca)\b(.*?)(?:, ptr [^}\]>].*)?$"
+)  # by the type that it names
 STRING = re.compile(r'"[^"]*"')
 POINTER = re.compile(r'(?<![(\w.:"])ptr\b(?!:)')
 
@@ -79,10 +81,16 @@ def _retarget_line(line, number):
     if load := LOAD.match(line):
         space, name, volatile, rest = load.groups()
         rest = POINTER_FACTS.sub("", rest)
-        return [f"{space}%slot.{number} = load {volatile or ''}i64, {rest}\n", f"{space}{name} = inttoptr i64 %slot.{number} to ptr\n"]
+        return [
+            f"{space}%slot.{number} = load {volatile or ''}i64, {rest}\n",
+            f"{space}{name} = inttoptr i64 %slot.{number} to ptr\n",
+        ]
     if store := STORE.match(line):
         space, volatile, value, rest = store.groups()
-        return [f"{space}%slot.{number} = ptrtoint ptr {value} to i64\n", f"{space}store {volatile or ''}i64 %slot.{number}, {rest}\n"]
+        return [
+            f"{space}%slot.{number} = ptrtoint ptr {value} to i64\n",
+            f"{space}store {volatile or ''}i64 %slot.{number}, {rest}\n",
+        ]
     line = line.replace(" = alloca ptr,", " = alloca i64,").replace(" = ptrtoaddr ptr ", " = ptrtoint ptr ")
     sized = SIZED.match(line)
     return _unsupported(line) if sized and POINTER.search(sized[1]) else [line]
@@ -116,7 +124,11 @@ def _widened_constant(line):
     if not packed or any(POINTER.search(kind) for kind in _parts(packed[1]) if kind != "ptr"):
         return _unsupported(line)
     types = [part for kind in _parts(packed[1]) for part in ([kind, "[4 x i8]"] if kind == "ptr" else [kind])]
-    values = [part for value in _parts(packed[2]) for part in ([value, "[4 x i8] zeroinitializer"] if value.startswith("ptr ") else [value])]
+    values = [
+        part
+        for value in _parts(packed[2])
+        for part in ([value, "[4 x i8] zeroinitializer"] if value.startswith("ptr ") else [value])
+    ]
     return f"{found[1]}<{{ {', '.join(types)} }}> <{{ {', '.join(values)} }}>{packed[3] or ''}\n"
 
 

@@ -38,7 +38,7 @@ def kinds_of(source: str) -> Iterator[str]:
         if not line or line.startswith("//"):
             continue
         if depth == 0:
-            kind = next((it for it, begin in BEGINS.items() if begin.match(line)), "code")
+            kind = next((it for it, start in BEGINS.items() if start.match(line)), "code")
         if kind != "code":
             depth += sum(map(line.count, "([{")) - sum(map(line.count, ")]}"))
         yield kind

@@ -90,7 +90,9 @@ def main(crate, out, copy=None):
     with tempfile.TemporaryDirectory() as room:
         kept, text, fast, made = (f"{room}/{it}" for it in ("kept.bc", "kept.ll", "fast.ll", "fast.o"))
         kit_with_stand_in(kit, f"{room}/kit", kept)
-        tried = subprocess.run([f"{room}/kit/bin/rt", "try", "--steps", "1"], cwd=f"{crates}/{crate}", capture_output=True, text=True)
+        tried = subprocess.run(
+            [f"{room}/kit/bin/rt", "try", "--steps", "1"], cwd=f"{crates}/{crate}", capture_output=True, text=True
+        )
         if not os.path.isfile(kept):
             sys.exit(f"{tried.stdout}{tried.stderr}no module was made")
         write_text(kit, kept, text)

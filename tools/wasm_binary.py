@@ -18,7 +18,9 @@ def with_bodies(module, original, changed):
     renamed = [name for index, name in names.items() if new_names.get(index) != name] + unknown
     if renamed or first != len(import_entries(module)) or len(new) < len(old):
         raise ValueError(f"functions have other indices: {', '.join(renamed[:3])}")
-    kept = [body if names[first + index] in changed else old[index] for index, body in enumerate(new[: len(old)])] + new[len(old) :]
+    kept = [
+        body if names[first + index] in changed else old[index] for index, body in enumerate(new[: len(old)])
+    ] + new[len(old) :]
     code = encoded(len(kept)) + b"".join(encoded(len(body)) + body for body in kept)
     return _joined(module, ((kind, code if kind == CODE else content) for kind, content in sections(module)))
 

@@ -24,8 +24,8 @@ FRAME = "requestAnimationFrame(() => setTimeout(arguments[0])), setTimeout(argum
 
 def lab_command(takes_c: bool) -> list[str]:
     """The command that runs the lab; root may compile others' C, if that is asked for."""
-    begin = "from vecmon_lab.compilers import sandbox; sandbox.check_sandbox = lambda: None; import vecmon_lab.__main__ as lab; "
-    return [sys.executable, *(["-c", f"{begin}lab.main()"] if takes_c else ["-m", "vecmon_lab"])]
+    start = "from vecmon_lab.compilers import sandbox; sandbox.check_sandbox = lambda: None; import vecmon_lab.__main__ as lab; "
+    return [sys.executable, *(["-c", f"{start}lab.main()"] if takes_c else ["-m", "vecmon_lab"])]
 
 
 class Served:
@@ -57,9 +57,9 @@ class Served:
         environment = os.environ | {"VECMON": str(self.program), "PYTHONPATH": str(TOP)}
         self.server = subprocess.Popen(command, stdout=subprocess.PIPE, stderr=self.log, text=True, env=environment)
         assert self.server.stdout
-        told = re.search(r"http://127\.0\.0\.1:(\d+)/#(\S+)", self.server.stdout.readline())
-        assert told, pathlib.Path(self.log.name).read_text()
-        self.port, self.code = int(told[1]), told[2]
+        output = re.search(r"http://127\.0\.0\.1:(\d+)/#(\S+)", self.server.stdout.readline())
+        assert output, pathlib.Path(self.log.name).read_text()
+        self.port, self.code = int(output[1]), output[2]
 
     @property
     def codes(self) -> dict[str, str]:
@@ -67,14 +67,14 @@ class Served:
         codes: dict[str, str] = json.loads((self.folder / "codes.json").read_text())
         return codes
 
-    def address(self, who: str) -> str:
+    def address(self, role: str) -> str:
         """The address of a seat's page, or the teacher's."""
-        return f"http://127.0.0.1:{self.port}/#{self.codes[who]}"
+        return f"http://127.0.0.1:{self.port}/#{self.codes[role]}"
 
     def programs(self) -> list[int]:
         """The numbers of the program's processes, the server's children."""
-        told = subprocess.run(["ps", "-o", "pid=", "--ppid", str(self.server.pid)], stdout=subprocess.PIPE, text=True)
-        return [int(word) for word in told.stdout.split() if word != str(self.server.pid)]
+        output = subprocess.run(["ps", "-o", "pid=", "--ppid", str(self.server.pid)], stdout=subprocess.PIPE, text=True)
+        return [int(word) for word in output.stdout.split() if word != str(self.server.pid)]
 
     def fetch(self, name: str) -> bytes:
         """A script or a transcript, as the teacher fetches it."""
@@ -117,7 +117,7 @@ class Explored(Served):
     def begin(self) -> None:
         self._begin([*lab_command(True), "explore", str(self.source), *self.words])
 
-    def address(self, who: str) -> str:
+    def address(self, role: str) -> str:
         """That of the page, which is one seat's."""
         return f"http://127.0.0.1:{self.port}/#{self.code}"
 
@@ -130,17 +130,17 @@ class Explored(Served):
 class Tab:
     """A tab of the browser at a seat, the teacher's, or the wall's."""
 
-    def __init__(self, browser: "Chrome", served: Served, who: str, before: str = "") -> None:
+    def __init__(self, browser: "Chrome", served: Served, role: str, before: str = "") -> None:
         """before: a script that runs before the page's"""
-        self.browser, self.served, self.who = browser, served, who
+        self.browser, self.served, self.who = browser, served, role
         browser.switch_to.new_window("tab")
         self.handle = browser.current_window_handle
         browser.execute_cdp_cmd("Page.addScriptToEvaluateOnNewDocument", {"source": before})
-        browser.get(served.address(who))
-        name = who.title() if who in ("teacher", "wall") else f"Seat {who}"
+        browser.get(served.address(role))
+        name = role.title() if role in ("teacher", "wall") else f"Seat {role}"
         self.wait("document.title === arguments[0]", f"{name} – vecmon")
 
-    def front(self) -> "Chrome":
+    def activate(self) -> "Chrome":
         """The browser, with this tab before all others."""
         if self.browser.current_window_handle != self.handle:
             self.browser.switch_to.window(self.handle)
@@ -150,14 +150,14 @@ class Tab:
         """The value of a script in the page; in it, `id`, `one` and `all` find elements."""
         helpers = """const id = (name) => document.getElementById(name), one = (css) => document.querySelector(css),
             all = (css) => [...document.querySelectorAll(css)];"""
-        return self.front().execute_script(f"{helpers} return {script}", *arguments)
+        return self.activate().execute_script(f"{helpers} return {script}", *arguments)
 
     def wait(self, script: str, *arguments: Any) -> Any:
         """Wait until a script's value is true and the page is painted; return the value."""
         from selenium.common.exceptions import TimeoutException
         from selenium.webdriver.support.wait import WebDriverWait
 
-        self.front()
+        self.activate()
         try:
             found = WebDriverWait(self.browser, PATIENCE, 0.02).until(lambda _: self.run(script, *arguments))
             self.browser.execute_async_script(FRAME)
@@ -168,25 +168,25 @@ class Tab:
     def click(self, selector: str) -> None:
         from selenium.webdriver.common.by import By
 
-        self.front().find_element(By.CSS_SELECTOR, selector).click()
+        self.activate().find_element(By.CSS_SELECTOR, selector).click()
 
     def keys(self, selector: str, *keys: str) -> None:
         from selenium.webdriver.common.by import By
 
-        self.front().find_element(By.CSS_SELECTOR, selector).send_keys(*keys)
+        self.activate().find_element(By.CSS_SELECTOR, selector).send_keys(*keys)
 
     def choose(self, selector: str, text: str) -> None:
         """Chooses what has this text in a list."""
         from selenium.webdriver.common.by import By
         from selenium.webdriver.support.select import Select
 
-        Select(self.front().find_element(By.CSS_SELECTOR, selector)).select_by_visible_text(text)
+        Select(self.activate().find_element(By.CSS_SELECTOR, selector)).select_by_visible_text(text)
 
     def save(self, selector: str, path: pathlib.Path, is_whole: Callable[[bytes], bool] = bool) -> bytes:
         """Return the file that a click saves, once it is complete: the browser creates it empty before it writes it."""
         # the headless shell takes this for one tab alone
         folder = {"behavior": "allow", "downloadPath": str(path.parent)}
-        self.front().execute_cdp_cmd("Browser.setDownloadBehavior", folder)
+        self.activate().execute_cdp_cmd("Browser.setDownloadBehavior", folder)
         self.click(selector)
         end = time.monotonic() + PATIENCE
         while not path.exists() or not is_whole(path.read_bytes()):
@@ -214,7 +214,7 @@ class Tab:
         return text
 
     def close(self) -> None:
-        self.front().close()
+        self.activate().close()
 
 
 def digest_of(teacher: Tab) -> str:

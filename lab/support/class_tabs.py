@@ -75,22 +75,22 @@ class Tab:
         self.view = patched(self.view, told.get("patch", {}))
         for name, entries in told.get("logs", {}).items():
             self.logs.setdefault(name, []).extend(entries)
-        return told
+        return reply
 
     async def ask(self, kind: str, **words: Any) -> Message:
         """The answer to a request."""
         self._number += 1
         await self.socket.send_json({"id": self._number, "ask": kind, **words})
-        while (told := await self.receive())["kind"] != "answer":
+        while (reply := await self.receive())["kind"] != "answer":
             pass
-        assert told["id"] == self._number
-        return told
+        assert reply["id"] == self._number
+        return reply
 
     async def do(self, *lines: str, **words: Any) -> list[list[str]]:
         """The answers to lines."""
-        told = await self.ask("lines", do=lines, **words)
-        assert "error" not in told, told
-        answers: list[list[str]] = told["do"]
+        reply = await self.ask("lines", do=lines, **words)
+        assert "error" not in reply, reply
+        answers: list[list[str]] = reply["do"]
         return answers
 
     async def until(self, wanted: Callable[[Message], object]) -> None:
@@ -115,15 +115,15 @@ class Served:
         await socket.send_json({"code": code})
         return Tab(socket)
 
-    async def sit(self, who: str) -> Tab:
+    async def sit(self, role: str) -> Tab:
         """A tab of a seat, or the teacher's, that was greeted."""
-        tab = await self.open(self.codes[who])
-        assert (await tab.receive())["who"] == who
+        tab = await self.open(self.codes[role])
+        assert (await tab.receive())["who"] == role
         return tab
 
-    async def get(self, path: str, who: str | None = "teacher") -> tuple[int, bytes]:
+    async def get(self, path: str, role: str | None = "teacher") -> tuple[int, bytes]:
         """The status and the body of an answer."""
-        headers = {"Authorization": f"Bearer {self.codes[who]}"} if who else {}
+        headers = {"Authorization": f"Bearer {self.codes[role]}"} if role else {}
         async with self.session.get(self.url + path, headers=headers) as answer:
             return answer.status, await answer.read()
 
@@ -181,8 +181,8 @@ async def served(
 
 def command(folder: pathlib.Path, *words: str, makes_checkpoints: bool = True) -> list[str]:
     """The command that serves a class."""
-    begin = "from vecmon_lab.classes import scripts; scripts.SHORTEN_SECONDS = 1e9; import vecmon_lab.__main__ as lab; lab.main()"
-    lab = ["-m", "vecmon_lab"] if makes_checkpoints else ["-c", begin]
+    start = "from vecmon_lab.classes import scripts; scripts.SHORTEN_SECONDS = 1e9; import vecmon_lab.__main__ as lab; lab.main()"
+    lab = ["-m", "vecmon_lab"] if makes_checkpoints else ["-c", start]
     return [sys.executable, *lab, "class", str(folder), *words, "--port", "0", "--no-clock"]
 
 

@@ -19,5 +19,5 @@ class Lab:
             status = start.main()
         except SystemExit as error:
             status = int(str(error))
-        output, told = self._capture.readouterr()
-        return status, output, told.decode()
+        output, errors = self._capture.readouterr()
+        return status, output, errors.decode()

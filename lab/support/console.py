@@ -8,7 +8,7 @@ from .places import TOP
 CONSOLE = [sys.executable, "-m", "vecmon_lab", "console"]
 
 
-def carried_out(lines: list[str] | bytes, *words: object) -> subprocess.CompletedProcess[bytes]:
+def run_console(lines: list[str] | bytes, *words: object) -> subprocess.CompletedProcess[bytes]:
     """A console that reads these lines from a pipe."""
     given = lines if isinstance(lines, bytes) else "".join(f"{line}\n" for line in lines).encode()
     return subprocess.run([*CONSOLE, *map(str, words)], cwd=TOP, input=given, capture_output=True)
@@ -16,6 +16,6 @@ def carried_out(lines: list[str] | bytes, *words: object) -> subprocess.Complete
 
 def shown(lines: list[str] | bytes, *words: object) -> list[str]:
     """The output of the console, after a run without errors."""
-    run = carried_out(lines, *words)
+    run = run_console(lines, *words)
     assert (run.returncode, run.stderr) == (0, b"")
     return run.stdout.decode("ascii").splitlines()

@@ -109,13 +109,13 @@ class Chain:
             text=True,
             timeout=600,
         )
-        told = done.stdout.split(_TOKEN)
+        output = done.stdout.split(_TOKEN)
         for at, (block, command, shown) in enumerate(steps):
-            if at + 1 >= len(told):
-                yield f"{block.page}:{block.number}: it fails with status {done.returncode}: {command}{told[at] if at < len(told) else ''}"
+            if at + 1 >= len(output):
+                yield f"{block.page}:{block.number}: it fails with status {done.returncode}: {command}{output[at] if at < len(output) else ''}"
                 return
-            if block.is_session and _SECONDS.sub("", told[at]) != _SECONDS.sub("", shown):
-                yield f"{block.page}:{block.number}: $ {command}prints\n{told[at]}in place of\n{shown}"
+            if block.is_session and _SECONDS.sub("", output[at]) != _SECONDS.sub("", shown):
+                yield f"{block.page}:{block.number}: $ {command}prints\n{output[at]}in place of\n{shown}"
 
 
 def blocks_of(page: str, text: str) -> list[Block]:

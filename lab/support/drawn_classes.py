@@ -29,7 +29,7 @@ def drawn_class(draws: random.Random, number: int) -> list[str]:
             lines.append(f"* slices {draws.choice((1, 1, 2, 3, 7))}")
             continue
         digit = draws.choice(digits)
-        lines += [f"{digit} {' ' * (draws.randrange(9) == 0)}{command}" for command in _deed(draws)]
+        lines += [f"{digit} {' ' * (draws.randrange(9) == 0)}{command}" for command in _action(draws)]
         if draws.randrange(40) == 0:
             lines += [f"{digit} stop", f"{digit} leave"] + _beginning(draws, digit) * draws.randrange(2)
         if draws.randrange(4) == 0:
@@ -46,7 +46,7 @@ def _beginning(draws: random.Random, digit: str) -> list[str]:
     return [f"{digit} {' ' * (draws.randrange(9) == 0)}{command} " for command in commands]
 
 
-def _deed(draws: random.Random) -> Iterator[str]:
+def _action(draws: random.Random) -> Iterator[str]:
     """The lines of a user: mostly a program is written and runs."""
     kind = draws.randrange(8)
     if kind == 0:

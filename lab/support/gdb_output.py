@@ -14,12 +14,12 @@ def run_in_gdb(path: pathlib.Path) -> tuple[bytes, str, str]:
     with subprocess.Popen(command, cwd=TOP, stdin=pipe, stdout=pipe, stderr=pipe, bufsize=0) as link:
         assert link.stdin and link.stdout and link.stderr
         link.stdin.write(b"$c#63")
-        told = b""
-        while b"$T05" not in told:
+        packets = b""
+        while b"$T05" not in packets:
             part = link.stdout.read(65536)
-            assert part, told
-            told += part
+            assert part, packets
+            packets += part
         link.stdin.write(b"$k#6b")
         error = link.stderr.read().decode()
-    *outputs, end = [bytes.fromhex(digits.decode()) for digits in re.findall(rb"\$O([0-9a-f]*)#", told)]
+    *outputs, end = [bytes.fromhex(digits.decode()) for digits in re.findall(rb"\$O([0-9a-f]*)#", packets)]
     return b"".join(outputs), end.decode(), error

@@ -106,17 +106,17 @@ def _write_vectors(v: bytearray, registers: dict[str, str]) -> None:
 
 def differences(vector: Vector, before: Before, after: After, old: Callable[[int], int] = start_byte) -> Iterator[str]:
     """What differs between the result of a vector and that of a formula, by name. old: the bytes of memory before it."""
-    told, control = vector["after"], dict(vars(before.control))
-    control |= {name: told[name] for name in ("vl", "vstart", "vxrm", "vxsat") if name in told}
-    control |= {"vtype": int(told["vtype"], 16)} if "vtype" in told else {}
+    expected, control = vector["after"], dict(vars(before.control))
+    control |= {name: expected[name] for name in ("vl", "vstart", "vxrm", "vxsat") if name in expected}
+    control |= {"vtype": int(expected["vtype"], 16)} if "vtype" in expected else {}
     v = bytearray(before.v)
-    _write_vectors(v, told.get("v", {}))
-    memory = _bytes_of(told.get("memory", {}))
-    x = {int(number): int(digits, 16) for number, digits in told.get("x", {}).items()}
+    _write_vectors(v, expected.get("v", {}))
+    memory = _bytes_of(expected.get("memory", {}))
+    x = {int(number): int(digits, 16) for number, digits in expected.get("x", {}).items()}
     pairs = {
         "control registers": (control, vars(after.control)),
-        "pc": (int(told["pc"], 16), after.pc),
-        "fault": (int(told["value"], 16) if "value" in told else None, after.fault),
+        "pc": (int(expected["pc"], 16), after.pc),
+        "fault": (int(expected["value"], 16) if "value" in expected else None, after.fault),
         "scalar registers": (x, {at: value for at, value in after.x.items() if value != before.x[at]}),
         "vector registers": (v, after.v),
         "memory": tuple({at: it for at, it in each.items() if it != old(at)} for each in (memory, after.memory)),

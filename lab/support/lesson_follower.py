@@ -31,7 +31,7 @@ return [...texts, groups, Object.fromEntries(shown)];
 
 
 @dataclass(frozen=True)
-class Told:
+class FrameState:
     """The machine's state of a frame's user; masked-off elements by register, and registers that changed."""
 
     vl: int
@@ -48,7 +48,7 @@ class Follower:
         self._session = session
         self._values: dict[str, dict[str, str]] = {}  # of each user's registers by their names
 
-    def told(self, frame: dict[str, Any]) -> Told | None:
+    def state_after(self, frame: dict[str, Any]) -> FrameState | None:
         """After a frame; None while the user isn't there or runs, or without a vector type."""
         answers = []
         if re.search(r" step \d+", frame["line"]):
@@ -59,16 +59,16 @@ class Follower:
                     answers = self._session.do(entry[1:])
         user, before = frame["user"], self._values
         self._values = {each: self._registers(each) or before.get(each, {}) for each in "123"}
-        told = self._session.look(f"{user} vcsr")[0]
-        if "vtype=" not in told or "vtype=8" in told:
+        answer = self._session.look(f"{user} vcsr")[0]
+        if "vtype=" not in answer or "vtype=8" in answer:
             return None
-        control = dict(word.split("=") for word in told[2:].split())
+        control = dict(word.split("=") for word in answer[2:].split())
         vtype, vl, vstart = int(control["vtype"], 16), int(control["vl"]), int(control["vstart"])
         lmul = Fraction(2) ** ((vtype & 7) - 8 * (vtype >> 2 & 1))
         most = int(256 // (8 << (vtype >> 3 & 7)) * lmul)
         old, new = before[user], self._values[user]
         changed = {name for name in old if old[name] != new[name]}
-        return Told(vl, vstart, most, self._masked(user, answers, vl, vstart), changed)
+        return FrameState(vl, vstart, most, self._masked(user, answers, vl, vstart), changed)
 
     def _registers(self, user: str) -> dict[str, str]:
         """The scalar and vector registers of a user who is stopped."""

@@ -51,8 +51,8 @@ def _example(guest: Guest, record: Record) -> Iterator[tuple[str, ...]]:
     text = f"{name} {_operands(row)}"
     stepper = _set_up(guest, row, text)
     before = _shown(stepper.registers, guest, row)
-    carried = stepper.step()
-    assert carried.stop is None, f"{text}: {carried.stop}"
+    retired = stepper.step()
+    assert retired.stop is None, f"{text}: {retired.stop}"
     after = _shown(stepper.registers, guest, row)
     numbers = [
         f"{name}: {NUMBERS[name]:#x}" if name == "x10" else f"{name}: {NUMBERS[name]}"

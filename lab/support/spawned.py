@@ -26,7 +26,7 @@ class SpawnedProcess:
         self.fed += os.write(self._feed, data)
         return [self._answer(line) for line in lines]
 
-    def pour(self, script: bytes) -> Iterator[bytes]:
+    def stream(self, script: bytes) -> Iterator[bytes]:
         """Feeds lines, and gives their answers. Raises ProgramGone."""
         for line in script.decode("ascii").splitlines():
             yield "".join(f"{part}\n" for part in self.ask([line])[0]).encode("latin-1")

@@ -22,7 +22,7 @@ def made() -> tuple[str, str]:
     text = (TOURS / f"{KERNEL}.c").read_text("ascii")
     program = compile_c(text, COMPILER, choice_of(OPTIONS), TOURS)
     lines = ["enter", *short_lines(program), f"setpc {program.entry:x}", "step 256", "out"]
-    return "".join(f"1 {line}\n" for line in lines), told_of(program, text)
+    return "".join(f"1 {line}\n" for line in lines), kernel_json(program, text)
 
 
 def short_lines(program: CompiledProgram) -> Iterator[str]:
@@ -36,7 +36,7 @@ def short_lines(program: CompiledProgram) -> Iterator[str]:
                 yield line
 
 
-def told_of(program: CompiledProgram, text: str) -> str:
+def kernel_json(program: CompiledProgram, text: str) -> str:
     """Labels, lines, where lines begin, and variables, as JSON with a line for each of these."""
     parts = {
         "labels": program.names(),

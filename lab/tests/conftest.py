@@ -88,8 +88,8 @@ def browser() -> Iterator["Chrome"]:
 def qemu() -> None:
     """QEMU's user mode; as with the browser, a test that wants it is left out and counted where there is none."""
     command = shutil.which("qemu-riscv64")
-    told = subprocess.run([command, "--version"], stdout=subprocess.PIPE, check=True).stdout if command else b""
-    if b" version 7.2." not in told:
+    output = subprocess.run([command, "--version"], stdout=subprocess.PIPE, check=True).stdout if command else b""
+    if b" version 7.2." not in output:
         leave_out(NO_QEMU)
 
 

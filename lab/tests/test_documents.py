@@ -11,7 +11,7 @@ import pytest
 
 from support.commands import Lab
 from support.documents import Block, Chain, blocks_of, chains_of, misplaced
-from support.left_out import NO_TOOL, leave_out
+from support.skips import NO_TOOL, leave_out
 from support.places import SUM, TOP
 from vecmon_lab.machine.program import find_recorder
 
@@ -68,8 +68,8 @@ def test_a_chain_of_blocks(chain: Chain, program: pathlib.Path, tmp_path: pathli
 
 def test_each_block_has_a_marker() -> None:
     """A new block without one fails here: lab/support/documents.py has the markers."""
-    told = [f"{it.page}:{it.number}: {why}" for it in blocks() if (why := misplaced(it, TOP))]
-    assert "\n".join(told) == ""
+    expected = [f"{it.page}:{it.number}: {why}" for it in blocks() if (why := misplaced(it, TOP))]
+    assert "\n".join(expected) == ""
     assert len(chains()) > 15 and len(blocks()) > 80
 
 
@@ -116,8 +116,8 @@ def test_a_page_that_is_right(tmp_path: pathlib.Path) -> None:
 )
 def test_a_page_that_is_wrong(tmp_path: pathlib.Path, old: str, new: str, fault: str) -> None:
     assert PAGE.count(old) == 1
-    told = faults(PAGE.replace(old, new), tmp_path)
-    assert told and told[0].startswith(fault)
+    shown = faults(PAGE.replace(old, new), tmp_path)
+    assert shown and shown[0].startswith(fault)
 
 
 @pytest.mark.parametrize(
@@ -140,8 +140,8 @@ def test_a_marker_that_is_wrong(marker: str, why: str) -> None:
 @pytest.mark.by_command("examples")
 def test_examples(lab: Lab, tmp_path: pathlib.Path) -> None:
     folder = tmp_path / "try"
-    told = f"{folder}: the examples, in which the documents' commands run\n"
-    assert lab("examples", folder) == (0, told.encode(), "")
+    expected = f"{folder}: the examples, in which the documents' commands run\n"
+    assert lab("examples", folder) == (0, expected.encode(), "")
     copied = {str(path.relative_to(folder)) for path in folder.rglob("*") if path.is_file()}
     of_pages = {"sum", "sum.c", "squares", "above.c", "answers/vectors.s", "kernels/grey.c", "searches/letters.c"}
     assert of_pages | {"tested/add_scaled.c", "tour/masks_and_tails"} <= copied

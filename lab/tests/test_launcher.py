@@ -74,14 +74,18 @@ def test_completion(tmp_path: pathlib.Path) -> None:
 def test_another_python_that_has_no_library(installed: pathlib.Path, program: pathlib.Path) -> None:
     assert run(installed, "class", "monday", python="plain/bin/python") == (2, "", WITHOUT_AIOHTTP)
     for command in ("class", "explore"):
-        status, told, errors = run(installed, command, "--help", python="plain/bin/python")
-        assert (status, errors) == (0, "") and told.startswith(f"usage: vecmon-lab {command} ")
-    status, told, _ = run(installed, "check", python="plain/bin/python")
-    assert status == 0 and "aiohttp for class and explore: not installed: sudo apt install python3-aiohttp\n" in told
+        status, help_text, errors = run(installed, command, "--help", python="plain/bin/python")
+        assert (status, errors) == (0, "") and help_text.startswith(f"usage: vecmon-lab {command} ")
+    status, help_text, _ = run(installed, "check", python="plain/bin/python")
+    assert (
+        status == 0 and "aiohttp for class and explore: not installed: sudo apt install python3-aiohttp\n" in help_text
+    )
     assert run(installed, "console", python="plain/bin/python") == (0, "=> 0  \n", "")
-    status, _, told = run(installed, "console", SUM, python="plain/bin/python")
-    assert status == 2 and told.startswith("vecmon-lab: this needs the Python library pyelftools: `sudo apt install ")
-    assert "python3-pyelftools`" in told
+    status, _, help_text = run(installed, "console", SUM, python="plain/bin/python")
+    assert status == 2 and help_text.startswith(
+        "vecmon-lab: this needs the Python library pyelftools: `sudo apt install "
+    )
+    assert "python3-pyelftools`" in help_text
 
 
 def test_another_python_that_has_the_library(installed: pathlib.Path, program: pathlib.Path) -> None:
@@ -93,5 +97,5 @@ def test_another_python_that_has_the_library(installed: pathlib.Path, program: p
 
 def test_no_other_python(installed: pathlib.Path, program: pathlib.Path) -> None:
     assert run(installed, "run", SUM) == (0, "328350\n", "")
-    told = "vecmon-lab: VECMON_PYTHON=/nowhere: No such file or directory\n"
-    assert run(installed, "check", python="/nowhere") == (2, "", told)
+    expected = "vecmon-lab: VECMON_PYTHON=/nowhere: No such file or directory\n"
+    assert run(installed, "check", python="/nowhere") == (2, "", expected)

@@ -53,9 +53,9 @@ def test_a_process_of_the_run(sleeper: subprocess.Popen[bytes], folder: pathlib.
 
 def test_a_process_in_the_folder(folder: pathlib.Path) -> None:
     with subprocess.Popen(["sleep", "600"], cwd=folder / "pytest-of-root") as process:
-        told = left("none", folder)
+        shown = left("none", folder)
         process.kill()
-    assert told == (1, f"tools/left_behind.py: left: process {process.pid}: sleep 600\n")
+    assert shown == (1, f"tools/left_behind.py: left: process {process.pid}: sleep 600\n")
 
 
 def test_a_folder(folder: pathlib.Path) -> None:

@@ -271,8 +271,8 @@ def test_proved_programs(clone: Clone, program: pathlib.Path) -> None:
     source = clone.top / "crates" / "low" / "src" / "lib.rt"
     before = source.read_text()
     source.write_text("fn changed() {}\n")
-    told = clone.run().stderr
-    assert "tools/run: built without proofs: " in told and "isn't recorded as proved from these sources" in told
+    output = clone.run().stderr
+    assert "tools/run: built without proofs: " in output and "isn't recorded as proved from these sources" in output
     source.write_text(before)
     assert clone.run().stderr == proved
     (clone.top / "crates" / "vecmon_record" / "out" / "vecmon_record").write_text("another program")
@@ -282,8 +282,8 @@ def test_proved_programs(clone: Clone, program: pathlib.Path) -> None:
 def test_programs_without_a_record_are_not_taken(clone: Clone, program: pathlib.Path) -> None:
     prove(clone, program)
     assert "tools/run: built without proofs: " in clone.run().stderr
-    told = clone.digest("record", "0" * 64)
-    assert (told.returncode, told.stderr.count("\n")) == (1, 1) and "the sources have changed" in told.stderr
+    reply = clone.digest("record", "0" * 64)
+    assert (reply.returncode, reply.stderr.count("\n")) == (1, 1) and "the sources have changed" in reply.stderr
     assert clone.digest("dance").returncode == 2
 
 
@@ -353,8 +353,8 @@ def test_packages_are_missing_without_root(clone: Clone) -> None:
     ran = clone.run()
     packages = "python3-pip python3-setuptools python3-aiohttp python3-prompt-toolkit python3-pyelftools python3-segno"
     command = f"apt-get update && apt-get install --no-install-recommends {packages}"
-    told = f"tools/debian_packages: missing packages; as root, run: {command}\n"
-    assert (ran.returncode, ran.stdout, ran.stderr) == (2, "", told)
+    expected = f"tools/debian_packages: missing packages; as root, run: {command}\n"
+    assert (ran.returncode, ran.stdout, ran.stderr) == (2, "", expected)
     assert clone.builds() == []
 
 
@@ -376,9 +376,9 @@ def test_sources_that_change_during_the_build(clone: Clone) -> None:
     process = clone.start()
     clone.write("crates/low/src/lib.rt", "fn changed() {}\n")
     (clone.top / "wait").unlink()
-    _, told = process.communicate(timeout=60)
+    _, errors = process.communicate(timeout=60)
     assert (process.returncode, clone.folders()) == (2, [])
-    assert told.endswith("tools/run: the sources changed during the build: run tools/run again\n")
+    assert errors.endswith("tools/run: the sources changed during the build: run tools/run again\n")
 
 
 def test_help(clone: Clone) -> None:

@@ -52,7 +52,7 @@ SEEN = """window.seen = []; new MutationObserver(() => window.seen.push(performa
     .observe(document.querySelector("tr[data-seat='A2'] .pill"), { childList: true, characterData: true, subtree: true })"""
 
 
-def told(name: str, taken: Sequence[float]) -> None:
+def print_times(name: str, taken: Sequence[float]) -> None:
     """Prints what was measured."""
     ninth = statistics.quantiles(taken, n=10)[-1]
     print(
@@ -63,7 +63,7 @@ def told(name: str, taken: Sequence[float]) -> None:
 
 def clicks(tab: Tab, count: int) -> list[float]:
     """The time of a number of clicks on Step, one after the other."""
-    taken: list[float] = tab.front().execute_async_script(CLICKS, count)
+    taken: list[float] = tab.activate().execute_async_script(CLICKS, count)
     return taken
 
 
@@ -81,35 +81,35 @@ def eight_seats(browser: "Chrome", served: Served, count: int) -> None:
         tab.begin(*PROGRAM)
     first, *others = students
     clicks(first, 10)
-    told("a click until it is painted, alone", clicks(first, count))
+    print_times("a click until it is painted, alone", clicks(first, count))
     for tab in others:
-        tab.front().execute_script(BUSY)
-    told("the same, seven others step 3 times a second", clicks(first, count))
+        tab.activate().execute_script(BUSY)
+    print_times("the same, seven others step 3 times a second", clicks(first, count))
     for tab in others:
         tab.run("clearInterval(window.busy)")
     teacher = Tab(browser, served, "teacher")
     teacher.click("[name=on]")
     press_all(others, "#go")
-    told("the same, seven others run", clicks(first, count))
+    print_times("the same, seven others run", clicks(first, count))
     press_all(others, "#halt")
     teacher.click("[name=on]")
     first.run("(id('source').value = arguments[0], id('assemble').click())", LONG)
     first.wait("id('listing').textContent.includes('vid.v') && !id('one').disabled")
-    told("the first one with 3,900 rows", clicks(first, count))
-    told("a stop until the teacher's page shows it", stops(others[0], teacher, count // 3))
+    print_times("the first one with 3,900 rows", clicks(first, count))
+    print_times("a stop until the teacher's page shows it", stops(others[0], teacher, count // 3))
 
 
 def stops(tab: Tab, teacher: Tab, count: int) -> list[float]:
     """From a click on Stop at seat A2 to the teacher's page."""
     taken = []
-    teacher.front().execute_script(SEEN)
+    teacher.activate().execute_script(SEEN)
     for _ in range(count):
         press_all([tab], "#go")
         teacher.wait("one(\"tr[data-seat='A2'] .pill\").textContent === 'running'")
         before = teacher.run("window.seen.length")
         tab.wait("!id('halt').disabled")
-        begun = tab.run("(id('halt').click(), performance.timeOrigin + performance.now())")
-        taken.append(teacher.wait("window.seen[arguments[0]]", before) - begun)
+        started = tab.run("(id('halt').click(), performance.timeOrigin + performance.now())")
+        taken.append(teacher.wait("window.seen[arguments[0]]", before) - started)
     return taken
 
 
@@ -122,7 +122,7 @@ def thirty_seats(browser: "Chrome", served: Served, count: int) -> None:
     others.start()
     try:
         clicks(first, 40)  # meanwhile all sit down
-        told("a click, 29 others of four machines step 3 times a second", clicks(first, count))
+        print_times("a click, 29 others of four machines step 3 times a second", clicks(first, count))
     finally:
         ended.set()
         others.join()

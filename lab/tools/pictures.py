@@ -45,8 +45,8 @@ def screenshot(browser: "Chrome", height: int) -> bytes:
     """Return a PNG of the upper part of the foremost page, `height` pixels high."""
     browser.execute_script("document.activeElement.blur()")
     clip = {"x": 0, "y": 0, "width": WIDTH, "height": height, "scale": 1}
-    told = browser.execute_cdp_cmd("Page.captureScreenshot", {"clip": clip})
-    return base64.b64decode(told["data"])
+    capture = browser.execute_cdp_cmd("Page.captureScreenshot", {"clip": clip})
+    return base64.b64decode(capture["data"])
 
 
 def save(browser: "Chrome", path: pathlib.Path, height: int) -> None:
@@ -97,7 +97,7 @@ def seat_students(browser: "Chrome", served: Served) -> Tab:
 def picture_class(browser: "Chrome", served: Served, folder: pathlib.Path) -> None:
     """The pages of the third student, of the teacher, who looked on while that student stepped, and of the wall."""
     student = seat_students(browser, served)
-    give_room(student.front(), HEIGHT)
+    give_room(student.activate(), HEIGHT)
     teacher = Tab(browser, served, "teacher")
     give_room(browser, 2 * HEIGHT)
     teacher.click("tr[data-seat='A3'] td:nth-child(2) button")
@@ -110,7 +110,7 @@ def picture_class(browser: "Chrome", served: Served, folder: pathlib.Path) -> No
     give_room(browser, WALL_HEIGHT)
     wall.wait("id('who').textContent === 'Seat A3'")
     student.command("step 1")
-    save(student.front(), folder / "student.png", HEIGHT)
+    save(student.activate(), folder / "student.png", HEIGHT)
     teacher.wait("id('step').textContent.includes('v0.t')")
     height = teacher.run("Math.ceil(one('.vectors').getBoundingClientRect().bottom + 8)")
     save(browser, folder / "teacher.png", height)

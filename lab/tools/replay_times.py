@@ -35,7 +35,7 @@ def processor(number: int) -> float:
     return (int(fields[11]) + int(fields[12])) / os.sysconf("SC_CLK_TCK")
 
 
-def told(name: str, taken: list[float], lab: list[float], program: list[float]) -> None:
+def print_times(name: str, taken: list[float], lab: list[float], program: list[float]) -> None:
     """Prints what was measured."""
     clock = f"median {statistics.median(taken):.2f} s, at most {max(taken):.2f} s, of {len(taken)}"
     own, others = statistics.median(lab), statistics.median(program)
@@ -50,20 +50,20 @@ def replays() -> None:
         for _ in range(KILLS):
             assert session.process
             os.kill(session.process, signal.SIGKILL)
-            begun, own = time.perf_counter(), time.process_time()
+            started, own = time.perf_counter(), time.process_time()
             session.do("1 step 1")
-            taken.append(time.perf_counter() - begun)
+            taken.append(time.perf_counter() - started)
             lab.append(time.process_time() - own)
             program.append(processor(session.process))
-    told(f"{len(SCRIPT):,} bytes in a new process, without a checkpoint", taken, lab, program)
+    print_times(f"{len(SCRIPT):,} bytes in a new process, without a checkpoint", taken, lab, program)
 
 
-async def beginnings(folder: pathlib.Path) -> None:
+async def initial_states(folder: pathlib.Path) -> None:
     """A server that begins a class, and one that goes on with the script."""
     for name in ("a new class", f"a class of {len(SCRIPT):,} bytes"):
-        begun, before = time.perf_counter(), resource.getrusage(resource.RUSAGE_CHILDREN)
+        started, before = time.perf_counter(), resource.getrusage(resource.RUSAGE_CHILDREN)
         async with process(folder) as room:
-            seconds = time.perf_counter() - begun
+            seconds = time.perf_counter() - started
             await room.end()
         after = resource.getrusage(resource.RUSAGE_CHILDREN)
         used = after.ru_utime + after.ru_stime - before.ru_utime - before.ru_stime
@@ -75,10 +75,10 @@ async def loops(folder: pathlib.Path, seconds: float) -> None:
     """Eight students run loops, and let them run on where the server stopped them; then the process is killed."""
     async with process(folder) as room:
         teacher, *tabs = [await room.sit(seat) for seat in ("teacher", *(f"A{digit}" for digit in DIGITS))]
-        begun = time.monotonic()
+        started = time.monotonic()
         readers = asyncio.gather(*map(run_on, tabs))
         await teacher.ask("clock", machine="A", on=True)
-        await read_until(teacher, begun + seconds)
+        await read_until(teacher, started + seconds)
         await kills(room, teacher)
         readers.cancel()
         with contextlib.suppress(asyncio.CancelledError):
@@ -114,14 +114,16 @@ async def kills(room: Served, teacher: Tab) -> None:
     for _ in range(KILLS):
         own = processor(room.server.pid)
         os.kill(machine_of(room), signal.SIGKILL)
-        begun = time.perf_counter()
+        started = time.perf_counter()
         await teacher.do("list", machine="A")
-        taken.append(time.perf_counter() - begun)
+        taken.append(time.perf_counter() - started)
         lab.append(processor(room.server.pid) - own)
         program.append(processor(machine_of(room)))
         await read_until(teacher, time.monotonic() + BETWEEN)
     view = teacher.view["machines"]["A"]
-    told(f"script {view['scripts']} of {view['script']:,} bytes, {view['restarts']} replaced", taken, lab, program)
+    print_times(
+        f"script {view['scripts']} of {view['script']:,} bytes, {view['restarts']} replaced", taken, lab, program
+    )
     print(f"the server's processor so far: {processor(room.server.pid):.1f} s")
 
 
@@ -132,7 +134,7 @@ def main(seconds: float) -> None:
             asyncio.run(loops(folder, seconds))
         else:
             replays()
-            asyncio.run(beginnings(folder))
+            asyncio.run(initial_states(folder))
 
 
 if __name__ == "__main__":

@@ -24,9 +24,9 @@ async def requests(tabs: list[Tab], line: str) -> str:
         for _ in range(REQUESTS):
             await tab.do(line)
 
-    begun = time.perf_counter()
+    started = time.perf_counter()
     await asyncio.gather(*map(ask, tabs))
-    return f"{8 * REQUESTS / (time.perf_counter() - begun):.0f} requests a second: {line}, each with the state that it left"
+    return f"{8 * REQUESTS / (time.perf_counter() - started):.0f} requests a second: {line}, each with the state that it left"
 
 
 async def stops(tab: Tab, teacher: Tab) -> str:
@@ -37,11 +37,11 @@ async def stops(tab: Tab, teacher: Tab) -> str:
         await tab.do("setpc 10000", "go")
         await teacher.until(lambda view: view["machines"]["A"]["seats"]["1"]["run"] == "running")
         await asyncio.sleep(0.15)  # so that the news of the stop don't wait for those of its program's start
-        begun = time.perf_counter()
-        told = asyncio.create_task(tab.do(slices=1))
+        started = time.perf_counter()
+        task = asyncio.create_task(tab.do(slices=1))
         await teacher.until(lambda view: view["machines"]["A"]["seats"]["1"]["run"] == "stopped")
-        taken.append(1000 * (time.perf_counter() - begun))
-        await told
+        taken.append(1000 * (time.perf_counter() - started))
+        await task
         await asyncio.sleep(0.15)
     return f"a stop on the teacher's tab: median {statistics.median(taken):.0f} ms, worst {max(taken):.0f}"
 
@@ -53,7 +53,7 @@ async def flood(tabs: list[Tab], teacher: Tab) -> str:
         for _ in range(FLOODED // 250):
             await tab.do(*["step 1"] * 250)
 
-    begun, worst = time.perf_counter(), 0.0
+    started, worst = time.perf_counter(), 0.0
     floods = asyncio.gather(*map(send, tabs))
     while not floods.done():
         asked = time.perf_counter()
@@ -61,7 +61,7 @@ async def flood(tabs: list[Tab], teacher: Tab) -> str:
         worst = max(worst, time.perf_counter() - asked)
         await asyncio.sleep(0.05)
     await floods
-    seconds = time.perf_counter() - begun
+    seconds = time.perf_counter() - started
     return f"8 x {FLOODED:,} lines in {seconds:.1f} s; the teacher waited {1000 * worst:.0f} ms at most"
 
 
@@ -88,9 +88,9 @@ async def checks(folder: pathlib.Path) -> str:
     async with process(folder, "--exercise", "byte_sum") as room:
         tabs = [await room.sit(f"A{digit}") for digit in "12345678"]
         for tries in range(1, 6):
-            begun = time.perf_counter()
+            started = time.perf_counter()
             await asyncio.gather(*(check(tab, tries) for tab in tabs))
-            taken.append(time.perf_counter() - begun)
+            taken.append(time.perf_counter() - started)
     return f"eight checks at once: median {statistics.median(taken):.2f} s, worst {max(taken):.2f}"
 
 

@@ -34,28 +34,30 @@ class _Program(argparse.Action):
         option: object = None,
     ) -> None:
         words = list(values or ())
-        is_said = words[0] == "--"
-        path, *namespace.words = words[1:] if is_said else words
+        has_separator = words[0] == "--"
+        path, *namespace.words = words[1:] if has_separator else words
         options = re.findall(r"(?<![\w-])-[\w-]+", parser.format_usage())
-        for word in [] if is_said else namespace.words:
+        for word in [] if has_separator else namespace.words:
             if word.partition("=")[0] in options:
-                told = f"{word} after {path} is an argument of the program; options of {parser.prog} go before {path}"
-                print(f"vecmon-lab: {told}", file=sys.stderr)
+                help_text = (
+                    f"{word} after {path} is an argument of the program; options of {parser.prog} go before {path}"
+                )
+                print(f"vecmon-lab: {help_text}", file=sys.stderr)
         namespace.named, namespace.image = pathlib.Path(path), image_path(path)
 
 
 def add_program(
-    parser: argparse.ArgumentParser, told: str = "an ELF file, or a source in C (.c)", is_needed: bool = True
+    parser: argparse.ArgumentParser, help_text: str = "an ELF file, or a source in C (.c)", is_needed: bool = True
 ) -> None:
     """An image, and all words behind it as the program's own, options too; and a file as its input."""
     parser.allow_abbrev = False  # so that no argument of the program is looked up among the options
-    told = f"{told}; the arguments after it are the program's"
+    help_text = f"{help_text}; the arguments after it are the program's"
     metavar = "IMAGE" if is_needed else "[IMAGE]"
-    image = parser.add_argument("image", metavar=metavar, nargs=argparse.PARSER, action=_Program, help=told)
+    image = parser.add_argument("image", metavar=metavar, nargs=argparse.PARSER, action=_Program, help=help_text)
     image.required = is_needed
     parser.set_defaults(words=[])
-    told = "write FILE to the image's memory at the symbol input, and its size to input_size"
-    parser.add_argument("--in", dest="input", metavar="FILE", type=pathlib.Path, help=told)
+    help_text = "write FILE to the image's memory at the symbol input, and its size to input_size"
+    parser.add_argument("--in", dest="input", metavar="FILE", type=pathlib.Path, help=help_text)
 
 
 def add_image(parser: argparse.ArgumentParser) -> None:

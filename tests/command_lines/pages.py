@@ -46,15 +46,15 @@ def page(program: pathlib.Path, name: str) -> str:
 def _section(program: pathlib.Path, lines: list[str]) -> Iterator[str]:
     """The lines of a section of a page."""
     script = [asked for line in lines for asked in _script_lines(line)]
-    told = zip(script, answers(program, IMAGES, script, DATA) if script else [])
+    reply = zip(script, answers(program, IMAGES, script, DATA) if script else [])
     for line in lines:
         if line.startswith("> "):
-            asked, answer = next(told)
+            asked, answer = next(reply)
             yield from (f"> {_shown(asked)}", *map(_shown, answer))
         elif line.startswith("$ vecmon"):
             yield from (line, *_program_run(program, line.removeprefix("$ vecmon")))
         elif line.startswith("@steps "):
-            yield from _steps(line.removeprefix("@steps "), told)
+            yield from _steps(line.removeprefix("@steps "), reply)
         elif line.startswith("@file "):
             yield from lines_of(read(line.removeprefix("@file ")))
         else:
@@ -85,12 +85,12 @@ def _program_run(program: pathlib.Path, words: str) -> Iterator[str]:
             stderr=pipe if is_full else subprocess.STDOUT,
             check=False,
         )
-    told = ran.stderr if is_full else ran.stdout
-    yield from lines_of(told.decode("latin-1"))
+    output = ran.stderr if is_full else ran.stdout
+    yield from lines_of(output.decode("latin-1"))
     yield from ("$ echo $?", str(ran.returncode))
 
 
-def _steps(name: str, told: Iterator[tuple[str, list[str]]]) -> Iterator[str]:
+def _steps(name: str, answers: Iterator[tuple[str, list[str]]]) -> Iterator[str]:
     """A script next to its answers, in steps. Raises ValueError if the steps don't cover all lines."""
     steps = [step.split(" ", 1) for step in lines_of(read(f"{name}.steps", TOURS))]
     if sum(int(count) for count, _ in steps) != len(_script_lines(f"@steps {name}")):
@@ -98,7 +98,7 @@ def _steps(name: str, told: Iterator[tuple[str, list[str]]]) -> Iterator[str]:
     for count, sentence in steps:
         yield from (sentence, "", "| script | transcript |", "|---|---|")
         for _ in range(int(count)):
-            asked, (first, *more) = next(told)
+            asked, (first, *more) = next(answers)
             yield f"| `{asked}` | `{first}` |"
             yield from (f"| | `{part}` |" for part in more)
         yield ""

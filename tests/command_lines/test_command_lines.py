@@ -19,21 +19,21 @@ SAME_TICKS = [
 
 @pytest.mark.parametrize("name", ALL_TEMPLATES)
 def test_page(name: str) -> None:
-    told = difference(page(built(), ALL_TEMPLATES[name]), STORED.pages[name])
-    assert not told, told
+    shown = difference(page(built(), ALL_TEMPLATES[name]), STORED.pages[name])
+    assert not shown, shown
 
 
 @pytest.mark.parametrize("line", LINES)
 def test_command_line(line: str) -> None:
-    told = difference(record(built(), line), STORED.records[line])
-    assert not told, told
+    shown = difference(record(built(), line), STORED.records[line])
+    assert not shown, shown
 
 
 @pytest.mark.parametrize("line, other", SAME_TICKS)
 def test_equal_ticks_in_other_slices_print_the_same(line: str, other: str) -> None:
     """However its ticks are divided, a user's lines are the same."""
-    told, wanted = ([it for it in lines_of(record(built(), each)) if it.startswith("1 ")] for each in (line, other))
-    assert told == wanted
+    reply, wanted = ([it for it in lines_of(record(built(), each)) if it.startswith("1 ")] for each in (line, other))
+    assert reply == wanted
 
 
 @pytest.mark.parametrize("line", [it for it in LINES if has_names(it)])

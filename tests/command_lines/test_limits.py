@@ -65,8 +65,8 @@ def test_endless_image_is_refused() -> None:
 def test_script_length_limit_is_enforced(tmp_path: pathlib.Path, length: int, text: bytes, output: bytes) -> None:
     script = tmp_path / "script"
     script.write_bytes(b"\n" * (length - len(text)) + text)
-    told = (0, output, b"") if length == MOST_SCRIPT else (3, output, b"vecmon: script too long\n")
-    assert run_program(str(script)) == told
+    expected = (0, output, b"") if length == MOST_SCRIPT else (3, output, b"vecmon: script too long\n")
+    assert run_program(str(script)) == expected
 
 
 def test_endless_script_is_refused() -> None:

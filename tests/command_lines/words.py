@@ -20,14 +20,14 @@ def by_names_and_words(program: pathlib.Path, line: str) -> tuple[list[list[str]
     words = [it for it in json.loads(line) if it != name]
     script = lines_of(read(name))
     named = answers(program, words, script, DATA)
-    pokes = [_poke(asked, told) for asked, told in zip(script, named)]
+    pokes = [_poke(asked, answer) for asked, answer in zip(script, named)]
     poked = answers(program, words, [poke or asked for asked, poke in zip(script, pokes)], DATA)
-    return poked, [[f"{poke[:1]} ok"] if poke else told for told, poke in zip(named, pokes)]
+    return poked, [[f"{poke[:1]} ok"] if poke else answer for answer, poke in zip(named, pokes)]
 
 
-def _poke(asked: str, told: list[str]) -> str:
+def _poke(asked: str, answers: list[str]) -> str:
     """The `poke` of the word that an `asm` was answered by; no text for any other line."""
-    match asked.split(), told:
+    match asked.split(), answers:
         case [user, "asm", *_], [answer] if len(answer.split()) == 3 and not answer.startswith(f"{user} E"):
             _, address, word = answer.split()
             return f"{user} poke {address} {bytes.fromhex(word)[::-1].hex()}"

@@ -29,8 +29,8 @@ def checksums(program: pathlib.Path, count: int) -> str:
 
     Raises ValueError where one doesn't end.
     """
-    told = run(program, ["--quantum", QUANTUM], "".join(script(name, count) for name in LOOPS), DATA).stdout
-    visits = told.split("1 left\n")
+    output = run(program, ["--quantum", QUANTUM], "".join(script(name, count) for name in LOOPS), DATA).stdout
+    visits = output.split("1 left\n")
     return "".join(f"{name} {_checksum(_left(visit)):016x}\n" for name, visit in zip(LOOPS, visits[:-1], strict=True))
 
 

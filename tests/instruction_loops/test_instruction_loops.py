@@ -5,5 +5,5 @@ from tests.program import built, difference
 
 
 def test_checksums() -> None:
-    told = difference(checksums(built(), 3), (HERE / "stdout").read_text("ascii"))
-    assert not told, told
+    output = difference(checksums(built(), 3), (HERE / "stdout").read_text("ascii"))
+    assert not output, output

@@ -26,17 +26,17 @@ def eight_users(program: pathlib.Path, rounds: int) -> Iterator[str]:
     kinds = mixing.commands("kinds")
     answered = Counter[str]()
     for quantum in mixing.QUANTA:
-        line, told = mixing.compare(program, GRAMMAR, quantum)
-        answered += _by_kinds(told, kinds)
+        line, transcript = mixing.compare(program, GRAMMAR, quantum)
+        answered += _by_kinds(transcript, kinds)
         yield line
-    *rounds_told, line = hostile.compare(program, GRAMMAR, rounds)
-    for told in rounds_told:
-        answered += _by_kinds(told, kinds)
+    *round_lines, line = hostile.compare(program, GRAMMAR, rounds)
+    for transcript in round_lines:
+        answered += _by_kinds(transcript, kinds)
     yield line
     yield from (f"{answered[kind]} {kind}\n" for kind in kinds)
 
 
-def _by_kinds(told: str, kinds: list[str]) -> Counter[str]:
+def _by_kinds(transcript: str, kinds: list[str]) -> Counter[str]:
     """How many lines there are of each kind: the first one as which they begin behind their user's digit."""
-    words = (line[2:] for line in told.split("\n"))
+    words = (line[2:] for line in transcript.split("\n"))
     return Counter(next((kind for kind in kinds if line.startswith(kind)), "") for line in words)

@@ -24,11 +24,11 @@ def compare(program: pathlib.Path, grammar: Grammar, rounds: int) -> Iterator[st
     for seed in range(rounds):
         with Machines(program, QUANTA[seed % len(QUANTA)]) as machines:
             standings = _compare_round(machines, grammar, Draws(seed))
-            told, differs = machines.difference()
+            shown, differs = machines.difference()
             assert not differs, f"round {seed}: {differs}"
             came |= {(command, list_[0].split()[1 + user].partition(":")[2]) for command, user, list_ in standings}
             count, slices = count + machines.commands, slices + machines.slices
-        yield told
+        yield shown
     all_of_them = f"{len(came)} of {COMMANDS * STANDINGS} commands by standings"
     yield f"hostile lines, {all_of_them}, {rounds} rounds: {count} commands, {slices} slices\n"
 

@@ -5,7 +5,7 @@ import subprocess
 from types import TracebackType
 from typing import Self
 
-from tests.program import difference, mark_behind, run
+from tests.program import difference, sync_line, run
 
 DATA = pathlib.Path(__file__).parent / "data"
 IMAGES = [f"{name}={name}" for name in ("good", "short", "sortgcc")]
@@ -31,20 +31,20 @@ class PrivateMachine:
         self._size += len(line)
         self._is_idle = False
         if self._size > MOST_PENDING:
-            self.carry_out()
+            self.execute()
         return answer
 
-    def carry_out(self) -> None:
+    def execute(self) -> None:
         """Execute all queued lines."""
         assert self._process.stdin and self._process.stdout
-        lines = (part for line, _ in self._pending for part in (line, mark_behind(line)[0]))
+        lines = (part for line, _ in self._pending for part in (line, sync_line(line)[0]))
         self._process.stdin.write("".join(f"{line}\n" for line in lines).encode("latin-1"))
         self._process.stdin.flush()
         for line, answer in self._pending:
-            end = f"{mark_behind(line)[1]}\n".encode("latin-1")
-            while (told := self._process.stdout.readline()) != end:
-                assert told.endswith(b"\n"), "a private machine has ended"
-                answer.append(told.decode("latin-1"))
+            end = f"{sync_line(line)[1]}\n".encode("latin-1")
+            while (output := self._process.stdout.readline()) != end:
+                assert output.endswith(b"\n"), "a private machine has ended"
+                answer.append(output.decode("latin-1"))
         self._pending, self._size = [], 0
 
     def slice(self) -> list[str] | None:
@@ -52,14 +52,14 @@ class PrivateMachine:
         if self._is_idle:
             return None
         answer = self.tell(f"* run {self._user}")
-        self.carry_out()
+        self.execute()
         *stop, granted = answer
         self._is_idle = bool(stop) or granted == "* granted 0\n"
         return None if granted == "* granted 0\n" else stop
 
     def end(self) -> None:
         """End the process after executing all queued lines."""
-        self.carry_out()
+        self.execute()
         self._process.communicate()
 
 
@@ -103,12 +103,12 @@ class Machines:
 
     def slices_in_turn(self, count: int) -> None:
         """The operator grants up to this number of slices in turn."""
-        told: list[str] = []
+        collected: list[str] = []
         granted = 0
         while granted < count and (stop := self._turn()) is not None:
-            told += stop
+            collected += stop
             granted += 1
-        self._grant(f"* slices {count}", told, granted)
+        self._grant(f"* slices {count}", collected, granted)
 
     def run(self, user: int) -> None:
         """The operator grants a slice to a user, out of turn."""
@@ -118,10 +118,10 @@ class Machines:
     def difference(self) -> tuple[str, str]:
         """The answers of the machine with all users, and the first difference from the expected ones."""
         for machine in self._private.values():
-            machine.carry_out()
+            machine.execute()
         script = "".join(f"{line}\n" for line in self._script)
-        told = run(self._program, ["--quantum", str(self._quantum), "/dev/stdin", *IMAGES], script, DATA).stdout
-        return told, difference(told, "".join(part for answer in self._wanted for part in answer))
+        output = run(self._program, ["--quantum", str(self._quantum), "/dev/stdin", *IMAGES], script, DATA).stdout
+        return output, difference(output, "".join(part for answer in self._wanted for part in answer))
 
     def _turn(self) -> list[str] | None:
         """A slice of the first user whose program runs, behind the one whose turn was last. None if there is none."""
@@ -132,10 +132,10 @@ class Machines:
                 return stop
         return None
 
-    def _grant(self, line: str, told: list[str], granted: int) -> None:
+    def _grant(self, line: str, answer: list[str], granted: int) -> None:
         """An operator's line that grants slices, and the answers."""
         self.slices += granted
-        self._add(line, [*told, f"* granted {granted}\n"])
+        self._add(line, [*answer, f"* granted {granted}\n"])
 
     def _add(self, line: str, wanted: list[str]) -> None:
         """A line of the script, and its answer."""

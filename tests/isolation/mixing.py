@@ -37,6 +37,6 @@ def compare(program: pathlib.Path, grammar: Grammar, quantum: int) -> tuple[str,
                 if command is not None:
                     machines.command(user, command)
         machines.show(commands("everything"))
-        told, differs = machines.difference()
+        shown, differs = machines.difference()
         assert not differs, f"slices of {quantum}: {differs}"
-        return f"slices of {quantum}: {machines.commands} commands, {machines.slices} slices\n", told
+        return f"slices of {quantum}: {machines.commands} commands, {machines.slices} slices\n", shown

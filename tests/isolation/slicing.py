@@ -38,11 +38,11 @@ class Counts:
     stops: int = 0
     faults: int = 0
 
-    def add(self, told: str) -> None:
+    def add(self, printed: str) -> None:
         """Counts the slices of some runs, by their answers."""
-        self.slices += sum(map(int, re.findall(r"\n\* granted (\d+)", told)))
-        self.stops += sum(told.count(f"\n1 {reason} ") for reason in ("break", "ebreak", "exit", "outfull", "fault"))
-        self.faults += told.count("\n1 fault ")
+        self.slices += sum(map(int, re.findall(r"\n\* granted (\d+)", printed)))
+        self.stops += sum(printed.count(f"\n1 {reason} ") for reason in ("break", "ebreak", "exit", "outfull", "fault"))
+        self.faults += printed.count("\n1 fault ")
 
 
 def compare_program(program: pathlib.Path, grammar: Grammar, name: str) -> str:
@@ -52,9 +52,9 @@ def compare_program(program: pathlib.Path, grammar: Grammar, name: str) -> str:
         before = grammar.text(Draws(seed), name).split("\n")
         wanted = _runs(program, before, 1, counts)
         for quantum in range(2, LONGEST + 1):
-            for place, told in enumerate(_runs(program, before, quantum, counts)):
+            for place, expected in enumerate(_runs(program, before, quantum, counts)):
                 counts.runs += 1
-                differs = difference(told, wanted[place * quantum])
+                differs = difference(expected, wanted[place * quantum])
                 assert not differs, f"{name}, seed {seed}, {place} slices of {quantum} (0: all): {differs}"
     return f"{name}: {counts.runs} runs, {counts.slices} slices, {counts.stops} stops, {counts.faults} faults\n"
 
@@ -64,12 +64,12 @@ def _runs(program: pathlib.Path, before: list[str], quantum: int, counts: Counts
     after = (DATA / "leaving").read_text("ascii").splitlines()
     scripts = [_whole(quantum), *(["1 go", f"* slices {slices}"] for slices in range(1, LONGEST // quantum + 1))]
     lines = [line for script in scripts for line in (*_commands(before), *script, *_commands(after))]
-    told = run(program, ["--quantum", str(quantum)], "".join(f"{line}\n" for line in lines), DATA).stdout
-    counts.add(told)
-    *runs, rest = told.split("\n1 left\n")
+    expected = run(program, ["--quantum", str(quantum)], "".join(f"{line}\n" for line in lines), DATA).stdout
+    counts.add(expected)
+    *runs, rest = expected.split("\n1 left\n")
     assert len(runs) == len(scripts) and not rest, "a run doesn't come to its end"
     assert runs[0].count("\n* granted 0\n* granted 0\n") >= EARLY_STOPS + LATE_STOPS, "a program doesn't stop"
-    return [re.sub(r"\n\* granted \d+", "", told) for told in runs]
+    return [re.sub(r"\n\* granted \d+", "", expected) for expected in runs]
 
 
 def _commands(lines: list[str] | tuple[str, ...]) -> Iterator[str]:

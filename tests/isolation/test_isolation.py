@@ -17,5 +17,5 @@ def test_slices_of_each_length_print_the_same(place: int, name: str) -> None:
 
 
 def test_eight_users_print_the_same_as_private_machines() -> None:
-    told = difference("".join(eight_users(built(), HOSTILE_ROUNDS)), "".join(STORED[len(PROGRAMS) :]))
-    assert not told, told
+    shown = difference("".join(eight_users(built(), HOSTILE_ROUNDS)), "".join(STORED[len(PROGRAMS) :]))
+    assert not shown, shown

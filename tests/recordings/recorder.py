@@ -66,8 +66,8 @@ def record(folder: pathlib.Path, *words: object, more: Sequence[int] = (), count
     file.unlink(missing_ok=True)
     command = [str(built_recorder()), *(["--counts", "counts"] if counts else []), *map(str, words)]
     ran = subprocess.run(command, cwd=folder, capture_output=True, check=False, pass_fds=more)
-    told = file.read_text("ascii") if file.exists() else ""
-    return Recorded(ran.stdout, ran.stderr.decode(), ran.returncode, told)
+    reply = file.read_text("ascii") if file.exists() else ""
+    return Recorded(ran.stdout, ran.stderr.decode(), ran.returncode, reply)
 
 
 def record_log(folder: pathlib.Path, *words: object) -> RecordedLog:

@@ -7,7 +7,7 @@ from dataclasses import dataclass, replace
 
 from support.elements import elements_of
 from tests.recordings.recorder import Counts
-from vecmon_lab.guest.changes import Carried, Stepper
+from vecmon_lab.guest.changes import Retired, Stepper
 from vecmon_lab.guest.guest import started
 from vecmon_lab.instructions.accesses import REGISTER_BYTES
 from vecmon_lab.instructions.words import VECTOR_ACCESSES
@@ -26,15 +26,15 @@ def stepped(image: pathlib.Path, policy: str = "keep", most: int | None = None) 
         stepper, end = Stepper(guest), ""
         while not end and instructions != most:
             found, v0 = stepper.registers.control, bytes(stepper.registers.v[:REGISTER_BYTES])
-            carried = stepper.step()
-            end = f"{carried.stop}" if carried.stop else ""
-            if carried.stop is None or carried.stop.kind == "exit":
+            retired = stepper.step()
+            end = f"{retired.stop}" if retired.stop else ""
+            if retired.stop is None or retired.stop.kind == "exit":
                 instructions += 1
-                numbers, has_elements = _numbers(carried, found, stepper.registers.control.vl, v0)
-                key = carried.pc, carried.word
+                numbers, has_elements = _numbers(retired, found, stepper.registers.control.vl, v0)
+                key = retired.pc, retired.word
                 words[key] = tuple(map(sum, zip(words.get(key, (0,) * 5), numbers)))
                 lengths.update([(found.vtype, found.vl)] if has_elements else [])
-                calls.update([(carried.pc, guest.pc)] if _links(carried.word) else [])
+                calls.update([(retired.pc, guest.pc)] if _links(retired.word) else [])
         end = end or f"running pc={guest.pc:016x}"
         ticks = sum(numbers[1] for numbers in words.values())
         return Counts(words, lengths, calls, end, instructions, ticks), guest.output()
@@ -60,27 +60,27 @@ def stepped_changes(image: pathlib.Path, places: Sequence[Place], most: int) -> 
         held = [guest.peek(place.address, place.length) for place in places]
         for number in range(1, most + 1):
             found, v0 = stepper.registers.control, bytes(stepper.registers.v[:REGISTER_BYTES])
-            carried = stepper.step()
-            ticks += _numbers(carried, found, stepper.registers.control.vl, v0)[0][1]
+            retired = stepper.step()
+            ticks += _numbers(retired, found, stepper.registers.control.vl, v0)[0][1]
             for index, place in enumerate(places):
                 now = guest.peek(place.address, place.length)
                 if now != held[index]:
                     change = f"{place.address:016x} {held[index].hex()} {now.hex()}"
-                    lines.append(f"{number} {ticks} {carried.pc:016x} {change}")
+                    lines.append(f"{number} {ticks} {retired.pc:016x} {change}")
                 held[index] = now
-            if carried.stop:
+            if retired.stop:
                 break
         return ticks, lines
 
 
-def _numbers(carried: Carried, found: ControlRegisters, vl: int, v0: bytes) -> tuple[tuple[int, ...], bool]:
+def _numbers(retired: Retired, found: ControlRegisters, vl: int, v0: bytes) -> tuple[tuple[int, ...], bool]:
     """Once, ticks, and elements, by what an instruction found and the length that it left; and whether it has any.
 
     A load or store takes a tick for each element of its body, and a fault-only-first load one for the element that it
     tried in vain.
     """
-    is_access = carried.word & 0x7F in VECTOR_ACCESSES
-    elements = elements_of(carried.word, replace(found, vl=vl) if is_access else found, v0)
+    is_access = retired.word & 0x7F in VECTOR_ACCESSES
+    elements = elements_of(retired.word, replace(found, vl=vl) if is_access else found, v0)
     if elements is None:
         return (1, 1, 0, 0, 0), False
     ticks = max(1, len(elements.active) + elements.masked + (vl < found.vl)) if is_access else 1

@@ -6,7 +6,7 @@ import pytest
 
 from tests.recordings.recorder import Recorded, record
 from tests.recordings.stepping import Place, stepped_changes
-from tests.recordings.test_beginning import WRITE_AND_EXIT, code
+from tests.recordings.test_initial_state import WRITE_AND_EXIT, code
 from tests.recordings.test_counts import IMAGES, MASKED_VECTORS
 from tests.recordings.test_refusals import GOOD
 
@@ -22,7 +22,7 @@ def watched(folder: pathlib.Path, places: list[str], *words: object) -> tuple[Re
     return ran, (folder / "changes").read_text("ascii").splitlines()
 
 
-def lay(folder: pathlib.Path, words: tuple[int, ...], registers: str) -> list[str]:
+def write_inputs(folder: pathlib.Path, words: tuple[int, ...], registers: str) -> list[str]:
     """Files of a program at 1000, where it begins, and of two pages from 2000 on; and the recorder's words."""
     (folder / "code").write_bytes(code(*words))
     (folder / "pages").write_bytes(bytes(8192))
@@ -32,7 +32,7 @@ def lay(folder: pathlib.Path, words: tuple[int, ...], registers: str) -> list[st
 
 def test_overlapping_places_across_page_are_all_reported(tmp_path: pathlib.Path) -> None:
     """sw x10, 0(x11) twice, the second time without a change; sb x0, 1(x11); and an ebreak."""
-    program = lay(tmp_path, (0x00A5A023, 0x00A5A023, 0x000580A3, 0x00100073), "x10 44332211\nx11 2ffe\n")
+    program = write_inputs(tmp_path, (0x00A5A023, 0x00A5A023, 0x000580A3, 0x00100073), "x10 44332211\nx11 2ffe\n")
     ran, lines = watched(tmp_path, ["2ffc:8", "2fff:2", "2000:4", "3000:1"], *program)
     assert (ran.status, ran.stdout, ran.stderr) == (0, b"", "")
     first, third = "1 1 0000000000001000", "3 3 0000000000001008"
@@ -51,7 +51,7 @@ def test_store_of_masked_sum_changes_watched_places(tmp_path: pathlib.Path) -> N
     """Elements 0 and 2 of v2 are the sums of v4 and v6, and its others are what they were; all five are stored. x10 is 5 at the exit."""
     words = [number.to_bytes(4, "little").hex() for number in range(1, 9)]
     registers = f"x11 2000\nv2 {'ee' * 32}\nv4 {''.join(words)}\nv6 {''.join(words)}\n"
-    ran, lines = watched(tmp_path, ["2000:14", "2013:3"], *lay(tmp_path, MASKED_VECTORS, registers))
+    ran, lines = watched(tmp_path, ["2000:14", "2013:3"], *write_inputs(tmp_path, MASKED_VECTORS, registers))
     assert ran.status == 0
     stored = "02000000" + "eeeeeeee" + "06000000" + "eeeeeeee" * 2
     assert lines == [
@@ -78,7 +78,7 @@ def test_faulting_store_reports_elements_before_fault(
     """
     groups = ["".join(f"{first + index:02x}" * 4 for index in range(8)) for first in (1, 0x11)]
     registers = f"x11 {address}\nv4 {groups[0]}\nv5 {groups[1]}\n"
-    program = lay(tmp_path, (0xCD047057, store), registers)  # vsetivli x0, 8, e32, m1, ta, ma
+    program = write_inputs(tmp_path, (0xCD047057, store), registers)  # vsetivli x0, 8, e32, m1, ta, ma
     ran, lines = watched(tmp_path, ["3ff0:16"], "--log", "log", "--to", 9, *program)
     end = "fault cause=7 pc=0000000000001004 value=0000000000004000 1 1"
     assert ran.status == 0
@@ -89,7 +89,7 @@ def test_faulting_store_reports_elements_before_fault(
 
 def test_changes_need_no_counts(tmp_path: pathlib.Path) -> None:
     """The last line has the same numbers, also where the last instruction isn't counted."""
-    program = lay(tmp_path, (0x00A5A023, 0x00100073), "x10 1\nx11 2000\n")
+    program = write_inputs(tmp_path, (0x00A5A023, 0x00100073), "x10 1\nx11 2000\n")
     with_counts = watched(tmp_path, ["2000:1"], *program)[1]
     (tmp_path / "changes").unlink()
     ran = record(tmp_path, "--watch", "2000:1", "--changes", "changes", *program, counts=False)
@@ -99,7 +99,7 @@ def test_changes_need_no_counts(tmp_path: pathlib.Path) -> None:
 
 
 def test_calls_change_nothing(tmp_path: pathlib.Path) -> None:
-    ran, lines = watched(tmp_path, ["2000:20"], *lay(tmp_path, WRITE_AND_EXIT, "x10 1\nx11 2000\nx12 8\n"))
+    ran, lines = watched(tmp_path, ["2000:20"], *write_inputs(tmp_path, WRITE_AND_EXIT, "x10 1\nx11 2000\nx12 8\n"))
     assert (ran.stdout, lines) == (bytes(8), ["exit 0 pc=0000000000001010 5 5"])
 
 
@@ -135,20 +135,20 @@ def test_refusals(tmp_path: pathlib.Path, words: list[str], status: int, message
 
 
 def test_unwritable_changes_file_is_refused(tmp_path: pathlib.Path) -> None:
-    program = lay(tmp_path, (0x00A5A023, 0x00100073), "x10 1\nx11 2000\n")
+    program = write_inputs(tmp_path, (0x00A5A023, 0x00100073), "x10 1\nx11 2000\n")
     ran = record(tmp_path, "--watch", "2000:1", "--changes", "/dev/full", *program)
     assert (ran.status, ran.stderr) == (5, "vecmon-record: cannot write changes\n")
     ran = record(tmp_path, "--watch", "2000:1", "--changes", "/", *program)
     assert (ran.status, ran.stderr) == (5, "vecmon-record: cannot write /\n")
 
 
-@pytest.mark.parametrize("asked, written, told", [(0x100, 256, 0), (0x101, 256, 1), (0x2000, 256, 1), (0, 0, 0)])
-def test_partial_write_call_is_reported(tmp_path: pathlib.Path, asked: int, written: int, told: int) -> None:
+@pytest.mark.parametrize("asked, written, expected", [(0x100, 256, 0), (0x101, 256, 1), (0x2000, 256, 1), (0, 0, 0)])
+def test_partial_write_call_is_reported(tmp_path: pathlib.Path, asked: int, written: int, expected: int) -> None:
     """A call writes at most 256 bytes. A call that fails writes nothing, and isn't listed."""
-    program = lay(tmp_path, WRITE_AND_EXIT, f"x10 1\nx11 2000\nx12 {asked:x}\n")
+    program = write_inputs(tmp_path, WRITE_AND_EXIT, f"x10 1\nx11 2000\nx12 {asked:x}\n")
     ran = record(tmp_path, *program)
     assert (ran.status, ran.stdout) == (0, bytes(written))
-    text = f"vecmon-record: calls that wrote less than they were asked to: {told}\n"
-    assert ran.stderr == (text if told else "")
-    failed = record(tmp_path, *lay(tmp_path, WRITE_AND_EXIT, f"x10 1\nx11 5000\nx12 {asked:x}\n"))
+    text = f"vecmon-record: calls that wrote less than they were asked to: {expected}\n"
+    assert ran.stderr == (text if expected else "")
+    failed = record(tmp_path, *write_inputs(tmp_path, WRITE_AND_EXIT, f"x10 1\nx11 5000\nx12 {asked:x}\n"))
     assert (failed.status, failed.stdout, failed.stderr) == (0, b"", "")

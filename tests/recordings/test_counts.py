@@ -28,7 +28,7 @@ MASKED_VECTORS = (0x00500513, 0x010572D7, 0x5E02B057, 0x00430157, 0x0205E127, 0x
 li x17, 93; ecall. Of the mask's bits 0 to 4 those of elements 0 and 2 are set."""
 
 
-def lay(folder: pathlib.Path, words: tuple[int, ...]) -> list[str]:
+def write_inputs(folder: pathlib.Path, words: tuple[int, ...]) -> list[str]:
     """Files of a program at 1000, where it begins, and of a page at 2000, to which x11 leads; and the recorder's words."""
     (folder / "code").write_bytes(b"".join(word.to_bytes(4, "little") for word in words))
     (folder / "page").write_bytes(bytes(4096))
@@ -38,7 +38,7 @@ def lay(folder: pathlib.Path, words: tuple[int, ...]) -> list[str]:
 
 @pytest.mark.parametrize("name, words", [("scalar_loop", SCALAR_LOOP), ("masked_vectors", MASKED_VECTORS)])
 def test_counts_equal_hand_worked_counts(tmp_path: pathlib.Path, name: str, words: tuple[int, ...]) -> None:
-    ran = record(tmp_path, *lay(tmp_path, words))
+    ran = record(tmp_path, *write_inputs(tmp_path, words))
     assert (ran.status, ran.stdout, ran.stderr) == (0, b"", "")
     assert read_counts(ran.counts) == read_counts((HERE / "data" / name).read_text("ascii"))
 
@@ -63,18 +63,18 @@ def test_addresses_equal_those_qemu_executes(tmp_path: pathlib.Path, image: path
     subprocess.run(command, cwd=tmp_path, stdout=subprocess.DEVNULL, check=False)
     logged = re.findall(r"^Trace \d+: .*?/([0-9a-f]{16})/", (tmp_path / "log").read_text("ascii"), re.MULTILINE)
     counts = read_counts(record(tmp_path, "image").counts)
-    carried = Counter[int]()
+    retired = Counter[int]()
     for (pc, _), numbers in counts.words.items():
-        carried[pc] += numbers[0]
+        retired[pc] += numbers[0]
     if counts.end.startswith("fault"):
         assert f" pc={logged.pop()} " in counts.end
     assert counts.instructions == len(logged)
-    assert carried == Counter(int(pc, 16) for pc in logged)
+    assert retired == Counter(int(pc, 16) for pc in logged)
 
 
 def test_the_first_ticks_of_a_run(tmp_path: pathlib.Path) -> None:
     """The last instruction may take more than are left: a store of five elements has one tick of five."""
-    words = lay(tmp_path, MASKED_VECTORS)
+    words = write_inputs(tmp_path, MASKED_VECTORS)
     stored = read_counts((HERE / "data/masked_vectors").read_text("ascii"))
     for ticks, instructions, spent in [(1, 1, 1), (4, 4, 4), (5, 5, 9), (9, 5, 9), (10, 6, 10), (11, 7, 11)]:
         counts = read_counts(record(tmp_path, "--ticks", ticks, *words).counts)

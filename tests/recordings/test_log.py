@@ -6,8 +6,8 @@ import pytest
 
 from tests.recordings.log_lines import LogLine, Replayed, bytes_stored, read_log
 from tests.recordings.recorder import record, record_log
-from tests.recordings.test_counts import IMAGES, MASKED_VECTORS, MOST, SCALAR_LOOP, lay
-from vecmon_lab.guest.changes import Carried, MemoryChange, Stepper
+from tests.recordings.test_counts import IMAGES, MASKED_VECTORS, MOST, SCALAR_LOOP, write_inputs
+from vecmon_lab.guest.changes import Retired, MemoryChange, Stepper
 from vecmon_lab.guest.guest import started
 
 HERE = pathlib.Path(__file__).parent
@@ -19,32 +19,32 @@ def unlike(lines: list[LogLine], stepper: Stepper) -> list[str]:
     found = stepper.registers.copy()
     replayed, faults = Replayed(list(found.x), bytearray(found.v), found.control), list[str]()
     for number, line in enumerate(lines, 1):
-        carried = stepper.step()
+        retired = stepper.step()
         if number % LOOKS == 0:
             stepper.look()
         replayed.apply(line)
         now = stepper.registers
-        told = [
-            ("place", (line.pc, line.word), (carried.pc, carried.word)),
+        expected = [
+            ("place", (line.pc, line.word), (retired.pc, retired.word)),
             ("x", replayed.x, list(now.x)),
             ("v", replayed.v, now.v),
             ("control", replayed.control, now.control),
-            ("memory", missing(line, carried), []),
+            ("memory", missing(line, retired), []),
         ]
         faults += [
-            f"{number}: {name} of {carried.text} at {line.pc:x}: {here} and not {there}"
-            for name, here, there in told
+            f"{number}: {name} of {retired.text} at {line.pc:x}: {here} and not {there}"
+            for name, here, there in expected
             if here != there
         ]
     return faults
 
 
-def missing(line: LogLine, carried: Carried) -> list[int]:
+def missing(line: LogLine, retired: Retired) -> list[int]:
     """The addresses of bytes that changed otherwise than the line says."""
     stored = dict(bytes_stored(line))
     changed = {
         change.address + place: byte
-        for change in carried.changes
+        for change in retired.changes
         if isinstance(change, MemoryChange)
         for place, byte in enumerate(change.after)
     }
@@ -63,13 +63,13 @@ def test_log_lines_give_registers_of_monitor_steps(tmp_path: pathlib.Path, image
 
 @pytest.mark.parametrize("name, words", [("scalar_loop", SCALAR_LOOP), ("masked_vectors", MASKED_VECTORS)])
 def test_log_lines_equal_hand_worked_lines(tmp_path: pathlib.Path, name: str, words: tuple[int, ...]) -> None:
-    ran = record_log(tmp_path, "--ticks", 1000, *lay(tmp_path, words))
+    ran = record_log(tmp_path, "--ticks", 1000, *write_inputs(tmp_path, words))
     assert (ran.status, ran.stdout, ran.stderr) == (0, b"", "")
     assert ran.log == (HERE / "data" / f"{name}.log").read_text("ascii")
 
 
 def test_window_has_lines_of_its_instruction_numbers(tmp_path: pathlib.Path) -> None:
-    words = lay(tmp_path, SCALAR_LOOP)
+    words = write_inputs(tmp_path, SCALAR_LOOP)
     *lines, end = (HERE / "data/scalar_loop.log").read_text("ascii").splitlines()
     for first, last in [(1, 1), (2, 5), (13, 13), (13, 2**63), (14, 20)]:
         ran = record_log(tmp_path, "--from", first, "--to", last, *words)
@@ -78,7 +78,7 @@ def test_window_has_lines_of_its_instruction_numbers(tmp_path: pathlib.Path) -> 
 
 def test_log_counts_and_changes_together(tmp_path: pathlib.Path) -> None:
     """All three records of a run, each as it is alone."""
-    words, log = lay(tmp_path, MASKED_VECTORS), (HERE / "data/masked_vectors.log").read_text("ascii")
+    words, log = write_inputs(tmp_path, MASKED_VECTORS), (HERE / "data/masked_vectors.log").read_text("ascii")
     watch = ["--watch", "2000:4", "--changes", "changes"]
     for more in (["--counts", "counts"], watch, ["--counts", "counts", *watch]):
         assert record_log(tmp_path, "--to", 100, *more, *words).log == log
@@ -88,7 +88,7 @@ def test_log_counts_and_changes_together(tmp_path: pathlib.Path) -> None:
 
 def test_faulting_instruction_has_no_log_line(tmp_path: pathlib.Path) -> None:
     """li x5, 3, and then a load from an address without memory."""
-    ran = record_log(tmp_path, "--to", 9, *lay(tmp_path, (0x00300293, 0x0002B303)))
+    ran = record_log(tmp_path, "--to", 9, *write_inputs(tmp_path, (0x00300293, 0x0002B303)))
     first, end = ran.log.splitlines()
     assert first == "core   0: 0 0x0000000000001000 (0x00300293) x5  0x0000000000000003"
     assert end.startswith("fault cause=5 pc=0000000000001004 ") and end.endswith(" 1 1")
@@ -114,7 +114,7 @@ def test_bad_log_options_are_refused(tmp_path: pathlib.Path, words: list[str], m
 
 
 def test_log_to_device_needs_no_end(tmp_path: pathlib.Path) -> None:
-    words = lay(tmp_path, SCALAR_LOOP)
+    words = write_inputs(tmp_path, SCALAR_LOOP)
     ran = record(tmp_path, "--log", "/dev/stdout", *words, counts=False)
     assert ran.stdout.decode() == (HERE / "data/scalar_loop.log").read_text("ascii")
     ran = record(tmp_path, "--log", "/dev/full", *words, counts=False)

@@ -17,7 +17,7 @@ def test_examples(tmp_path: pathlib.Path) -> None:
     (tmp_path / "vecmon-record").symlink_to(built_recorder())
     environment = {**os.environ, "PATH": f"{tmp_path}:{os.environ['PATH']}"}
     for session in SESSIONS:
-        told = ""
+        output = ""
         for line in re.findall(r"^\$ (.*)\n", session, re.MULTILINE):
             ran = subprocess.run(
                 line,
@@ -28,8 +28,8 @@ def test_examples(tmp_path: pathlib.Path) -> None:
                 stderr=subprocess.STDOUT,
                 check=False,
             )
-            told += f"$ {line}\n{ran.stdout.decode()}"
-        assert not difference(told, session), difference(told, session)
+            output += f"$ {line}\n{ran.stdout.decode()}"
+        assert not difference(output, session), difference(output, session)
 
 
 def test_there_are_examples() -> None:

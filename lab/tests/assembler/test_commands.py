@@ -29,9 +29,9 @@ def test_the_pages_have_the_tables(name: str) -> None:
 @pytest.mark.parametrize("name, section", [(name, section) for name, sections in PAGES.items() for section in sections])
 def test_a_row_that_is_changed_is_made_again(name: str, section: str) -> None:
     page = (DOCS / name).read_text("utf-8")
-    begin = page.index(f"# {section}\n")
-    row = re.compile(r"^\| (?:`|E\d\d).*\n", re.MULTILINE).search(page, begin)
-    assert row and "\n#" not in page[begin + len(section) : row.start()]
+    start = page.index(f"# {section}\n")
+    row = re.compile(r"^\| (?:`|E\d\d).*\n", re.MULTILINE).search(page, start)
+    assert row and "\n#" not in page[start + len(section) : row.start()]
     without = page[: row.start()] + page[row.end() :]
     changed = page[: row.start()] + row[0].replace(" | ", " | odd ", 1) + page[row.end() :]
     assert page not in (without, changed)
@@ -39,8 +39,8 @@ def test_a_row_that_is_changed_is_made_again(name: str, section: str) -> None:
 
 
 def test_the_machine_takes_what_is_named(session: Session, program: pathlib.Path) -> None:
-    told = subprocess.run([program, "--help"], stdout=subprocess.PIPE, check=True).stdout.decode("ascii")
-    named = set(re.findall("[a-z]+", told))
+    help_text = subprocess.run([program, "--help"], stdout=subprocess.PIPE, check=True).stdout.decode("ascii")
+    named = set(re.findall("[a-z]+", help_text))
     session.do("1 enter")
     for name in set(COMMANDS) - OF_THE_CONSOLE:
         line = name if name[0] == "*" else f"1 {name}"
@@ -56,7 +56,7 @@ def test_each_refusal_has_a_meaning() -> None:
 
 
 @pytest.mark.parametrize(
-    "name, told",
+    "name, expected",
     [
         ("peek", ["peek ADDR N: prints 1 to 256 bytes from ADDR", "  E11: an address isn't mapped"]),
         ("* list", ["* list: prints each user's state"]),
@@ -65,8 +65,8 @@ def test_each_refusal_has_a_meaning() -> None:
         ("dance", ["there is no command dance; help lists them"]),
     ],
 )
-def test_help(name: str, told: list[str]) -> None:
-    assert help_on(name) == told
+def test_help(name: str, expected: list[str]) -> None:
+    assert help_on(name) == expected
 
 
 def test_help_lists_the_commands() -> None:
@@ -76,7 +76,7 @@ def test_help_lists_the_commands() -> None:
 
 
 @pytest.mark.parametrize(
-    "line, told",
+    "line, expected",
     [
         ("1 dance", ["E03: there is no command dance"]),
         ("1 regs 5", ["E04: 5 is a word too many; the form is regs"]),
@@ -108,9 +108,9 @@ def test_help_lists_the_commands() -> None:
         ("1 asm 10000 jmp 8", ["jmp 8", "^", "E15: there is no instruction jmp; near it is jal"]),
     ],
 )
-def test_refusals_in_words(session: Session, line: str, told: list[str]) -> None:
+def test_refusals_in_words(session: Session, line: str, expected: list[str]) -> None:
     for before in ("1 enter", "1 map 10000 1 rwx"):
         session.do(before)
     answer = read(session.do(line))
     assert isinstance(answer, Refused)
-    assert refusal_in_words(line, answer) == told
+    assert refusal_in_words(line, answer) == expected

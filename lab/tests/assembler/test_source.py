@@ -234,9 +234,9 @@ def test_all_mistakes_are_told_in_order(program: pathlib.Path) -> None:
         j here
         nop, ,
         .align 2"""
-    told = [(each.line, each.message.split(" ")[0]) for each in all_mistakes(read_source(text), program)]
+    expected = [(each.line, each.message.split(" ")[0]) for each in all_mistakes(read_source(text), program)]
     words = ["there", "4096", "22222222222222222222", "an", "nowhere", "a1", "here", "an"]
-    assert told == [*zip([1, 2, 3, 4, 5, 6, 7, 9], words)]
+    assert expected == [*zip([1, 2, 3, 4, 5, 6, 7, 9], words)]
 
 
 def test_the_first_hundred_mistakes_are_told() -> None:
@@ -371,6 +371,6 @@ def test_lines_beside_words() -> None:
 
 def test_directives_are_known() -> None:
     for name in DIRECTIVES:
-        told = str(read_source(f"{name} 1, 2").mistakes)
-        assert "there is no directive" not in told, name
+        reply = str(read_source(f"{name} 1, 2").mistakes)
+        assert "there is no directive" not in reply, name
     assert ".frob" not in DIRECTIVES

@@ -64,12 +64,12 @@ def test_the_state_that_cannot_be_had(program: pathlib.Path) -> None:
         return Session(program, quantum=1)
 
     loop = ["map 10000 1 rwx", "asm 10000 addi x5, x5, 1", "asm 10004 jal x0, -4", "break 10004", "setpc 10000"]
-    begin = b"".join(b"1 %s\n" % line.encode() for line in ["enter", *loop, "go"])
+    start = b"".join(b"1 %s\n" % line.encode() for line in ["enter", *loop, "go"])
     for more, number in ((0, 7), (1, 7), (2, 9)):
-        script = begin + b"* slices 1\n" * more
+        script = start + b"* slices 1\n" * more
         assert checkpoint(opening, script, {}).number == number
     with pytest.raises(NoCheckpoint, match="about to stop at its breakpoint"):
-        whole_checkpoint(opening, begin + b"* slices 1\n", {})
+        whole_checkpoint(opening, start + b"* slices 1\n", {})
     with pytest.raises(NoCheckpoint, match="no line"):
         checkpoint(opening, b"", {})
 

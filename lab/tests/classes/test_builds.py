@@ -10,7 +10,7 @@ import zipfile
 import pytest
 
 from support.class_tabs import Tab, served
-from support.left_out import NO_SANDBOX, leave_out
+from support.skips import NO_SANDBOX, leave_out
 from support.places import DATA, EXAMPLES
 from vecmon_lab import LabError
 from vecmon_lab.classes.builds import Builds
@@ -51,8 +51,8 @@ async def test_a_kernel(tmp_path: pathlib.Path, builds: Builds) -> None:
     async with served(tmp_path / "class", builds=builds) as room:
         tab, teacher = await room.sit("A3"), await room.sit("teacher")
         assert tab.view["languages"] == [each.name for each in LANGUAGES] and not tab.view["no_c"]
-        told = await tab.ask("source", text=PLAIN_SUM, language=C)
-        assert (told["mistakes"], told["warnings"]) == ([], [])
+        reply = await tab.ask("source", text=PLAIN_SUM, language=C)
+        assert (reply["mistakes"], reply["warnings"]) == ([], [])
         state = tab.view["state"]
         assert any("total += from[i];" in line for line in state["lines"].values())
         assert any("vredsum" in text for text in state["code"].values()), "all of it is listed"
@@ -99,8 +99,8 @@ async def test_a_stock_assembler(tmp_path: pathlib.Path, builds: Builds) -> None
         await tab.ask("step-line")
         await tab.ask("step-line")
         assert tab.view["state"]["x"]["10"] == "6"
-        told = await tab.ask("source", text='nop\n.incbin "/etc/passwd"\n', language=STOCK)
-        assert [each["line"] for each in told["mistakes"]] == [2] and "/etc" not in str(told["mistakes"])
+        reply = await tab.ask("source", text='nop\n.incbin "/etc/passwd"\n', language=STOCK)
+        assert [each["line"] for each in reply["mistakes"]] == [2] and "/etc" not in str(reply["mistakes"])
         script, _ = await room.check_replay()
         assert b"root:".hex().encode() not in script
     assert (tmp_path / "class" / "A1.written.stock.s").read_text() == MACRO
@@ -108,8 +108,8 @@ async def test_a_stock_assembler(tmp_path: pathlib.Path, builds: Builds) -> None
         tab = await room.sit("A1")
         assert "error" not in await tab.ask("again") and len(tab.view["state"]["starts"]) == 4
         assert tab.view["against"] == []
-        told = await tab.ask("listings", text=EMPTY, language=C, other=0)
-        assert "options from the page's list" in told["error"]
+        reply = await tab.ask("listings", text=EMPTY, language=C, other=0)
+        assert "options from the page's list" in reply["error"]
 
 
 LOOPS = """\
@@ -176,12 +176,12 @@ async def test_messages(tmp_path: pathlib.Path, builds: Builds) -> None:
     async with served(tmp_path / "class", builds=builds) as room:
         tab = await room.sit("A1")
         text = "int main(void)\n{\n    int unused;\n    return missing;\n}\n"
-        told = await tab.ask("source", text=text, language=C)
-        assert [(each["line"], each["column"]) for each in told["mistakes"]] == [(4, 12)]
-        assert [(each["line"], each["column"]) for each in told["warnings"]] == []
+        reply = await tab.ask("source", text=text, language=C)
+        assert [(each["line"], each["column"]) for each in reply["mistakes"]] == [(4, 12)]
+        assert [(each["line"], each["column"]) for each in reply["warnings"]] == []
         assert tab.view["state"]["run"] == "absent"
-        told = await tab.ask("source", text=text.replace("missing", "0"), language=C)
-        assert [each["line"] for each in told["warnings"]] == [3] and not told["mistakes"]
+        reply = await tab.ask("source", text=text.replace("missing", "0"), language=C)
+        assert [each["line"] for each in reply["warnings"]] == [3] and not reply["mistakes"]
         assert tab.view["state"]["run"] == "stopped"
 
 
@@ -190,9 +190,9 @@ async def test_files_of_the_system_are_not_there(tmp_path: pathlib.Path, builds:
     async with served(tmp_path / "class", builds=builds) as room:
         tab = await room.sit("A1")
         for line in ("#include </etc/passwd>", '__asm__(".incbin \\"/etc/passwd\\"");', f'#include "{__file__}"'):
-            told = await tab.ask("source", text=f"{line}\n{EMPTY}", language=C)
-            assert told["mistakes"] and "root:" not in str(told) and "/etc" not in str(told["mistakes"])
-            assert str(pathlib.Path(__file__).parent) not in str(told["mistakes"])
+            reply = await tab.ask("source", text=f"{line}\n{EMPTY}", language=C)
+            assert reply["mistakes"] and "root:" not in str(reply) and "/etc" not in str(reply["mistakes"])
+            assert str(pathlib.Path(__file__).parent) not in str(reply["mistakes"])
         script, _ = await room.check_replay()
         assert b"root:".hex().encode() not in script and not script
 
@@ -233,7 +233,7 @@ async def test_what_is_too_large(tmp_path: pathlib.Path, clang: Compiler, builds
 
 
 @pytest.mark.parametrize(
-    "told",
+    "expected",
     [
         b"",
         b"[]",
@@ -248,9 +248,9 @@ async def test_what_is_too_large(tmp_path: pathlib.Path, clang: Compiler, builds
         b'{"messages": [], "image": {"entry": 0, "segments": [], "symbols": {}, "rows": [["0", 5, 5]]}}',
     ],
 )
-async def test_what_comes_from_the_sandbox_may_be_crafted(told: bytes) -> None:
+async def test_what_comes_from_the_sandbox_may_be_crafted(expected: bytes) -> None:
     with pytest.raises(LabError):
-        read_compiled_program(told)
+        read_compiled_program(expected)
 
 
 async def test_no_c_as_root(clang: Compiler, monkeypatch: pytest.MonkeyPatch) -> None:

@@ -68,11 +68,11 @@ async def test_the_limit_counts_from_the_place(tmp_path: pathlib.Path, monkeypat
     async with served(tmp_path / "class", exercises=DOUBLES) as room:
         tab = await room.sit("A1")
         assert room.members
-        async with room.members.checks._beside._places:
+        async with room.members.checks._workers._places:
             waiting = asyncio.create_task(check(tab))
             await asyncio.sleep(2.0)
             assert not waiting.done()
-            room.members.checks._beside._seconds = SECONDS  # as other tests may take all cores
+            room.members.checks._workers._seconds = SECONDS  # as other tests may take all cores
         shown = await waiting
     assert (shown["told"]["cases"], shown["tries"], shown["passed"]) == ([True] * 5, 1, True)
 

@@ -72,8 +72,8 @@ async def room(tmp_path: pathlib.Path, square: pathlib.Path, monkeypatch: pytest
 async def check(tab: Tab, name: str, text: str, language: int = 0) -> Any:
     """The messages about an answer."""
     before = tab.view["exercises"][name]
-    told = await tab.ask("check", exercise=name, text=text, language=language)
-    assert "error" not in told, told
+    reply = await tab.ask("check", exercise=name, text=text, language=language)
+    assert "error" not in reply, reply
     await tab.until(lambda view: any(view["exercises"][name][key] != before[key] for key in ("tries", "told")))
     return tab.view["exercises"][name]["told"]
 
@@ -85,11 +85,11 @@ async def test_a_seat_tries_until_it_passes(room: Served) -> None:
     assert (own["text"], own["cases"]) == ("Square `a1` into `a0`.", ["six", "another one"])
     assert own["starts"] == [{"text": "ret\n", "language": 0}]
     assert (own["hints"], own["tries"], own["told"], own["lesson"]) == ([], 0, {}, "")
-    told = await check(tab, "square", "addi a0, a1, 1\nret")
-    assert (told["cases"], told["number"], told["reason"]) == ([False, False], 0, "a0: expected 36, found 7")
-    assert told["given"] == [{"where": "a1 (x11)", "first": 0, "numbers": ["6"], "more": 0, "wrong": []}]
-    assert told["expected"] == [{"where": "a0 (x10)", "first": 0, "numbers": ["36"], "more": 0, "wrong": []}]
-    assert told["found"] == [{"where": "a0 (x10)", "first": 0, "numbers": ["7"], "more": 0, "wrong": [0]}]
+    reply = await check(tab, "square", "addi a0, a1, 1\nret")
+    assert (reply["cases"], reply["number"], reply["reason"]) == ([False, False], 0, "a0: expected 36, found 7")
+    assert reply["given"] == [{"where": "a1 (x11)", "first": 0, "numbers": ["6"], "more": 0, "wrong": []}]
+    assert reply["expected"] == [{"where": "a0 (x10)", "first": 0, "numbers": ["36"], "more": 0, "wrong": []}]
+    assert reply["found"] == [{"where": "a0 (x10)", "first": 0, "numbers": ["7"], "more": 0, "wrong": [0]}]
     assert tab.view["exercises"]["square"]["hints"] == ["multiply"]
     assert await check(tab, "square", RIGHT) == {"cases": [True, True]}
     assert tab.view["exercises"]["square"]["passed"] and not tab.view["exercises"]["square"]["checking"]
@@ -111,9 +111,9 @@ async def test_a_seat_tries_until_it_passes(room: Served) -> None:
 async def test_mistakes_of_form_are_no_try(room: Served, text: str, mistakes: list[tuple[int, int, str]]) -> None:
     """No try is counted or kept, no hint is due, and earlier messages to a seat stay."""
     tab = await room.sit("A1")
-    told = (await check(tab, "doubles", text))["mistakes"]
-    assert [(it["line"], it["column"]) for it in told] == [(line, column) for line, column, _ in mistakes]
-    assert all(it["message"].startswith(message) for it, (_, _, message) in zip(told, mistakes))
+    reply = (await check(tab, "doubles", text))["mistakes"]
+    assert [(it["line"], it["column"]) for it in reply] == [(line, column) for line, column, _ in mistakes]
+    assert all(it["message"].startswith(message) for it, (_, _, message) in zip(reply, mistakes))
     own = tab.view["exercises"]["doubles"]
     assert (own["tries"], own["hints"], own["lesson"], own["passed"]) == (0, [], "", False)
     assert not [*room.folder.glob("answers/*")]
@@ -126,14 +126,14 @@ async def test_mistakes_of_form_are_no_try(room: Served, text: str, mistakes: li
 async def test_rows_are_cut_at_the_same_place(room: Served) -> None:
     """Of long rows, some numbers are shown, expected and found next to each other; and how many more there are."""
     tab = await room.sit("A1")
-    told = await check(tab, "strip_mined_copy", (OURS / "strip_mined_copy" / "wrong" / "one_round.s").read_text())
-    rows = [told[key][-2] for key in ("given", "expected", "found")]
+    reply = await check(tab, "strip_mined_copy", (OURS / "strip_mined_copy" / "wrong" / "one_round.s").read_text())
+    rows = [reply[key][-2] for key in ("given", "expected", "found")]
     assert [(it["first"], len(it["numbers"]), it["more"]) for it in rows] == [(252, 21, 0), *[(252, 9, 0)] * 2]
     assert rows[0]["numbers"][:9] == rows[1]["numbers"] and rows[2]["wrong"] == [4, 5, 6, 7, 8]
-    told = await check(
+    reply = await check(
         tab, "strip_mined_copy", "vsetivli t0, 16, e8, m1, ta, ma\nvle8.v v8, (a1)\nvse8.v v8, (a0)\nret"
     )
-    rows = [told[key][-2] for key in ("given", "expected", "found")]
+    rows = [reply[key][-2] for key in ("given", "expected", "found")]
     assert [(it["first"], len(it["numbers"]), it["more"]) for it in rows] == [(0, 48, 225), *[(0, 48, 213)] * 2]
 
 
@@ -153,8 +153,8 @@ async def test_of_a_hidden_case_nothing_is_told(room: Served) -> None:
 
 async def test_what_a_good_answer_takes_is_told(room: Served) -> None:
     tab = await room.sit("A1")
-    told = await check(tab, "doubles", (OURS / "doubles" / "good.s").read_text())
-    assert told["taken"] == told["good"] == {"instructions": 10, "work": 69}  # 8 and 3 of 8 elements
+    reply = await check(tab, "doubles", (OURS / "doubles" / "good.s").read_text())
+    assert reply["taken"] == reply["good"] == {"instructions": 10, "work": 69}  # 8 and 3 of 8 elements
     long = await check(tab, "doubles", (OURS / "doubles" / "reference.s").read_text())
     assert long["cases"] == [False, True, True, False, True] and "takes more than 30 instructions" in long["reason"]
 
@@ -165,8 +165,8 @@ async def test_what_else_is_given_is_told(room: Served) -> None:
     assert (await check(tab, "square", "ret"))["notes"] == []
     anything = "All other registers hold anything."
     assert (await check(tab, "doubles", "ret"))["notes"] == [anything]
-    told = await check(tab, "doubles", (OURS / "doubles" / "wrong" / "always_eight.s").read_text())
-    assert told["notes"] == [
+    reply = await check(tab, "doubles", (OURS / "doubles" / "wrong" / "always_eight.s").read_text())
+    assert reply["notes"] == [
         anything, "Agnostic elements, of a tail or masked off, become all ones here: does the answer use one?"
     ]  # fmt: skip
 
@@ -235,9 +235,9 @@ async def test_the_teacher_has_a_table_and_all_answers(room: Served) -> None:
     for text in (WRONG, RIGHT, WRONG):
         await check(tab, "square", text)
     await teacher.until(lambda view: view["exercises"]["square"]["seats"].get("A3", {}).get("tries") == 3)
-    told = teacher.view["exercises"]["square"]
-    assert (told["title"], told["of"], set(told["seats"])) == ("=HYPERLINK(1) <b>", 2, {"A3"})
-    result = told["seats"]["A3"]
+    reply = teacher.view["exercises"]["square"]
+    assert (reply["title"], reply["of"], set(reply["seats"])) == ("=HYPERLINK(1) <b>", 2, {"A3"})
+    result = reply["seats"]["A3"]
     assert (result["tries"], result["passed"], result["best"]) == (3, 2, 2) and abs(result["time"] - time.time()) < 60
     for number, text in enumerate((WRONG, RIGHT, WRONG), 1):
         assert (await teacher.ask("answer", seat="A3", exercise="square", number=number))["text"] == text
@@ -288,12 +288,12 @@ async def test_bad_answers_cost_the_others_nothing(room: Served) -> None:
     checks = [asyncio.create_task(check(other, "square", HOSTILE[at % 4])) for at, other in enumerate(others)]
     waits = []
     while not all(each.done() for each in checks):
-        begin = time.monotonic()
+        start = time.monotonic()
         assert (await tab.do("step 1"))[0][0].startswith("stepped 1")
-        waits.append(time.monotonic() - begin)
+        waits.append(time.monotonic() - start)
         await asyncio.sleep(0.02)
     assert max(waits) < 2 and len(waits) > 5
-    assert not any([passes for told in await asyncio.gather(*checks) for passes in told["cases"]])
+    assert not any([passes for expected in await asyncio.gather(*checks) for passes in expected["cases"]])
 
 
 async def test_a_class_goes_on_with_its_exercises(tmp_path: pathlib.Path, square: pathlib.Path) -> None:
@@ -311,27 +311,27 @@ async def test_a_class_goes_on_with_its_exercises(tmp_path: pathlib.Path, square
 
 
 async def test_bad_exercises_are_told(tmp_path: pathlib.Path, square: pathlib.Path) -> None:
-    def begin(*folders: pathlib.Path) -> str:
+    def start(*folders: pathlib.Path) -> str:
         with pytest.raises(LabError) as raised:
             Class(Store(tmp_path / "class", find_program()), 5.0, exercises=folders)
         return str(raised.value)
 
     assert (
-        begin(pathlib.Path("strlen"), pathlib.Path("filtre")) == "exercise 'filtre' not found; did you mean 'filter'?"
+        start(pathlib.Path("strlen"), pathlib.Path("filtre")) == "exercise 'filtre' not found; did you mean 'filter'?"
     )
-    assert "an exercise has a name of its own" in begin(square, square)
-    assert "an exercise has a name of its own" in begin(square.rename(tmp_path / "a b"))
+    assert "an exercise has a name of its own" in start(square, square)
+    assert "an exercise has a name of its own" in start(square.rename(tmp_path / "a b"))
     (tmp_path / "a b").rename(square)
     (square / "reference.s").write_text("j .\n")
-    assert begin(square).endswith("100,000 ticks (an instruction takes at least one); it is at line 1")
+    assert start(square).endswith("100,000 ticks (an instruction takes at least one); it is at line 1")
 
 
 async def test_a_seat_answers_in_c(tmp_path: pathlib.Path, sandboxed_clang: Compiler, square: pathlib.Path) -> None:
     """Arguments and result are as in assembler; the script has nothing of it, and a class restores it."""
     async with served(tmp_path / "class", exercises=[square], builds=Builds(sandboxed_clang)) as room:
         tab, teacher = await room.sit("A1"), await room.sit("teacher")
-        told = await check(tab, "square", RIGHT_IN_C.replace("b * b", "a"), C)
-        assert told["cases"] == [False, False] and told["reason"] == "a0: expected 36, and it was left as it was"
+        reply = await check(tab, "square", RIGHT_IN_C.replace("b * b", "a"), C)
+        assert reply["cases"] == [False, False] and reply["reason"] == "a0: expected 36, and it was left as it was"
         wrong = RIGHT_IN_C.replace("b * b", "b +\n        b / *(volatile long *)b")
         assert (await check(tab, "square", wrong, PLAIN_C))["reason"].startswith("line 4: The load at 0x1")
         (status, page) = await room.get(tab.view["exercises"]["square"]["lesson"])
@@ -341,8 +341,8 @@ async def test_a_seat_answers_in_c(tmp_path: pathlib.Path, sandboxed_clang: Comp
         assert odd["warnings"] == [{"line": 3, "column": 10, "message": "unused variable 'c' [-Wunused-variable]"}]
         assert await check(tab, "square", RIGHT_IN_C, C) == {"cases": [True, True]}
         for number, (text, language) in [(2, (wrong, PLAIN_C)), (4, (RIGHT_IN_C, C))]:
-            told = await teacher.ask("answer", seat="A1", exercise="square", number=number)
-            assert (told["text"], told["language"]) == (text, language)
+            reply = await teacher.ask("answer", seat="A1", exercise="square", number=number)
+            assert (reply["text"], reply["language"]) == (text, language)
         assert not (await room.check_replay())[0]
     async with served(tmp_path / "class") as room:
         tab, teacher = await room.sit("A1"), await room.sit("teacher")
@@ -356,9 +356,9 @@ async def test_a_start_in_c(tmp_path: pathlib.Path, square: pathlib.Path) -> Non
     (square / "start.c").write_text(RIGHT_IN_C)
     (square / "exercise.toml").write_text(SQUARE.replace("start.s", "start.c"))
     async with served(tmp_path / "class", exercises=[square, pathlib.Path("doubles")]) as room:
-        told = (await room.sit("A1")).view["exercises"]
-        assert told["square"]["starts"] == [{"text": RIGHT_IN_C, "language": C}]
-        assert [start["language"] for start in told["doubles"]["starts"]] == [0, C]
+        expected = (await room.sit("A1")).view["exercises"]
+        assert expected["square"]["starts"] == [{"text": RIGHT_IN_C, "language": C}]
+        assert [start["language"] for start in expected["doubles"]["starts"]] == [0, C]
 
 
 @pytest.mark.parametrize(
@@ -381,11 +381,11 @@ async def test_mistakes_in_c_are_no_try(
     """They have their lines, and no path of the server's; files of the system aren't there."""
     async with served(tmp_path / "class", exercises=[square], builds=Builds(sandboxed_clang)) as room:
         tab = await room.sit("A1")
-        told = await check(tab, "square", text, C)
-        assert [*told] == ["mistakes"] and told["mistakes"][0]["line"] == line
-        assert told["mistakes"][0]["message"].startswith(message)
-        assert "root:" not in str(told) and "/etc" not in str(told) and str(tmp_path.parent) not in str(told)
-        assert str(pathlib.Path(__file__).parent) not in str(told)
+        reply = await check(tab, "square", text, C)
+        assert [*reply] == ["mistakes"] and reply["mistakes"][0]["line"] == line
+        assert reply["mistakes"][0]["message"].startswith(message)
+        assert "root:" not in str(reply) and "/etc" not in str(reply) and str(tmp_path.parent) not in str(reply)
+        assert str(pathlib.Path(__file__).parent) not in str(reply)
         own = tab.view["exercises"]["square"]
         assert (own["tries"], own["hints"], own["passed"]) == (0, [], False) and not [*room.folder.glob("answers/*")]
 
@@ -395,13 +395,15 @@ async def test_the_limits_of_an_exercise_hold_in_c(tmp_path: pathlib.Path, sandb
     folder = OURS / "saturating_sum"
     async with served(tmp_path / "class", exercises=[folder], builds=Builds(sandboxed_clang)) as room:
         tab = await room.sit("A1")
-        told = await check(tab, "saturating_sum", (folder / "reference.c").read_text(), C)
-        assert told["cases"] == [True, True, False, False, True]
-        assert "it takes more than 250 instructions" in told["reason"]
-        told = await check(tab, "saturating_sum", "void answer(void)\n{\n    for (;;)\n        ;\n}\n", C)
-        assert told["reason"].startswith("it hasn't ended after 20,000 ticks") and told["reason"].endswith("at line 3")
-        told = await check(tab, "saturating_sum", (folder / "good.c").read_text(), C)
-        assert all(told["cases"]) and told["taken"]["work"] == told["good"]["work"]
+        reply = await check(tab, "saturating_sum", (folder / "reference.c").read_text(), C)
+        assert reply["cases"] == [True, True, False, False, True]
+        assert "it takes more than 250 instructions" in reply["reason"]
+        reply = await check(tab, "saturating_sum", "void answer(void)\n{\n    for (;;)\n        ;\n}\n", C)
+        assert reply["reason"].startswith("it hasn't ended after 20,000 ticks") and reply["reason"].endswith(
+            "at line 3"
+        )
+        reply = await check(tab, "saturating_sum", (folder / "good.c").read_text(), C)
+        assert all(reply["cases"]) and reply["taken"]["work"] == reply["good"]["work"]
         assert "more than 8,192 bytes" in str(await check(tab, "saturating_sum", RIGHT_IN_C + "/" * 8192, C))
 
 

@@ -6,9 +6,9 @@ from vecmon_lab.classes.codes import CODE_LETTERS, Codes, new_code
 def test_codes() -> None:
     codes = Codes("AB", {"A1": "kept", "C1": "gone"})
     assert list(codes.codes) == ["teacher", "wall", *(f"{letter}{digit}" for letter in "AB" for digit in "12345678")]
-    assert codes.who("kept") == "A1" and codes.who(codes.codes["teacher"]) == "teacher"
-    assert [codes.who(code) for code in ("", "gone", None, 5, "é", "\ud800")] == [None] * 6
+    assert codes.owner("kept") == "A1" and codes.owner(codes.codes["teacher"]) == "teacher"
+    assert [codes.owner(code) for code in ("", "gone", None, 5, "é", "\ud800")] == [None] * 6
     codes.renew("A1")
-    assert codes.who("kept") is None and codes.who(codes.codes["A1"]) == "A1"
+    assert codes.owner("kept") is None and codes.owner(codes.codes["A1"]) == "A1"
     assert len(CODE_LETTERS) ** len(new_code()) > 1 << 64
     assert len({new_code() for _ in range(1000)}) == 1000

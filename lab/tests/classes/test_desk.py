@@ -66,14 +66,14 @@ def differences(sent: Sent, others: Sent) -> list[int]:
     views: list[Any] = [{}, {}]
     found = []
     for number, pair in enumerate(zip(sent, others, strict=True)):
-        told = []
+        expected = []
         for side, messages in enumerate(pair):
             for message in messages:
                 views[side] = patched(views[side], message.get("patch", {}))
             own = {name: part for name, part in messages[0].items() if name not in ("patch", "logs")}
             logs = [entry for message in messages for entry in message.get("logs", {}).get(SEAT, [])]
-            told.append(untimed([own, views[side], logs]))
-        found += [number] * (told[0] != told[1])
+            expected.append(untimed([own, views[side], logs]))
+        found += [number] * (expected[0] != expected[1])
     return found
 
 

@@ -108,7 +108,7 @@ def test_a_thread_flushes(tmp_path: pathlib.Path) -> None:
         time.sleep(0.01)
     flusher.replace("folder/file", b"")  # which can't be
     flusher.flush()
-    assert flusher.troubles["folder/file"].startswith("folder/file isn't saved: ")
+    assert flusher.failures["folder/file"].startswith("folder/file isn't saved: ")
     (tmp_path / "folder").unlink()
     flusher.end()
-    assert not flusher.troubles and (tmp_path / "folder" / "file").exists()
+    assert not flusher.failures and (tmp_path / "folder" / "file").exists()

@@ -62,8 +62,8 @@ async def test_a_seat_gets_no_secret_of_an_exercise(tmp_path: pathlib.Path) -> N
             tab = RecordingTab((await room.open(room.codes[seat])).socket)
             await tab.receive()
             await ask_all(tab, name)
-            told, wanted = "\n".join(tab.messages), secrets(name)
-            assert len(wanted) > 3 and "cases" in told
-            assert [secret for secret in wanted if json.dumps(secret, ensure_ascii=False)[1:-1] in told] == []
+            reply, wanted = "\n".join(tab.messages), secrets(name)
+            assert len(wanted) > 3 and "cases" in reply
+            assert [secret for secret in wanted if json.dumps(secret, ensure_ascii=False)[1:-1] in reply] == []
             for path in (f"{name}/good.c", f"{name}/exercise.toml", "exercises.json", f"answers/{seat}.{name}.1.json"):
                 assert (await room.get(path, seat))[0] == 404

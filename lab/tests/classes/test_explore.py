@@ -15,7 +15,7 @@ import pytest
 from support.class_pages import lab_command
 from support.class_tabs import SECONDS, Tab
 from support.commands import Lab
-from support.left_out import NO_SANDBOX, leave_out
+from support.skips import NO_SANDBOX, leave_out
 from support.places import EXAMPLES, TOP
 from vecmon_lab.classes.builds import builds_by
 from vecmon_lab.classes.languages import LANGUAGES
@@ -51,20 +51,20 @@ async def test_the_command(clang: Compiler, tmp_path: pathlib.Path) -> None:
             source = tab.view["source"]
             assert (source["text"], LANGUAGES[source["language"]].name) == (GREY.read_text("ascii"), "C, O1")
             assert tab.view["state"]["run"] == "absent" and tab.view["clock"]
-            told = await tab.ask("source", text=source["text"], language=source["language"])
-            assert told["mistakes"] == [] and tab.view["state"]["run"] == "stopped"
+            reply = await tab.ask("source", text=source["text"], language=source["language"])
+            assert reply["mistakes"] == [] and tab.view["state"]["run"] == "stopped"
             await tab.do("go")
             await tab.until(lambda view: view["stop"].startswith("exit 0"))
             other = tab.view["against"].index(f"{clang.name} O0")
-            told = await tab.ask("listings", text=source["text"], language=source["language"], other=other)
-            listings = await _listings(session, f"{found[1]}listings/{told['listings']}")
+            reply = await tab.ask("listings", text=source["text"], language=source["language"], other=other)
+            listings = await _listings(session, f"{found[1]}listings/{reply['listings']}")
             assert [each["name"] for each in listings] == [f"{clang.name} O1", f"{clang.name} O0"]
             grey = GREY.read_text("ascii").split("\n")
             stores = [row for each in listings for row in each["rows"] if row[3].startswith("vse8.v")]
             assert all("vse8" in grey[line - 1] for _, line, *_ in stores)
             assert [row[5] for row in stores] == [45, 45], "pixels, by each compiler"
-            told = await tab.ask("listings", text="int main(void)\n{", language=1, other=other)
-            async with session.get(f"{found[1]}listings/{told['listings']}") as answer:
+            reply = await tab.ask("listings", text="int main(void)\n{", language=1, other=other)
+            async with session.get(f"{found[1]}listings/{reply['listings']}") as answer:
                 assert answer.status == 404 and f"{clang.name} O2:2:2: " in await answer.text()
             async with session.get(f"{found[1]}listings/{found[2]}") as answer:
                 assert answer.status == 404 and "no such page" in await answer.text()
@@ -97,11 +97,11 @@ def _with_program(environment: dict[str, str]) -> dict[str, str]:
 
 
 def test_what_it_refuses(lab: Lab, clang: Compiler, tmp_path: pathlib.Path, monkeypatch: pytest.MonkeyPatch) -> None:
-    status, _, told = lab("explore", tmp_path / "kernel.txt")
-    assert status == 2 and told.endswith("kernel.txt: the name of a source ends in .c or .s\n")
+    status, _, errors = lab("explore", tmp_path / "kernel.txt")
+    assert status == 2 and errors.endswith("kernel.txt: the name of a source ends in .c or .s\n")
     assert lab("explore", GREY, "--cc", "@file")[0] == 2
     assert "stock is for assembler" in lab("explore", GREY, "--options", "stock")[2]
     monkeypatch.setattr("os.geteuid", lambda: 0)
-    status, _, told = lab("explore", GREY)
-    assert status == 2 and ("as root" in told or "bubblewrap" in told) and told.count("\n") == 1
+    status, _, errors = lab("explore", GREY)
+    assert status == 2 and ("as root" in errors or "bubblewrap" in errors) and errors.count("\n") == 1
     assert builds_by(None).no_c  # so that a source in assembler is served all the same

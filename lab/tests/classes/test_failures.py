@@ -62,9 +62,9 @@ async def test_pages_are_told_of_a_machine_that_is_rebuilt(tmp_path: pathlib.Pat
         await room.check_replay()
         assert await room.end(signal.SIGKILL) == -signal.SIGKILL
     with Terminal(command(tmp_path / "class"), {"PYTHONPATH": str(TOP / "lab")}) as terminal:
-        told = terminal.expect("teacher: http")
-        assert sentence.findall(told)[0] == "machine A is being rebuilt: 0 %"
-        assert told.endswith("machine A is being rebuilt: 100 %\nteacher: http")
+        output = terminal.expect("teacher: http")
+        assert sentence.findall(output)[0] == "machine A is being rebuilt: 0 %"
+        assert output.endswith("machine A is being rebuilt: 100 %\nteacher: http")
         terminal.type(INTERRUPT)
         assert terminal.end()[0] == 0
 
@@ -72,16 +72,16 @@ async def test_pages_are_told_of_a_machine_that_is_rebuilt(tmp_path: pathlib.Pat
 @pytest.mark.parametrize("sign", [signal.SIGINT, signal.SIGTERM])
 async def test_a_server_that_is_told_to_end(tmp_path: pathlib.Path, sign: signal.Signals) -> None:
     async with process(tmp_path / "class", "--patience", "1000") as room:
-        tab, deaf = await room.sit("A1"), await room.sit("teacher")
+        tab, unresponsive = await room.sit("A1"), await room.sit("teacher")
         await tab.do(*LOOP)
         child = room.machine()
         os.kill(child, signal.SIGSTOP)
         await tab.socket.send_json({"id": 9, "ask": "lines", "do": ["step 1"]})  # which waits for the machine
         for _ in range(3):
-            await deaf.ask("rights", machine="A", own_slices=True)  # which doesn't wait for the machine
+            await unresponsive.ask("rights", machine="A", own_slices=True)  # which doesn't wait for the machine
         assert await room.end(sign) == 0
         with pytest.raises(EOFError, match="1001"):
-            await deaf.until(lambda view: False)
+            await unresponsive.until(lambda view: False)
         with pytest.raises(ProcessLookupError):
             os.kill(child, 0)
         script = (tmp_path / "class" / "A.script").read_text()
@@ -165,7 +165,7 @@ async def test_a_script_that_is_answered_otherwise(tmp_path: pathlib.Path, progr
         await (await room.sit("A1")).do(*LOOP, "step 1")
     script = (folder / "A.script").read_bytes()
     assert script.splitlines() == [*(f"1 {line}".encode() for line in (*LOOP, "step 1")), b"1 out "]
-    for changed, told in (
+    for changed, expected in (
         (
             script.replace(b"step 1", b"step 3"),
             "its first 7 lines are answered otherwise than before: it, or an image, was changed",
@@ -177,8 +177,8 @@ async def test_a_script_that_is_answered_otherwise(tmp_path: pathlib.Path, progr
         shutil.copytree(folder, copy)
         (copy / "A.script").write_bytes(changed)
         members = Class(Store(copy, program), 5.0)
-        assert members.store.lost == [f"A.script: {told}"] and members.rooms["A"].session.script == changed
-        assert told in members.store.loss
+        assert members.store.lost == [f"A.script: {expected}"] and members.rooms["A"].session.script == changed
+        assert expected in members.store.loss
         members.keep()
         members.end()
         members = Class(Store(copy, program), 5.0)  # whose notes are of the script as it is now
@@ -210,7 +210,7 @@ async def test_a_replay_that_differs_stops_the_class(tmp_path: pathlib.Path) -> 
             await room.lines(room.seats.users["1"], Lines("", ["step 1"], 0, []), [])
     with pytest.raises(Stopped):
         await room.source(room.seats.users["1"], SourceText("nop"))
-    assert "in doubt" in room.trouble and room.session.lines == len(LOOP)
+    assert "in doubt" in room.warning and room.session.lines == len(LOOP)
     members.end()
     assert (tmp_path / "class" / "A.script").read_text().count("\n") == len(LOOP)
 
@@ -227,11 +227,11 @@ async def test_a_program_that_cannot_be_had_for_a_while(tmp_path: pathlib.Path) 
     room.set_clock({"on": True})
     with pytest.raises(machine.ProgramGone):
         await room.lines(room.seats.users["1"], Lines("", ["step 1"], 0, []), [])
-    assert "is down" in room.trouble
+    assert "is down" in room.warning
     (tmp_path / "elsewhere").rename(program)
     done: list[list[str]] = []
     await room.lines(room.seats.users["1"], Lines("", ["step 1"], 0, []), done)
-    assert done == [["stepped 1 pc=0000000000010004"]] and room.trouble == ""
+    assert done == [["stepped 1 pc=0000000000010004"]] and room.warning == ""
     members.end()
     assert (tmp_path / "class" / "A.script").read_bytes() == room.session.script
 
@@ -259,8 +259,8 @@ async def test_what_is_kept_at_the_end_is_of_one_moment(tmp_path: pathlib.Path) 
         await clock
     members.keep()
     members.store.flush()
-    told = json.loads(notes.read_text())
-    assert (told["lines"], told["answers"]) == (len(LOOP) + 2, room.session.digest)
+    reply = json.loads(notes.read_text())
+    assert (reply["lines"], reply["answers"]) == (len(LOOP) + 2, room.session.digest)
     members.end()
 
 
@@ -342,10 +342,10 @@ async def test_a_flood(tmp_path: pathlib.Path) -> None:
             await other.do("step 1")
             await asyncio.sleep(0.02)
             asked += 1
-        told = await asyncio.wait_for(floods, SECONDS)
+        reply = await asyncio.wait_for(floods, SECONDS)
         assert asked > 2  # the teacher and the other machine were answered all the while
         transcript = (await room.check_replay())[1].decode().splitlines()
-        for digit, lines in zip("12345678", told):
+        for digit, lines in zip("12345678", reply):
             own = [line[2:] for line in transcript if line[0] == digit and line[2:] != "out 0"]  # which the server asks
             assert own[len(LOOP) :] == lines and len(lines) == 1_000
         assert await room.end() == 0
@@ -361,9 +361,9 @@ async def test_more_is_fed_than_a_program_takes(tmp_path: pathlib.Path, monkeypa
         for _ in range(10):
             await tab.do("step 1", look=["regs"] * 100)
         assert tab.view["state"]["x"]["5"] == "5" and not tab.view["trouble"]
-        while "error" not in (told := await tab.ask("lines", do=["step 2"] * 20)):
+        while "error" not in (reply := await tab.ask("lines", do=["step 2"] * 20)):
             pass
-        assert "has 2,000 bytes at most" in told["error"] and len(told["done"]) < 20
+        assert "has 2,000 bytes at most" in reply["error"] and len(reply["done"]) < 20
         assert (await tab.ask("lines", look=["regs"]))["look"]
         await teacher.ask("clock", machine="A", on=True, ms=10)
         assert len((await room.check_replay())[0]) <= 2000
@@ -389,20 +389,20 @@ async def test_a_taken_port_is_told_before_the_class_is_carried_out_again(tmp_pa
         assert await room.end() == 0
     with socket.create_server(("127.0.0.1", 0)) as taken:
         port = taken.getsockname()[1]
-        told = f"vecmon-lab: 127.0.0.1, port {port}: Address already in use; --port names another port\n"
-        assert refused(tmp_path / "class", "--port", port) == told
+        expected = f"vecmon-lab: 127.0.0.1, port {port}: Address already in use; --port names another port\n"
+        assert refused(tmp_path / "class", "--port", port) == expected
 
 
 @pytest.mark.parametrize(
-    "words, told",
+    "words, expected",
     [
         (["--port", "65536"], " class: argument --port: 65536 is no number from 0 to 65535; --help says more\n"),
         (["--port", "-1"], " class: argument --port: -1 is no number from 0 to 65535; --help says more\n"),
         (["--host", "256.1.1.1"], ": 256.1.1.1, port 8765: Name or service not known\n"),
     ],
 )
-async def test_an_address_that_cannot_be_had(tmp_path: pathlib.Path, words: list[str], told: str) -> None:
-    assert refused(tmp_path / "class", *words) == f"vecmon-lab{told}"
+async def test_an_address_that_cannot_be_had(tmp_path: pathlib.Path, words: list[str], expected: str) -> None:
+    assert refused(tmp_path / "class", *words) == f"vecmon-lab{expected}"
 
 
 def refused(folder: pathlib.Path, *words: object) -> str:

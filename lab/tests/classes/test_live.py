@@ -94,8 +94,8 @@ async def test_more_output_than_a_buffer_or_a_page_has(tmp_path: pathlib.Path) -
         assert tab.logs["A1"].count("=1 out 1024") == sum("outfull" in entry for entry in tab.logs["A1"]) == 1
         assert ">1 go" in tab.logs["A1"]  # which 70 full buffers would push out of a long day's log
         transcript = (await room.check_replay())[1].decode()
-        told = [line.split()[3:] for line in transcript.splitlines() if line.startswith("1 out ")]
-        assert b"".join(bytes.fromhex("".join(digits)) for digits in told) == 9_000 * b"1234567\n"
+        expected = [line.split()[3:] for line in transcript.splitlines() if line.startswith("1 out ")]
+        assert b"".join(bytes.fromhex("".join(digits)) for digits in expected) == 9_000 * b"1234567\n"
 
 
 async def test_running_program_is_shown(tmp_path: pathlib.Path, monkeypatch: pytest.MonkeyPatch) -> None:
@@ -196,8 +196,8 @@ async def test_a_class_begins_with_its_clock(tmp_path: pathlib.Path) -> None:
         await asyncio.gather(*(tab.do("go") for tab in tabs))
         for tab in tabs:
             await tab.until(lambda view: view["state"]["run"] == "stopped" and view["stop"].startswith("ebreak"))
-            told = await tab.ask("lines", look=["peek 11000 8", "peek 114a8 8"])
-            assert [answer[0].split()[2] for answer in told["look"]] == ["0100000002000000", "2b0100002c010000"]
+            reply = await tab.ask("lines", look=["peek 11000 8", "peek 114a8 8"])
+            assert [answer[0].split()[2] for answer in reply["look"]] == ["0100000002000000", "2b0100002c010000"]
         assert (await room.check_replay())[0].count(b"* slices 1000\n") < 60  # 100,000 ticks each
 
 
@@ -206,12 +206,12 @@ async def test_go_while_the_clock_is_off(tmp_path: pathlib.Path) -> None:
         tab, teacher = await room.sit("A1"), await room.sit("teacher")
         await tab.do(*LOOP, "go")
         await tab.do("stop")
-        told = "!The clock is off, so the program waits: the teacher can turn it on"
-        assert f"{told}, or Slice grants some slices." in tab.logs["A1"]
+        expected = "!The clock is off, so the program waits: the teacher can turn it on"
+        assert f"{expected}, or Slice grants some slices." in tab.logs["A1"]
         await teacher.ask("rights", machine="A", own_slices=False)
         await tab.do("go")
         await tab.do("stop")
-        assert f"{told}." in tab.logs["A1"]
+        assert f"{expected}." in tab.logs["A1"]
         await teacher.ask("clock", machine="A", on=True)
         before = len(tab.logs["A1"])
         await tab.do("go")
@@ -230,8 +230,10 @@ async def test_a_program_that_runs_for_long(tmp_path: pathlib.Path, monkeypatch:
         for count in (1, 2):
             await tab.do("go")
             await tab.until(lambda view: view["state"]["run"] == "stopped")
-            told = "!The server stopped the program, since it ran for 200,000 ticks without a stop. go lets it run on."
-            while tab.logs["A1"].count(told) < count:
+            expected = (
+                "!The server stopped the program, since it ran for 200,000 ticks without a stop. go lets it run on."
+            )
+            while tab.logs["A1"].count(expected) < count:
                 await tab.receive()
             assert int(tab.view["state"]["x"]["5"], 16) >= count * 100_000  # two instructions each
         assert int(tab.view["state"]["x"]["5"], 16) < 400_000
@@ -249,9 +251,9 @@ async def test_a_program_that_nobody_looks_at(tmp_path: pathlib.Path, monkeypatc
         await teacher.ask("clock", machine="A", on=True, slices=1, ms=10)
         await teacher.until(lambda view: view["machines"]["A"]["seats"]["1"]["run"] == "stopped")
         assert teacher.view["machines"]["A"]["seats"]["2"]["run"] == "running"
-        told = "!The server stopped the program, since nobody looked at it for 0.3 s. go lets it run on."
+        expected = "!The server stopped the program, since nobody looked at it for 0.3 s. go lets it run on."
         again = await room.sit("A1")
-        while told not in again.logs["A1"]:
+        while expected not in again.logs["A1"]:
             await again.receive()
         await other.do("stop")
         await room.check_replay()

@@ -22,8 +22,8 @@ async def test_a_teacher_writes_to_one_seat_or_all(tmp_path: pathlib.Path) -> No
         for seat, tab in tabs.items():
             while not tab.logs.get(seat, [""])[-1].endswith("noon."):
                 await tab.receive()
-            told = [f"!The teacher: {words}"] * (seat == "A2") + ["!The teacher: It ends at noon."]
-            assert tab.logs == {seat: told}
+            expected = [f"!The teacher: {words}"] * (seat == "A2") + ["!The teacher: It ends at noon."]
+            assert tab.logs == {seat: expected}
         for text in ("", "x" * 401, "a\nb", "a\0", "\u202e", 5, None):
             assert "1 to 400 characters" in (await teacher.ask("write", seat="A1", text=text))["error"]
         assert (await teacher.ask("write", seat="A9", text="x"))["error"] == "there is no such seat"
@@ -36,7 +36,7 @@ async def test_a_teacher_writes_to_one_seat_or_all(tmp_path: pathlib.Path) -> No
 async def test_a_seat_is_reset(tmp_path: pathlib.Path, monkeypatch: pytest.MonkeyPatch) -> None:
     """Whether its program is stopped or runs, or there is none; and when its share is used up."""
     async with served(tmp_path / "class") as room:
-        tab, other, teacher = [await room.sit(who) for who in ("A1", "A2", "teacher")]
+        tab, other, teacher = [await room.sit(role) for role in ("A1", "A2", "teacher")]
         await other.do(*LOOP, "step 1")
         await tab.ask("draft", text="nop", number=0)
         cases: list[tuple[list[str], list[str]]] = [(LOOP, ["leave"]), ([*LOOP, "go"], ["stop", "leave"]), ([], [])]

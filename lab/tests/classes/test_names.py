@@ -69,7 +69,7 @@ async def test_names_reach_seat_and_teacher_only(tmp_path: pathlib.Path) -> None
     """The seat and the teacher, the table and what is taken home; no machine, no other seat, no wall, no file's name."""
     folder = tmp_path / "class"
     async with served(folder, machines=2) as room:
-        tab, other, wall, teacher = [await room.sit(who) for who in ("A3", "A4", "wall", "teacher")]
+        tab, other, wall, teacher = [await room.sit(role) for role in ("A3", "A4", "wall", "teacher")]
         await teacher.ask("wall", seat="A3")
         await tab.do(*LOOP, "step 1")
         assert tab.view["name"] == "" and "error" not in await tab.ask("name", seat="A4", name=f" {NAME} ")
@@ -89,14 +89,14 @@ async def test_names_reach_seat_and_teacher_only(tmp_path: pathlib.Path) -> None
         rows = list(csv.reader(io.StringIO(data.decode("utf-8-sig"))))
         assert status == 200 and len(rows) == 17 and rows[3][:4] == ["A3", NAME, "stopped", "at jal x0, -4"]
         assert rows[16][:3] == ["B8", "Bo", "absent"] and rows[4][:2] == ["A4", ""]
-        assert [(await room.get("seats.csv", who))[0] for who in ("A3", "wall", None)] == [404] * 3
+        assert [(await room.get("seats.csv", role))[0] for role in ("A3", "wall", None)] == [404] * 3
         packed = zipfile.ZipFile(io.BytesIO((await room.get("A3/home", "A3"))[1]))
         assert f"<title>Seat A3, {NAME.replace(chr(39), '&#x27;')}</title>" in packed.read("A3/A3.html").decode()
         assert packed.namelist() == ["A3/A3.script", "A3/A3.html"]
         await other.do("enter")
         await wall.until(lambda view: view["state"].get("pc") == "10004")
-        told = json.dumps([other.view, other.logs, wall.view, tab.logs, teacher.logs], ensure_ascii=False)
-        assert "Zo" not in told and b"Zo" not in (await room.check_replay())[0]
+        reply = json.dumps([other.view, other.logs, wall.view, tab.logs, teacher.logs], ensure_ascii=False)
+        assert "Zo" not in reply and b"Zo" not in (await room.check_replay())[0]
     having = [path.name for path in folder.rglob("*") if path.is_file() and "O'Brien".encode() in path.read_bytes()]
     assert having == ["names.json"]
     async with served(folder) as room:

@@ -111,7 +111,7 @@ class Lesson:
         self.done.tries += 1
 
 
-async def told(*_: object) -> bytes:
+async def passing_check(*_: object) -> bytes:
     """The message of a check: this test checks no answers."""
     return json.dumps({"cases": [True] * 5}).encode()
 
@@ -122,7 +122,7 @@ async def cuts_of(
     """The different states that cuts of a lesson leave; flushes: whether the disk does what `fsync` asks for."""
     monkeypatch.setattr(durable, "FLUSH_SECONDS", 1e6)
     monkeypatch.setattr(view, "COUNTS_SECONDS", 0.0)
-    monkeypatch.setattr(checks.Checks, "_run", told)
+    monkeypatch.setattr(checks.Checks, "_run", passing_check)
     monkeypatch.setattr(checks, "settled", lambda program, exercise: exercise)
     with monkeypatch.context() as recorded:
         disk = Disk(folder, flushes=flushes)
@@ -143,9 +143,9 @@ def check(cut: Cut, folder: pathlib.Path, program: pathlib.Path) -> None:
         os.utime(folder / name, (number, number))
     members, known = Class(Store(folder, program), 5.0), cut.known
     lines, last = list[str](), list[str]()
-    for number, begin in enumerate(members.rooms["A"].scripts.set_up, 1):
+    for number, start in enumerate(members.rooms["A"].scripts.set_up, 1):
         path = folder / script_name("A", number)
-        last = path.read_text().splitlines()[begin:] if path.exists() else []
+        last = path.read_text().splitlines()[start:] if path.exists() else []
         lines += [line for line in last if not is_servers(line)]
     assert lines[: len(known.lines)] == known.lines
     log = [entry for entry in members.seat("A1").log if entry[0] == ">"]

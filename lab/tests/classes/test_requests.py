@@ -50,7 +50,7 @@ def test_requests(message: dict[str, object], is_teacher: bool, request_: Reques
 
 
 @pytest.mark.parametrize(
-    "message, is_teacher, told",
+    "message, is_teacher, expected",
     [
         ({}, False, "no such request"),
         ({"ask": ["lines"]}, True, "no such request"),
@@ -77,6 +77,6 @@ def test_requests(message: dict[str, object], is_teacher: bool, request_: Reques
         ({"ask": "clock", "machine": "A", "on": "yes"}, True, "on of the clock is 0 to 1"),
     ],
 )
-def test_what_is_no_request(message: dict[str, object], is_teacher: bool, told: str) -> None:
-    with pytest.raises(LabError, match=told):
+def test_what_is_no_request(message: dict[str, object], is_teacher: bool, expected: str) -> None:
+    with pytest.raises(LabError, match=expected):
         read_request(message, is_teacher)

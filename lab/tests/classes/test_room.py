@@ -8,7 +8,7 @@ from typing import Any
 
 import pytest
 
-from vecmon_lab.classes.beside import Beside
+from vecmon_lab.classes.worker_pool import WorkerPool
 from vecmon_lab.classes.requests import BadRequest, Lines
 from vecmon_lab.classes.room import Room
 from vecmon_lab.classes.seats import Seat
@@ -52,7 +52,7 @@ class Machine:
     def __init__(self, folder: pathlib.Path) -> None:
         self.session: Any = StandIn(folder / "A.script")
         session: Session = self.session
-        self.room = Room("A", session, ScriptFile(folder, "A"), Beside(1))
+        self.room = Room("A", session, ScriptFile(folder, "A"), WorkerPool(1))
 
     def ask(self, seat: Seat, *lines: str) -> "asyncio.Task[Any]":
         """A request that is under way."""

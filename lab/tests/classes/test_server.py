@@ -51,9 +51,9 @@ async def test_a_step(room: Served) -> None:
 async def test_looks_are_not_recorded_and_change_nothing(room: Served) -> None:
     tab = await room.sit("A1")
     looks = ["regs", "vcsr", "vreg v1 8", "dis 10000 2", "peek 10000 4", "state", "breaks", "trace"]
-    told = await tab.ask("lines", do=[*LOOP, "step 5", "peek 10000 16"], look=looks)
-    assert [len(answer) for answer in told["look"]] == [9, 1, 1, 2, 1, 1, 1, 1]
-    assert told["look"][4] == ["peek 0000000000010000 93821200"]
+    reply = await tab.ask("lines", do=[*LOOP, "step 5", "peek 10000 16"], look=looks)
+    assert [len(answer) for answer in reply["look"]] == [9, 1, 1, 2, 1, 1, 1, 1]
+    assert reply["look"][4] == ["peek 0000000000010000 93821200"]
     assert tab.logs["A1"][-2] == ">1 peek 10000 16"  # a look that was typed is logged, and not recorded
     assert not [entry for entry in tab.logs["A1"] if "vcsr" in entry]
     script, transcript = await room.check_replay()
@@ -62,21 +62,21 @@ async def test_looks_are_not_recorded_and_change_nothing(room: Served) -> None:
 
 async def test_what_refusals_mean(room: Served) -> None:
     tab, teacher = await room.sit("A2"), await room.sit("teacher")
-    told = await tab.ask("lines", do=["enter", "map 10000 1 rwx", "asm 10000 add x1, x2, 4", "step 300"])
+    reply = await tab.ask("lines", do=["enter", "map 10000 1 rwx", "asm 10000 add x1, x2, 4", "step 300"])
     mark = "`add x1, x2, 4\n            ^`\nE15: 4 doesn't fit here, as the machine reads it: add x1, x2, 4"
     mark += "; the form is add rd, rs1, rs2"
     sentence = "E04: 300 isn't from 1 to 256; the form is step N"
-    assert told["words"] == ["", "", mark, sentence] and told["do"][2:] == [["E15 13"], ["E04"]]
+    assert reply["words"] == ["", "", mark, sentence] and reply["do"][2:] == [["E15 13"], ["E04"]]
     assert tab.logs["A2"][-3:] == [f"<2 E15 13\n{mark}", ">2 step 300", f"<2 E04\n{sentence}"]
-    told = await teacher.ask("lines", machine="A", do=["regs", "slices 1"])
-    assert told["words"] == ["E03: regs is a user's: regs", ""]
+    reply = await teacher.ask("lines", machine="A", do=["regs", "slices 1"])
+    assert reply["words"] == ["E03: regs is a user's: regs", ""]
 
 
 @pytest.mark.parametrize("look", ["step 1", "out", "set x1 1", "", "list", "regsx", "Regs"])
 async def test_looks_that_are_none(room: Served, look: str) -> None:
     tab = await room.sit("A1")
-    told = await tab.ask("lines", do=["enter"], look=[look])
-    assert "isn't a line that only looks" in told["error"] and told["done"] == []
+    reply = await tab.ask("lines", do=["enter"], look=[look])
+    assert "isn't a line that only looks" in reply["error"] and reply["done"] == []
     assert tab.view["state"]["run"] == "absent"
 
 
@@ -136,13 +136,13 @@ REQUESTS = [
 
 
 async def test_requests_of_bad_form(room: Served) -> None:
-    for who in ("A1", "teacher"):
-        tab = await room.sit(who)
+    for role in ("A1", "teacher"):
+        tab = await room.sit(role)
         for request in REQUESTS:
             await tab.socket.send_str(request)
-            while (told := await tab.receive())["kind"] != "answer":
+            while (reply := await tab.receive())["kind"] != "answer":
                 pass
-            assert "error" in told, request
+            assert "error" in reply, request
     assert (await room.check_replay())[0] == b""
 
 
@@ -250,9 +250,9 @@ async def test_what_is_served(room: Served) -> None:
     assert not [code for code in room.codes.values() if code in page]
     for path in ("A", "A/", "A/json", "codes.json", "A/../codes.json", "lab", "B/script", "socket/"):
         assert (await room.get(path))[0] == 404, path
-    for who in (None, "A1"):
+    for role in (None, "A1"):
         for path in ("A/script", "A/transcript"):
-            assert (await room.get(path, who))[0] == 404, path
+            assert (await room.get(path, role))[0] == 404, path
     assert (await room.get(f"A/script?code={room.codes['teacher']}", None))[0] == 404
     async with room.session.post(room.url, data=b"x") as answer:
         assert answer.status == 405
@@ -326,18 +326,18 @@ async def test_a_source(room: Served) -> None:
         assert tab.view["state"]["x"]["11"] == "4"  # la is two instructions; then lw, addi, j and addi again
         await tab.do("go")
     script = (await room.get("A/script"))[1]
-    told = await tab.ask("source", text="addi a0, a0, 5000\njmp x\nvadd.vv v1, v2, v3\nvadd.vv v1, v2, q\n")
-    assert [(each["line"], each["column"]) for each in told["mistakes"]] == [(1, 14), (2, 1), (4, 17)]
-    assert "near it are j, jr and jal" in told["mistakes"][1]["message"]
+    reply = await tab.ask("source", text="addi a0, a0, 5000\njmp x\nvadd.vv v1, v2, v3\nvadd.vv v1, v2, q\n")
+    assert [(each["line"], each["column"]) for each in reply["mistakes"]] == [(1, 14), (2, 1), (4, 17)]
+    assert "near it are j, jr and jal" in reply["mistakes"][1]["message"]
     assert (await room.get("A/script"))[1] == script  # nothing was done
-    told = await tab.ask("source", text="nop\naddi a0, a0, 5000\nnop\nslli a0, a0, 99\n")
-    assert [(each["line"], each["column"]) for each in told["mistakes"]] == [(2, 14), (4, 14)]
-    assert "doesn't fit" in told["mistakes"][0]["message"]
+    reply = await tab.ask("source", text="nop\naddi a0, a0, 5000\nnop\nslli a0, a0, 99\n")
+    assert [(each["line"], each["column"]) for each in reply["mistakes"]] == [(2, 14), (4, 14)]
+    assert "doesn't fit" in reply["mistakes"][0]["message"]
     assert (await tab.ask("source", text="b nowhere"))["mistakes"][0]["line"] == 1
-    told = await tab.ask("source", text="vadd.vv v1, v2\n" * 200)
-    assert [each["line"] for each in told["mistakes"]] == [*range(1, 101)]
-    told = await tab.ask("source", text="nop\n" * 5000)
-    assert "4096 lines at most" in told["error"]
+    reply = await tab.ask("source", text="vadd.vv v1, v2\n" * 200)
+    assert [each["line"] for each in reply["mistakes"]] == [*range(1, 101)]
+    reply = await tab.ask("source", text="nop\n" * 5000)
+    assert "4096 lines at most" in reply["error"]
     await room.check_replay()
 
 
@@ -460,9 +460,9 @@ async def test_connections_that_say_nothing(tmp_path: pathlib.Path, monkeypatch:
     monkeypatch.setattr(class_server, "UNKNOWN", 3)
     async with served(tmp_path / "class") as room:
         readers = []
-        for begin in [b"", b"GET / HTTP/1.1\r\n"] * 4:  # more than may be there, and half of them slow
+        for start in [b"", b"GET / HTTP/1.1\r\n"] * 4:  # more than may be there, and half of them slow
             reader, writer = await asyncio.open_connection("127.0.0.1", room.port)
-            writer.write(begin)
+            writer.write(start)
             readers.append(reader)
         for reader in readers:
             with pytest.raises((ConnectionError, asyncio.IncompleteReadError)):
@@ -491,8 +491,8 @@ async def test_requests_in_bad_form(tmp_path: pathlib.Path) -> None:
 async def test_clients_that_do_not_read(room: Served) -> None:
     tab = await room.sit("A1")
     await tab.do(*LOOP)
-    deaf = [await room.sit("A2") for _ in range(4)]
-    for each in deaf:
+    unresponsive = [await room.sit("A2") for _ in range(4)]
+    for each in unresponsive:
         connection = each.socket._response.connection  # nothing is read from here on
         assert connection and connection.transport
         connection.transport.pause_reading()
@@ -500,7 +500,7 @@ async def test_clients_that_do_not_read(room: Served) -> None:
             await each.socket.send_json({"id": number, "ask": "lines", "look": ["regs"] * 200})
     for _ in range(20):
         assert len(await tab.do("step 1")) == 1
-    for each in deaf:
+    for each in unresponsive:
         connection = each.socket._response.connection
         assert connection and connection.transport
         connection.transport.abort()
@@ -529,9 +529,9 @@ async def test_more_requests_than_may_wait(room: Served) -> None:
     os.kill(machine, signal.SIGSTOP)
     for number in range(70):
         await tab.socket.send_json({"id": number, "ask": "lines", "do": [f"set x5 {number:x}" if number else "enter"]})
-    told = [await tab.receive() for _ in range(5)]  # one is executed, and 64 wait
-    assert [each["id"] for each in told] == [65, 66, 67, 68, 69]
-    assert all(each["error"].startswith("64 requests of this tab wait already") for each in told)
+    reply = [await tab.receive() for _ in range(5)]  # one is executed, and 64 wait
+    assert [each["id"] for each in reply] == [65, 66, 67, 68, 69]
+    assert all(each["error"].startswith("64 requests of this tab wait already") for each in reply)
     await tab.socket.close()
     os.kill(machine, signal.SIGCONT)
     again = await room.sit("A1")

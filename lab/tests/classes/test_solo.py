@@ -64,8 +64,8 @@ def test_random_classes(program: pathlib.Path, seed: int) -> None:
         alone, expected = part.script, part.answers
         assert expected == [line for line in whole.stdout.decode().splitlines() if line[0] == digit]
         own = "".join(f"{line}\n" for line in alone).encode()
-        told = subprocess.run([program, "/dev/stdin", f"sum={SUM}"], input=own, stdout=subprocess.PIPE, check=True)
-        assert [line for line in told.stdout.decode().splitlines() if line[0] != "*"] == expected
+        output = subprocess.run([program, "/dev/stdin", f"sum={SUM}"], input=own, stdout=subprocess.PIPE, check=True)
+        assert [line for line in output.stdout.decode().splitlines() if line[0] != "*"] == expected
         assert all(line[0] == digit or line.startswith("* slices ") for line in alone)
 
 

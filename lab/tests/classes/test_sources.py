@@ -46,7 +46,7 @@ async def test_again(room: Served) -> None:
 async def test_what_is_typed_is_the_seats(room: Served) -> None:
     """A draft is in other tabs and in a new one, and before the teacher who looks; others see nothing of it."""
     tab, other, teacher = await room.sit("A3"), await room.sit("A3"), await room.sit("teacher")
-    stranger = await room.sit("A4")
+    outsider = await room.sit("A4")
     assert tab.view["source"] == {
         "text": "",
         "language": 0,
@@ -61,8 +61,8 @@ async def test_what_is_typed_is_the_seats(room: Served) -> None:
         await each.until(lambda view: view["source"]["text"] == "nop\r\n\tadd \u00e9")
     kept = {"text": "nop\r\n\tadd \u00e9", "language": 0, "number": 1, "exercise": "", "stands": False, "versions": []}
     assert (await room.sit("A3")).view["source"] == kept
-    await stranger.do("enter")
-    assert "nop" not in str(stranger.view)
+    await outsider.do("enter")
+    assert "nop" not in str(outsider.view)
     await teacher.ask("shoulder", seat="")
     assert teacher.view["source"] == {}
     for text, number in ((5, 1), ("x" * 65537, 1), ("x", None), ("x", "1")):
@@ -159,8 +159,8 @@ async def test_versions_are_kept(room: Served, monkeypatch: pytest.MonkeyPatch) 
     ]
     await tab.ask("source", text="nop 5")
     keep(members)
-    told = tab.view["source"]["versions"]
-    assert [(each["number"], each["why"]) for each in told] == [(1, "written"), (2, "written")]
+    reply = tab.view["source"]["versions"]
+    assert [(each["number"], each["why"]) for each in reply] == [(1, "written"), (2, "written")]
     assert (room.folder / "A1.s").read_text() == "nop 5"
     assert (room.folder / "sources" / "A1.1.written.s").read_text() == "nop"
     await tab.ask("draft", text="typed", number=tab.view["source"]["number"])

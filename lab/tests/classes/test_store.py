@@ -16,7 +16,7 @@ from support.class_tabs import LOOP, served
 from support.places import SUM
 from vecmon_lab.__main__ import main
 from vecmon_lab.classes.folder_report import folder_report
-from vecmon_lab.classes.kept import attempt
+from vecmon_lab.classes.stored_files import attempt
 from vecmon_lab.classes.store import BadFolder, ScriptFile, Store
 from vecmon_lab.classes.teacher_view import teacher_view
 from vecmon_lab.classes.view import Class, Tab
@@ -118,12 +118,12 @@ def test_a_script_file(tmp_path: pathlib.Path) -> None:
     file._file = os.open(path, os.O_RDONLY)  # a disk that takes nothing
     file.append("1 step 2")
     file.append("1 step 3")
-    assert "isn't saved" in file.trouble and not file.is_saved
+    assert "isn't saved" in file.warning and not file.is_saved
     file.cut(len(file.kept) + len("1 step 2\n"))
     file.close()
     file._file = os.open(path, os.O_RDWR)
     file.catch_up()
-    assert path.read_bytes() == file.kept + b"1 step 2\n" and file.is_saved and not file.trouble
+    assert path.read_bytes() == file.kept + b"1 step 2\n" and file.is_saved and not file.warning
     file.close()
 
 
@@ -206,8 +206,8 @@ def test_a_lost_answer_leaves_the_others_their_numbers(tmp_path: pathlib.Path, p
     Store(tmp_path / "class", program).close()
     answers.mkdir()
     for number in (1, 3):
-        told = {"time": number, "text": f"# {number}", "suffix": "s", "told": {"cases": [number == 3] * 5}}
-        (answers / f"A1.doubles.{number}.json").write_text(json.dumps(told))
+        expected = {"time": number, "text": f"# {number}", "suffix": "s", "told": {"cases": [number == 3] * 5}}
+        (answers / f"A1.doubles.{number}.json").write_text(json.dumps(expected))
     members = Class(Store(tmp_path / "class", program), 5.0, exercises=[pathlib.Path("doubles")])
     progress = members.checks.exercises.progress("A1", "doubles")
     assert progress.tries == [(1, 0), (0, 0), (3, 5)] and progress.first == 3
@@ -267,9 +267,9 @@ def test_what_the_command_refuses(
             status: object = main()
         except SystemExit as end:
             status = end.code
-        told = capsys.readouterr()
-        assert (status, told.out, told.err.count("\n")) == (2, "", 1), words
-        return told.err
+        output = capsys.readouterr()
+        assert (status, output.out, output.err.count("\n")) == (2, "", 1), words
+        return output.err
 
     folder = tmp_path / "class"
     first = Store(folder, program)

@@ -47,9 +47,12 @@ async def test_an_archive(tmp_path: pathlib.Path) -> None:
         assert "A vector of indices." in [frame["note"] for frame in lesson["frames"]]
         status, data = await room.get("A4/home")  # to the teacher
         assert zipfile.ZipFile(io.BytesIO(data)).read("A4/sum.elf") == SUM.read_bytes()
-        assert [(await room.get(place, who))[0] for place, who in (("A4/home", "A3"), ("A3/home", None))] == [404, 404]
-        told = await asyncio.gather(*(room.get("A5/home", who) for who in ("A5", "teacher")))
-        assert {words for status, words in told if status == 503} == {
+        assert [(await room.get(place, role))[0] for place, role in (("A4/home", "A3"), ("A3/home", None))] == [
+            404,
+            404,
+        ]
+        reply = await asyncio.gather(*(room.get("A5/home", role) for role in ("A5", "teacher")))
+        assert {words for status, words in reply if status == 503} == {
             b"nothing was done at seat A5", b"it is being made already"
         }  # fmt: skip
 

@@ -46,10 +46,10 @@ def pair(tmp_path_factory: pytest.TempPathFactory) -> Pair:
 async def served(folder: pathlib.Path, pair: Pair) -> AsyncIterator[tuple[int, aiohttp.ClientSession]]:
     """A class that is served by HTTPS: its port, and a client that trusts its certificate, and no other."""
     members = Class(Store(folder, find_program()), SECONDS)
-    doors = server.listening("127.0.0.1", 0)
+    listeners = server.listening("127.0.0.1", 0)
     trusting = aiohttp.TCPConnector(ssl=ssl.create_default_context(cafile=pair[0]))
     async with (
-        server.served(members, doors, {"127.0.0.1"}, tls_context(*pair)) as port,
+        server.served(members, listeners, {"127.0.0.1"}, tls_context(*pair)) as port,
         aiohttp.ClientSession(connector=trusting) as session,
     ):
         yield port, session
@@ -117,9 +117,9 @@ async def test_bad_certificates_and_keys(tmp_path: pathlib.Path, pair: Pair) -> 
         (certificate, tmp_path): "Is a directory",
     }
     for files, sentence in refused.items():
-        with pytest.raises((LabError, OSError), match=re.escape(sentence)) as told:
+        with pytest.raises((LabError, OSError), match=re.escape(sentence)) as reply:
             tls_context(*files)
-        assert "\n" not in str(told.value)
+        assert "\n" not in str(reply.value)
 
 
 async def test_a_refused_certificate_serves_nothing(tmp_path: pathlib.Path, pair: Pair) -> None:
@@ -163,9 +163,9 @@ async def test_codes_that_travel_unencrypted(
         await tab.receive()
         assert tab.view["unencrypted"] == is_warned
     process.terminate()
-    _, told = await asyncio.wait_for(process.communicate(), SECONDS)
-    assert (b"warning: codes travel unencrypted" in told) == is_warned, told
-    assert process.returncode == 0 and told.count(b"\n") == is_warned
+    _, errors = await asyncio.wait_for(process.communicate(), SECONDS)
+    assert (b"warning: codes travel unencrypted" in errors) == is_warned, errors
+    assert process.returncode == 0 and errors.count(b"\n") == is_warned
 
 
 async def test_a_new_code_for_the_teacher(tmp_path: pathlib.Path) -> None:

@@ -54,12 +54,12 @@ async def test_no_frame_of_the_wall_has_another_code(room: Served) -> None:
 
     async def listen(wanted: Any) -> Message:
         while True:
-            told = await wall.receive()
-            frames.append(json.dumps(told))
-            if wanted(told):
-                return told
+            reply = await wall.receive()
+            frames.append(json.dumps(reply))
+            if wanted(reply):
+                return reply
 
-    await listen(lambda told: told["kind"] == "hello")
+    await listen(lambda reply: reply["kind"] == "hello")
     teacher, tab, other = await room.sit("teacher"), await room.sit("A1"), await room.sit("A2")
     await teacher.ask("wall", seat="A1")
     await teacher.ask("shoulder", seat="A1")
@@ -77,13 +77,13 @@ async def test_no_frame_of_the_wall_has_another_code(room: Served) -> None:
     script = (await room.get("A/script"))[1]
     for number, ask in enumerate(asks):
         await wall.socket.send_json({"id": number, **ask})
-        told = await listen(lambda told: told["kind"] == "answer")
-        assert (told["id"], told["error"]) == (number, "the wall only looks"), ask
+        reply = await listen(lambda reply: reply["kind"] == "answer")
+        assert (reply["id"], reply["error"]) == (number, "the wall only looks"), ask
     assert (await room.get("A/script"))[1] == script
     for path in ("A/script", "A/transcript", "A1/home"):
         assert (await room.get(path, "wall"))[0] == 404
     await tab.do("step 1")
-    await listen(lambda told: wall.view["state"].get("x", {}).get("5") == "1" and wall.view["state"]["pc"] == "10000")
+    await listen(lambda reply: wall.view["state"].get("x", {}).get("5") == "1" and wall.view["state"]["pc"] == "10000")
     others = {code for kept in (before, codes(room)) for name, code in kept.items() if name != "wall"}
     assert len(others) == 19 and len(frames) > len(asks)
     assert not [code for code in others for frame in frames if code in frame]
@@ -121,8 +121,8 @@ async def test_addresses_that_students_reach() -> None:
     for host in ("192.168.1.20:8765", "class.school.example", "[fe80::1]:80"):
         for scheme in ("http://", "https://"):
             for slash in ("", "/"):
-                told = arguments_of(["class", "monday", "--address", f"{scheme}{host}{slash}"]).address
-                assert told == f"{scheme}{host}/"
+                reply = arguments_of(["class", "monday", "--address", f"{scheme}{host}{slash}"]).address
+                assert reply == f"{scheme}{host}/"
     for other in (
         "",
         "10.0.0.1",

@@ -30,8 +30,8 @@ def test_why(program: pathlib.Path) -> None:
     assert asked(desk, ask="why", name="v8[9]")["error"] == "v8 has the elements 0 to 7 of 32 bits, and 9 isn't one"
     assert "names no element" in asked(desk, ask="why", name="")["error"]
     asked(desk, ask="lines", do=["step 1"])
-    told = "v9[2] kept its value 0: the access of element 0 faults, so it isn't reached"
-    assert asked(desk, ask="why", name="v9[2]")["why"] == told
+    shown = "v9[2] kept its value 0: the access of element 0 faults, so it isn't reached"
+    assert asked(desk, ask="why", name="v9[2]")["why"] == shown
     asked(desk, ask="lines", do=["set a0 1"])
     assert "step first" in asked(desk, ask="why", name="v8[1]")["error"]
     desk.close()

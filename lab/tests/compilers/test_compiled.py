@@ -17,7 +17,7 @@ from vecmon_lab.compilers import compiler
 from vecmon_lab.compilers.compiled import program_of
 from vecmon_lab.compilers.compiling import compile_c
 from vecmon_lab.compilers.compiler import CHOICES, Compiler, choice_for, choice_of, find_compiler
-from vecmon_lab.compilers.inside import Diagnostic, read_messages
+from vecmon_lab.compilers.sandbox_main import Diagnostic, read_messages
 from vecmon_lab.guest.guest import Guest
 from vecmon_lab.machine.session import Session
 
@@ -133,7 +133,7 @@ def test_what_the_linker_misses(clang: Compiler) -> None:
 
 
 def test_messages() -> None:
-    told = [
+    expected = [
         "source.c:3:12: error: use of undeclared identifier 'x'",
         "source.c:3:12: note: it is here",
         "source.c:1:10: fatal error: '/etc/passwd' file not found",
@@ -146,7 +146,7 @@ def test_messages() -> None:
         "source.s:2: Error: illegal operands `vadd.vv v1,v2'",
         "source.s:3: Warning: odd",
     ]
-    assert read_messages("\n".join([*told, told[0]])) == [
+    assert read_messages("\n".join([*expected, expected[0]])) == [
         Diagnostic(3, 12, True, "use of undeclared identifier 'x'"),
         Diagnostic(1, 10, True, "'passwd' file not found"),
         Diagnostic(0, 0, False, "runtime.c:5: odd"),
@@ -244,11 +244,11 @@ def test_a_source_for_a_stock_assembler(session: Session, clang: Compiler) -> No
     assert run(session, clang, DOUBLES, stock) == (expected, 5)
     program = compile_c(DOUBLES, clang, stock, KERNELS)
     assert sorted(program.addresses())[:4] == [7, 9, 11, 12]
-    start, told = program.labels["start"], program.source_lines(DOUBLES)
-    assert [told[f"{start + at:x}"].split()[0] for at in (0, 4, 8)] == ["9", "11", "12"]
+    start, reply = program.labels["start"], program.source_lines(DOUBLES)
+    assert [reply[f"{start + at:x}"].split()[0] for at in (0, 4, 8)] == ["9", "11", "12"]
     assert program.entry < start and not program.variables
-    begun = DOUBLES.replace("start:", "_start:").replace("j start", "j _start")
-    assert (other := compile_c(begun, clang, stock, KERNELS)).entry == other.labels["_start"] == start
+    started = DOUBLES.replace("start:", "_start:").replace("j start", "j _start")
+    assert (other := compile_c(started, clang, stock, KERNELS)).entry == other.labels["_start"] == start
     again = DOUBLES.replace("start:", ".globl _start\n_start:").replace("j start", "ebreak")
     assert run(session, clang, again, stock) == (expected, 5)
 
@@ -294,9 +294,9 @@ def test_a_command_installs_the_compilers(
     lab("lesson", "nowhere.s", "-o", tmp_path / "page.html")
     log.touch()
     assert log.read_text() == ""
-    status, _, told = lab("lesson", KERNELS / "grey.c", "-o", tmp_path / "page.html")
+    status, _, errors = lab("lesson", KERNELS / "grey.c", "-o", tmp_path / "page.html")
     assert (status, log.read_text()) == (2, "compilers\n" if is_root else "")
-    assert told == "vecmon-lab: there is no compiler for C: apt-get install clang-19 lld-19 bubblewrap\n"
+    assert errors == "vecmon-lab: there is no compiler for C: apt-get install clang-19 lld-19 bubblewrap\n"
     monkeypatch.setattr(compiler, "INSTALLER", tmp_path / "none")
     lab("lesson", KERNELS / "grey.c", "-o", tmp_path / "page.html")
     assert log.read_text() == ("compilers\n" if is_root else "")

@@ -18,7 +18,7 @@ from vecmon_lab.compilers.compiled import read_compiled_program
 from vecmon_lab.compilers.compiler import Compiler
 from vecmon_lab.compilers.compiling import compile_c
 from vecmon_lab.compilers.failures import ToolError
-from vecmon_lab.compilers.inside import COMPLAINT_BYTES, Failure, ending_of
+from vecmon_lab.compilers.sandbox_main import COMPLAINT_BYTES, Failure, ending_of
 from vecmon_lab.compilers.report import print_compilers
 from vecmon_lab.compilers.sandbox import answer_sandboxed, check_start
 
@@ -52,27 +52,28 @@ def test_nothing_is_graded_where_the_sandbox_does_not_start(
 ) -> None:
     """`grade` ends with 2 and bwrap's own words, prints no mark and writes no report."""
     words: list[object] = [report] if report == "--csv" else [report, tmp_path / "report"]
-    status, told, complaint = lab("grade", "doubles", GOOD, *words)
-    assert (status, told) == (2, b"") and not (tmp_path / "report").exists()
-    assert complaint.startswith(f"vecmon-lab: the sandbox of compilers doesn't start: {WORDS}")
+    status, output, errors = lab("grade", "doubles", GOOD, *words)
+    assert (status, output) == (2, b"") and not (tmp_path / "report").exists()
+    assert errors.startswith(f"vecmon-lab: the sandbox of compilers doesn't start: {WORDS}")
 
 
 def test_no_exercise_is_tried_where_the_sandbox_does_not_start(
     no_namespaces: Compiler, lab: Lab, tmp_path: pathlib.Path
 ) -> None:
     lab("exercise", "new", tmp_path / "mine")
-    status, told, complaint = lab("exercise", "try", tmp_path / "mine")
-    assert (status, told) == (2, b"") and WORDS in complaint
+    status, output, errors = lab("exercise", "try", tmp_path / "mine")
+    assert (status, output) == (2, b"") and WORDS in errors
 
 
 def test_explore_and_check_tell_that_the_sandbox_does_not_start(no_namespaces: Compiler, lab: Lab) -> None:
     """So does what a class is served with: before anything is compiled."""
-    status, _, complaint = lab("explore", EXAMPLES / "kernels" / "saxpy.c")
-    assert status == 2 and complaint.count(WORDS) == complaint.count("\n") == 1
-    status, told, _ = lab("check")
+    status, _, errors = lab("explore", EXAMPLES / "kernels" / "saxpy.c")
+    assert status == 2 and errors.count(WORDS) == errors.count("\n") == 1
+    status, output, _ = lab("check")
     assert (
         status == 0
-        and f"class, explore and grade: not available: the sandbox of compilers doesn't start: {WORDS}" in told.decode()
+        and f"class, explore and grade: not available: the sandbox of compilers doesn't start: {WORDS}"
+        in output.decode()
     )
 
 
@@ -89,8 +90,8 @@ def test_the_sandbox_starts(sandboxed_clang: Compiler, capsys: pytest.CaptureFix
     check_start(sandboxed_clang)
     if os.geteuid():
         print_compilers()
-        told = capsys.readouterr().out
-        assert sandboxed_clang.name in told and told.endswith("grade: it starts\n")
+        output = capsys.readouterr().out
+        assert sandboxed_clang.name in output and output.endswith("grade: it starts\n")
 
 
 @pytest.mark.parametrize(
@@ -157,12 +158,12 @@ def test_a_compiler_that_is_killed_says_nothing_about_the_source() -> None:
 
 INSTEAD = """
 import resource
-from vecmon_lab.compilers import inside
-inside.LIMITS[resource.RLIMIT_CPU] = (1, 2)
+from vecmon_lab.compilers import sandbox_main
+sandbox_main.LIMITS[resource.RLIMIT_CPU] = (1, 2)
 def instead(command):
     {code}
-inside.compile_source = instead
-inside.main()
+sandbox_main.compile_source = instead
+sandbox_main.main()
 """
 
 
@@ -186,10 +187,12 @@ def test_each_limit_of_the_image_has_a_sentence(
 
 def test_an_endless_compile_has_its_sentence(sandboxed_clang: Compiler, monkeypatch: pytest.MonkeyPatch) -> None:
     """With a limit of a second of processor time, which a signal to the compiler ends."""
-    limit = "inside.CPU_SECONDS, inside.LIMITS[inside.resource.RLIMIT_CPU] = 1, (1, 2)"
-    monkeypatch.setattr(sandbox, "MODULE", ("-c", f"from vecmon_lab.compilers import inside\n{limit}\ninside.main()"))
-    told = json.loads(answer_sandboxed([sandboxed_clang.name, "0"], ENDLESS))
-    assert told["messages"][0] == [0, 0, True, "the compiler was stopped: it took more than 1 s of processor time"]
+    limit = "sandbox_main.CPU_SECONDS, sandbox_main.LIMITS[sandbox_main.resource.RLIMIT_CPU] = 1, (1, 2)"
+    monkeypatch.setattr(
+        sandbox, "MODULE", ("-c", f"from vecmon_lab.compilers import sandbox_main\n{limit}\nsandbox_main.main()")
+    )
+    reply = json.loads(answer_sandboxed([sandboxed_clang.name, "0"], ENDLESS))
+    assert reply["messages"][0] == [0, 0, True, "the compiler was stopped: it took more than 1 s of processor time"]
 
 
 def test_a_crash_has_its_sentence(sandboxed_clang: Compiler) -> None:
@@ -203,7 +206,7 @@ def test_a_sandbox_that_is_killed(sandboxed_clang: Compiler) -> None:
     """By something else: that isn't the source's fault, as a limit of memory is."""
 
     async def kill() -> bytes:
-        made = asyncio.create_task(sandbox.answer_beside([sandboxed_clang.name, "0"], ENDLESS))
+        made = asyncio.create_task(sandbox.run_in_sandbox_async([sandboxed_clang.name, "0"], ENDLESS))
         while not (children := _children("bwrap")):
             await asyncio.sleep(0.02)
         await asyncio.sleep(0.5)  # by then the process in the sandbox ends with bwrap

@@ -11,7 +11,7 @@ from typing import Any
 
 import pytest
 
-from support.left_out import NO_SANDBOX, leave_out
+from support.skips import NO_SANDBOX, leave_out
 from vecmon_lab import LabError
 from vecmon_lab.compilers import sandbox
 from vecmon_lab.compilers.compiler import Compiler, choice_of
@@ -26,7 +26,7 @@ SECRET = "root:"  # as a file of the system begins that isn't a program's
 Ask = Callable[..., dict[str, Any]]
 FORKS = """
 import os, time
-from vecmon_lab.compilers import inside
+from vecmon_lab.compilers import sandbox_main
 
 def fork(command):
     made = 0
@@ -37,10 +37,10 @@ def fork(command):
             made += 1
     except OSError:
         pass
-    return [inside.Diagnostic(made, 0, True, "processes")]
+    return [sandbox_main.Diagnostic(made, 0, True, "processes")]
 
-inside.compile_source = fork
-inside.main()
+sandbox_main.compile_source = fork
+sandbox_main.main()
 """
 
 
@@ -51,15 +51,15 @@ def answer(clang: Compiler) -> Ask:
         leave_out(NO_SANDBOX)
 
     def ask(text: str, options: str = "O2") -> dict[str, Any]:
-        told: dict[str, Any] = json.loads(answer_sandboxed([clang.name, f"{choice_of(options)}"], text))
-        return told
+        reply: dict[str, Any] = json.loads(answer_sandboxed([clang.name, f"{choice_of(options)}"], text))
+        return reply
 
     return ask
 
 
 def test_a_program(answer: Ask) -> None:
-    told = answer(MAIN)
-    assert told["messages"] == [] and told["image"]
+    reply = answer(MAIN)
+    assert reply["messages"] == [] and reply["image"]
 
 
 @pytest.mark.parametrize(
@@ -75,29 +75,29 @@ def test_a_program(answer: Ask) -> None:
     ],
 )
 def test_files_of_the_system_are_not_there(answer: Ask, line: str) -> None:
-    told = answer(f"{line}\n{MAIN}")
-    text = json.dumps(told)
-    assert told["image"] is None and told["messages"]
+    reply = answer(f"{line}\n{MAIN}")
+    text = json.dumps(reply)
+    assert reply["image"] is None and reply["messages"]
     assert SECRET not in text and SECRET.encode().hex() not in text and os.sep + "etc" not in text
 
 
 @pytest.mark.parametrize("line", ['.incbin "/etc/passwd"', '.include "/etc/passwd"', '.incbin "/proc/self/environ"'])
 def test_a_stock_assembler_reads_no_files(answer: Ask, line: str) -> None:
-    told = answer(f"_start: nop\n {line}\n", "stock")
-    assert told["image"] is None and [message[0] for message in told["messages"]] == [2]
-    assert SECRET not in json.dumps(told) and SECRET.encode().hex() not in json.dumps(told)
+    reply = answer(f"_start: nop\n {line}\n", "stock")
+    assert reply["image"] is None and [message[0] for message in reply["messages"]] == [2]
+    assert SECRET not in json.dumps(reply) and SECRET.encode().hex() not in json.dumps(reply)
     assert answer("_start: nop\n", "stock")["image"]
 
 
 @pytest.mark.parametrize("text", [".rept 100000000\n.dword 1\n.endr\n", '.incbin "/dev/zero"\n', ".fill 1 << 40\n"])
 def test_what_takes_a_stock_assembler_too_much_ends(answer: Ask, text: str) -> None:
-    begun = time.monotonic()
+    started = time.monotonic()
     try:
-        told = answer(text, "stock")
-        assert told["image"] is None and told["messages"]
+        reply = answer(text, "stock")
+        assert reply["image"] is None and reply["messages"]
     except LabError as error:
         assert "was stopped" in str(error)
-    assert time.monotonic() - begun < SECONDS + 5
+    assert time.monotonic() - started < SECONDS + 5
 
 
 def test_processes_without_end(answer: Ask, monkeypatch: pytest.MonkeyPatch) -> None:
@@ -131,42 +131,42 @@ def test_processes_without_end(answer: Ask, monkeypatch: pytest.MonkeyPatch) -> 
     ],
 )
 def test_what_takes_too_much_ends(answer: Ask, text: str, sentence: str) -> None:
-    begun = time.monotonic()
+    started = time.monotonic()
     try:
-        told = answer(text)
-        assert told["image"] is None and sentence in told["messages"][0][3]
+        reply = answer(text)
+        assert reply["image"] is None and sentence in reply["messages"][0][3]
     except ToolError as error:
         assert "by the clock" in str(error)
-    assert time.monotonic() - begun < SECONDS + 5
+    assert time.monotonic() - started < SECONDS + 5
 
 
 def test_a_macro_without_end(answer: Ask) -> None:
     doubled = "".join(f"#define A{i + 1} A{i} A{i} A{i} A{i}\n" for i in range(30))
-    begun = time.monotonic()
+    started = time.monotonic()
     try:
-        told = answer(f"#define A0 x\n{doubled}int y = A30;\n{MAIN}")
-        assert told["image"] is None and told["messages"]
+        reply = answer(f"#define A0 x\n{doubled}int y = A30;\n{MAIN}")
+        assert reply["image"] is None and reply["messages"]
     except LabError as error:
         assert "was stopped" in str(error)
-    assert time.monotonic() - begun < SECONDS + 5
+    assert time.monotonic() - started < SECONDS + 5
 
 
 def test_libraries_that_a_source_names(answer: Ask) -> None:
-    told = answer(f'#pragma comment(lib, "/etc/passwd")\n#pragma comment(lib, "c")\n{MAIN}')
-    assert SECRET not in json.dumps(told)
+    reply = answer(f'#pragma comment(lib, "/etc/passwd")\n#pragma comment(lib, "c")\n{MAIN}')
+    assert SECRET not in json.dumps(reply)
 
 
 def test_names_that_are_long(answer: Ask) -> None:
     name = "f" * 60_000
-    told = answer(f"int {name}(void) {{ return 1; }}\nint main(void) {{ return {name}(); }}\n")
-    assert max(map(len, told["image"]["symbols"])) <= 100
+    reply = answer(f"int {name}(void) {{ return 1; }}\nint main(void) {{ return {name}(); }}\n")
+    assert max(map(len, reply["image"]["symbols"])) <= 100
 
 
 def test_debug_data_that_is_crafted(answer: Ask) -> None:
     sections = [".debug_line", ".debug_info", ".debug_abbrev", ".debug_ranges", ".debug_str", ".debug_loc"]
     junk = "".join(f'__asm__(".section {each}\\n.fill 2000, 4, 0xffffff7f\\n.text");\n' for each in sections)
-    told = answer(junk + MAIN)
-    assert told["messages"] or told["image"]
+    reply = answer(junk + MAIN)
+    assert reply["messages"] or reply["image"]
 
 
 def number(value: int) -> bytes:
@@ -210,17 +210,17 @@ def test_variables_that_are_crafted(answer: Ask) -> None:
         b"\x92\0\0",
         b"",
     ]
-    told = answer(
+    reply = answer(
         crafted([("fine", b"\3" + bytes([0, 1]) + bytes(6)), *((f"v{at}", each) for at, each in enumerate(hostile))])
     )
-    (_, *fine), *others = told["image"]["variables"]
+    (_, *fine), *others = reply["image"]["variables"]
     assert fine == ["fine", "", [], "", [], [[0, 1 << 48, "memory", 0, "100"]]]
     assert [each[6][0][2] for each in others] == ["untold"] * len(hostile)
 
 
 def test_more_variables_than_are_told(answer: Ask) -> None:
-    told = answer(crafted([("x" * 200, b"\x50")] * 1000, type_at=1 << 31))
-    assert len(told["image"]["variables"]) <= 300
+    reply = answer(crafted([("x" * 200, b"\x50")] * 1000, type_at=1 << 31))
+    assert len(reply["image"]["variables"]) <= 300
 
 
 def elf(headers: list[bytes]) -> bytes:

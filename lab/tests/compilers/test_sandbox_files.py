@@ -53,8 +53,8 @@ def inside(sandboxed_clang: Compiler, monkeypatch: pytest.MonkeyPatch) -> Inside
     def run(code: str, paths: Iterable[object]) -> list[str]:
         with monkeypatch.context() as patch:
             patch.setattr(sandbox, "MODULE", ("-c", code))
-            told = answer_sandboxed([sandboxed_clang.name, "0"], "".join(f"{path}\n" for path in paths))
-        return [line for line in told.decode().splitlines() if line]
+            reply = answer_sandboxed([sandboxed_clang.name, "0"], "".join(f"{path}\n" for path in paths))
+        return [line for line in reply.decode().splitlines() if line]
 
     return run
 
@@ -74,16 +74,14 @@ def names(folder: pathlib.Path) -> Iterator[str]:
             yield from within(path) if of_lab not in MODULES else [str(path)]
 
 
-def messages(told: bytes) -> list[Any]:
+def messages(reply: bytes) -> list[Any]:
     """The messages about a source, without places."""
-    return [text for _, _, _, text in json.loads(told)["messages"]]
+    return [text for _, _, _, text in json.loads(reply)["messages"]]
 
 
 def test_the_list_has_what_the_modules_import() -> None:
-    """In a new interpreter `inside` loads the modules of the list, and no other of the lab."""
-    code = (
-        "import sys, vecmon_lab.compilers.inside; print(*(m.__file__ for n, m in sys.modules.items() if 'vecmon' in n))"
-    )
+    """In a new interpreter `sandbox_main` loads the modules of the list, and no other of the lab."""
+    code = "import sys, vecmon_lab.compilers.sandbox_main; print(*(m.__file__ for n, m in sys.modules.items() if 'vecmon' in n))"
     done = subprocess.run([sys.executable, "-c", code], capture_output=True, text=True, check=True)
     loaded = {str(pathlib.Path(path).relative_to(LAB)) for path in done.stdout.split()}
     assert loaded == {module for module in MODULES if module.endswith(".py")}
@@ -125,9 +123,9 @@ def test_no_exercise_is_included_as_bytes(sandboxed_clang: Compiler, options: st
     lines = [f'.incbin "{path}"' for path in files]
     text = "".join(f"__asm__({json.dumps(line)});\n" for line in lines) + MAIN
     text = "\n".join(lines) if options == "stock" else text
-    told = messages(answer_sandboxed([sandboxed_clang.name, f"{choice_of(options)}"], text))
-    assert len([each for each in told if "Could not find incbin file" in each]) >= len({path.name for path in files})
-    assert len(told) <= len(files) and not any("title" in each or str(OURS) in each for each in told)
+    reply = messages(answer_sandboxed([sandboxed_clang.name, f"{choice_of(options)}"], text))
+    assert len([each for each in reply if "Could not find incbin file" in each]) >= len({path.name for path in files})
+    assert len(reply) <= len(files) and not any("title" in each or str(OURS) in each for each in reply)
 
 
 def test_no_option_of_the_compiler_reaches_an_exercise(inside: Inside) -> None:
@@ -148,5 +146,5 @@ def test_an_exercise_is_not_passed_by_its_own_answer(
     monkeypatch.setattr("os.geteuid", lambda: 1000)
     for folder in (f"{PLACE}/vecmon_lab/exercises/given/{name}", OURS / name):
         (tmp_path / "answer.c").write_text(f'#include "{folder}/good.c"\n')
-        status, told, _ = lab("grade", name, tmp_path / "answer.c")
-        assert status == 1 and b"answer.c:1:10: 'good.c' file not found" in told
+        status, output, _ = lab("grade", name, tmp_path / "answer.c")
+        assert status == 1 and b"answer.c:1:10: 'good.c' file not found" in output

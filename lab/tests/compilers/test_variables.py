@@ -39,8 +39,8 @@ def compiled(clang: Compiler, text: str, choice: int = O2) -> CompiledProgram:
 
 def test_types_in_the_words_of_c(clang: Compiler) -> None:
     text = "#include <stdint.h>\n" + "".join(f"{each};\n" for each in DECLARED) + "int main(void) { return 0; }\n"
-    told = {words: (element, counts) for _, words, element, counts, *_ in compiled(clang, text, O0).variables}
-    assert told == {re.sub(r" {.*}", "", words): form for words, form in DECLARED.items()}
+    expected = {words: (element, counts) for _, words, element, counts, *_ in compiled(clang, text, O0).variables}
+    assert expected == {re.sub(r" {.*}", "", words): form for words, form in DECLARED.items()}
 
 
 def test_a_global_lies_at_its_symbol(clang: Compiler) -> None:
@@ -108,8 +108,8 @@ PLUS, MINUS, TIMES = operation("plus", 0x22), operation("minus", 0x1C), operatio
     ],
 )
 def test_locations(operations: list[Operation], kind: str, register: int, offset: int) -> None:
-    told = location(4, 8, operations, (8, 16))
-    assert told == Location(4, 8, kind, register, f"{offset % (1 << 64):x}")
+    reply = location(4, 8, operations, (8, 16))
+    assert reply == Location(4, 8, kind, register, f"{offset % (1 << 64):x}")
 
 
 def test_a_frame_without_a_known_base_tells_nothing() -> None:
@@ -152,9 +152,9 @@ def test_what_isnt_known_is_not_told(operations: list[Operation]) -> None:
     ],
 )
 def test_variables_in_bad_form(place: int, part: object) -> None:
-    told: list[object] = ["a", "int a", "i32", [], "", [[0, 8]], [[0, 8, "memory", 34, "12480"]]]
-    (read,) = read_variables([told])
+    reply: list[object] = ["a", "int a", "i32", [], "", [[0, 8]], [[0, 8, "memory", 34, "12480"]]]
+    (read,) = read_variables([reply])
     assert read == Variable("a", "int a", "i32", [], "", [(0, 8)], [Location(0, 8, "memory", 2, "12480")])
-    told[place] = part
+    reply[place] = part
     with pytest.raises((ValueError, TypeError)):
-        read_variables([told])
+        read_variables([reply])

@@ -14,15 +14,15 @@ STOPPED = "Stopped at the breakpoint at 0x{}; its instruction is the next one."
 @pytest.mark.parametrize("image", PREFIX_SUMS, ids=str)
 def test_an_inlined_function_stops(image: pathlib.Path) -> None:
     """`prefix_bad` isn't static, and main has a copy of it: the symbol is that of the copy that nothing calls."""
-    told = shown(["break prefix_bad", "breaks", "run"], image)
-    assert told[1:5] == [
+    output = shown(["break prefix_bad", "breaks", "run"], image)
+    assert output[1:5] == [
         "ok: at 11190 prefix_bad, 11354 main+0xd0",
         "11190 prefix_bad  (prefix_sums.c:9)",
         "11354 main+0xd0  (prefix_sums.c:10)",
         STOPPED.format("11354"),
     ]
-    told = shown(["break prefix_bad", "break main", "unbreak prefix_bad", "breaks", "unbreak main", "breaks"], image)
-    assert told[3:] == ["ok: at 11190 prefix_bad, 11354 main+0xd0", "11284 main  (prefix_sums.c:51)", "ok"]
+    output = shown(["break prefix_bad", "break main", "unbreak prefix_bad", "breaks", "unbreak main", "breaks"], image)
+    assert output[3:] == ["ok: at 11190 prefix_bad, 11354 main+0xd0", "11284 main  (prefix_sums.c:51)", "ok"]
 
 
 def test_a_line_stops_in_all_copies() -> None:
@@ -34,14 +34,14 @@ def test_a_line_stops_in_all_copies() -> None:
         "break prefix_sums.c:54",
         "until 17",
     ]
-    told = shown(lines, PREFIX_SUMS[1])
-    assert told[1:3] == ["ok: at 111c0 prefix_bad+0x30, 11354 main+0xd0", STOPPED.format("11354")]
-    assert "=> 11354 main+0xd0  vsetvli x15, x11, e32, m2, ta, ma  (prefix_sums.c:10)" in told
-    assert "ok: at 11354 main+0xd0" in told, "the line that calls, of which no instruction is left"
-    assert "The program was stopped at 0x11338." in told[told.index("17 is taken as the line prefix_sums.c:17") :]
-    told = shown(["break total", "run", "run", "break 8", "until total.c:10"], TOTAL[1])
-    assert told[1] == "ok: at 1018c main+0x6c, 101b4 main+0x94, 101dc total"
-    assert STOPPED.format("1018c") in told and STOPPED.format("101b4") in told
+    output = shown(lines, PREFIX_SUMS[1])
+    assert output[1:3] == ["ok: at 111c0 prefix_bad+0x30, 11354 main+0xd0", STOPPED.format("11354")]
+    assert "=> 11354 main+0xd0  vsetvli x15, x11, e32, m2, ta, ma  (prefix_sums.c:10)" in output
+    assert "ok: at 11354 main+0xd0" in output, "the line that calls, of which no instruction is left"
+    assert "The program was stopped at 0x11338." in output[output.index("17 is taken as the line prefix_sums.c:17") :]
+    output = shown(["break total", "run", "run", "break 8", "until total.c:10"], TOTAL[1])
+    assert output[1] == "ok: at 1018c main+0x6c, 101b4 main+0x94, 101dc total"
+    assert STOPPED.format("1018c") in output and STOPPED.format("101b4") in output
 
 
 TAKEN = [
@@ -65,34 +65,36 @@ TAKEN = [
 
 
 def test_how_a_word_is_taken() -> None:
-    lines, told = zip(*TAKEN)
-    assert shown([*lines], PREFIX_SUMS[0])[1:] == [*told]
+    lines, reply = zip(*TAKEN)
+    assert shown([*lines], PREFIX_SUMS[0])[1:] == [*reply]
 
 
 def test_a_number_without_source_lines_is_an_address() -> None:
-    told = shown(["break 28", "breaks", "break sum.c:28", "help unbreak"], SUM)
-    assert told[1:4] == ["ok", "28", "no source lines are known: compile the image with -g"]
-    assert told[4].startswith("unbreak ADDR: ") and told[-1] == "  ADDR may be a function or a line, as sum.c:12"
+    help_text = shown(["break 28", "breaks", "break sum.c:28", "help unbreak"], SUM)
+    assert help_text[1:4] == ["ok", "28", "no source lines are known: compile the image with -g"]
+    assert (
+        help_text[4].startswith("unbreak ADDR: ") and help_text[-1] == "  ADDR may be a function or a line, as sum.c:12"
+    )
 
 
 def test_lines_of_an_assembler_source() -> None:
-    told = shown(["break 29", "break strip_mined.s:28", "run", "run"], STRIP_MINED)
-    assert told[1].startswith("ok: 29 is taken as the line strip_mined.s:29, at 100")
-    assert told[2] == "ok: at 10040 next+0x28" and STOPPED.format("10040") in told
+    output = shown(["break 29", "break strip_mined.s:28", "run", "run"], STRIP_MINED)
+    assert output[1].startswith("ok: 29 is taken as the line strip_mined.s:29, at 100")
+    assert output[2] == "ok: at 10040 next+0x28" and STOPPED.format("10040") in output
 
 
 def test_an_ambiguous_name_lists_its_places() -> None:
     places = "scaled names 2 places: 111d0 (namesake.c:8), 111e0 (namesake_other.c:3); name one as FILE:LINE or by its address"
     lines = ["break scaled", "peek scaled", "until scaled", "break namesake_other.c:3", "run"]
-    told = shown(lines, NAMESAKES)
-    assert told[1:6] == [places] * 3 + ["ok: at 111e0 scaled", STOPPED.format("111e0")]
+    output = shown(lines, NAMESAKES)
+    assert output[1:6] == [places] * 3 + ["ok: at 111e0 scaled", STOPPED.format("111e0")]
 
 
 def test_a_condition_holds_at_each_address() -> None:
-    told = shown(["break prefix_sums.c:14 if vl < 10", "run", "breaks"], PREFIX_SUMS[1])
-    assert told[1:3] == ["ok: at 111d8 prefix_bad+0x48, 1136c main+0xe8", STOPPED.format("1136c")]
-    assert any("vl=2" in line for line in told)  # 50 is 3 times 16 and 2
-    assert told[-2:] == [
+    output = shown(["break prefix_sums.c:14 if vl < 10", "run", "breaks"], PREFIX_SUMS[1])
+    assert output[1:3] == ["ok: at 111d8 prefix_bad+0x48, 1136c main+0xe8", STOPPED.format("1136c")]
+    assert any("vl=2" in line for line in output)  # 50 is 3 times 16 and 2
+    assert output[-2:] == [
         "111d8 prefix_bad+0x48  (prefix_sums.c:14) if vl < 10",
         "1136c main+0xe8  (prefix_sums.c:14) if vl < 10",
     ]
@@ -100,23 +102,23 @@ def test_a_condition_holds_at_each_address() -> None:
 
 def test_a_line_with_more_addresses_than_breakpoints_are_left() -> None:
     lines = [*(f"break {4 * place:#x}" for place in range(100, 112)), "break prefix_sums.c:9", "until prefix_sums.c:9"]
-    told = shown([*lines, *(f"break 0x{4 * place:x}" for place in range(5)), "breaks"], PREFIX_SUMS[1])
-    assert told[1:13] == ["ok"] * 12
+    output = shown([*lines, *(f"break 0x{4 * place:x}" for place in range(5)), "breaks"], PREFIX_SUMS[1])
+    assert output[1:13] == ["ok"] * 12
     assert (
-        told[13:15]
+        output[13:15]
         == [
             "prefix_sums.c:9 needs 5 breakpoints, and 4 of 16 are left: none is set; "
             "break takes one address, of 11190, 111ac, 111b4, 11340, 11348"
         ]
         * 2
     )
-    assert told[15:20] == ["ok"] * 4 + ["E12: the user already has sixteen breakpoints"] and len(told[20:]) == 16
+    assert output[15:20] == ["ok"] * 4 + ["E12: the user already has sixteen breakpoints"] and len(output[20:]) == 16
 
 
 def test_load_keeps_breakpoints_of_the_same_image() -> None:
     lines = ["break prefix_sums.c:13 if vl < 10", "break main", "run", "load", "breaks", "run"]
-    told = shown(lines, PREFIX_SUMS[0])
-    again = told[told.index("loaded pc=0000000000011528 pages=7") :]
+    output = shown(lines, PREFIX_SUMS[0])
+    again = output[output.index("loaded pc=0000000000011528 pages=7") :]
     assert again[1:6] == [
         "=> 11528 _start  addi x2, x2, -16  (runtime.c:46)",
         "111d0 prefix_bad+0x40  (prefix_sums.c:13) if vl < 10",
@@ -129,8 +131,8 @@ def test_load_keeps_breakpoints_of_the_same_image() -> None:
 def test_breakpoints_of_another_program_are_reported_as_removed() -> None:
     removed = "since the program is another one"
     lines = ["break main", "break 44", f"source {STRIP_MINED}", "break next", f"source {STRIP_MINED}", "breaks", "load"]
-    told = shown(lines, PREFIX_SUMS[0])
-    assert told[3] == f"3 breakpoints were removed, {removed}: 11258, 11284, 113a4"
-    assert "10018 next" in told and f"1 breakpoint was removed, {removed}: 10018" in told
-    told = shown(["leave", "enter", "break 100", "load", "breaks", "load"], SQUARES_DWARF5)
-    assert f"1 breakpoint was removed, {removed}: 100" in told and told[-2].startswith("loaded ")
+    output = shown(lines, PREFIX_SUMS[0])
+    assert output[3] == f"3 breakpoints were removed, {removed}: 11258, 11284, 113a4"
+    assert "10018 next" in output and f"1 breakpoint was removed, {removed}: 10018" in output
+    output = shown(["leave", "enter", "break 100", "load", "breaks", "load"], SQUARES_DWARF5)
+    assert f"1 breakpoint was removed, {removed}: 100" in output and output[-2].startswith("loaded ")

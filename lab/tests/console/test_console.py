@@ -8,7 +8,7 @@ from collections.abc import Iterator
 
 import pytest
 
-from support.console import CONSOLE, carried_out, shown
+from support.console import CONSOLE, run_console, shown
 from support.images import make_image
 from support.places import EXAMPLES, SQUARES, STOCK, SUM, SUM_DWARF4, SUM_DWARF5, TOP, TOURS
 from support.sources import ARGUMENTS
@@ -61,33 +61,33 @@ def test_an_image_runs_to_its_end() -> None:
 
 def test_a_fault_and_how_to_go_on() -> None:
     lines = ["run", "dis", "vcsr", "peek 11ff8 8", "load", "poke 11000 e803", "run"]  # docs/COMPILING.md
-    told = shown(lines, SQUARES)
+    output = shown(lines, SQUARES)
     reason = "The store at 0x10198 may not write from 0x12000 on: a page isn't mapped, or has no permission w."
-    assert told[1] == f"{reason} It stopped at element 14."
-    at = told.index("=> 10198  vse32.v v8, (x10)")
-    assert told[at + 1] == "10198  vse32.v v8, (x10)"
-    assert told[at + 9] == "vl=16 vtype=d1 (e32,m2,ta,ma) vstart=14 vxrm=0 (rnu) vxsat=0 policy=keep"
-    assert told[at + 10].split()[:9] == "11ff8 10 e0 0f 00 09 e8 0f 00".split()
-    assert told[at + 11 : at + 14] == ["loaded pc=0000000000010174 pages=6", "=> 10174  auipc x1, 0", "ok"]
-    assert "The program has ended with status 0, at 0x10180." in told
+    assert output[1] == f"{reason} It stopped at element 14."
+    at = output.index("=> 10198  vse32.v v8, (x10)")
+    assert output[at + 1] == "10198  vse32.v v8, (x10)"
+    assert output[at + 9] == "vl=16 vtype=d1 (e32,m2,ta,ma) vstart=14 vxrm=0 (rnu) vxsat=0 policy=keep"
+    assert output[at + 10].split()[:9] == "11ff8 10 e0 0f 00 09 e8 0f 00".split()
+    assert output[at + 11 : at + 14] == ["loaded pc=0000000000010174 pages=6", "=> 10174  auipc x1, 0", "ok"]
+    assert "The program has ended with status 0, at 0x10180." in output
 
 
 def test_arguments_of_an_image(program: pathlib.Path, tmp_path: pathlib.Path) -> None:
     make_image(program, tmp_path / "image", ARGUMENTS)
-    told = shown(["run", "2 enter", "2 load image", "load", "step", "run"], tmp_path / "image", "x" * 40, "--help")
-    assert told[1:4] == ["image", "x" * 40, "--help"] and told.count("--help") == 2
-    assert sum(line.startswith("The program has ended with status 3, ") for line in told) == 2
-    step = told.index("   10000  ld x8, 0(x2)")
-    assert told[step + 1 : step + 3] == ["      x8/s0=3", "=> 10004  addi x9, x2, 8"]
-    run = carried_out([], STRIP_MINED, "one")
+    help_text = shown(["run", "2 enter", "2 load image", "load", "step", "run"], tmp_path / "image", "x" * 40, "--help")
+    assert help_text[1:4] == ["image", "x" * 40, "--help"] and help_text.count("--help") == 2
+    assert sum(line.startswith("The program has ended with status 3, ") for line in help_text) == 2
+    step = help_text.index("   10000  ld x8, 0(x2)")
+    assert help_text[step + 1 : step + 3] == ["      x8/s0=3", "=> 10004  addi x9, x2, 8"]
+    run = run_console([], STRIP_MINED, "one")
     assert (run.returncode, run.stderr) == (2, b"vecmon-lab: words and an input are for an image alone\n")
 
 
 def test_what_each_step_changes() -> None:
-    told = shown(["break next", "run", "step 6", "vreg v9", "peek y", "vreg v8 8"], STRIP_MINED)
-    assert told[0] == "=> 10000  addi x10, x0, 13"
-    assert told[2] == "Stopped at the breakpoint at 0x10018; its instruction is the next one."
-    steps = told[told.index("=> 10018 next  vsetvli x5, x10, e32, m1, ta, mu") + 1 :]
+    output = shown(["break next", "run", "step 6", "vreg v9", "peek y", "vreg v8 8"], STRIP_MINED)
+    assert output[0] == "=> 10000  addi x10, x0, 13"
+    assert output[2] == "Stopped at the breakpoint at 0x10018; its instruction is the next one."
+    steps = output[output.index("=> 10018 next  vsetvli x5, x10, e32, m1, ta, mu") + 1 :]
     loaded = ",".join(f"{value:08x}" for value in X[:8])
     assert steps[:12] == [
         "   10018 next  vsetvli x5, x10, e32, m1, ta, mu",
@@ -121,10 +121,10 @@ def test_the_session_of_the_manual() -> None:
 
 
 def test_what_lines_change_is_no_change_of_a_step() -> None:
-    told = shown(
+    output = shown(
         ["map 10000 1 rwx", "asm 10000 addi x6, x0, 1", "setpc 10000", "set x5 7", f"vset v1 {'01' * 32}", "step"]
     )
-    assert told[-3:] == ["   10000  addi x6, x0, 1", "      x6/t1=1", "=> 10004  .word 0x00000000"]
+    assert output[-3:] == ["   10000  addi x6, x0, 1", "      x6/t1=1", "=> 10004  .word 0x00000000"]
 
 
 def test_output_without_a_newline(tmp_path: pathlib.Path) -> None:
@@ -134,71 +134,72 @@ def test_output_without_a_newline(tmp_path: pathlib.Path) -> None:
 
 
 def test_steps_stop_at_a_breakpoint_as_those_of_the_machine() -> None:
-    told = shown(["break next+4", "step 40", "step 40", "1 regs"], STRIP_MINED)
-    stops = [place for place, line in enumerate(told) if line.startswith("Stopped at the breakpoint at 0x1001c")]
-    assert len(stops) == 2 and told[-9] == "1 pc 000000000001001c"
+    output = shown(["break next+4", "step 40", "step 40", "1 regs"], STRIP_MINED)
+    stops = [place for place, line in enumerate(output) if line.startswith("Stopped at the breakpoint at 0x1001c")]
+    assert len(stops) == 2 and output[-9] == "1 pc 000000000001001c"
 
 
 def test_names_of_registers_and_addresses() -> None:
-    told = shown(["set a0 y", "set fp y+0x4", "set x5 0xff", "set t1 next+10", "setpc next", "regs"], STRIP_MINED)
-    registers = " ".join(told[-11:])
+    output = shown(["set a0 y", "set fp y+0x4", "set x5 0xff", "set t1 next+10", "setpc next", "regs"], STRIP_MINED)
+    registers = " ".join(output[-11:])
     for name, value in {"x10/a0": 0x11040, "x8/s0": 0x11044, "x5/t0": 0xFF, "x6/t1": 0x10028, "pc": 0x10018}.items():
         assert f"{name:8} {value:016x}" in registers
 
 
 def test_a_source_in_place_of_an_image_and_back() -> None:
     lines = [f"source {STRIP_MINED}", "break next", "run", "load", "breaks", "break next", "peek _start 4", "run"]
-    told = shown(lines, SUM)
+    output = shown(lines, SUM)
     assert (
-        told[1:3] == ["=> 10000  addi x10, x0, 13", "ok"] and "=> 10018 next  vsetvli x5, x10, e32, m1, ta, mu" in told
+        output[1:3] == ["=> 10000  addi x10, x0, 13", "ok"]
+        and "=> 10018 next  vsetvli x5, x10, e32, m1, ta, mu" in output
     )
-    again = told[told.index("loaded pc=0000000000011190 pages=7") + 1 :]
+    again = output[output.index("loaded pc=0000000000011190 pages=7") + 1 :]
     assert again[0] == "1 breakpoint was removed, since the program is another one: 10018"
     assert again[1:3] == ["=> 11190 _start  addi x2, x2, -16", "there is no symbol next"]
     assert again[3].split()[:5] == ["11190", *"13 01 01 ff".split()] and again[4] == "328350"
 
 
 def test_a_symbol_with_something_behind_it() -> None:
-    told = "E04: _start+zz is no value, which has hexadecimal digits alone; the form is set xN VALUE"
-    assert shown(["set a0 _start+zz", "set a0 _start+0x8"], SUM)[1:] == [told, "ok"]
+    expected = "E04: _start+zz is no value, which has hexadecimal digits alone; the form is set xN VALUE"
+    assert shown(["set a0 _start+zz", "set a0 _start+0x8"], SUM)[1:] == [expected, "ok"]
 
 
 def test_the_last_words_of_a_page() -> None:
     lines = ["map 10000 1 rwx", "asm 10ff8 ebreak", "setpc 10ff8", "dis", "setpc 10000", "dis"]
-    told = shown(lines)
-    assert told[4:7] == ["=> 10ff8  ebreak", "10ff8  ebreak", "10ffc  .word 0x00000000"] and len(told) == 7 + 2 + 8
+    output = shown(lines)
+    assert output[4:7] == ["=> 10ff8  ebreak", "10ff8  ebreak", "10ffc  .word 0x00000000"] and len(output) == 7 + 2 + 8
 
 
 def test_lines_of_the_monitor_are_taken_as_they_stand(program: pathlib.Path) -> None:
     script = (TOURS / "assembling").read_bytes()
     own = [line for line in script.decode("ascii").splitlines() if line.startswith("1 ") and line != "1 enter"]
     lines = b"# a sentence\n\n" + "".join(f"{line}\r\n" for line in own).encode() + b"* list\n2 enter\n2 state\n"
-    told = shown(lines)
+    output = shown(lines)
     plain = subprocess.run([program], input="\n".join(["1 enter", *own]).encode(), stdout=subprocess.PIPE)
     answers = [line for line in plain.stdout.decode().splitlines()[1:] if not line.startswith("1 E")]
-    assert len(answers) > 5 and answers == [line for line in told if line.startswith("1 ")]
-    assert told[-3].startswith("* list 1:stopped 2:-")
-    assert told[-2:] == ["2 entered", "2 state stopped pc=0000000000000000"]
+    assert len(answers) > 5 and answers == [line for line in output if line.startswith("1 ")]
+    assert output[-3].startswith("* list 1:stopped 2:-")
+    assert output[-2:] == ["2 entered", "2 state stopped pc=0000000000000000"]
 
 
 def test_a_user_who_is_absent_or_runs() -> None:
-    told = shown(["leave", "run", "step", "regs", "bar", f"source {STRIP_MINED}"])
-    assert told[1:5] == ["left", *["E05: the user has not entered"] * 3]
-    assert told[-1] == "=> 10000  addi x10, x0, 13"
+    output = shown(["leave", "run", "step", "regs", "bar", f"source {STRIP_MINED}"])
+    assert output[1:5] == ["left", *["E05: the user has not entered"] * 3]
+    assert output[-1] == "=> 10000  addi x10, x0, 13"
     lines = ["map 10000 1 rwx", "asm 10000 ebreak", "setpc 10000", "go", "regs", "step", "run", "step"]
-    told = shown([*lines, "go", f"source {STRIP_MINED}", "1 state"])
-    assert told[-3:] == [
+    output = shown([*lines, "go", f"source {STRIP_MINED}", "1 state"])
+    assert output[-3:] == [
         "running pc=0000000000010000",
         "=> 10000  addi x10, x0, 13",
         "1 state stopped pc=0000000000010000",
     ]
-    told = shown(lines)
-    assert told[4:8] == [
+    output = shown(lines)
+    assert output[4:8] == [
         "=> 10000  ebreak",
         "running pc=0000000000010000",
         *["E07: the user's program is running: stop it first"] * 2,
     ]
-    assert told[8:] == ["Stopped at the ebreak at 0x10000.", "=> 10000  ebreak"] * 2
+    assert output[8:] == ["Stopped at the ebreak at 0x10000.", "=> 10000  ebreak"] * 2
 
 
 def test_a_breakpoint_where_the_ticks_of_a_round_end(tmp_path: pathlib.Path) -> None:
@@ -208,7 +209,7 @@ def test_a_breakpoint_where_the_ticks_of_a_round_end(tmp_path: pathlib.Path) -> 
 
 
 @pytest.mark.parametrize(
-    "line, told",
+    "line, expected",
     [
         ("dance", "E03: there is no command dance"),
         ("step 257", "E04: 257 isn't from 1 to 256; the form is step N"),
@@ -227,16 +228,16 @@ def test_a_breakpoint_where_the_ticks_of_a_round_end(tmp_path: pathlib.Path) -> 
         ("a" * 1023, "a line has at most 1,022 characters after its user, and this one has 1,023"),
     ],
 )
-def test_lines_that_are_refused(line: str, told: str) -> None:
+def test_lines_that_are_refused(line: str, expected: str) -> None:
     assert shown([line, "vcsr", "quit", "regs"])[1:] == [
-        told,
+        expected,
         "vl=0 vtype=8000000000000000 (vill) vstart=0 vxrm=0 (rnu) vxsat=0 policy=keep",
     ]
 
 
 def test_bytes_that_are_no_text() -> None:
-    told = shown(b"regs\xff\n1 state\0\nstate")
-    assert told[1:] == [
+    output = shown(b"regs\xff\n1 state\0\nstate")
+    assert output[1:] == [
         r"character 5 of a line, '\ufffd', isn't printable ASCII",
         r"character 8 of a line, '\x00', isn't printable ASCII",
         "state stopped pc=0000000000000000",
@@ -244,7 +245,7 @@ def test_bytes_that_are_no_text() -> None:
 
 
 @pytest.mark.parametrize(
-    "source, told",
+    "source, expected",
     [
         ("_start: li t0, 0\n  add t0, t1 t2\n", "2:14: t2 doesn't fit here: a comma may be missing before it"),
         (
@@ -254,13 +255,13 @@ def test_bytes_that_are_no_text() -> None:
         ("  j nowhere\n", "1:5: nowhere is no register that fits here, and no label or constant known here"),
     ],
 )
-def test_a_source_that_does_not_assemble(tmp_path: pathlib.Path, source: str, told: str) -> None:
+def test_a_source_that_does_not_assemble(tmp_path: pathlib.Path, source: str, expected: str) -> None:
     path = tmp_path / "bad.s"
     path.write_text(source)
     lines = shown(["break y", f"source {path}", "breaks", "* list"], STRIP_MINED)
-    assert lines[2:] == [f"{path}:{told}", "11040 y", "* list 1:stopped 2:- 3:- 4:- 5:- 6:- 7:- 8:-"]
-    run = carried_out([], path)
-    assert (run.returncode, run.stdout, run.stderr.decode()) == (2, b"", f"vecmon-lab: {path}:{told}\n")
+    assert lines[2:] == [f"{path}:{expected}", "11040 y", "* list 1:stopped 2:- 3:- 4:- 5:- 6:- 7:- 8:-"]
+    run = run_console([], path)
+    assert (run.returncode, run.stdout, run.stderr.decode()) == (2, b"", f"vecmon-lab: {path}:{expected}\n")
 
 
 def bad_images(folder: pathlib.Path) -> Iterator[tuple[pathlib.Path, str]]:
@@ -277,7 +278,7 @@ def bad_images(folder: pathlib.Path) -> Iterator[tuple[pathlib.Path, str]]:
 
 def test_images_that_are_refused(tmp_path: pathlib.Path) -> None:
     for path, reason in bad_images(tmp_path):
-        run = carried_out(["regs"], path)
+        run = run_console(["regs"], path)
         assert (run.returncode, run.stdout, run.stderr.count(b"\n")) == (2, b"", 1)
         assert run.stderr.decode().startswith(f"vecmon-lab: {path}") and reason in run.stderr.decode()
 
@@ -289,44 +290,44 @@ def test_source_lines_where_the_image_tells_them() -> None:
 
 def test_until_a_register_changes_or_an_address_comes() -> None:
     """In the first round eight elements are loaded into v9; a0 is 5 behind the subtraction at next+0x18."""
-    told = shown(["until v9", "until a0", "until 0x1002c", "breaks", "until t6", "until vl"], STRIP_MINED)
-    assert told[1:3] == ["   10020 next+0x8  vle32.v v9, (x12)", f"      v9.e32[0..7]={','.join(['00000064'] * 8)}"]
-    assert told[4:7] == [
+    output = shown(["until v9", "until a0", "until 0x1002c", "breaks", "until t6", "until vl"], STRIP_MINED)
+    assert output[1:3] == ["   10020 next+0x8  vle32.v v9, (x12)", f"      v9.e32[0..7]={','.join(['00000064'] * 8)}"]
+    assert output[4:7] == [
         "   10030 next+0x18  sub x10, x10, x5",
         "      x10/a0=5",
         "=> 10034 next+0x1c  slli x7, x5, 2",
     ]
-    assert told[7] == "The program was stopped at 0x1002c." and "      x5/t0=5  x7/t2=20" in told[8]
-    assert told[-5] == "=> 1002c next+0x14  vse32.v v9, (x12)"
-    assert told[-4:] == ["Stopped at the ebreak at 0x10044.", "=> 10044 next+0x2c  ebreak"] * 2
+    assert output[7] == "The program was stopped at 0x1002c." and "      x5/t0=5  x7/t2=20" in output[8]
+    assert output[-5] == "=> 1002c next+0x14  vse32.v v9, (x12)"
+    assert output[-4:] == ["Stopped at the ebreak at 0x10044.", "=> 10044 next+0x2c  ebreak"] * 2
     lines = ["leave", "until a0", "until 10000", "enter", "map 10000 1 rwx", "asm 10000 jal x0, 0", "setpc 10000"]
     lines += [*(f"break {address:x}" for address in range(0x20000, 0x20040, 4)), "until 10004", "break 10000"]
     assert (
         shown([*lines, "unbreak 20000", "break 10000", "until a0", "1 state"])[2:4]
         == ["E05: the user has not entered"] * 2
     )
-    told = shown([*lines, "unbreak 20000", "break 10000", "until a0", "until 10000", "1 breaks"])
+    output = shown([*lines, "unbreak 20000", "break 10000", "until a0", "until 10000", "1 breaks"])
     stands = ["Stopped at the breakpoint at 0x10000; its instruction is the next one.", "=> 10000  jal x0, 0"]
-    assert told[-5:-1] == stands * 2
-    assert [line[:4] for line in told if line.startswith("E12")] == ["E12:"] * 2
-    assert told[-1].split()[:3] == ["1", "breaks", f"{0x10000:016x}"]
+    assert output[-5:-1] == stands * 2
+    assert [line[:4] for line in output if line.startswith("E12")] == ["E12:"] * 2
+    assert output[-1].split()[:3] == ["1", "breaks", f"{0x10000:016x}"]
 
 
 def test_back_by_instructions_and_to_a_write() -> None:
     """The first eight sums are stored at y in the first round, when a0 is still thirteen."""
-    told = shown(
+    output = shown(
         ["run", "back", "back to write y", "peek y", "back to write y", "set x9 5", "step", "back 100"], STRIP_MINED
     )
-    stands = [line[3:] for line in told if line.startswith("=>")]
+    stands = [line[3:] for line in output if line.startswith("=>")]
     assert stands[2:4] == ["10040 next+0x28  bne x10, x0, -40", "1002c next+0x14  vse32.v v9, (x12)"]
-    at = told.index(f"=> {stands[3]}")
+    at = output.index(f"=> {stands[3]}")
     assert (
-        "x10/a0=d" in told[at - 3]
-        and told[at + 1] == "   11040  64 00 00 00 64 00 00 00 64 00 00 00 64 00 00 00  d...d...d...d..."
+        "x10/a0=d" in output[at - 3]
+        and output[at + 1] == "   11040  64 00 00 00 64 00 00 00 64 00 00 00 64 00 00 00  d...d...d...d..."
     )
-    assert [line for line in told if line.endswith("before.")] == ["This is the start: there is nothing before."] * 2
-    nobody = told.index("No instruction has changed what lies at 11040 y.")
-    assert told[nobody + 1] == "This is the start: there is nothing before."
+    assert [line for line in output if line.endswith("before.")] == ["This is the start: there is nothing before."] * 2
+    nobody = output.index("No instruction has changed what lies at 11040 y.")
+    assert output[nobody + 1] == "This is the start: there is nothing before."
     assert stands[4:] == ["10000  addi x10, x0, 13", "10004  auipc x11, 1", "10000  addi x10, x0, 13"]
     assert shown(["back", "leave", "back"], STRIP_MINED)[-1] == "This is the start: there is nothing before."
 
@@ -341,11 +342,11 @@ def test_breakpoints_with_conditions() -> None:
         "run",
         "step 9",
     ]
-    told = shown([*lines, "unbreak next+0x14", "break next+0x14", "breaks"], STRIP_MINED)
-    assert told[4:7] == ["10018 next if vl == 8", "1002c next+0x14 if x10 < 6", "10040 next+0x28 if a0 != a0"]
-    stops = [line[29:36] for line in told if line.startswith("Stopped at the breakpoint")]
+    output = shown([*lines, "unbreak next+0x14", "break next+0x14", "breaks"], STRIP_MINED)
+    assert output[4:7] == ["10018 next if vl == 8", "1002c next+0x14 if x10 < 6", "10040 next+0x28 if a0 != a0"]
+    stops = [line[29:36] for line in output if line.startswith("Stopped at the breakpoint")]
     assert stops == ["0x10018", "0x1002c"]  # where vl is 8, in the second round; then a0 is 5
-    assert told[-3:] == ["10018 next if vl == 8", "1002c next+0x14", "10040 next+0x28 if a0 != a0"]
+    assert output[-3:] == ["10018 next if vl == 8", "1002c next+0x14", "10040 next+0x28 if a0 != a0"]
     loaded = shown(["break _start+8 if a0 == 0", "load", "break _start+8", "breaks"], SUM)
     assert loaded[-2:] == ["E13: there already is a breakpoint", "11198 _start+0x8 if a0 == 0"]
     again = shown(["break next if a0 == d", f"source {STRIP_MINED}", "break next", "breaks"], STRIP_MINED)
@@ -353,7 +354,7 @@ def test_breakpoints_with_conditions() -> None:
 
 
 @pytest.mark.parametrize(
-    "line, told",
+    "line, expected",
     [
         ("break next if a0 = 5", "a0 = 5 is no condition: a0 == 5 or vl < 8 is one"),
         ("break next if a0 == none", "there is no symbol none"),
@@ -374,33 +375,35 @@ def test_breakpoints_with_conditions() -> None:
         ("changes", "nothing has changed"),
     ],
 )
-def test_new_lines_that_are_refused(line: str, told: str) -> None:
-    assert shown([line, "breaks", "1 state"], STRIP_MINED)[1:] == [told, "1 state stopped pc=0000000000010000"]
+def test_new_lines_that_are_refused(line: str, expected: str) -> None:
+    assert shown([line, "breaks", "1 state"], STRIP_MINED)[1:] == [expected, "1 state stopped pc=0000000000010000"]
 
 
 def test_the_source_around_a_line(tmp_path: pathlib.Path) -> None:
     text = STRIP_MINED.read_text().splitlines()
-    told = shown(["break next", "run", "list", "list 10000"], STRIP_MINED)
+    output = shown(["break next", "run", "list", "list 10000"], STRIP_MINED)
     at = text.index(next(line for line in text if line.startswith("next:")))
     marks = ["=>" if number == at else "  " for number in range(at - 4, at + 6)]
     rows = [f"{mark} {number + 1:4}  {text[number]}".rstrip() for mark, number in zip(marks, range(at - 4, at + 6))]
-    assert rows == told[-20:-10] and not any(row.startswith("=>") for row in told[-10:-6])
+    assert rows == output[-20:-10] and not any(row.startswith("=>") for row in output[-10:-6])
     image = tmp_path / "sum"
     image.write_bytes(SUM_DWARF4.read_bytes())
     assert shown(["list"], image)[1:] == ["the source sum.c is neither next to sum nor here"]
     (tmp_path / "sum.c").write_bytes((STOCK / "sum.c").read_bytes())
-    told = shown(["list"], image)[1:]
-    assert told[4] == "=>   30  {" and [int(row[2:7]) for row in told] == [*range(26, 36)]
+    output = shown(["list"], image)[1:]
+    assert output[4] == "=>   30  {" and [int(row[2:7]) for row in output] == [*range(26, 36)]
 
 
 def test_a_run_s_changes_take_six_rows(tmp_path: pathlib.Path) -> None:
     """Of e8, m8: 256 elements in eight registers, of 32 numbers with a comma each, in two rows a register."""
     source = "vsetvli t0, x0, e8, m8, ta, ma\nvid.v v8\nebreak\n"
     (tmp_path / "wide.s").write_text(source)
-    told = shown(["run", "changes"], tmp_path / "wide.s")
-    assert told[7:10] == ["      and 12 rows more: see changes", "=> 10008  ebreak", told[2]] and len(told) == 9 + 17
-    assert told[2:7] == told[9:14]
-    values = re.findall("(?<=[=,])[0-9a-f]{2}(?=,|$)", ",".join("".join(told[10:]).split()))
+    output = shown(["run", "changes"], tmp_path / "wide.s")
+    assert (
+        output[7:10] == ["      and 12 rows more: see changes", "=> 10008  ebreak", output[2]] and len(output) == 9 + 17
+    )
+    assert output[2:7] == output[9:14]
+    values = re.findall("(?<=[=,])[0-9a-f]{2}(?=,|$)", ",".join("".join(output[10:]).split()))
     assert [int(value, 16) for value in values] == [*range(1, 256)]  # element 0 was 0 before
 
 
@@ -442,8 +445,8 @@ def test_rows_that_a_terminal_has_no_room_for(
         "\033[2m" + "0 " * 18 + "\033[0m",
     ]
     Screen(False).say(*rows)
-    told = capsys.readouterr().out.split("\n")
-    assert told == ["   10040 next+0x28  bne x10, x0, -40", "        (strip_mined.s:31)", *rows[1:], ""]
+    output = capsys.readouterr().out.split("\n")
+    assert output == ["   10040 next+0x28  bne x10, x0, -40", "        (strip_mined.s:31)", *rows[1:], ""]
 
 
 def test_from_a_pipe_the_library_is_not_imported() -> None:
@@ -467,8 +470,8 @@ def test_a_dumb_terminal(tmp_path: pathlib.Path, forever: pathlib.Path) -> None:
         console.expect("^C")
         console.expect("vecmon> ")
         console.type("regs\n")
-        told = console.expect("vecmon> ")
-        assert "x10/a0   0000000000000006" in told and "\x1b" not in told
+        output = console.expect("vecmon> ")
+        assert "x10/a0   0000000000000006" in output and "\x1b" not in output
         console.type(END)
         assert console.end()[0] == 0
     assert not (tmp_path / "state").exists()
@@ -546,21 +549,25 @@ def test_what_was_typed_is_kept_for_the_next_time(tmp_path: pathlib.Path) -> Non
 def test_colours(tmp_path: pathlib.Path, more: dict[str, str], has_colours: bool) -> None:
     lines = ["break next+0x14", "run", "vreg v9", "step 9", "run", "vreg v8"]  # the second time there are five elements
     tail, masked, changed = "\x1b[2m", "\x1b[35m", "\x1b[33m"
-    told = {}
+    expected = {}
     with terminal(tmp_path, STRIP_MINED, **more) as console:
         console.expect(WHERE, is_raw=True)
         for line in lines:
             console.type(f"{line}\r")
-            told[line] = console.expect(WHERE, is_raw=True)
-    assert (f"{changed}      x10/a0=5" in told["step 9"]) is has_colours
-    elements = re.findall("v8  ([^\r]*)\r", told["vreg v8"])[-1].split()
+            expected[line] = console.expect(WHERE, is_raw=True)
+    assert (f"{changed}      x10/a0=5" in expected["step 9"]) is has_colours
+    elements = re.findall("v8  ([^\r]*)\r", expected["vreg v8"])[-1].split()
     assert [element.startswith(tail) for element in elements] == [False] * 5 + [has_colours] * 3
-    assert masked not in told["vreg v9"]
-    assert [colour in "".join(told.values()) for colour in (tail, masked, changed)] == [has_colours, False, has_colours]
+    assert masked not in expected["vreg v9"]
+    assert [colour in "".join(expected.values()) for colour in (tail, masked, changed)] == [
+        has_colours,
+        False,
+        has_colours,
+    ]
 
 
 @pytest.mark.parametrize(
-    "register, width, control, mask, lies",
+    "register, width, control, mask, placement",
     [
         ("v9", 32, {"vl": 11, "vtype": 0xD1}, None, "aaattttt"),  # e32, m2: these are elements 8 to 15
         ("v9", 32, {"vl": 11, "vtype": 0xD1}, 0x500, "amattttt"),
@@ -570,13 +577,13 @@ def test_colours(tmp_path: pathlib.Path, more: dict[str, str], has_colours: bool
         ("v3", 16, {"vl": 0, "vtype": 1 << 63}, 0, "a" * 16),  # vill
     ],
 )
-def test_how_elements_lie(register: str, width: int, control: dict[str, int], mask: int | None, lies: str) -> None:
+def test_how_elements_lie(register: str, width: int, control: dict[str, int], mask: int | None, placement: str) -> None:
     shown = read([" ".join(["1", register, *(f"{number:0{width // 4}x}" for number in range(256 // width))])])
     assert isinstance(shown, VectorRegister)
     rows = "\n".join(Screen(True).element_rows(shown, ControlRegisters(**control, vstart=0, vxrm=0, vxsat=0), mask))
     kinds = {"": "a", "35": "m", "2": "t"}
     found = [(kinds[colour], int(digits, 16)) for colour, digits in re.findall(r" (?:\x1b\[(\d+)m)?([0-9a-f]+)", rows)]
-    assert found == list(zip(lies, range(256 // width)))
+    assert found == list(zip(placement, range(256 // width)))
     assert all(len(re.sub(r"\x1b\[\d+m", "", row)) <= 80 for row in rows.split("\n"))
 
 
@@ -585,6 +592,6 @@ def test_elements_that_a_mask_has_off(tmp_path: pathlib.Path) -> None:
         for line in ["break next+0x10", "run", "step", "vreg v9"]:
             console.expect(WHERE, is_raw=True)
             console.type(f"{line}\r")
-        told = console.expect(WHERE, is_raw=True)
-    elements = re.findall("v9  ([^\r]*)\r", told)[-1].split()
+        output = console.expect(WHERE, is_raw=True)
+    elements = re.findall("v9  ([^\r]*)\r", output)[-1].split()
     assert [element.startswith("\x1b[35m") for element in elements] == [x <= 4 for x in X[:8]]

@@ -72,14 +72,14 @@ def test_an_exercise_is_answered_in_c(
         assert any(outcomes) and not any(reason.startswith(path.name) for reason in outcomes), outcomes
 
 
-def leave(guest: Guest, drawn: Drawn, begin: int) -> Results:
+def leave(guest: Guest, drawn: Drawn, start: int) -> Results:
     """The values that the loaded answer, called at an address, leaves for an input."""
     written = [command for place in drawn.memory for command in pokes(place.address, place.data)]
     registers = [f"set {name} {value:x}" for name, value in drawn.registers.items()]
-    guest.ask(*written, *registers, f"setpc {begin:x}")
+    guest.ask(*written, *registers, f"setpc {start:x}")
     stop = guest.go(100_000)
     assert stop and stop.kind == "ebreak", drawn
-    x = guest.told("regs", ScalarRegisters).x
+    x = guest.query("regs", ScalarRegisters).x
     found = {name: x[int(name[1:])] for name in drawn.expected.registers}
     places = [place.holding(guest.peek(place.address, len(place.data))) for place in drawn.expected.memory]
     return Results(found, places, None)
@@ -112,9 +112,9 @@ def check_by_chance(program: pathlib.Path, name: str, answer: Answer) -> None:
 
 @pytest.mark.by_command("course")
 def test_a_course_is_written(lab: Lab, tmp_path: pathlib.Path) -> None:
-    status, told, _ = lab("course", tmp_path / "course")
+    status, output, _ = lab("course", tmp_path / "course")
     names = [*COURSE, "index"]
-    assert status == 0 and [line.split(":")[0] for line in told.decode().splitlines()] == [
+    assert status == 0 and [line.split(":")[0] for line in output.decode().splitlines()] == [
         f"{tmp_path}/course/{name}.html" for name in names
     ]
     for name in COURSE:
@@ -133,14 +133,14 @@ def test_a_course_is_written(lab: Lab, tmp_path: pathlib.Path) -> None:
 def test_a_new_exercise_passes_its_try(lab: Lab, tmp_path: pathlib.Path) -> None:
     folder = tmp_path / "own"
     assert lab("exercise", "new", folder)[0] == 0
-    status, told, _ = lab("exercise", "try", folder)
-    lines = told.decode().splitlines()
+    status, output, _ = lab("exercise", "try", folder)
+    lines = output.decode().splitlines()
     assert (status, lines[0]) == (0, "Doubles")
     assert "good.s: passes 5 cases" in lines and lines[-3].startswith("wrong/always_eight.s: passes 2 of 5 cases; ")
     (folder / "wrong" / "good.s").write_text((folder / "good.s").read_text())
     (folder / "good.s").write_text("ret\n")
-    status, told, _ = lab("exercise", "try", folder)
-    assert status == 1 and b"good.s: passes 1 of 5 cases; " in told
-    assert b"wrong/good.s: passes 5 cases, and it shall fail\n" in told
-    status, _, complaint = lab("exercise", "new", folder)
-    assert status == 2 and complaint == f"vecmon-lab: {folder}: File exists\n"
+    status, output, _ = lab("exercise", "try", folder)
+    assert status == 1 and b"good.s: passes 1 of 5 cases; " in output
+    assert b"wrong/good.s: passes 5 cases, and it shall fail\n" in output
+    status, _, errors = lab("exercise", "new", folder)
+    assert status == 2 and errors == f"vecmon-lab: {folder}: File exists\n"

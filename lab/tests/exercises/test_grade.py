@@ -312,8 +312,8 @@ long answer(long a0, int32_t *places)
 )
 def test_an_answer_in_c(echo: Echo, sandboxed_clang: Compiler, change: tuple[str, str], reason: str) -> None:
     """It is compiled in the sandbox, which has not even the files next to it."""
-    told = echo(IN_C.replace(*change), "answer.c")
-    assert told.startswith(reason) if reason else not told
+    reply = echo(IN_C.replace(*change), "answer.c")
+    assert reply.startswith(reason) if reason else not reply
 
 
 def test_no_c_is_graded_without_a_compiler_and_a_sandbox(
@@ -322,14 +322,14 @@ def test_no_c_is_graded_without_a_compiler_and_a_sandbox(
     """One line reports it, and no answer fails for it."""
     (tmp_path / "answer.c").write_text(IN_C)
     monkeypatch.setattr(os, "geteuid", lambda: 0)
-    status, told, complaint = lab("grade", "strlen", tmp_path / "answer.c")
-    assert (status, told) == (2, b"") and "isn't compiled as root" in complaint
+    status, output, errors = lab("grade", "strlen", tmp_path / "answer.c")
+    assert (status, output) == (2, b"") and "isn't compiled as root" in errors
     monkeypatch.setattr(os, "geteuid", lambda: 1000)
-    status, told, _ = lab("grade", "strlen", tmp_path / "answer.c")
-    assert status == 1 and b"answer.c: " in told
+    status, output, _ = lab("grade", "strlen", tmp_path / "answer.c")
+    assert status == 1 and b"answer.c: " in output
     monkeypatch.setattr(shutil, "which", lambda name, path=None: None)
-    status, told, complaint = lab("grade", "strlen", tmp_path / "answer.c")
-    assert (status, told) == (2, b"") and "no compiler for C: apt-get install clang-19 lld-19 bubblewrap" in complaint
+    status, output, errors = lab("grade", "strlen", tmp_path / "answer.c")
+    assert (status, output) == (2, b"") and "no compiler for C: apt-get install clang-19 lld-19 bubblewrap" in errors
 
 
 def test_an_exercise_may_be_in_c(program: pathlib.Path, tmp_path: pathlib.Path, clang: Compiler) -> None:
@@ -376,9 +376,9 @@ def registers_before(program: pathlib.Path, folder: pathlib.Path) -> tuple[Seque
     """x0 to x31, v0 to v31 and vxrm, as an answer to the exercise in a folder finds them, which begins where it should."""
     exercise = read_exercise(folder)
     with ready(program, source_answer("ret", pathlib.Path("answer.s")), exercise, exercise.cases[0]) as guest:
-        assert guest.told("state", Position).pc == 0x10000
-        v = [int(guest.told(f"vreg v{number} 8", VectorRegister).data.hex(), 16) for number in range(32)]
-        return guest.told("regs", ScalarRegisters).x, v, guest.told("vcsr", ControlRegisters).vxrm
+        assert guest.query("state", Position).pc == 0x10000
+        v = [int(guest.query(f"vreg v{number} 8", VectorRegister).data.hex(), 16) for number in range(32)]
+        return guest.query("regs", ScalarRegisters).x, v, guest.query("vcsr", ControlRegisters).vxrm
 
 
 def test_other_registers_hold_anything_where_an_exercise_says_so(program: pathlib.Path, tmp_path: pathlib.Path) -> None:
@@ -401,9 +401,9 @@ def test_non_files_are_not_read(tmp_path: pathlib.Path) -> None:
     os.mkfifo(tmp_path / "pipe.s")
     (tmp_path / "link.s").symlink_to("/etc/passwd")
     done = run_grade("strlen", tmp_path / "pipe.s", tmp_path / "link.s", "/dev/zero")
-    told = [line.rpartition(": ")[2] for line in done.stdout.splitlines()[-3:]]
+    output = [line.rpartition(": ")[2] for line in done.stdout.splitlines()[-3:]]
     no_file = "it is no regular file, and others aren't read"
-    assert told == [no_file, "it is a link, and links aren't read", no_file]
+    assert output == [no_file, "it is a link, and links aren't read", no_file]
     assert "root:" not in done.stdout and done.returncode == 1
 
 

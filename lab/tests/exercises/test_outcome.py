@@ -67,19 +67,19 @@ def test_a_machine_that_fails_twice(tmp_path: pathlib.Path, program: pathlib.Pat
     assert isinstance(failure, ToolError) and "status 7" in str(failure)
     folder = tmp_path / "class"
     folder.mkdir()
-    told = check_or_failure(failing(folder, program, 2), doubles, GOOD.read_text(), None, None)
-    assert "status 7" in told["failure"] and "cases" not in told
-    told = check_or_failure(tmp_path / "nowhere", doubles, GOOD.read_text(), None, None)
-    assert told["failure"] == "nowhere can't be started: No such file or directory", "no folder of the server's"
-    assert told["unchecked"] == "The answer couldn't be checked, which isn't your fault. Nothing was counted."
+    reply = check_or_failure(failing(folder, program, 2), doubles, GOOD.read_text(), None, None)
+    assert "status 7" in reply["failure"] and "cases" not in reply
+    reply = check_or_failure(tmp_path / "nowhere", doubles, GOOD.read_text(), None, None)
+    assert reply["failure"] == "nowhere can't be started: No such file or directory", "no folder of the server's"
+    assert reply["unchecked"] == "The answer couldn't be checked, which isn't your fault. Nothing was counted."
 
 
 def test_hidden_cases_are_not_shown(lab: Lab, tmp_path: pathlib.Path, program: pathlib.Path, doubles: Exercise) -> None:
     """An answer that saturates fails the hidden case with large numbers alone, and neither a class nor a report has these."""
     text = GOOD.read_text().replace("vadd.vv", "vsadd.vv")
     (tmp_path / "answer.s").write_text(text)
-    told = check_or_failure(program, doubles, text, None, None)
-    assert told == {"cases": [True, True, True, False, True]}
+    reply = check_or_failure(program, doubles, text, None, None)
+    assert reply == {"cases": [True, True, True, False, True]}
     reports = [tmp_path / "report.xml", tmp_path / "results.json"]
     status, table, _ = lab("grade", "doubles", tmp_path / "answer.s", "--junit", reports[0], "--gradescope", reports[1])
     shown = table.decode() + "".join(report.read_text() for report in reports)
@@ -101,14 +101,14 @@ def test_an_answer_that_is_not_graded(
     )
     shutil.copy(GOOD, tmp_path / "right.s")
     (tmp_path / "busy.c").write_text("void answer(void) { }\n")
-    status, told, complaint = lab("grade", "doubles", tmp_path / "right.s", tmp_path / "busy.c", "--csv")
-    assert status == 2 and [row.split(",")[:3] for row in told.decode().splitlines()[1:]] == [
+    status, output, errors = lab("grade", "doubles", tmp_path / "right.s", tmp_path / "busy.c", "--csv")
+    assert status == 2 and [row.split(",")[:3] for row in output.decode().splitlines()[1:]] == [
         [f"{tmp_path}/right.s", "5", "5"]
     ]
     reason = "the compiler's process ended with status 9: it printed no message"
-    assert complaint == f"vecmon-lab: {tmp_path}/busy.c isn't graded, for a reason that isn't the answer's: {reason}\n"
-    status, told, _ = lab("grade", "doubles", tmp_path / "busy.c", "--gradescope", tmp_path / "results.json")
-    assert (status, told) == (2, b"") and not (tmp_path / "results.json").exists()
+    assert errors == f"vecmon-lab: {tmp_path}/busy.c isn't graded, for a reason that isn't the answer's: {reason}\n"
+    status, output, _ = lab("grade", "doubles", tmp_path / "busy.c", "--gradescope", tmp_path / "results.json")
+    assert (status, output) == (2, b"") and not (tmp_path / "results.json").exists()
 
 
 @pytest.fixture

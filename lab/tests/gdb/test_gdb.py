@@ -14,7 +14,7 @@ from xml.etree import ElementTree
 import pytest
 
 from support.images import make_image
-from support.left_out import NO_GDB, leave_out
+from support.skips import NO_GDB, leave_out
 from support.places import EXAMPLES, PREFIX_SUMS, SQUARES, STOCK, SUM, SUM_DWARF4, SUM_DWARF5, TOP
 from support.sources import ARGUMENTS, COUNTDOWN
 from support.terminal import MOST_SECONDS
@@ -118,14 +118,14 @@ def is_end(packets: Packets, packet: str, status: int) -> bool:
     """Whether a packet brings the program to where it exits with a status, and another one ends it."""
     packets.send(packet)
     assert packets.read(1) == b"+"
-    told = text(packets.packet()).startswith(f"vecmon: it exits here with status {status}; ")
-    return told and packets.packet() == "T05replaylog:end;" and packets.ask("c") == f"W{status:02x}"
+    reply = text(packets.packet()).startswith(f"vecmon: it exits here with status {status}; ")
+    return reply and packets.packet() == "T05replaylog:end;" and packets.ask("c") == f"W{status:02x}"
 
 
 def typed_in(page: str, image: str) -> list[str]:
     """What is typed in a page's session with an image, once gdb is connected."""
-    begin = page.index(f"(gdb) target remote | vecmon-lab gdb {image}\n")
-    session = page[begin : page.index("(gdb) quit", begin)].splitlines()
+    start = page.index(f"(gdb) target remote | vecmon-lab gdb {image}\n")
+    session = page[start : page.index("(gdb) quit", start)].splitlines()
     return [line.removeprefix("(gdb) ") for line in session if line.startswith("(gdb) ")][1:]
 
 
@@ -337,15 +337,15 @@ def test_the_signals_of_stops(tmp_path: pathlib.Path, program: pathlib.Path) -> 
 
 
 @pytest.mark.parametrize(
-    "line, told",
+    "line, expected",
     [
         ("vreg v1 64", f"v1{4 * ' 0000000000000000'}\n"),
         ("policy ones", "ok\n"),
         ("policy none", "E04: none is no policy, which are keep and ones; the form is policy P\n"),
     ],
 )
-def test_monitor_lines(squares: Packets, line: str, told: str) -> None:
-    assert bytes.fromhex(squares.ask(f"qRcmd,{line.encode().hex()}")).decode() == told
+def test_monitor_lines(squares: Packets, line: str, expected: str) -> None:
+    assert bytes.fromhex(squares.ask(f"qRcmd,{line.encode().hex()}")).decode() == expected
     refused = bytes.fromhex(squares.ask(f"qRcmd,{'go'.encode().hex()}")).decode()
     assert refused.startswith("monitor takes ") and refused.count("\n") == 1
 
@@ -389,26 +389,26 @@ def gdb() -> Callable[..., str]:
 
 def test_gdb_stops_in_an_inlined_function(gdb: Callable[..., str]) -> None:
     """gdb itself sets a breakpoint in each copy."""
-    told = gdb(PREFIX_SUMS[1], "break prefix_bad", "break prefix_sums.c:10", "continue", "print/x $pc", "continue")
-    assert told.count(" (2 locations)") == 2 and "$1 = 0x11354" in told and "Breakpoint 1.2, prefix_bad (" in told
+    output = gdb(PREFIX_SUMS[1], "break prefix_bad", "break prefix_sums.c:10", "continue", "print/x $pc", "continue")
+    assert output.count(" (2 locations)") == 2 and "$1 = 0x11354" in output and "Breakpoint 1.2, prefix_bad (" in output
 
 
 @pytest.mark.parametrize("image", [SUM_DWARF4, SUM_DWARF5])
 def test_gdb_with_source_lines(gdb: Callable[..., str], image: pathlib.Path) -> None:
     commands = ["break 22", "continue", "next", "print $v10.w", "print $vl", "print/x $vtype", "delete"]
-    told = gdb(image, *commands, "continue", "continue")
-    assert "Breakpoint 1, sum (" in told and "sum.c:22" in told
-    assert "22\t        vuint32m2_t next = __riscv_vle32_v_u32m2(elements, length);" in told
+    output = gdb(image, *commands, "continue", "continue")
+    assert "Breakpoint 1, sum (" in output and "sum.c:22" in output
+    assert "22\t        vuint32m2_t next = __riscv_vle32_v_u32m2(elements, length);" in output
     squares = ", ".join(str(number * number) for number in range(8))
-    assert f"$1 = {{{squares}}}" in told and "$2 = 16" in told and "$3 = 0xd1" in told
-    assert told.index("328350\n") < told.index("exited normally")
+    assert f"$1 = {{{squares}}}" in output and "$2 = 16" in output and "$3 = 0xd1" in output
+    assert output.index("328350\n") < output.index("exited normally")
 
 
 @pytest.mark.by_command("gdb")
 def test_the_session_of_the_manual(gdb: Callable[..., str]) -> None:
     page = (TOP / "docs" / "DEBUGGING.md").read_text("utf-8")
-    begin = page.index("(gdb) target remote | vecmon-lab gdb sum")
-    session = page[begin : page.index("(gdb) quit", begin)].splitlines()
+    start = page.index("(gdb) target remote | vecmon-lab gdb sum")
+    session = page[start : page.index("(gdb) quit", start)].splitlines()
     rest = gdb(SUM_DWARF4, *typed_in(page, "sum")).expandtabs()
     shown = [line for line in session if line and not line.startswith(("(gdb) ", "Remote debugging", "Continuing."))]
     assert len(shown) > 8
@@ -419,8 +419,8 @@ def test_the_session_of_the_manual(gdb: Callable[..., str]) -> None:
 
 def test_gdb_with_a_source_in_c(gdb: Callable[..., str], clang: Compiler) -> None:
     """gdb reads symbols and lines of the image that is compiled of it. The grey of red 0, green 255 and blue 0 is 149."""
-    told = gdb(EXAMPLES / "kernels" / "grey.c", "break grey.c:32", "continue", "print greys[0]")
-    assert "grey.c:32\n32\t    put(greys, sizeof greys);\n$1 = 149 " in told
+    output = gdb(EXAMPLES / "kernels" / "grey.c", "break grey.c:32", "continue", "print greys[0]")
+    assert "grey.c:32\n32\t    put(greys, sizeof greys);\n$1 = 149 " in output
 
 
 def test_a_bug_found_backwards(gdb: Callable[..., str], clang: Compiler, tmp_path: pathlib.Path) -> None:
@@ -430,7 +430,7 @@ def test_a_bug_found_backwards(gdb: Callable[..., str], clang: Compiler, tmp_pat
     words = command.replace("\\\n", " ").replace("above", "histogram").replace("clang-19", clang.name).split()
     shutil.copy(EXAMPLES / "searches/histogram.c", tmp_path)
     subprocess.run(words, cwd=tmp_path, check=True)
-    told = gdb(tmp_path / "histogram", *typed_in(page, "histogram"))
+    output = gdb(tmp_path / "histogram", *typed_in(page, "histogram"))
     for line in (
         "$1 = 2\n",
         "Old value = 2\nNew value = 1\n",
@@ -438,52 +438,52 @@ def test_a_bug_found_backwards(gdb: Callable[..., str], clang: Compiler, tmp_pat
         "in _start () at histogram.c:44\n",
         "$3 = 65535\n",
     ):
-        assert line in told
-        told = told[told.index(line) :]
+        assert line in output
+        output = output[output.index(line) :]
 
 
 def test_gdb_steps_back(gdb: Callable[..., str], program: pathlib.Path, tmp_path: pathlib.Path) -> None:
     make_image(program, tmp_path / "image", "li a0, 1\nli a0, 2\nli a0, 3\nebreak\n.data\n.zero 8")
     commands = ["stepi", "stepi", "set $a1 = 7", "stepi", "reverse-stepi", "print $a0", "reverse-stepi", "print $a1"]
-    told = gdb(tmp_path / "image", *commands, "reverse-continue", "print $pc", "continue", "print $a0")
-    assert [line.split(" = ")[1] for line in told.splitlines() if line[:1] == "$"] == [
+    output = gdb(tmp_path / "image", *commands, "reverse-continue", "print $pc", "continue", "print $a0")
+    assert [line.split(" = ")[1] for line in output.splitlines() if line[:1] == "$"] == [
         "2",
         "0",
         "(void (*)()) 0x10000",
         "3",
     ]
-    assert "No more reverse-execution history." in told and "SIGTRAP" in told.partition("$3")[2]
+    assert "No more reverse-execution history." in output and "SIGTRAP" in output.partition("$3")[2]
 
 
 def test_gdb_begins_anew(gdb: Callable[..., str]) -> None:
     again = f"target remote | exec {sys.executable} -m vecmon_lab gdb {SUM}"
-    told = gdb(SUM, "stepi", "stepi", again, "print $pc", "continue", "continue")
-    assert "$1 = (void (*)()) 0x11190 <_start>" in told and "328350\nvecmon: it exits here with status 0; " in told
-    assert told.endswith("[Inferior 1 (Remote target) exited normally]\n")
+    output = gdb(SUM, "stepi", "stepi", again, "print $pc", "continue", "continue")
+    assert "$1 = (void (*)()) 0x11190 <_start>" in output and "328350\nvecmon: it exits here with status 0; " in output
+    assert output.endswith("[Inferior 1 (Remote target) exited normally]\n")
 
 
 def test_gdb_begins_anew_after_a_signal(gdb: Callable[..., str]) -> None:
     again = f"target remote | exec {sys.executable} -m vecmon_lab gdb {SQUARES}"
-    told = gdb(SQUARES, "continue", again, "print $pc")
-    assert told.count("SIG") == 1 and "SIGTRAP" not in told and told.endswith("$1 = (void (*)()) 0x10174\n")
+    output = gdb(SQUARES, "continue", again, "print $pc")
+    assert output.count("SIG") == 1 and "SIGTRAP" not in output and output.endswith("$1 = (void (*)()) 0x10174\n")
 
 
 def test_gdb_shows_vcsr(gdb: Callable[..., str], tmp_path: pathlib.Path, program: pathlib.Path) -> None:
     """By the manual vxsat is bit 0 of vcsr, and vxrm bits 2 and 1."""
     make_image(program, tmp_path / "image", "csrwi vxrm, 2\ncsrwi vxsat, 1\nvsetivli x0, 4, e8, m1, ta, ma\nebreak")
-    told = gdb(tmp_path / "image", "continue", "info registers vcsr", "info registers vxrm", "print $v31.b[0]")
-    shown = [" ".join(line.split()) for line in told.splitlines()]
+    output = gdb(tmp_path / "image", "continue", "info registers vcsr", "info registers vxrm", "print $v31.b[0]")
+    shown = [" ".join(line.split()) for line in output.splitlines()]
     assert shown[-3:] == ["vcsr 0x5 5", "vxrm 0x2 2", "$1 = 0"]
 
 
 def test_gdb_with_a_fault(gdb: Callable[..., str]) -> None:
     commands = ["continue", "print $vstart", "print $v8.w[0]", "set var *(int *) 0x11000 = 1000", "set $pc = 0x10174"]
-    told = gdb(
+    output = gdb(
         SQUARES, *commands, "set $sp = 0x7fffefc0", "set $v31.l[1] = 77", "print $v31.l", "stepi", *["continue"] * 2
     )
-    assert "vecmon: The store at 0x10198 may not write" in told and "SIGSEGV" in told
-    assert "$1 = 14" in told and f"$2 = {1008 * 1008}" in told and "$3 = {0, 77, 0, 0}" in told
-    assert told.endswith("exited normally]\n")
+    assert "vecmon: The store at 0x10198 may not write" in output and "SIGSEGV" in output
+    assert "$1 = 14" in output and f"$2 = {1008 * 1008}" in output and "$3 = {0, 77, 0, 0}" in output
+    assert output.endswith("exited normally]\n")
 
 
 def test_gdb_says_why_an_image_is_refused(gdb: Callable[..., str]) -> None:

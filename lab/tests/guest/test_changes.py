@@ -10,7 +10,7 @@ from support.images import make_image
 from support.machine_cases import CODE, SET_TYPE, SET_VSTART, random_case
 from support.places import SQUARES
 from support.sources import CHANGES
-from vecmon_lab.guest.changes import Carried, Change, ElementsChange, MemoryChange, RegisterChange, Stepper, vtype_text
+from vecmon_lab.guest.changes import Retired, Change, ElementsChange, MemoryChange, RegisterChange, Stepper, vtype_text
 from vecmon_lab.guest.guest import Guest, started
 from vecmon_lab.machine.session import Session
 
@@ -22,10 +22,10 @@ def test_rows(program: pathlib.Path, tmp_path: pathlib.Path) -> None:
     with started(tmp_path / "rows") as guest:
         stepper = Stepper(guest)
         found = [stepper.step() for _ in expected]
-        assert ["  ".join(map(str, carried.changes)) for carried in found] == expected
-        assert [carried.pc for carried in found[:3]] == [0x10000, 0x10004, 0x10008]
+        assert ["  ".join(map(str, retired.changes)) for retired in found] == expected
+        assert [retired.pc for retired in found[:3]] == [0x10000, 0x10004, 0x10008]
         assert (found[3].word, found[3].text) == (0x5208A457, "vid.v v8")
-        assert all(carried.stop is None for carried in found[:-1])
+        assert all(retired.stop is None for retired in found[:-1])
         stop = found[-1].stop
         assert stop is not None and (stop.cause, stop.value) == (7, 0x12000)
 
@@ -107,12 +107,12 @@ def test_random_instructions(program: pathlib.Path) -> None:
             session.do_all(random_lines(draws))
             stepper.look()
             before = Whole(session)
-            carried = stepper.step()
+            retired = stepper.step()
             after = Whole(session)
-            for change in carried.changes:
+            for change in retired.changes:
                 after.undo(change)
-            assert vars(after) == vars(before), carried
-            kinds.update(_kind(change) for change in carried.changes)
+            assert vars(after) == vars(before), retired
+            kinds.update(_kind(change) for change in retired.changes)
         assert stepper.look() == []
     assert kinds == {"x", "vl", "vtype", "vstart", "vxrm", "vxsat", "e1", "e8", "e16", "e32", "e64", "memory"}
 
@@ -157,8 +157,8 @@ def test_a_program_that_writes_its_own_words(program: pathlib.Path, session: Ses
 def test_where_nothing_can_be_fetched(session: Session) -> None:
     session.do_all(["1 enter", "1 setpc 10000"])
     stepper = Stepper(Guest(session))
-    carried = stepper.step()
-    assert carried.stop is not None and (carried.stop.cause, carried) == (1, Carried(0x10000, 0, "", [], carried.stop))
+    retired = stepper.step()
+    assert retired.stop is not None and (retired.stop.cause, retired) == (1, Retired(0x10000, 0, "", [], retired.stop))
 
 
 @pytest.mark.parametrize(
@@ -172,6 +172,6 @@ def test_vector_types(vtype: int, text: str) -> None:
 def test_a_fault_shows_what_was_stored_before() -> None:
     with started(SQUARES) as guest:
         stepper = Stepper(guest)
-        while (carried := stepper.step()).stop is None:
+        while (retired := stepper.step()).stop is None:
             pass
-        assert list(map(str, carried.changes))[:2] == ["vstart=14", "[11fc9]=810f"]
+        assert list(map(str, retired.changes))[:2] == ["vstart=14", "[11fc9]=810f"]

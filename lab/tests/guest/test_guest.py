@@ -107,9 +107,9 @@ def test_it_starts_again_with_a_policy(program: pathlib.Path) -> None:
 
 def test_the_words_for_refused_images_are_those_of_the_documents() -> None:
     rows = re.findall(r"^\| \d+ \| (\w+) \| (.+?) \|", (TOP / "docs" / "IMAGES.md").read_text(), re.MULTILINE)
-    told = dict(read_table("image_faults"))
-    assert len(rows) == 13 and set(told) == {f"E09 {name}" for name, _ in rows} | {"E08", "E10"}
-    assert all(told[f"E09 {name}"].startswith(reason) for name, reason in rows)
+    shown = dict(read_table("image_faults"))
+    assert len(rows) == 13 and set(shown) == {f"E09 {name}" for name, _ in rows} | {"E08", "E10"}
+    assert all(shown[f"E09 {name}"].startswith(reason) for name, reason in rows)
 
 
 def test_images_that_are_refused(tmp_path: pathlib.Path) -> None:

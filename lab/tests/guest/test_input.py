@@ -44,7 +44,7 @@ def test_a_program_finds_the_file(lab: Lab, made: pathlib.Path, data: bytes) -> 
 
 
 @pytest.mark.parametrize(
-    "made, size, told",
+    "made, size, expected",
     [
         (ECHO, 301, "its symbol input has room for 300 bytes, and {file} has more"),
         (ECHO, None, "No such file or directory"),
@@ -54,12 +54,12 @@ def test_a_program_finds_the_file(lab: Lab, made: pathlib.Path, data: bytes) -> 
     ],
     indirect=["made"],
 )
-def test_no_room(lab: Lab, made: pathlib.Path, size: int | None, told: str) -> None:
+def test_no_room(lab: Lab, made: pathlib.Path, size: int | None, expected: str) -> None:
     file = made.parent / "file"
     if size is not None:
         file.write_bytes(bytes(size))
-    status, output, complaint = lab("run", "--in", file, made)
-    assert (status, output, complaint.count("\n")) == (2, b"", 1) and told.format(file=file) in complaint
+    status, output, errors = lab("run", "--in", file, made)
+    assert (status, output, errors.count("\n")) == (2, b"", 1) and expected.format(file=file) in errors
 
 
 def test_an_image_without_such_symbols(lab: Lab) -> None:

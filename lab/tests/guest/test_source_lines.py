@@ -31,8 +31,8 @@ def test_lines_have_addresses_in_all_copies(
     images: Sequence[pathlib.Path], name: str, lines: Mapping[int, str], version: int
 ) -> None:
     source = SourceLines(images[version - 4])
-    told = {f"{name}:{line}": addresses for line, addresses in lines.items()}
-    assert digits(source.stops, list(told)) == told and source.trouble == ""
+    expected = {f"{name}:{line}": addresses for line, addresses in lines.items()}
+    assert digits(source.stops, list(expected)) == expected and source.warning == ""
 
 
 def test_both_versions_of_debug_data_tell_the_same() -> None:
@@ -52,14 +52,14 @@ def test_functions_and_their_inlined_copies() -> None:
 
 
 def test_files_without_debug_data(tmp_path: pathlib.Path) -> None:
-    assert not SourceLines().stops and not SourceLines(SUM).stops and not SourceLines(SUM).trouble
+    assert not SourceLines().stops and not SourceLines(SUM).stops and not SourceLines(SUM).warning
     damaged, header = bytearray(SUM_DWARF4.read_bytes()), b"\x01\x01\x01\xfb\x0e\x0d"  # of a line table: DWARF 4, 6.2.4
     damaged[
         damaged.index(header) + 5
     ] = 255  # the first special opcode, so lengths of more opcodes should follow than there are
     (tmp_path / "damaged").write_bytes(damaged)
     source = SourceLines(tmp_path / "damaged")
-    assert source.at(0x11190) == "" and source.trouble.count("\n") == 0 and "source lines of damaged" in source.trouble
+    assert source.at(0x11190) == "" and source.warning.count("\n") == 0 and "source lines of damaged" in source.warning
 
 
 ROWS = [

@@ -36,7 +36,7 @@ def test_files_without_symbols(tmp_path: pathlib.Path) -> None:
     for data in (b"", b"\x7fELF", SUM.read_bytes()[:100], SUM.read_bytes()[:1500]):
         damaged.write_bytes(data)
         symbols = Symbols.read(damaged)
-        assert (list(symbols.addresses), symbols.place(0x11190), symbols.line(0x11190), symbols.trouble) == (
+        assert (list(symbols.addresses), symbols.place(0x11190), symbols.line(0x11190), symbols.warning) == (
             [],
             "",
             "",
@@ -48,18 +48,18 @@ def test_files_without_symbols(tmp_path: pathlib.Path) -> None:
 
 def test_source_lines() -> None:
     symbols = Symbols.read(SUM_DWARF4)
-    assert symbols.trouble == ""
+    assert symbols.warning == ""
     lines = [symbols.line(address) for address in (0x11190, 0x11194, 0x111B4, 0x112DC, 0x112E8, 0)]
     assert lines == ["sum.c:30", "sum.c:34", "sum.c:34", "sum.c:11", "", ""]
     symbols = Symbols.read(SQUARES_DWARF5)
     lines = [symbols.line(address) for address in (0x10120, 0x1013C, 0x10174, 0x10198, 0x101B0)]
     assert lines == ["squares.c:9", "squares.c:9", "fill.S:5", "fill.S:17", "fill.S:23"]
-    assert (Symbols.read(SUM).line(0x11190), Symbols.read(SUM).trouble) == ("", "")
+    assert (Symbols.read(SUM).line(0x11190), Symbols.read(SUM).warning) == ("", "")
 
 
 def test_what_cannot_be_read_is_told_in_a_line() -> None:
     """pyelftools 0.29 doesn't know a form that clang's DWARF 5 has; a later one may."""
     symbols = Symbols.read(SUM_DWARF5)
     assert symbols.place(0x11194) == "_start+0x4"
-    line, trouble = symbols.line(0x11190), symbols.trouble
-    assert line == "sum.c:30" if not trouble else line == "" and "\n" not in trouble and "sum_dwarf5" in trouble
+    line, warning = symbols.line(0x11190), symbols.warning
+    assert line == "sum.c:30" if not warning else line == "" and "\n" not in warning and "sum_dwarf5" in warning

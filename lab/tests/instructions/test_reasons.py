@@ -333,7 +333,7 @@ STOPS = [
 ]
 
 
-def told(line: str) -> Position | Stop:
+def position_of(line: str) -> Position | Stop:
     """Where the line says that a program is, with the user's digit or without. Raises ValueError for another line."""
     answer = read([line if re.match("[1-8*] ", line) else f"1 {line}"])
     if not isinstance(answer, Position | Stop):
@@ -343,11 +343,11 @@ def told(line: str) -> Position | Stop:
 
 @pytest.mark.parametrize("line, sentence", STOPS)
 def test_stop_lines(line: str, sentence: str) -> None:
-    assert describe_stop(told(line)) == sentence
+    assert describe_stop(position_of(line)) == sentence
 
 
 def test_an_illegal_instruction_is_named_with_its_reasons() -> None:
-    stop = told("1 fault cause=2 pc=0000000000010008 value=00000000022200d7")
+    stop = position_of("1 fault cause=2 pc=0000000000010008 value=00000000022200d7")
     assert (
         describe_stop(stop, 0x022200D7, view(32, "m2"), "vadd.vv v1, v2, v4")
         == f"Illegal instruction at 0x10008: vadd.vv v1, v2, v4. {M2_ODD}: v1 is odd."
@@ -356,7 +356,7 @@ def test_an_illegal_instruction_is_named_with_its_reasons() -> None:
 
 
 def test_a_vector_access_says_its_element() -> None:
-    stop = told("1 fault cause=5 pc=0000000000010008 value=0000000000020000")
+    stop = position_of("1 fault cause=5 pc=0000000000010008 value=0000000000020000")
     assert describe_stop(stop, 0x02056407, view(32, "m2", 5)).endswith("no permission r. It stopped at element 5.")
     assert describe_stop(stop, 0x00053283, view(32, "m2", 5)).endswith("no permission r.")
 
@@ -380,20 +380,20 @@ def test_a_vector_access_says_its_element() -> None:
 )
 def test_brief_stops(stop: str, word: int | None, text: str, words: str) -> None:
     value = " value=0000000000020000" if stop.startswith("fault") else ""
-    assert brief_stop(told(f"1 {stop} pc=0000000000010008{value}"), word, view(32, "m2", 5), text) == words
+    assert brief_stop(position_of(f"1 {stop} pc=0000000000010008{value}"), word, view(32, "m2", 5), text) == words
 
 
 @pytest.mark.parametrize("line", ["", "1 ok", "1 E07", "1 out 0", "1 fault cause=3 pc=0000000000010008", "* granted 1"])
 def test_other_lines_are_refused(line: str) -> None:
     with pytest.raises(ValueError):
-        told(line)
+        position_of(line)
 
 
 def test_every_stop_line_of_the_manuals_has_a_sentence() -> None:
     pages = "\n".join(page.read_text() for page in DOCS.glob("*.md"))
     lines = re.findall(r"^[1-8] .* pc=[0-9a-f]{16}(?: value=[0-9a-f]{16})?$", pages, re.MULTILINE)
     stops = [line for line in lines if not line.startswith(("1 loaded", "2 loaded"))]
-    assert len(stops) > 40 and all(describe_stop(told(line)) for line in stops)
+    assert len(stops) > 40 and all(describe_stop(position_of(line)) for line in stops)
 
 
 def test_a_view_is_read_from_vcsr() -> None:

@@ -133,8 +133,10 @@ def test_agnostic_elements(kernel: Kernel) -> None:
     result = kernel.call("tail", before)
     assert (result.value, result.arrays) == (20, [kept])
     assert kernel.call("tail", before, policy="ones").arrays == [array.array("i", [1, 1, -1, -1])]
-    told = "tail: the result is 0x14 under keep, 0x0 under ones; array 1, byte 8: 09 under keep, ff under ones; 8 bytes"
-    with pytest.raises(PoliciesDiffer, match=re.escape(told)):
+    expected = (
+        "tail: the result is 0x14 under keep, 0x0 under ones; array 1, byte 8: 09 under keep, ff under ones; 8 bytes"
+    )
+    with pytest.raises(PoliciesDiffer, match=re.escape(expected)):
         kernel.call("tail", before, policy="both")
     assert kernel.call("fifth", 0, 0, 0, 0, 5, policy="both").value == 5
 
@@ -164,21 +166,21 @@ def test_output(kernel: Kernel) -> None:
 
 
 @pytest.mark.parametrize(
-    "symbol, told",
+    "symbol, expected",
     [
         ("ends", "The program has ended with status 7, at "),
         ("halts", "halts: ebreak: Stopped at the ebreak at "),
         ("stays", "stays: the ticks ran out at "),
     ],
 )
-def test_calls_that_do_not_return(kernel: Kernel, symbol: str, told: str) -> None:
-    with pytest.raises(CallStopped, match=re.escape(told)):
+def test_calls_that_do_not_return(kernel: Kernel, symbol: str, expected: str) -> None:
+    with pytest.raises(CallStopped, match=re.escape(expected)):
         kernel.call(symbol, 7, ticks=2000)
     assert kernel.call("counts").value == 0x31
 
 
 @pytest.mark.parametrize(
-    "arguments, options, told",
+    "arguments, options, expected",
     [
         ([0] * 9, {}, "a call has 8 arguments at most, and this one has 9"),
         ([1 << 64], {}, "argument 1, 18446744073709551616, doesn't fit into 64 bits"),
@@ -191,8 +193,8 @@ def test_calls_that_do_not_return(kernel: Kernel, symbol: str, told: str) -> Non
         ([], {"policy": "none"}, "fifth: policy none: E04: none is no policy"),
     ],
 )
-def test_what_cannot_be_called(kernel: Kernel, arguments: Any, options: Any, told: str) -> None:
-    with pytest.raises(LabError, match=f"^{re.escape(told)}"):
+def test_what_cannot_be_called(kernel: Kernel, arguments: Any, options: Any, expected: str) -> None:
+    with pytest.raises(LabError, match=f"^{re.escape(expected)}"):
         kernel.call("fifth", *arguments, **options)
     assert kernel.call("fifth", 0, 0, 0, 0, 5).value == 5
 
@@ -202,12 +204,12 @@ def test_programs_that_are_refused(kernel: Kernel, tmp_path: pathlib.Path) -> No
         kernel.call("none")
     (tmp_path / "bad.s").write_text("add t0, t1 t2")
     (tmp_path / "script").write_text("1 regs\n")
-    for name, told in (
+    for name, expected in (
         ("bad.s", "bad.s:1:12: "),
         ("script", "it is no image, and no source"),
         ("none", "No such file"),
     ):
-        with pytest.raises(LabError, match=f"^{tmp_path}/{name}: .*{told}"):
+        with pytest.raises(LabError, match=f"^{tmp_path}/{name}: .*{expected}"):
             Kernel(tmp_path / name)
     with pytest.raises(AttributeError, match="has no attribute Karnel"):
         getattr(vecmon_lab, "Karnel")

@@ -9,7 +9,7 @@ from vecmon_lab.checkpoints.machine_state import machine_after
 from vecmon_lab.lessons.frames import make_frames
 from vecmon_lab.lessons.script import read_script
 from vecmon_lab.machine.session import Session
-from vecmon_lab.runs.spent import Table
+from vecmon_lab.runs.tick_profile import Table
 
 LINES = [
     "1 enter",

@@ -74,24 +74,24 @@ def test_listings_side_by_side(lab: Lab, clang: Compiler, tmp_path: pathlib.Path
     assert lab(*words)[0] == 0
     data = re.search(r'<script type="application/json" id="data">(.*)</script>', page.read_text("utf-8"))
     assert data
-    told = json.loads(data[1])
-    assert told["lines"] == source.read_text("ascii").split("\n")
-    assert [each["name"] for each in told["listings"]] == [f"{clang.name} O2", f"{clang.name} O2-scalar"]
-    vectors = [any(row[3].startswith("vadd.vv") for row in each["rows"]) for each in told["listings"]]
+    reply = json.loads(data[1])
+    assert reply["lines"] == source.read_text("ascii").split("\n")
+    assert [each["name"] for each in reply["listings"]] == [f"{clang.name} O2", f"{clang.name} O2-scalar"]
+    vectors = [any(row[3].startswith("vadd.vv") for row in each["rows"]) for each in reply["listings"]]
     assert vectors == [True, False]
 
 
 @pytest.mark.parametrize(
-    ("words", "told"),
+    ("words", "expected"),
     [
         (["saxpy.c", "--against", "O7"], "O7 aren't options"),
         (["saxpy.c", "--against", "stock"], "stock is for assembler"),
         (["saxpy.c", "--against", "clang-1:O2"], "clang-1 is no compiler that is here"),
     ],
 )
-def test_unavailable_comparison_is_refused(lab: Lab, clang: Compiler, words: list[str], told: str) -> None:
+def test_unavailable_comparison_is_refused(lab: Lab, clang: Compiler, words: list[str], expected: str) -> None:
     status, _, errors = lab("lesson", str(KERNELS / words[0]), *words[1:])
-    assert status == 2 and told in errors
+    assert status == 2 and expected in errors
 
 
 def test_against_is_for_c(lab: Lab) -> None:
@@ -131,8 +131,8 @@ def test_rows_of_variables() -> None:
 def test_the_tours_kernel_is_what_the_compiler_makes(clang: Compiler) -> None:
     """Made again by `python3 -m support.tour_kernel`, in lab/."""
     if clang == COMPILER:
-        script, told = made()
-        assert (TOURS / KERNEL).read_text("ascii") == script and (TOURS / f"{KERNEL}.json").read_text("ascii") == told
+        script, reply = made()
+        assert (TOURS / KERNEL).read_text("ascii") == script and (TOURS / f"{KERNEL}.json").read_text("ascii") == reply
 
 
 def test_the_tour_ends_with_a_kernel() -> None:

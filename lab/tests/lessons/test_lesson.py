@@ -86,8 +86,8 @@ def test_the_last_frame_shows_what_the_machine_shows(session: Session, program: 
             elements = session.look(f"{user} vreg v{number} 8")[0].split()[2:]
             assert state["v"][str(number)] == "".join(elements)
         control = f"vl={state['vl']} vstart={state['vstart']} vxrm={state['vxrm']} vxsat={state['vxsat']}"
-        told = session.look(f"{user} vcsr")[0][2:]
-        assert control == re.sub(r"vtype=\w+ ", "", told) and f"vtype={state['vtype']:0>16} " in told
+        reply = session.look(f"{user} vcsr")[0][2:]
+        assert control == re.sub(r"vtype=\w+ ", "", reply) and f"vtype={state['vtype']:0>16} " in reply
         for address, digits in state["memory"].items():
             assert session.look(f"{user} peek {address} 16")[0].split()[3] == digits
         for address, line in state["code"].items():
@@ -97,12 +97,12 @@ def test_the_last_frame_shows_what_the_machine_shows(session: Session, program: 
 def test_comments_never_reach_the_machine(program: pathlib.Path, monkeypatch: pytest.MonkeyPatch) -> None:
     sent: list[str] = []
 
-    class Told(Session):
+    class RecordingSession(Session):
         def do(self, line: str) -> list[str]:
             sent.append(line)
             return super().do(line)
 
-    monkeypatch.setattr(frames, "Session", Told)
+    monkeypatch.setattr(frames, "Session", RecordingSession)
     script = read_script("## A title\n# one\n#\n#two\n1 enter\n#1 dance\n1 map 10000 1 rwx\n# end\n")
     made = make_frames(script, program)
     assert set(sent) == {"1 enter", "1 map 10000 1 rwx"}

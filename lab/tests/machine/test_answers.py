@@ -8,7 +8,7 @@ import pytest
 
 from support.places import TOP
 from support.printed import printed
-from vecmon_lab.machine.answers import Granted, Stop, by_whom, read
+from vecmon_lab.machine.answers import Granted, Stop, answers_by_user, read
 
 PATTERN = re.compile(
     r"^[1-8] pc [0-9a-f]{16}\n(?:\d x\d.*\n){8}|^[1-8*] (?!\[|.*\.\. \(\d+ bytes\)$).+\n", re.MULTILINE
@@ -34,7 +34,7 @@ def test_stored_answers_are_printed_as_they_were() -> None:
 def test_stops_of_slices_are_told_to_their_users() -> None:
     answer = ["2 ebreak pc=0000000000010000", "1 exit 3 pc=0000000000020000", "* granted 5"]
     stops = (("2", Stop("ebreak", 0x10000)), ("1", Stop("exit", 0x20000, 3)))
-    assert read(answer) == Granted(5, stops) and by_whom(answer) == [*stops, ("*", Granted(5, stops))]
+    assert read(answer) == Granted(5, stops) and answers_by_user(answer) == [*stops, ("*", Granted(5, stops))]
 
 
 @pytest.mark.parametrize(

@@ -201,9 +201,9 @@ def test_impossible_answers_are_refused(line: str, answer: list[str]) -> None:
 )
 def test_forbidden_lines_are_never_sent(session: Session, line: str) -> None:
     for ask in (session.do, session.look):
-        with pytest.raises(BadLine) as told:
+        with pytest.raises(BadLine) as reply:
             ask(line)
-        assert "\n" not in str(told.value)
+        assert "\n" not in str(reply.value)
     assert session.script == b""
     assert session.do("1 enter") == ["1 entered"]
 

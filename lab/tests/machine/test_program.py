@@ -86,7 +86,7 @@ def test_wrong_words(words: list[str]) -> None:
 
 
 @pytest.mark.parametrize(
-    "words, told",
+    "words, expected",
     [
         (["class", "DIR", "--port", "9331", "a=x", "b=y"], {"images": ["a=x", "b=y"], "port": 9331}),
         (["class", "--host", "H", "DIR", "a=x", "--port", "1", "b=y"], {"images": ["a=x", "b=y"], "host": "H"}),
@@ -96,9 +96,9 @@ def test_wrong_words(words: list[str]) -> None:
         (["vectors", "vadd.vv", "--cases", "3", "vsub.vv"], {"names": ["vadd.vv", "vsub.vv"], "cases": 3}),
     ],
 )
-def test_options_stand_anywhere(words: list[str], told: dict[str, object]) -> None:
+def test_options_stand_anywhere(words: list[str], expected: dict[str, object]) -> None:
     arguments = vars(start.arguments_of(words))
-    assert {name: arguments[name] for name in told} == told
+    assert {name: arguments[name] for name in expected} == expected
 
 
 @pytest.mark.parametrize("command", ["run", "compare", "profile", "console", "gdb"])
@@ -122,8 +122,8 @@ def test_words_behind_an_image_are_the_program_s(command: str, words: list[str],
 @pytest.mark.parametrize("word", ["--against", "--in=file", "-o"])
 def test_an_option_behind_an_image_is_told(capsys: pytest.CaptureFixture[str], word: str) -> None:
     start.arguments_of(["profile", "image", "--tick", word, "--against-it"])
-    told = f"vecmon-lab: {word} after image is an argument of the program; "
-    assert capsys.readouterr() == ("", f"{told}options of vecmon-lab profile go before image\n")
+    expected = f"vecmon-lab: {word} after image is an argument of the program; "
+    assert capsys.readouterr() == ("", f"{expected}options of vecmon-lab profile go before image\n")
     start.arguments_of(["profile", "--", "image", word])
     assert capsys.readouterr() == ("", "")
 
@@ -136,8 +136,8 @@ def test_an_output_that_is_an_input(
     (tmp_path / "sum.html").symlink_to("sum.csv")
     monkeypatch.chdir(tmp_path)
     monkeypatch.setattr(sys, "argv", ["vecmon-lab", *words, "sum.html", "sum.csv"])
-    told = "vecmon-lab: sum.html would be overwritten, and it is read here: name another file\n"
-    assert (start.main(), *capsys.readouterr()) == (2, "", told)
+    expected = "vecmon-lab: sum.html would be overwritten, and it is read here: name another file\n"
+    assert (start.main(), *capsys.readouterr()) == (2, "", expected)
     assert (tmp_path / "sum.csv").read_bytes() == SUM.read_bytes()
 
 
@@ -149,7 +149,7 @@ def test_the_other_output_of_a_profile(monkeypatch: pytest.MonkeyPatch, tmp_path
 
 
 @pytest.mark.parametrize(
-    "words, begin, has",
+    "words, first, has",
     [
         (["help"], "usage: vecmon-lab [-h]", "a page that steps back and forth"),
         (["--help"], "usage: vecmon-lab [-h]", "a page that steps back and forth"),
@@ -157,11 +157,11 @@ def test_the_other_output_of_a_profile(monkeypatch: pytest.MonkeyPatch, tmp_path
         (["run", "--help"], "usage: vecmon-lab run [-h]", "--trace FILE"),
     ],
 )
-def test_help(capsys: pytest.CaptureFixture[str], words: list[str], begin: str, has: str) -> None:
+def test_help(capsys: pytest.CaptureFixture[str], words: list[str], first: str, has: str) -> None:
     with pytest.raises(SystemExit, match="0"):
         start.arguments_of(words)
-    told = capsys.readouterr().out
-    assert told.startswith(begin) and has in told
+    output = capsys.readouterr().out
+    assert output.startswith(first) and has in output
 
 
 @pytest.mark.parametrize(
@@ -187,7 +187,7 @@ def test_main_imports_no_command_modules() -> None:
 
 
 @pytest.mark.parametrize(
-    "mistake, status, told",
+    "mistake, status, expected",
     [
         (NoProgram("there is none"), 2, "vecmon-lab: there is none\n"),
         (
@@ -207,7 +207,11 @@ def test_main_imports_no_command_modules() -> None:
     ],
 )
 def test_how_a_command_ends(
-    monkeypatch: pytest.MonkeyPatch, capsys: pytest.CaptureFixture[str], mistake: BaseException, status: int, told: str
+    monkeypatch: pytest.MonkeyPatch,
+    capsys: pytest.CaptureFixture[str],
+    mistake: BaseException,
+    status: int,
+    expected: str,
 ) -> None:
     def run(arguments: argparse.Namespace) -> int:
         raise mistake
@@ -217,4 +221,4 @@ def test_how_a_command_ends(
     monkeypatch.setitem(sys.modules, "vecmon_lab.command", command)
     monkeypatch.setattr(start, "COMMANDS", {"command": ("command", "ends")})
     monkeypatch.setattr(sys, "argv", ["vecmon-lab", "command", "word"])
-    assert (start.main(), *capsys.readouterr()) == (status, "", told)
+    assert (start.main(), *capsys.readouterr()) == (status, "", expected)

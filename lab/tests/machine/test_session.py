@@ -278,15 +278,15 @@ def test_a_program_that_says_something_else(tmp_path: pathlib.Path, says: str) -
 
 def test_a_program_that_speaks_unasked(tmp_path: pathlib.Path) -> None:
     answer = "printf '* list 1:- 2:- 3:- 4:- 5:- 6:- 7:- 8:-\\n'"
-    unasked, told = tmp_path / "unasked", tmp_path / "told"
-    for fifo in (unasked, told):
+    unasked, reply = tmp_path / "unasked", tmp_path / "told"
+    for fifo in (unasked, reply):
         os.mkfifo(fifo)
     program = stand_in(
-        tmp_path, f"read -r it; {answer}; cat '{unasked}'; echo > '{told}'; read -r it; echo '1 entered'"
+        tmp_path, f"read -r it; {answer}; cat '{unasked}'; echo > '{reply}'; read -r it; echo '1 entered'"
     )
     with Session(program) as session:
         unasked.write_text("1 entered\n")
-        told.read_text()
+        reply.read_text()
         with pytest.raises(OutOfStep, match="^before '1 enter' was sent there came b'1 entered"):
             session.do("1 enter")
 

@@ -138,8 +138,10 @@ def test_help() -> None:
     assert "  101101 | vm:1 | vs2:5 | rs1:5 | 110 | vd:5 | 1010111" in more
     assert help_lines("vcsr")[0].startswith("vcsr: prints") and len(help_lines("vcsr")) > 1
     assert help_lines("nonsense") == ["nothing is called nonsense; help lists the commands"]
-    told = shown(["help vadd.vv", "help vfadd.vv", "help E03", "help add with carry"])
-    assert told[1].startswith("vadd.vv vd, vs2, vs1[, v0.t]: Adds the elements") and told[-1].startswith("vadc: ")
+    help_text = shown(["help vadd.vv", "help vfadd.vv", "help E03", "help add with carry"])
+    assert help_text[1].startswith("vadd.vv vd, vs2, vs1[, v0.t]: Adds the elements") and help_text[-1].startswith(
+        "vadc: "
+    )
 
 
 def test_encodings_have_32_bits() -> None:

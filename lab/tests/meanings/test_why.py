@@ -10,7 +10,7 @@ from support.console import shown
 from vecmon_lab import LabError
 from vecmon_lab.exercises.check import script_before
 from vecmon_lab.exercises.exercise import OURS, read_exercise
-from vecmon_lab.guest.changes import Carried, Registers, Stepper
+from vecmon_lab.guest.changes import Retired, Registers, Stepper
 from vecmon_lab.guest.guest import Guest
 from vecmon_lab.instructions.accesses import REGISTER_BITS, REGISTER_BYTES, vector_instruction
 from vecmon_lab.lessons.script import Script
@@ -89,8 +89,8 @@ def test_sentences(word: int, name: str, element: int | None, other: dict[str, i
 
 
 def test_a_mask() -> None:
-    told = explained(0x00410457, "v8", 5, vl=8)
-    assert told == "v8[5] kept its value 105: masked off by v0[5] = 0"
+    shown = explained(0x00410457, "v8", 5, vl=8)
+    assert shown == "v8[5] kept its value 105: masked off by v0[5] = 0"
 
 
 @pytest.mark.parametrize(
@@ -116,23 +116,23 @@ def scripts() -> Iterator[tuple[str, Script]]:
     yield from (("course", script_before(read_exercise(OURS / name))) for name, _ in read_table("course"))
 
 
-def unexplained(before: Registers, stepper: Stepper, carried: Carried) -> Iterator[str]:
+def unexplained(before: Registers, stepper: Stepper, retired: Retired) -> Iterator[str]:
     """The elements of an instruction's vector registers whose explanation has another value than the machine."""
-    instruction = vector_instruction(carried.word, before.control.vtype)
-    if instruction is None or carried.stop and carried.stop.cause == 2:
+    instruction = vector_instruction(retired.word, before.control.vtype)
+    if instruction is None or retired.stop and retired.stop.cause == 2:
         return
-    explanation = explanation_of(stepper.guest, before, stepper.registers.control, carried)
+    explanation = explanation_of(stepper.guest, before, stepper.registers.control, retired)
     operand = instruction.operands[0]
     for register in operand.registers if operand.place == "vd" else ():
         value = int.from_bytes(stepper.registers.v[register * REGISTER_BYTES :][:REGISTER_BYTES], "little")
         for element in range(REGISTER_BITS // operand.eew):
             found, bits = explanation.why(f"v{register}", element), (1 << operand.eew) - 1
             if found.value != value >> element * operand.eew & bits or not found.text.startswith("v"):
-                yield f"{carried.text}: {found.text}"
+                yield f"{retired.text}: {found.text}"
     if operand.place != "vd":
-        number = carried.word >> 7 & 31
+        number = retired.word >> 7 & 31
         if explanation.why(f"x{number}").value != stepper.registers.x[number]:
-            yield f"{carried.text}: {explanation.why(f'x{number}').text}"
+            yield f"{retired.text}: {explanation.why(f'x{number}').text}"
 
 
 def test_each_element_of_the_tour_and_the_course(program: pathlib.Path) -> None:
@@ -148,13 +148,13 @@ def test_each_element_of_the_tour_and_the_course(program: pathlib.Path) -> None:
                         pass  # as a tour shows them
                     continue
                 stepper = Stepper(Guest(session, int(line[0])))
-                stepper.guest.pc = stepper.guest.told("regs", ScalarRegisters).pc
+                stepper.guest.pc = stepper.guest.query("regs", ScalarRegisters).pc
                 for _ in range(int(words[1])):
                     before = stepper.registers.copy()
-                    carried = stepper.step()
-                    counts[name] += vector_instruction(carried.word, before.control.vtype) is not None
-                    wrong += unexplained(before, stepper, carried)
-                    if carried.stop:
+                    retired = stepper.step()
+                    counts[name] += vector_instruction(retired.word, before.control.vtype) is not None
+                    wrong += unexplained(before, stepper, retired)
+                    if retired.stop:
                         break
     assert wrong == [] and all(counts[name] >= least for name, least in STEPS.items()), counts
 
@@ -177,7 +177,7 @@ def test_the_console(tmp_path: pathlib.Path) -> None:
         "set a0 1",
         "why a0",
     ]
-    told = "\n".join(shown(lines, source))
+    output = "\n".join(shown(lines, source))
     for sentence in (
         "no instruction was executed by a single step: step first",
         "v8[3] = vs2[3] * x11 + vd[3] = 3 * 3 + 3 = 12",
@@ -187,12 +187,12 @@ def test_the_console(tmp_path: pathlib.Path) -> None:
         "'v8[' names no element: v8[5] is one, and x10 or a0 a register",
         "x10 = vs2.mask[0] + vs2.mask[1] + vs2.mask[2] + vs2.mask[3] = 0 + 0 + 0 + 0 = 0",
     ):
-        assert sentence in told
-    assert told.count("step first") == 2
+        assert sentence in output
+    assert output.count("step first") == 2
 
 
 def test_an_illegal_instruction() -> None:
     with pytest.raises(LabError) as error:
         explained(0x02410457, "v8", 0, vtype=1 << 63)
-    told = "The vector type is vill: no vset instruction has set one that is supported."
-    assert str(error.value) == f"the instruction is illegal and changed nothing: {told}"
+    expected = "The vector type is vill: no vset instruction has set one that is supported."
+    assert str(error.value) == f"the instruction is illegal and changed nothing: {expected}"

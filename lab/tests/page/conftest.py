@@ -45,4 +45,4 @@ def tabs(browser: "Chrome") -> Iterator["Chrome"]:
 @pytest.fixture
 def sit(tabs: "Chrome", served: Served) -> Sit:
     """Opens a tab for somebody of the class."""
-    return lambda who: Tab(tabs, served, who)
+    return lambda role: Tab(tabs, served, role)

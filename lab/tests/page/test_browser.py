@@ -3,7 +3,7 @@
 import shutil
 
 from support.browser import WINDOWS, browser_with
-from support.left_out import NO_BROWSER, leave_out
+from support.skips import NO_BROWSER, leave_out
 from support.processes import alive, descendants
 
 

@@ -9,7 +9,7 @@ import pytest
 
 from support.browser import CONTRAST
 from support.class_pages import Explored, Served, Tab
-from support.left_out import NO_SANDBOX, leave_out
+from support.skips import NO_SANDBOX, leave_out
 from support.places import DATA, EXAMPLES
 from vecmon_lab.compilers.compiler import Compiler
 
@@ -36,7 +36,7 @@ def put_in(tab: Tab, text: str, language: str = "C, O2") -> None:
 
     tab.click("#show-source")
     tab.keys("#source", Keys.CONTROL, "a", Keys.NULL, Keys.DELETE)
-    tab.front().execute_cdp_cmd("Input.insertText", {"text": text})
+    tab.activate().execute_cdp_cmd("Input.insertText", {"text": text})
     tab.choose("#language", language)
 
 
@@ -75,7 +75,7 @@ def test_lines_are_stepped(tabs: "Chrome", with_c: Served) -> None:
     from selenium.webdriver.common.keys import Keys
 
     tab = Tab(tabs, with_c, "A1")
-    assert not tab.front().find_element("id", "step-line").is_displayed()
+    assert not tab.activate().find_element("id", "step-line").is_displayed()
     put_in(tab, SAXPY)
     tab.click("#assemble")
     tab.wait("one('#listing .next')")
@@ -171,14 +171,14 @@ def test_a_source_is_handed_on(tabs: "Chrome", with_c: Served, tmp_path: pathlib
     tab = Tab(tabs, with_c, "A1")
     put_in(tab, "int main(void) { return 'é'; } // ÿ\n", "C, O3-scalar")
     tab.click("#link")
-    link = tab.front().current_url
+    link = tab.activate().current_url
     assert "#source=" in link and not set(link.partition("#source=")[2]) - set(
         "ABCDEFGHIJKLMNOPQRSTUVWXYZabcdefghijklmnopqrstuvwxyz0123456789-_"
     )
     other = Tab(tabs, with_c, "A2")
     other.run(f"void (location.hash = {link.partition('#')[2]!r})")
     other.wait(f"{TEXT}?.includes('é') && id('language').selectedOptions[0].text === 'C, O3-scalar'")
-    assert other.run("document.title") == "Seat A2 – vecmon" and "#" not in other.front().current_url
+    assert other.run("document.title") == "Seat A2 – vecmon" and "#" not in other.activate().current_url
     assert other.text("#run") == "not entered" and "A link has brought" in other.text("#stop")
     other.run("void (location.hash = 'source=junk')")
     other.wait("document.title === 'Seat A2 – vecmon' && !location.hash")
@@ -201,7 +201,7 @@ def test_a_stock_assembler(tabs: "Chrome", with_c: Served, tmp_path: pathlib.Pat
     tab.wait("one('#listing .next').textContent.includes('ebreak')")
     tab.click("#show-source")
     tab.click("#link")
-    link = tab.front().current_url.partition("#")[2]
+    link = tab.activate().current_url.partition("#")[2]
     other = Tab(tabs, with_c, "A4")
     other.run(f"void (location.hash = {link!r})")
     other.wait(f"{TEXT} === arguments[0] && id('language').selectedOptions[0].text === 'assembler, stock'", text)

@@ -35,7 +35,7 @@ def test_eight_tabs_alone(tabs: "Chrome", own_class: Served) -> None:
         cells = "all(\"#elements [data-register='2'] td\").map((cell) => cell.firstChild.data)"
         assert tab.run(cells) == own
         assert "stepped 3 pc=000000000001000c" in tab.text("#log")
-        tab.front().refresh()
+        tab.activate().refresh()
         tab.wait("id('elements').textContent.includes(arguments[0])", own[7])
         assert tab.text("#who") == f"Seat {tab.who}" and "> set x10" in tab.text("#log")
         assert tab.run("location.href") == f"http://127.0.0.1:{own_class.port}/"
@@ -122,13 +122,13 @@ def test_pastes(sit: Sit, served: Served) -> None:
         "set x5 1\n" * 4097: "These are 4097 lines, and at most 4096 go at once: nothing was sent.",
         "asm 10000 " + "x" * 1013: "1023 characters are in the line, and at most 1022 may be: nothing was sent.",
     }
-    for text, told in refused.items():
+    for text, expected in refused.items():
         tab.run(put, "line", text)
         tab.keys("#line", Keys.ENTER)
-        assert tab.text("#stop") == told
+        assert tab.text("#stop") == expected
         teacher.run(put, "operator-line", text)
         teacher.keys("#operator-line", Keys.ENTER)
-        assert teacher.text("#gone").replace("`", "") == told
+        assert teacher.text("#gone").replace("`", "") == expected
     tab.click("#show-source")
     for text in ("nop\n" * 16384 + "#", "#" * 6_000_000):  # the second one has no room in the tab's storage
         tab.run("id('source').value = ''")
@@ -177,8 +177,8 @@ def test_first_sight_and_keys(sit: Sit) -> None:
     assert tab.text("#stop") == "peek ADDR N: prints 1 to 256 bytes from ADDR"
     assert tab.run("!id('reference').hidden && one('#entries code').textContent") == "peek ADDR N"
     tab.keys("#line", "help vadd.vi\n")
-    told = "Adds the elements of vs1 to those of vs2; the sums wrap around. vd[i] = vs2[i] + vs1[i]"
-    assert tab.text("#stop") == f"vadd.vi vd, vs2, imm[, v0.t]: {told}"
+    expected = "Adds the elements of vs1 to those of vs2; the sums wrap around. vd[i] = vs2[i] + vs1[i]"
+    assert tab.text("#stop") == f"vadd.vi vd, vs2, imm[, v0.t]: {expected}"
     tab.keys("#line", "help vfadd.vv\n")
     assert tab.text("#stop").startswith("vfadd.vv: Floating point isn't supported")
     tab.keys("#line", "help dance\n")
@@ -204,7 +204,7 @@ def test_sizes(sit: Sit) -> None:
 
     def resize(width: int, height: int) -> None:
         size = {"width": width, "height": height, "deviceScaleFactor": 1, "mobile": False}
-        tab.front().execute_cdp_cmd("Emulation.setDeviceMetricsOverride", size)
+        tab.activate().execute_cdp_cmd("Emulation.setDeviceMetricsOverride", size)
         tab.wait("innerWidth === arguments[0] && innerHeight === arguments[1]", width, height)
         assert tab.run("document.documentElement.scrollWidth") <= width
 
@@ -233,20 +233,20 @@ def test_sizes(sit: Sit) -> None:
                 where = tab.run(box, button)
                 assert 0 <= where["top"] < where["bottom"] <= 800 and 0 <= where["left"] < where["right"] <= 400
     finally:
-        tab.front().execute_cdp_cmd("Emulation.clearDeviceMetricsOverride", {})
+        tab.activate().execute_cdp_cmd("Emulation.clearDeviceMetricsOverride", {})
 
 
 def test_a_source_in_a_low_window(sit: Sit) -> None:
     """Of a laptop's 768 pixels a browser leaves some 650 to a page: what is below a source is in sight there."""
     tab = sit("A4")
     size = {"width": 1366, "height": 650, "deviceScaleFactor": 1, "mobile": False}
-    tab.front().execute_cdp_cmd("Emulation.setDeviceMetricsOverride", size)
+    tab.activate().execute_cdp_cmd("Emulation.setDeviceMetricsOverride", size)
     try:
         tab.wait("innerHeight === 650")
         tab.click("#assemble")
         tab.wait("one('#listing .next')")
     finally:
-        tab.front().execute_cdp_cmd("Emulation.clearDeviceMetricsOverride", {})
+        tab.activate().execute_cdp_cmd("Emulation.clearDeviceMetricsOverride", {})
 
 
 def test_rows_out_of_sight_are_not_made(tabs: "Chrome", own_class: Served) -> None:
@@ -405,9 +405,9 @@ def test_a_code_is_kept_for_the_tab_alone(sit: Sit, served: Served) -> None:
     assert tab.run("sessionStorage.length") == 0
     tab.keys("#code", "wrong\n")
     tab.wait("id('join-says').textContent.includes(\"isn't valid\")")
-    tab.front().get(served.address("A7"))
+    tab.activate().get(served.address("A7"))
     tab.wait("id('who').textContent === 'Seat A7'")
-    tab.front().get(served.address("A6"))  # another code in the same tab
+    tab.activate().get(served.address("A6"))  # another code in the same tab
     tab.wait("id('who').textContent === 'Seat A6' && location.hash === ''")
 
 
@@ -486,7 +486,7 @@ def test_pages_are_legible_and_narrow(sit: Sit) -> None:
     teacher.click("tr[data-seat='A8'] td:nth-child(2) button")
     teacher.wait("id('listing').textContent.includes('vadd.vi')")
     for page in (tab, teacher):
-        page.front()
+        page.activate()
         for scheme in ("light", "dark"):
             media(page.browser, prefers_color_scheme=scheme, prefers_reduced_motion="reduce")
             assert page.browser.execute_script(CONTRAST) == []
@@ -511,7 +511,7 @@ def test_focus_is_seen_and_controls_have_names(sit: Sit) -> None:
         (tab, {"one", "number", "go", "new", "images", "forget", "line", "show-source", "listing", "elements", "log"}),
         (teacher, {"Look at seat A1", "New code for seat A8", "Script", "operator-line", "operator-log"}),
     ):
-        page.front()
+        page.activate()
         seen = dict[str, str]()
         for _ in range(60):
             press(page.browser, Keys.TAB)

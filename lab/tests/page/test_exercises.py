@@ -81,7 +81,7 @@ def test_an_exercise_is_solved(tabs: "Chrome", course: Served) -> None:
     assert "element 3, i32 at 0x2010c: expected -1, found 80" in tab.text("#exercise .said")
     assert "All other registers hold anything." in tab.text("#exercise .verdict")
     assert tab.run("all('#exercise .wrong').map((box) => box.firstChild.data)") == ["80", "100", "0"]
-    assert tab.front().execute_script(CONTRAST) == []
+    assert tab.activate().execute_script(CONTRAST) == []
     tab.click("#exercise .verdict a")
     tab.browser.switch_to.window(tab.browser.window_handles[-1])
     lesson = tab.browser
@@ -117,7 +117,7 @@ def test_an_exercise_is_solved_in_c(tabs: "Chrome", course: Served, sandboxed_cl
     assert "vl = __riscv_vsetvl_e16m8(count);" in tab.text("#machine") and tab.text("#run") == "stopped"
     check(tab, good, "It passes all cases.")
     assert "and a good answer takes" in tab.text("#exercise .verdict")
-    assert tab.front().execute_script(CONTRAST) == []
+    assert tab.activate().execute_script(CONTRAST) == []
     choose(tab, "strlen")
     assert "size_t answer(const uint8_t *text)" in tab.run("id('source').value")
 
@@ -150,7 +150,7 @@ def test_what_passed_is_told(tabs: "Chrome", course: Served) -> None:
     teacher.wait("id('scores').querySelector('pre').textContent.includes('vadd.vv')")
     teacher.choose("#scores select", "try 1")
     teacher.wait("id('scores').querySelector('pre').textContent.includes('vsetivli zero, 8')")
-    assert teacher.front().execute_script(CONTRAST) == []
+    assert teacher.activate().execute_script(CONTRAST) == []
 
 
 def test_all_exercises_are_solved(tabs: "Chrome", course: Served) -> None:

@@ -76,11 +76,11 @@ def test_variables_where_the_program_stands(kernel: "Chrome") -> None:
     for count, length, at in ((10, 8, y), (2, 2, y + 32)):
         kernel.find_element("id", "line-go").click()
         assert line_shown(kernel) == 12
-        told = kernel.execute_script(VARIABLES)
-        assert told["size_t count"][0] == f"{count}" and told["size_t count"][1].startswith("x")
-        assert told["size_t length"][0] == f"{length}" and told["int32_t *to"][0] == f"{at:x}"
-        assert told["vint32m1_t sum"] == told["int32_t factor"] == ["", "optimized out"]
-        assert told["int32_t y[10]"] == ["", f"at {y:x}"]
+        shown = kernel.execute_script(VARIABLES)
+        assert shown["size_t count"][0] == f"{count}" and shown["size_t count"][1].startswith("x")
+        assert shown["size_t length"][0] == f"{length}" and shown["int32_t *to"][0] == f"{at:x}"
+        assert shown["vint32m1_t sum"] == shown["int32_t factor"] == ["", "optimized out"]
+        assert shown["int32_t y[10]"] == ["", f"at {y:x}"]
     kernel.find_element("id", "line-go").click()
     assert kernel.execute_script(VARIABLES)["size_t count"][0] == "10"
     kernel.find_element("id", "last").click()

@@ -56,18 +56,18 @@ def test_forth_and_back(
         count, picture, groups, shown = browser.execute_script(PICTURE)
         assert count == f"{number} of {len(frames)}"
         pictures.append(picture)
-        told = follower.told(frame)
-        if told:
+        reply = follower.state_after(frame)
+        if reply:
             for register, group in groups.items():
-                assert group["cells"] >= told.most
-                assert group["tail"] == group["cells"] - told.vl
-                assert group["prestart"] == min(told.vstart, told.vl)
-                assert group["masked"] == told.masked.get(int(register), 0)
+                assert group["cells"] >= reply.most
+                assert group["tail"] == group["cells"] - reply.vl
+                assert group["prestart"] == min(reply.vstart, reply.vl)
+                assert group["masked"] == reply.masked.get(int(register), 0)
                 assert group["active"] == group["cells"] - group["tail"] - group["prestart"] - group["masked"]
-            assert told.masked.keys() <= {int(register) for register in groups}
-            assert {name for name, changed in shown.items() if changed} == told.changed & shown.keys()
-            assert {name for name in told.changed if name[0] == "x"} <= shown.keys()
-            masked += sum(told.masked.values())
+            assert reply.masked.keys() <= {int(register) for register in groups}
+            assert {name for name, changed in shown.items() if changed} == reply.changed & shown.keys()
+            assert {name for name in reply.changed if name[0] == "x"} <= shown.keys()
+            masked += sum(reply.masked.values())
         press(browser, Keys.ARROW_RIGHT)
     assert text_of(browser, "#count") == f"{len(frames)} of {len(frames)}"
     assert (masked > 0) == (name in ("masks_and_tails", "strip_mined"))
@@ -214,14 +214,14 @@ def test_stops_and_refusals_are_told(opened: Callable[[str], "Chrome"], program:
         )
     )
     assert browser.execute_script("return document.querySelector('#stop').ariaLive") == "polite"
-    told = []
+    expected = []
     for _ in range(7):
-        told.append(text_of(browser, "#stop"))
+        expected.append(text_of(browser, "#stop"))
         press(browser, Keys.ARROW_RIGHT)
-    assert told[0].startswith("1 peek 0 1: E11: ") and told[1].startswith("E06: ")
-    assert "0x0" in told[2] and told[6].startswith("Not sent: ")
-    assert told[4] == "li x1, 1\n^\nE15: li is a pseudo-instruction, which only a source has"
-    assert told[5] == "E04: 300 isn't from 1 to 256; the form is step N"
+    assert expected[0].startswith("1 peek 0 1: E11: ") and expected[1].startswith("E06: ")
+    assert "0x0" in expected[2] and expected[6].startswith("Not sent: ")
+    assert expected[4] == "li x1, 1\n^\nE15: li is a pseudo-instruction, which only a source has"
+    assert expected[5] == "E04: 300 isn't from 1 to 256; the form is step N"
 
 
 @pytest.mark.parametrize("scheme", ["light", "dark"])

@@ -65,7 +65,7 @@ def test_modules_are_joined_in_the_order_of_their_imports() -> None:
 
 
 @pytest.mark.parametrize(
-    "name, text, told",
+    "name, text, expected",
     [
         ("numbers.js", 'import { say } from "./words.js";\nexport const half = 1;\n', "numbers, words, numbers"),
         ("numbers.js", 'import { half } from "./numbers.js";\n', "numbers, numbers"),
@@ -73,8 +73,8 @@ def test_modules_are_joined_in_the_order_of_their_imports() -> None:
         ("words.js", "export const say = 1;\n", "main.js imports what words.js doesn't export: Loud"),
     ],
 )
-def test_what_cannot_be_joined_is_refused(name: str, text: str, told: str) -> None:
-    with pytest.raises(ValueError, match=re.escape(told)):
+def test_what_cannot_be_joined_is_refused(name: str, text: str, expected: str) -> None:
+    with pytest.raises(ValueError, match=re.escape(expected)):
         join_modules("main", (FILE | {name: text}).__getitem__)
 
 

@@ -71,8 +71,8 @@ def test_operands_are_those_of_the_words(browser: "Chrome", session: Session) ->
     assert len({text.split()[0] for text, *_ in cases}) > 0.9 * len(names)
     script = f"""{join_modules("vectors", page_file)}
         return arguments[0].map(([operands, vtype]) => $shapes.operandGroups(operands, $words.vectorType(vtype)))"""
-    told = browser.execute_script(script, [(operands, f"{view.vtype:x}") for _, view, operands, _ in cases])
-    for (text, view, _, expected), groups in zip(cases, told, strict=True):
+    shown = browser.execute_script(script, [(operands, f"{view.vtype:x}") for _, view, operands, _ in cases])
+    for (text, view, _, expected), groups in zip(cases, shown, strict=True):
         registers = dict[int, set[tuple[bool, int]]]()
         for group in groups:
             for register in range(group["register"], group["register"] + group["group"]):

@@ -58,7 +58,7 @@ def test_a_program_that_prints_without_end_is_stopped(tabs: "Chrome", own_class:
     assert tab.run("id('output').scrollTop") == 100
     changes, frames = tab.run("[window.changes, window.frames]")
     assert changes <= 2 * frames  # old output goes, and new output comes
-    assert tab.front().execute_async_script(STOP) < 5000  # ms, on a machine that others use
+    assert tab.activate().execute_async_script(STOP) < 5000  # ms, on a machine that others use
     tab.run("(id('output').scrollTop = 1e9)")
     tab.command("step 1")
     assert tab.text("#output").splitlines()[-1] in LINES and tab.run(f"{LEFT} < 2")

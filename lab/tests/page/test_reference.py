@@ -8,15 +8,15 @@ from vecmon_lab.page.reference import reference, reference_text
 
 
 def test_it_has_what_the_manuals_list() -> None:
-    told = reference()
+    reply = reference()
     instructions = re.findall(r"^\| `([^`]+)` \| `", (DOCS / "INSTRUCTIONS.md").read_text("utf-8"), re.MULTILINE)
-    assert [form for _, form, _ in told["Instructions"]] == [each for each in instructions if each[0] != "."]
+    assert [form for _, form, _ in reply["Instructions"]] == [each for each in instructions if each[0] != "."]
     page = (DOCS / "COMMANDS.md").read_text("utf-8")
     rows = re.findall(r"^\| `([^`]+)` \| (.+?) \|", page, re.MULTILINE)
-    commands = {form for _, form, _ in told["Commands"]}
+    commands = {form for _, form, _ in reply["Commands"]}
     assert len(commands) > 20 and commands <= {form for form, _ in rows}
     refusals = re.findall(r"^\| (E\d\d) \|", page.replace("`", ""), re.MULTILINE)
-    assert [code for code, *_ in told["Refusals"]] == refusals
+    assert [code for code, *_ in reply["Refusals"]] == refusals
 
 
 def test_each_entry_begins_with_its_name() -> None:
@@ -25,11 +25,12 @@ def test_each_entry_begins_with_its_name() -> None:
     pseudo = {form: does for _, form, does in reference()["Pseudo-instructions"]}
     assert pseudo["ret"] == "Returns from a function: jumps to the address in ra. `jalr x0, 0(x1)`"
     assert pseudo["vmsge.vx vd, vs2, rs1"].count(";") == 1
-    told = {name: does for name, _, does in reference()["Instructions"]}
+    expected = {name: does for name, _, does in reference()["Instructions"]}
     assert (
-        told["vadd.vi"] == "Adds the elements of vs1 to those of vs2; the sums wrap around. `vd[i] = vs2[i] + vs1[i]`"
+        expected["vadd.vi"]
+        == "Adds the elements of vs1 to those of vs2; the sums wrap around. `vd[i] = vs2[i] + vs1[i]`"
     )
-    assert all(told.values())
+    assert all(expected.values())
 
 
 def test_a_page_may_have_it() -> None:

@@ -57,8 +57,8 @@ def test_who_is_stuck_stands_above(tabs: "Chrome", served: Served) -> None:
     other.begin("addi x5, x5, 1")
     tab.click("#one")
     teacher.wait(f"{seats}[0] === 'D7'")
-    told = teacher.text("tr[data-seat='D7'] .wraps")
-    assert told.startswith("illegal instruction vle32.v v1, (x1), ") and told.endswith(" s")
+    shown = teacher.text("tr[data-seat='D7'] .wraps")
+    assert shown.startswith("illegal instruction vle32.v v1, (x1), ") and shown.endswith(" s")
     assert teacher.text("tr[data-seat='B1'] .wraps").startswith("at addi x5, x5, 1, ")
     assert teacher.run(f"{seats}.slice(1, 3)") == ["A1", "A2"]
     teacher.click("#clocks [name=on]")

@@ -89,7 +89,7 @@ def test_each_paste_is_undone_by_itself(sit: Sit) -> None:
     tab = sit("A8")
     tab.click("#source")
     for paste in ("# one\n", "# two\n"):
-        tab.front().execute_cdp_cmd("Input.insertText", {"text": paste})
+        tab.activate().execute_cdp_cmd("Input.insertText", {"text": paste})
     tab.keys("#source", "# three", Keys.CONTROL, "z", Keys.NULL, Keys.CONTROL, "z", Keys.NULL)
     assert "# one" in tab.run(TEXT) and "# two" not in tab.run(TEXT)
     tab.keys("#source", Keys.ESCAPE, Keys.TAB)
@@ -118,7 +118,7 @@ def test_a_source_is_the_seats(sit: Sit) -> None:
     """What is typed is in another tab of the seat, after a reload, and before the teacher; nobody else has it."""
     from selenium.webdriver.common.keys import Keys
 
-    tab, other, stranger, teacher = sit("A2"), sit("A2"), sit("A3"), sit("teacher")
+    tab, other, outsider, teacher = sit("A2"), sit("A2"), sit("A3"), sit("teacher")
     teacher.click("tr[data-seat='A2'] td:nth-child(2) button")
     teacher.wait("!id('desk').hidden")
     teacher.click("#show-source")
@@ -126,7 +126,7 @@ def test_a_source_is_the_seats(sit: Sit) -> None:
     for page in (other, teacher):
         page.wait(f"{TEXT}.endsWith('# mine')")
     tab.keys("#source", " and more")
-    tab.front().refresh()  # before it is sent by itself
+    tab.activate().refresh()  # before it is sent by itself
     tab.wait(f"id('who').textContent === 'Seat A2' && {TEXT}.endsWith('# mine and more')")
     other.wait(f"{TEXT}.endsWith('# mine and more')")
     other.keys("#source", Keys.CONTROL, "z", Keys.NULL)
@@ -139,7 +139,7 @@ def test_a_source_is_the_seats(sit: Sit) -> None:
     tab.wait(f"{TEXT}.endsWith('# mine again')")
     other.keys("#source", Keys.CONTROL, "z", Keys.NULL)
     tab.wait(f"{TEXT}.endsWith('# mine')")
-    assert "mine" not in stranger.run(TEXT)
+    assert "mine" not in outsider.run(TEXT)
     teacher.keys("#source", "x")
     assert teacher.run(f"{TEXT}.endsWith('# mine')")
 
@@ -205,7 +205,7 @@ def _take_back(teacher: Tab, tab: Tab) -> None:
     assert teacher.run("id('receiver').value") == ""
     teacher.click("#give")
     assert teacher.text("#gone").startswith("Nothing was sent: choose a seat")
-    teacher.front().refresh()
+    teacher.activate().refresh()
     teacher.wait("document.title === 'Teacher – vecmon' && id('given').value.includes('# all')")
 
 

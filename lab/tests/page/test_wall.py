@@ -58,8 +58,8 @@ def test_codes_and_the_sheet(sit: Sit, served: Served) -> None:
     slips = teacher.run("all('#slips li').map((slip) => slip.innerText.split(/\\s*\\n\\s*/))")
     assert slips == [[f"Seat {seat}", ADDRESS, codes[seat]] for seat in seats]
     assert teacher.run("!id('teacher').checkVisibility() && !id('sheet-says').checkVisibility()")
-    told = teacher.browser.execute_cdp_cmd("Page.printToPDF", {"paperWidth": 8.27, "paperHeight": 11.69})["data"]
-    assert base64.b64decode(told).count(b"/Type /Page\n") == 1
+    reply = teacher.browser.execute_cdp_cmd("Page.printToPDF", {"paperWidth": 8.27, "paperHeight": 11.69})["data"]
+    assert base64.b64decode(reply).count(b"/Type /Page\n") == 1
     assert seen() == seats and teacher_code not in teacher.run(PAGE)
     teacher.click("#close-sheet")
     assert seen() == [] and teacher.run("id('teacher').checkVisibility()")
@@ -83,7 +83,7 @@ def test_the_wall(tabs: "Chrome", served: Served) -> None:
     try:
         for width, height, letters in ((1920, 1080, 25), (1024, 768, 15), (1280, 800, 19), (3840, 2160, 51)):
             size = {"width": width, "height": height, "deviceScaleFactor": 1, "mobile": False}
-            wall.front().execute_cdp_cmd("Emulation.setDeviceMetricsOverride", size)
+            wall.activate().execute_cdp_cmd("Emulation.setDeviceMetricsOverride", size)
             wall.wait("innerWidth === arguments[0] && innerHeight === arguments[1]", width, height)
             seen = wall.run(f"{rows}.map((row) => row.dataset.address)")
             assert len(seen) == 6 and {"1002c", "10030"} <= set(seen), size
@@ -118,7 +118,7 @@ def test_the_wall(tabs: "Chrome", served: Served) -> None:
 
 def test_a_wall_behind_a_new_server(tabs: "Chrome", own_class: Served) -> None:
     """It goes on without a reload, since the teacher's page says again what it shows."""
-    tab, teacher, wall = (Tab(tabs, own_class, who) for who in ("A1", "teacher", "wall"))
+    tab, teacher, wall = (Tab(tabs, own_class, role) for role in ("A1", "teacher", "wall"))
     tab.begin("vid.v v1")
     teacher.choose("#on-wall", "A1")
     wall.wait("id('who').textContent === 'Seat A1'")

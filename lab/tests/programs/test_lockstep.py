@@ -55,7 +55,7 @@ def image(program: pathlib.Path, tmp_path: pathlib.Path) -> pathlib.Path:
     return path
 
 
-def told(lab: Lab, image: pathlib.Path, lines: list[str]) -> tuple[int, list[str]]:
+def run_lockstep(lab: Lab, image: pathlib.Path, lines: list[str]) -> tuple[int, list[str]]:
     """The status, and the lines that are printed."""
     log = image.with_name("log")
     log.write_text("\n".join(lines) + "\n", "ascii")
@@ -66,11 +66,11 @@ def told(lab: Lab, image: pathlib.Path, lines: list[str]) -> tuple[int, list[str
 @pytest.mark.by_command("lockstep")
 def test_a_log_of_spikes_form_agrees(lab: Lab, image: pathlib.Path) -> None:
     end = "6 instructions agree; 10018: ebreak: Stopped at the ebreak at 0x10018."
-    assert told(lab, image, spike_log(image, WRITTEN)) == (0, [end])
+    assert run_lockstep(lab, image, spike_log(image, WRITTEN)) == (0, [end])
 
 
 def test_planted_differences(lab: Lab, image: pathlib.Path) -> None:
-    wrong = told(lab, image, spike_log(image, [*WRITTEN[:3], "v9 7:6:4", *WRITTEN[4:]]))
+    wrong = run_lockstep(lab, image, spike_log(image, [*WRITTEN[:3], "v9 7:6:4", *WRITTEN[4:]]))
     before = "before: vl=3 vtype=e32,m1,ta,ma vstart=0 vxrm=0 v9=" + "00" * 32
     assert wrong[0] == 1 and wrong[1][0] == "instruction 4: 1000c: vadd.vx v9, v8, x10"
     assert wrong[1][1].startswith(before) and wrong[1][1].endswith(" x10=5")
@@ -78,11 +78,11 @@ def test_planted_differences(lab: Lab, image: pathlib.Path) -> None:
         "v9.e32[0]: 5 here, 4 in the log",
         "not allowed: the standard leaves nothing open here",
     ]
-    open_ = told(lab, image, spike_log(image, [*WRITTEN[:2], f"v8 {ONES}:2:1:0"]))
+    open_ = run_lockstep(lab, image, spike_log(image, [*WRITTEN[:2], f"v8 {ONES}:2:1:0"]))
     assert open_[0] == 1 and open_[1][0] == "instruction 3: 10008: vid.v v8"
     assert open_[1][2:-1] == [f"v8.e32[{number}]: 0 here, ffffffff in the log" for number in range(3, 8)]
     assert open_[1][-1] == "allowed: these elements are tail, and agnostic: each stays or becomes ones"
-    assert told(lab, image, spike_log(image, [*WRITTEN[:5], "x11 9"]))[1][2:] == [
+    assert run_lockstep(lab, image, spike_log(image, [*WRITTEN[:5], "x11 9"]))[1][2:] == [
         "xb: 8 here, 9 in the log".replace("xb", "x11"),
         "not allowed: the standard leaves nothing open here",
     ]
@@ -90,7 +90,7 @@ def test_planted_differences(lab: Lab, image: pathlib.Path) -> None:
 
 def test_where_a_log_goes_elsewhere(lab: Lab, image: pathlib.Path) -> None:
     lines = spike_log(image, WRITTEN)
-    status, printed = told(lab, image, [*lines[:4], *lines[5:]])
+    status, printed = run_lockstep(lab, image, [*lines[:4], *lines[5:]])
     assert (
         status == 1
         and printed[0] == "instruction 3: 10008: vid.v v8"
@@ -100,10 +100,10 @@ def test_where_a_log_goes_elsewhere(lab: Lab, image: pathlib.Path) -> None:
             "not allowed: the standard leaves nothing open here",
         ]
     )
-    stopped = told(lab, image, [*lines, "core   0: 3 0x0000000000010018 (0x00100073)"])
+    stopped = run_lockstep(lab, image, [*lines, "core   0: 3 0x0000000000010018 (0x00100073)"])
     assert stopped[0] == 1 and stopped[1][2] == "ebreak here, executed in the log"
     path = image.with_name("log")
-    assert told(lab, image, lines[:1]) == (2, [f"vecmon-lab: {path} has no instruction where {image} begins"])
+    assert run_lockstep(lab, image, lines[:1]) == (2, [f"vecmon-lab: {path} has no instruction where {image} begins"])
 
 
 def qemu_log(image: pathlib.Path, *properties: str) -> pathlib.Path:
@@ -133,9 +133,9 @@ def test_a_log_of_qemus(lab: Lab, tmp_path: pathlib.Path) -> None:
     assert status == 0 and output.startswith(b"250 instructions agree; 112dc _start+0x14c: ecall")
     before, name, after = log.read_text("ascii").partition(" x11/a1   000000000000001a")
     log.write_text(f"{before} x11/a1   000000000000001b{after}", "ascii")
-    told = b"instruction 4: 1119c _start+0xc: addi x11, x0, 26\n"
+    reply = b"instruction 4: 1119c _start+0xc: addi x11, x0, 26\n"
     status, output, _ = lab("lockstep", image, log)
-    assert name and status == 1 and output.startswith(told) and b"\nx11: 1a here, 1b in the log\n" in output
+    assert name and status == 1 and output.startswith(reply) and b"\nx11: 1a here, 1b in the log\n" in output
 
 
 @pytest.mark.usefixtures("qemu")

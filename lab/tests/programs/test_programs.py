@@ -18,9 +18,9 @@ def test_programs_run_on_vecmon(lab: Lab, tmp_path: pathlib.Path) -> None:
     assert lab("programs", tmp_path, "--count", "2", "--length", "300")[0] == 0
     for number in range(2):
         reference = (tmp_path / f"program_{number}.reference").read_text("ascii")
-        status, output, told = lab("run", tmp_path / f"program_{number}.elf")
+        status, output, errors = lab("run", tmp_path / f"program_{number}.elf")
         assert (status, output) == (0, f"{reference}00000000\n".encode())
-        assert [line.split()[2:4] for line in told.splitlines()] == [
+        assert [line.split()[2:4] for line in errors.splitlines()] == [
             ["ecall", "132"],
             ["ecall", "134"],
         ]  # for signals on Linux
@@ -35,8 +35,8 @@ def test_faults_on_qemu(lab: Lab, tmp_path: pathlib.Path) -> None:
     assert len(paths) == 8
     for path in paths:
         assert lab("run", path)[0] == 139
-        told = subprocess.run([*QEMU, path], stdout=subprocess.PIPE, text=True).stdout
-        assert told == path.with_suffix(".reference").read_text("ascii") + "00000000\n", path
+        output = subprocess.run([*QEMU, path], stdout=subprocess.PIPE, text=True).stdout
+        assert output == path.with_suffix(".reference").read_text("ascii") + "00000000\n", path
     odd = "vecmon-lab: programs that fault want a handler of signals: --environment linux has one\n"
     assert lab("programs", tmp_path, "--faults", "--environment", "bare") == (2, b"", odd)
 

@@ -63,14 +63,14 @@ def begin(tmp_path: pathlib.Path, program: pathlib.Path) -> Iterator[Callable[[s
     """Loads a source for a guest, with a timeline."""
     guests = list[Iterator[Guest]]()
 
-    def begun(source: str) -> tuple[Timeline, Guest]:
+    def start_time(source: str) -> tuple[Timeline, Guest]:
         make_image(program, tmp_path / "image", source)
         context = started(tmp_path / "image", write=lambda data: None)
         guest = context.__enter__()
         guests.append(iter([guest]))
         return Timeline(guest), guest
 
-    yield begun
+    yield start_time
     for guest in itertools.chain(*guests):
         guest.session.close()
 
@@ -82,13 +82,13 @@ def never() -> bool:
 
 def state(guest: Guest) -> tuple[int, int, int, int]:
     """The program counter, x5, x6, and what is stored."""
-    registers = guest.told("regs", ScalarRegisters)
+    registers = guest.query("regs", ScalarRegisters)
     assert registers.pc == guest.pc
     return guest.pc, registers.x[5], registers.x[6], int.from_bytes(guest.peek(0x11008, 4), "little")
 
 
-def test_back_by_instructions(begin: Callable[[str], tuple[Timeline, Guest]]) -> None:
-    timeline, guest = begin(COUNTDOWN)
+def test_back_by_instructions(start: Callable[[str], tuple[Timeline, Guest]]) -> None:
+    timeline, guest = start(COUNTDOWN)
     assert timeline.go(never) == Stop("ebreak", 0x10018) and state(guest) == (0x10018, 0, 3, 1)
     assert timeline.back() and state(guest) == (0x10014, 0, 3, 1)
     assert timeline.back(4) and state(guest) == (0x10004, 1, 2, 2)  # the third round begins
@@ -99,8 +99,8 @@ def test_back_by_instructions(begin: Callable[[str], tuple[Timeline, Guest]]) ->
     assert not timeline.back(17) and state(guest) == (0x10000, 0, 0, 0)
 
 
-def test_changes_of_a_place(begin: Callable[[str], tuple[Timeline, Guest]]) -> None:
-    timeline, guest = begin(COUNTDOWN)
+def test_changes_of_a_place(start: Callable[[str], tuple[Timeline, Guest]]) -> None:
+    timeline, guest = start(COUNTDOWN)
     for number in (3, 2, 1):
         timeline.watches = [PLACE]
         assert timeline.go(never) and timeline.hit == PLACE
@@ -121,9 +121,9 @@ def test_changes_of_a_place(begin: Callable[[str], tuple[Timeline, Guest]]) -> N
     assert timeline.back_to_halt((), never) is False and state(guest) == (0x10000, 0, 0, 0)
 
 
-def test_changes_and_breakpoints(begin: Callable[[str], tuple[Timeline, Guest]]) -> None:
+def test_changes_and_breakpoints(start: Callable[[str], tuple[Timeline, Guest]]) -> None:
     """The store of each round, and its branch two instructions on, each one by itself."""
-    timeline, guest = begin(COUNTDOWN)
+    timeline, guest = start(COUNTDOWN)
     assert timeline.go(never) == Stop("ebreak", 0x10018)
     for number in (1, 2, 3):
         timeline.watches = [PLACE]
@@ -137,9 +137,9 @@ def test_changes_and_breakpoints(begin: Callable[[str], tuple[Timeline, Guest]])
     assert timeline.back_to_halt([0x10014], never) is False and guest.pc == 0x10000
 
 
-def test_changes_behind_what_was_written_by_hand(begin: Callable[[str], tuple[Timeline, Guest]]) -> None:
+def test_changes_behind_what_was_written_by_hand(start: Callable[[str], tuple[Timeline, Guest]]) -> None:
     """Nine rounds in place of three; the first one stores the value that is there."""
-    timeline, guest = begin(COUNTDOWN)
+    timeline, guest = start(COUNTDOWN)
     timeline.step()
     guest.ask("set x5 9", "set x6 20", "poke 11008 09000000")
     assert timeline.go(never) == Stop("ebreak", 0x10018) and state(guest) == (0x10018, 0, 0x29, 1)
@@ -153,9 +153,9 @@ def test_changes_behind_what_was_written_by_hand(begin: Callable[[str], tuple[Ti
     assert timeline.back_to_halt((), never) is False and state(guest) == (0x10000, 0, 0, 0)
 
 
-def test_a_breakpoint_at_what_stops(begin: Callable[[str], tuple[Timeline, Guest]]) -> None:
+def test_a_breakpoint_at_what_stops(start: Callable[[str], tuple[Timeline, Guest]]) -> None:
     """The last of seventeen instructions, the EBREAK, has one."""
-    timeline, guest = begin(COUNTDOWN)
+    timeline, guest = start(COUNTDOWN)
     guest.ask("break 10018")
     timeline.watches = [Watch("watch", 0x11100, 4)]
     assert timeline.go(never) == Stop("break", 0x10018) and timeline.hit is None
@@ -163,9 +163,9 @@ def test_a_breakpoint_at_what_stops(begin: Callable[[str], tuple[Timeline, Guest
     assert timeline.step() == Stop("ebreak", 0x10018) and timeline.back(5) and state(guest) == (0x10004, 1, 2, 2)
 
 
-def test_steps_that_stop_among_long_instructions(begin: Callable[[str], tuple[Timeline, Guest]]) -> None:
+def test_steps_that_stop_among_long_instructions(start: Callable[[str], tuple[Timeline, Guest]]) -> None:
     """Each of two stores takes 256 ticks, and one line steps over all to the EBREAK."""
-    timeline, guest = begin(
+    timeline, guest = start(
         "vsetvli x6, x0, e8, m8, ta, ma\nauipc x7, 1\nvse8.v v8, (x7)\nvse8.v v8, (x7)\naddi x5, x0, 7\nebreak\n"
         ".data\n.zero 512"
     )
@@ -174,36 +174,36 @@ def test_steps_that_stop_among_long_instructions(begin: Callable[[str], tuple[Ti
     assert timeline.back(3) and state(guest)[:2] == (0x10004, 0)
 
 
-def test_back_at_the_begin_of_a_program_without_an_end(begin: Callable[[str], tuple[Timeline, Guest]]) -> None:
-    timeline, guest = begin(ROUNDS)
+def test_back_at_the_begin_of_a_program_without_an_end(start: Callable[[str], tuple[Timeline, Guest]]) -> None:
+    timeline, guest = start(ROUNDS)
     assert timeline.step() is None and timeline.back() and guest.pc == 0x10000
     timeline.watches = [Watch("watch", 0x11000, 1)]
     assert timeline.back_to_halt([0x10008], never) is False and guest.pc == 0x10000
 
 
-def test_a_place_without_memory(begin: Callable[[str], tuple[Timeline, Guest]]) -> None:
+def test_a_place_without_memory(start: Callable[[str], tuple[Timeline, Guest]]) -> None:
     """The page of data ends at 12000."""
-    timeline, _ = begin(COUNTDOWN)
+    timeline, _ = start(COUNTDOWN)
     timeline.watches = [Watch("watch", 0x11FFC, 8), Watch("watch", 0x12000, 8)]
     assert timeline.go(never) == Stop("ebreak", 0x10018) and timeline.hit is None
     assert timeline.back_to_halt((), never) is False and timeline.hit is None
 
 
-def test_back_to_breakpoints(begin: Callable[[str], tuple[Timeline, Guest]]) -> None:
-    timeline, guest = begin(COUNTDOWN)
+def test_back_to_breakpoints(start: Callable[[str], tuple[Timeline, Guest]]) -> None:
+    timeline, guest = start(COUNTDOWN)
     guest.ask("break 10010")
     for number in (3, 2, 1):
         assert timeline.go(never) == Stop("break", 0x10010) and state(guest)[1] == number
     for number in (2, 3):
         assert timeline.back_to_halt([0x10010], never) and state(guest) == (0x10010, number, 4 - number, number)
     assert timeline.back_to_halt([0x10010], never) is False and guest.pc == 0x10000
-    assert guest.told("breaks", Addresses).addresses == [0x10010]
+    assert guest.query("breaks", Addresses).addresses == [0x10010]
     assert timeline.go(never) == Stop("break", 0x10010) and timeline.back_to_halt([], lambda: True) is None
     assert state(guest) == (0x10010, 3, 1, 3)
 
 
-def test_what_was_written_by_hand_is_written_again(begin: Callable[[str], tuple[Timeline, Guest]]) -> None:
-    timeline, guest = begin(COUNTDOWN)
+def test_what_was_written_by_hand_is_written_again(start: Callable[[str], tuple[Timeline, Guest]]) -> None:
+    timeline, guest = start(COUNTDOWN)
     guest.ask("set x6 30", "break 10004")
     timeline.go(never)
     timeline.go(never)
@@ -216,9 +216,9 @@ def test_what_was_written_by_hand_is_written_again(begin: Callable[[str], tuple[
     assert not timeline.back(17) and state(guest)[2] == 0x30
 
 
-def test_an_interrupt(begin: Callable[[str], tuple[Timeline, Guest]]) -> None:
+def test_an_interrupt(start: Callable[[str], tuple[Timeline, Guest]]) -> None:
     """A round takes 258 ticks, and so slices end within the store."""
-    timeline, guest = begin(ROUNDS)
+    timeline, guest = start(ROUNDS)
     polls = itertools.count()
     assert timeline.go(lambda: next(polls) > 9) is None
     pc, rounds, *_ = state(guest)
@@ -239,8 +239,8 @@ def test_an_interrupt(begin: Callable[[str], tuple[Timeline, Guest]]) -> None:
         ("watch", 5, "store"),
     ],
 )
-def test_accesses(begin: Callable[[str], tuple[Timeline, Guest]], kind: str, byte: int, labels: str) -> None:
-    timeline, guest = begin(ACCESSES)
+def test_accesses(start: Callable[[str], tuple[Timeline, Guest]], kind: str, byte: int, labels: str) -> None:
+    timeline, guest = start(ACCESSES)
     names = "masked gaps index halves store put get".split()
     places = {name: 0x10014 + 4 * number for number, name in enumerate(names)}
     watch, found = Watch(kind, 0x11000 + byte, 1), list[int]()
@@ -260,10 +260,10 @@ def test_accesses(begin: Callable[[str], tuple[Timeline, Guest]], kind: str, byt
 
 
 def test_where_there_is_no_way_back(
-    begin: Callable[[str], tuple[Timeline, Guest]], monkeypatch: pytest.MonkeyPatch
+    start: Callable[[str], tuple[Timeline, Guest]], monkeypatch: pytest.MonkeyPatch
 ) -> None:
     """1,000 ticks are more than 999."""
-    timeline, guest = begin(COUNTDOWN)
+    timeline, guest = start(COUNTDOWN)
     assert timeline.go(never) == Stop("ebreak", 0x10018)
     monkeypatch.setattr("vecmon_lab.replay.timeline.MOST_BACK", 999)
     with pytest.raises(LabError, match="no way back into a run of more than 200,000,000 ticks"):
@@ -272,27 +272,27 @@ def test_where_there_is_no_way_back(
 
 
 @pytest.mark.parametrize("steps", [0, 41])
-def test_more_output_than_the_buffer_holds(begin: Callable[[str], tuple[Timeline, Guest]], steps: int) -> None:
+def test_more_output_than_the_buffer_holds(start: Callable[[str], tuple[Timeline, Guest]], steps: int) -> None:
     """Four instructions, nine rounds of four that write 256 bytes each, and one more: run, or stepped, and taken back."""
-    timeline, guest = begin(WRITES_MUCH)
+    timeline, guest = start(WRITES_MUCH)
     for _ in range(steps):
         assert timeline.step() is None
     assert timeline.go(never) == Stop("ebreak", 0x10024)
     assert timeline.back() and state(guest)[:2] == (0x10020, 0)
     assert timeline.back(4) and state(guest)[:2] == (0x10010, 1)
-    assert guest.told("regs", ScalarRegisters).x[10] == 256
+    assert guest.query("regs", ScalarRegisters).x[10] == 256
     assert timeline.go(never) == Stop("ebreak", 0x10024) and timeline.back(37) and state(guest)[:2] == (0x10010, 9)
     assert not timeline.back(5) and state(guest)[:2] == (0x10000, 0)
 
 
-def test_output_on_the_way(begin: Callable[[str], tuple[Timeline, Guest]]) -> None:
+def test_output_on_the_way(start: Callable[[str], tuple[Timeline, Guest]]) -> None:
     """Eight instructions write eight bytes, 5,000 times: there is a way back over a thousand writes."""
-    timeline, guest = begin(WRITES)
+    timeline, guest = start(WRITES)
     timeline.watches = [Watch("watch", 0x10000, 8)]
     polls = itertools.count()
     assert timeline.go(lambda: next(polls) > 24) is None
     timeline.watches = []
-    before = guest.told("regs", ScalarRegisters)
+    before = guest.query("regs", ScalarRegisters)
     assert 1000 < before.x[8] < 4000 and timeline.back(8000)
-    after = guest.told("regs", ScalarRegisters)
+    after = guest.query("regs", ScalarRegisters)
     assert (after.pc, after.x[8]) == (before.pc, before.x[8] + 1000)

@@ -16,7 +16,7 @@ from vecmon_lab import Kernel
 from vecmon_lab.guest.guest import Guest, started
 from vecmon_lab.instructions.calls import unsupported_call
 from vecmon_lab.machine.session import Session
-from vecmon_lab.page.state import ABSENT, Sight, look_at
+from vecmon_lab.page.state import ABSENT, WatchSet, look_at
 from vecmon_lab.tables.table import read_table
 
 LINES = "li a7, 64; li a0, 1; la a1, TEXT; li a2, LENGTH; ecall"
@@ -66,25 +66,25 @@ def calls(program: pathlib.Path, tmp_path: pathlib.Path) -> tuple[pathlib.Path, 
 
 
 def test_each_command_reports_them_once(lab: Lab, calls: tuple[pathlib.Path, str]) -> None:
-    path, told = calls
-    assert lab("run", path) == (5, b"hi\nhi\n", told)
+    path, reply = calls
+    assert lab("run", path) == (5, b"hi\nhi\n", reply)
     for command in ("profile", "compare"):
         status, _, error = lab(command, path)
-        assert (status, error) == (0, told)
+        assert (status, error) == (0, reply)
 
 
 @pytest.mark.parametrize("lines", [["run"], ["step 200"]])
 def test_the_console_reports_them(calls: tuple[pathlib.Path, str], lines: list[str]) -> None:
-    path, told = calls
+    path, reply = calls
     command, given = [sys.executable, "-m", "vecmon_lab", "console", str(path)], "".join(f"{line}\n" for line in lines)
     shown = subprocess.run(command, cwd=TOP, input=given, capture_output=True, check=True, text=True)
-    assert shown.stderr == told and "status 5" in shown.stdout
+    assert shown.stderr == reply and "status 5" in shown.stdout
 
 
 def test_gdb_reports_them(calls: tuple[pathlib.Path, str]) -> None:
-    path, told = calls
+    path, reply = calls
     output, end, error = run_in_gdb(path)
-    assert (output, error) == (b"hi\nhi\n", told) and "with status 5;" in end
+    assert (output, error) == (b"hi\nhi\n", reply) and "with status 5;" in end
 
 
 def test_a_call_of_a_function_reports_them(
@@ -104,11 +104,11 @@ def test_what_is_supported_is_not_looked_at(program: pathlib.Path, tmp_path: pat
     for source, number in [(good, 0), (good.replace("\necall", "\nmv a7, a7\necall", 1), 1)]:
         make_image(program, tmp_path / "image", source)
         with started(tmp_path / "image") as guest:
-            assert guest.runner.has_doubtful() == bool(number)
+            assert guest.runner.has_uncertain() == bool(number)
     jumps = "li a7, 63\nj call\nli a7, 64\nli a0, 1\ncall: ecall\n" + EXIT
     make_image(program, tmp_path / "image", jumps)
     with started(tmp_path / "image") as guest:
-        assert guest.runner.has_doubtful()
+        assert guest.runner.has_uncertain()
 
 
 def test_a_page_shows_them_at_the_instruction(session: Session) -> None:
@@ -117,9 +117,9 @@ def test_a_page_shows_them_at_the_instruction(session: Session) -> None:
     code = ["addi x17, x0, 63", "ecall", "addi x17, x10, 42", "ecall", "addi x17, x0, 93", "ecall"]
     guest.ask("enter", "map 10000 1 rx", *(f"asm {0x10000 + 4 * at:x} {text}" for at, text in enumerate(code)))
     guest.ask("setpc 10000")
-    sight, shown = Sight(), [ABSENT]
+    watch_set, shown = WatchSet(), [ABSENT]
     for _ in range(5):
-        shown.append(look_at(guest, sight, shown[-1], guest.ask("step 1")))
+        shown.append(look_at(guest, watch_set, shown[-1], guest.ask("step 1")))
     read, rars = {"10004": TOLD["read"]}, {"1000c": TOLD["rars"]}  # -38 and 42 is 4
     assert [state.get("calls") for state in shown[1:]] == [
         read,
@@ -129,7 +129,7 @@ def test_a_page_shows_them_at_the_instruction(session: Session) -> None:
         {**read, **rars},
     ]
     guest.ask("asm 10004 ecall", "asm 1000c addi x0, x0, 0", "asm 10000 addi x17, x0, 93")
-    assert "calls" not in look_at(guest, sight, shown[-1], [])
+    assert "calls" not in look_at(guest, watch_set, shown[-1], [])
 
 
 def test_the_table_of_the_documents() -> None:

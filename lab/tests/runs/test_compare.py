@@ -146,12 +146,12 @@ def alike(first: str) -> list[str]:
 @pytest.mark.by_command("compare")
 def test_stock_programs(lab: Lab) -> None:
     """Their outputs and ends are those of QEMU."""
-    status, output, told = lab("compare", SUM)
+    status, output, errors = lab("compare", SUM)
     first = "keep, slices of 1,000:  exit 0 pc=00000000000112dc; 7 bytes: b'328350\\n'"
-    assert (status, output.decode().splitlines(), told) == (0, alike(first), "")
-    status, output, told = lab("compare", SQUARES)
+    assert (status, output.decode().splitlines(), errors) == (0, alike(first), "")
+    status, output, errors = lab("compare", SQUARES)
     first = "keep, slices of 1,000:  fault cause=7 pc=0000000000010198 value=0000000000012000; 0 bytes: b''"
-    assert (status, output.decode().splitlines(), told) == (139, alike(first), "")
+    assert (status, output.decode().splitlines(), errors) == (139, alike(first), "")
 
 
 def compared(
@@ -159,8 +159,8 @@ def compared(
 ) -> tuple[int, list[str], dict[str, int]]:
     """The status and the lines of a comparison, and the labels of the program."""
     labels = make_image(program, folder / "image", source)
-    status, output, told = lab("compare", folder / "image")
-    assert told == ""
+    status, output, errors = lab("compare", folder / "image")
+    assert errors == ""
     return status, output.decode().splitlines(), labels
 
 
@@ -169,12 +169,12 @@ def test_what_nobody_has_written(lab: Lab, program: pathlib.Path, tmp_path: path
     source = (EXAMPLES / "unwritten" / f"{name}.s").read_text("utf-8")
     status, lines, labels = compared(lab, program, tmp_path, source)
     places = {label: f"{address:x}" for label, address in labels.items()}
-    told = [re.sub(r", [0-9a-f]+ filled$", ", * filled", line) for line in lines[8:]]
-    assert (status, told) == (1, [line.format_map(places) for line in UNWRITTEN[name]])
+    expected = [re.sub(r", [0-9a-f]+ filled$", ", * filled", line) for line in lines[8:]]
+    assert (status, expected) == (1, [line.format_map(places) for line in UNWRITTEN[name]])
 
 
 @pytest.mark.parametrize(
-    "source, told",
+    "source, expected",
     [
         (
             "vsetivli zero, 1, e8, m1, ta, ma\nvmv.v.i v8, 1\nread: vaadd.vx v9, v8, zero\nvmv.x.s a0, v9",
@@ -184,10 +184,10 @@ def test_what_nobody_has_written(lab: Lab, program: pathlib.Path, tmp_path: path
     ],
 )
 def test_control_registers_that_nobody_has_written(
-    lab: Lab, program: pathlib.Path, tmp_path: pathlib.Path, source: str, told: list[str]
+    lab: Lab, program: pathlib.Path, tmp_path: pathlib.Path, source: str, expected: list[str]
 ) -> None:
     status, lines, labels = compared(lab, program, tmp_path, f"{source}\nli a7, 93\nend: ecall")
-    values, read, name = told
+    values, read, name = expected
     assert (status, lines[8:]) == (
         1,
         [
@@ -220,12 +220,12 @@ IMAGES = {path.name: path for path in [*STOCK.parent.rglob("*"), *(DATA / "image
 def test_images_rely_on_nothing(lab: Lab, name: str) -> None:
     """`good` is for the loader: it exits with what is in a0. prefix_sums.c has a mistake in line 44."""
     status, output, _ = lab("compare", "--ticks", 70_000, IMAGES[name])
-    told = [line for line in output.decode().splitlines() if " diverge at " in line or " comes from " in line]
+    expected = [line for line in output.decode().splitlines() if " diverge at " in line or " comes from " in line]
     if name.startswith("prefix_sums"):
-        assert status == 1 and told[-1].endswith("prefix_sums.c:44: vmaxu.vv v8, v8, v10")
+        assert status == 1 and expected[-1].endswith("prefix_sums.c:44: vmaxu.vv v8, v8, v10")
         return
     exits = ["the runs diverge at 1007c: ecall", "  which comes from x10, where nothing has been written"]
-    assert (status == 1, told) == ((True, exits) if name == "good" else (False, []))
+    assert (status == 1, expected) == ((True, exits) if name == "good" else (False, []))
 
 
 def test_slices_tell_where_a_store_writes_over_its_own_word(
@@ -263,8 +263,8 @@ def test_a_program_without_an_end(lab: Lab, program: pathlib.Path, tmp_path: pat
 
 @pytest.mark.parametrize("words", [[], ["none"], [STOCK / "short"], ["--ticks", "none", SUM]])
 def test_bad_input(lab: Lab, words: list[object]) -> None:
-    status, output, told = lab("compare", *words)
-    assert (status, output, told.count("\n")) == (2, b"", 1)
+    status, output, errors = lab("compare", *words)
+    assert (status, output, errors.count("\n")) == (2, b"", 1)
 
 
 def test_a_breakpoint_has_the_status_of_a_run(lab: Lab, program: pathlib.Path, tmp_path: pathlib.Path) -> None:

@@ -13,7 +13,7 @@ from vecmon_lab import LabError
 from vecmon_lab.guest.guest import Guest, started
 from vecmon_lab.machine.answers import ControlRegisters
 from vecmon_lab.machine.session import Session
-from vecmon_lab.runs.beginning import Beginning, beginning_at, beginning_of
+from vecmon_lab.runs.initial_state import InitialState, initial_state_at, initial_state_of
 from vecmon_lab.runs.recorder import record
 
 TYPES = {"e8 m1": 0, "e8 mf2": 7, "e16 m1": 8, "e32 m1": 16, "e32 m2": 17, "e64 m8": 27}
@@ -88,14 +88,14 @@ def test_ticks_are_those_of_slices(program: pathlib.Path, tmp_path: pathlib.Path
     for image in (SUM, tmp_path / "rows"):
         with started(image, quantum=1) as guest:
             guest.go()
-        counts = record(Beginning(image))
+        counts = record(InitialState(image))
         assert counts.stop is not None and counts.stop.kind == "exit"
         assert counts.ticks == guest.ticks
 
 
 def test_counts_of_a_program() -> None:
     """QEMU 7.2 executes 250 instructions, too. The loop at 1123c has 6 strips of 16 and one of 4."""
-    counts = record(beginning_of(SUM, ["sum"]))
+    counts = record(initial_state_of(SUM, ["sum"]))
     places = {
         place.address: (counts.texts[place.word], place.times, place.ticks, *place.elements) for place in counts.places
     }
@@ -115,21 +115,21 @@ def test_a_run_that_begins_where_a_guest_stands(session: Session) -> None:
     lines += ["1 asm 10004 ebreak", "1 asm 10008 vsetivli x0, 3, e32, m1, ta, ma", "1 setpc 10008", "1 step 1"]
     lines += ["1 vset v0 " + "05" + "00" * 31, "1 setpc 10000", "1 policy ones"]
     session.do_all(lines)
-    counts = record(beginning_at(guest))
+    counts = record(initial_state_at(guest))
     assert [(place.address, place.times, list(place.elements)) for place in counts.places] == [(0x10000, 1, [2, 1, 5])]
     assert counts.lengths == {("e32,m1,ta,ma", 3): 1} and counts.stop and counts.stop.kind == "ebreak"
 
 
 def test_fault_at_first_instruction_has_no_place(program: pathlib.Path, tmp_path: pathlib.Path) -> None:
     make_image(program, tmp_path / "faults", "nop\n.word 0")
-    counts = record(Beginning(tmp_path / "faults"))
+    counts = record(InitialState(tmp_path / "faults"))
     assert [(place.address, place.times) for place in counts.places] == [(0x10000, 1)]
 
 
 def test_a_recorder_that_is_not_there(monkeypatch: pytest.MonkeyPatch) -> None:
     monkeypatch.setenv("VECMON_RECORD", "none")
     with pytest.raises(LabError, match="^there is no program none; counts and runs need it, "):
-        record(Beginning(SUM))
+        record(InitialState(SUM))
     monkeypatch.setenv("VECMON_RECORD", "/bin/true")
     with pytest.raises(LabError, match="^vecmon-record prints no counts: "):
-        record(Beginning(SUM))
+        record(InitialState(SUM))

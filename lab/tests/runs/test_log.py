@@ -59,7 +59,7 @@ def test_a_log_is_emptied_once_there_is_something_to_record(lab: Lab, tmp_path: 
 
 
 @pytest.mark.parametrize(
-    "words, told",
+    "words, expected",
     [
         (["--log", "log"], "a log needs --ticks or --to, so that it has an end, unless FILE begins with /dev/"),
         (
@@ -75,8 +75,8 @@ def test_a_log_is_emptied_once_there_is_something_to_record(lab: Lab, tmp_path: 
     ],
 )
 def test_bad_words(
-    lab: Lab, monkeypatch: pytest.MonkeyPatch, tmp_path: pathlib.Path, words: list[str], told: str
+    lab: Lab, monkeypatch: pytest.MonkeyPatch, tmp_path: pathlib.Path, words: list[str], expected: str
 ) -> None:
     monkeypatch.chdir(tmp_path)
-    status, _, complaint = lab("run", *words, SUM)
-    assert (status, complaint) == (2, f"vecmon-lab: {told}\n")
+    status, _, errors = lab("run", *words, SUM)
+    assert (status, errors) == (2, f"vecmon-lab: {expected}\n")

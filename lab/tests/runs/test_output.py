@@ -79,15 +79,15 @@ def test_all_commands_give_the_same_output(
     emulated = subprocess.run(command, stdout=subprocess.PIPE, check=False)
     assert (emulated.returncode, emulated.stdout) == (0, expected)
     assert lab("run", path) == (0, expected, "")
-    status, tables, told = lab("profile", path)
-    assert (status, told) == (0, "") and b"; status 0\n" in tables
-    status, compared, told = lab("compare", path)
-    assert (status, told) == (0, "") and compared.count(b"the same\n") == 7 and b"; 4,000 bytes: " in compared
+    status, tables, errors = lab("profile", path)
+    assert (status, errors) == (0, "") and b"; status 0\n" in tables
+    status, compared, errors = lab("compare", path)
+    assert (status, errors) == (0, "") and compared.count(b"the same\n") == 7 and b"; 4,000 bytes: " in compared
     command = [sys.executable, "-m", "vecmon_lab", "console", str(path)]
     shown = subprocess.run(command, cwd=TOP, input=b"run\n", capture_output=True, check=True)
     assert shown.stdout.count(expected) == 1 and b"ended with status 0," in shown.stdout and shown.stderr == b""
-    output, end, told = run_in_gdb(path)
-    assert output == expected and "with status 0;" in end and told == ""
+    output, end, errors = run_in_gdb(path)
+    assert output == expected and "with status 0;" in end and errors == ""
     with Kernel(path) as kernel:
         result = kernel.call("main")
         assert (result.value, result.output) == (0, expected)
@@ -96,8 +96,8 @@ def test_all_commands_give_the_same_output(
 def test_a_program_without_an_end_isn_t_compared_by_where_its_ticks_run_out(
     lab: Lab, image: Callable[[str], pathlib.Path]
 ) -> None:
-    status, compared, told = lab("compare", "--ticks", 14_000, image("endless"))
-    assert (status, compared.count(b"the same\n"), told) == (124, 7, "")
+    status, compared, errors = lab("compare", "--ticks", 14_000, image("endless"))
+    assert (status, compared.count(b"the same\n"), errors) == (124, 7, "")
 
 
 def test_more_calls_than_breakpoints(lab: Lab, program: pathlib.Path, tmp_path: pathlib.Path) -> None:

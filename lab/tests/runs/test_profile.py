@@ -41,9 +41,9 @@ def cells(line: str) -> list[str]:
 @pytest.mark.by_command("profile")
 def test_the_table(lab: Lab) -> None:
     """Times and elements were counted by hand in the listing, and source lines are those that objdump shows."""
-    status, output, told = lab("profile", SUM_DWARF4)
+    status, output, errors = lab("profile", SUM_DWARF4)
     lines = output.decode().splitlines()
-    assert (status, told, b"328350" in output) == (0, "", False)
+    assert (status, errors, b"328350" in output) == (0, "", False)
     tables = output.decode().split("\n\n")
     assert cells(tables[3].splitlines()[0]) == " ".join(HEAD).split()
     assert "11240 _start+0xb0 sum.c:22 vle32.v v10, (x11) 7 100 100 0 12 89 %".split() in map(cells, lines)
@@ -59,8 +59,8 @@ def test_the_table(lab: Lab) -> None:
 
 def test_a_program_without_vectors(lab: Lab, program: pathlib.Path, tmp_path: pathlib.Path) -> None:
     make_image(program, tmp_path / "loop", "loop: j loop")
-    status, output, told = lab("profile", "--ticks", "2000", "-o", tmp_path / "page.html", tmp_path / "loop")
-    assert (status, told) == (124, "")
+    status, output, errors = lab("profile", "--ticks", "2000", "-o", tmp_path / "page.html", tmp_path / "loop")
+    assert (status, errors) == (124, "")
     tables = [[line.split() for line in table.splitlines()] for table in output.decode().split("\n\n")]
     assert [table[1] for table in tables[:3]] == [
         "10000 10000 2000 2000 2000 100 %".split(),
@@ -71,9 +71,9 @@ def test_a_program_without_vectors(lab: Lab, program: pathlib.Path, tmp_path: pa
 
 
 def test_source_lines_that_cannot_be_read(lab: Lab) -> None:
-    status, output, told = lab("profile", SUM_DWARF5)
-    trouble = Symbols.read(SUM_DWARF5).trouble
-    assert (status, told) == (0, f"vecmon-lab: {trouble}\n" if trouble else "")
+    status, output, errors = lab("profile", SUM_DWARF5)
+    warning = Symbols.read(SUM_DWARF5).warning
+    assert (status, errors) == (0, f"vecmon-lab: {warning}\n" if warning else "")
     assert b"_start+0xb0" in output
 
 
@@ -112,9 +112,9 @@ twice:  jal ra, short
 def test_loops_functions_and_calls(lab: Lab, program: pathlib.Path, tmp_path: pathlib.Path) -> None:
     """Without symbols a function begins where a call leads. `short` has 5 times 11 of 74 instructions."""
     make_image(program, tmp_path / "calls", CALLS)
-    status, output, told = lab("profile", tmp_path / "calls")
+    status, output, errors = lab("profile", tmp_path / "calls")
     tables = [[line.split() for line in table.splitlines()[1:]] for table in output.decode().split("\n\n")]
-    assert (status, told) == (0, "")
+    assert (status, errors) == (0, "")
     assert tables[0] == ["1001c 10020 20 40 40 54 %".split(), "10034 1003c 3 9 9 12 %".split()]
     assert tables[1] == ["10018 5 55 55 55 74 %".split(), "1002c 1 46 13 13 18 %".split(), "10000 0 74 6 6 8 %".split()]
     assert tables[2] == ["10000 1002c 1 46".split(), "1002c 10018 3 33".split(), "10000 10018 2 22".split()]
@@ -134,9 +134,9 @@ def test_one_beside_another(lab: Lab, program: pathlib.Path, tmp_path: pathlib.P
     """A loop of 5 rounds in place of 20, so 30 ticks less in the one function that there is."""
     make_image(program, tmp_path / "long", MASKED)
     make_image(program, tmp_path / "short", MASKED.replace("li t0, 20", "li t0, 5"))
-    status, output, told = lab("profile", "--against", tmp_path / "long", tmp_path / "short")
+    status, output, errors = lab("profile", "--against", tmp_path / "long", tmp_path / "short")
     lines = output.decode().splitlines()
-    assert (status, told) == (0, "") and lines[0].split() == ["function", "ticks", "against", "change"]
+    assert (status, errors) == (0, "") and lines[0].split() == ["function", "ticks", "against", "change"]
     assert lines[1].split() == ["10000", "17", "47", "-30"]
     assert lines[-4].startswith("17 instructions in 17 ticks") and lines[-2].startswith(
         "against long: 47 instructions in 47 "
@@ -207,7 +207,7 @@ def test_the_flame_graph(
 
 
 @pytest.mark.parametrize(
-    "words, told",
+    "words, expected",
     [
         (["none"], "vecmon-lab: none: No such file or directory"),
         ([STOCK / "short"], f"vecmon-lab: {STOCK}/short: the machine refuses image (E09 Short)"),
@@ -215,13 +215,13 @@ def test_the_flame_graph(
         (["-o", STOCK / "none" / "page.html", SUM], f"vecmon-lab: {STOCK}/none/page.csv: No such file or directory"),
     ],
 )
-def test_bad_input(lab: Lab, words: list[object], told: str) -> None:
-    status, _, complaint = lab("profile", *words)
-    assert (status, complaint.count("\n")) == (2, 1) and complaint.startswith(told)
+def test_bad_input(lab: Lab, words: list[object], expected: str) -> None:
+    status, _, errors = lab("profile", *words)
+    assert (status, errors.count("\n")) == (2, 1) and errors.startswith(expected)
 
 
 @pytest.mark.parametrize("source, ends", [("li a7, 93\necall", 0), ("nop\nebreak", 133), (".word 0", 139)])
 def test_statuses(lab: Lab, program: pathlib.Path, tmp_path: pathlib.Path, source: str, ends: int) -> None:
     make_image(program, tmp_path / "stops", source)
-    status, output, told = lab("profile", tmp_path / "stops")
-    assert (status, told) == (ends, "") and output.startswith(b"function  called" if ends < 139 else b"")
+    status, output, errors = lab("profile", tmp_path / "stops")
+    assert (status, errors) == (ends, "") and output.startswith(b"function  called" if ends < 139 else b"")

@@ -7,7 +7,7 @@ import pytest
 from support.places import STOCK
 from vecmon_lab import LabError
 from vecmon_lab.machine.answers import Position, Stop
-from vecmon_lab.runs.beginning import Beginning
+from vecmon_lab.runs.initial_state import InitialState
 from vecmon_lab.runs.counts import CountedWord, read_counts
 from vecmon_lab.runs.recorder import record
 
@@ -41,27 +41,27 @@ def test_what_is_no_counts(text: str) -> None:
 def test_memory_registers_and_ticks() -> None:
     """Half a megabyte of memory, more than a pipe holds; x5 counts down from 3, so there are six instructions."""
     memory = [(0x20000, "rw", bytes(1 << 19)), (0x10000, "rx", LOOP)]
-    beginning = Beginning(None, memory, ["x5 3", "pc 10000"])
-    counts = record(beginning)
+    initial_state = InitialState(None, memory, ["x5 3", "pc 10000"])
+    counts = record(initial_state)
     done = [(place.address, place.word, place.times) for place in counts.places]
     assert done == [(0x10000, 0xFFF28293, 3), (0x10004, 0xFE029EE3, 3)]
     assert counts.end == Stop("ebreak", 0x10008) and counts.instructions == 6
-    counts = record(beginning, 5)
+    counts = record(initial_state, 5)
     assert counts.end == Position("running", 0x10004) and counts.stop is None and counts.ticks == 5
 
 
 @pytest.mark.parametrize(
-    "beginning, told",
+    "initial_state, expected",
     [
         (
-            Beginning(STOCK / "short"),
+            InitialState(STOCK / "short"),
             f"{STOCK}/short: the machine refuses image \\(E09 Short\\): the file has less than",
         ),
-        (Beginning(None, [(0, "rw", bytes((1 << 20) + 1))]), "too many bytes$"),
-        (Beginning(None, [], ["x5 g"]), "line 1: no register and a value that it can have$"),
-        (Beginning(pathlib.Path("none")), "cannot read none$"),
+        (InitialState(None, [(0, "rw", bytes((1 << 20) + 1))]), "too many bytes$"),
+        (InitialState(None, [], ["x5 g"]), "line 1: no register and a value that it can have$"),
+        (InitialState(pathlib.Path("none")), "cannot read none$"),
     ],
 )
-def test_refusals(beginning: Beginning, told: str) -> None:
-    with pytest.raises(LabError, match=told):
-        record(beginning)
+def test_refusals(initial_state: InitialState, expected: str) -> None:
+    with pytest.raises(LabError, match=expected):
+        record(initial_state)

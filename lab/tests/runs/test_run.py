@@ -33,8 +33,8 @@ def test_a_fault(lab: Lab) -> None:
         "The store at 0x10198 may not write from 0x12000 on: a page isn't mapped, or has no permission w. "
         "It stopped at element 14."
     )
-    told = f"vecmon-lab: {SQUARES}: 10198: vse32.v v8, (x10): {why}\n"
-    assert lab("run", SQUARES) == (139, b"", told)
+    expected = f"vecmon-lab: {SQUARES}: 10198: vse32.v v8, (x10): {why}\n"
+    assert lab("run", SQUARES) == (139, b"", expected)
     assert lab("run", SQUARES_DWARF5)[2].endswith(f": 10198 next+0x10: vse32.v v8, (x10): {why}\n")
 
 
@@ -45,7 +45,7 @@ def test_a_status_of_its_own(lab: Lab, program: pathlib.Path, tmp_path: pathlib.
 
 
 @pytest.mark.parametrize(
-    "source, status, told",
+    "source, status, expected",
     [
         ("nop\nebreak", 133, "10004: ebreak: Stopped at the ebreak at 0x10004."),
         ("jr zero", 139, f"0: No instruction can be fetched at 0x0: {NOT_THERE} x."),
@@ -55,10 +55,10 @@ def test_a_status_of_its_own(lab: Lab, program: pathlib.Path, tmp_path: pathlib.
     ],
 )
 def test_other_stops(
-    lab: Lab, program: pathlib.Path, tmp_path: pathlib.Path, source: str, status: int, told: str
+    lab: Lab, program: pathlib.Path, tmp_path: pathlib.Path, source: str, status: int, expected: str
 ) -> None:
     make_image(program, tmp_path / "stops", source)
-    assert lab("run", tmp_path / "stops") == (status, b"", f"vecmon-lab: {tmp_path / 'stops'}: {told}\n")
+    assert lab("run", tmp_path / "stops") == (status, b"", f"vecmon-lab: {tmp_path / 'stops'}: {expected}\n")
 
 
 def test_images_of_other_kinds(lab: Lab, program: pathlib.Path, tmp_path: pathlib.Path) -> None:
@@ -68,25 +68,25 @@ def test_images_of_other_kinds(lab: Lab, program: pathlib.Path, tmp_path: pathli
     data = image.read_bytes()
     for flags, kinds in {1: "compressed instructions", 4: "a floating-point ABI", 8: "", 16: ""}.items():
         image.write_bytes(data[:48] + bytes([flags]) + data[49:])
-        told = f"vecmon-lab: {image}: it is compiled for {kinds}, and the machine has none: {words} -mabi=lp64\n"
-        assert lab("run", image) == ((2, b"", told) if kinds else (3, b"", ""))
+        errors = f"vecmon-lab: {image}: it is compiled for {kinds}, and the machine has none: {words} -mabi=lp64\n"
+        assert lab("run", image) == ((2, b"", errors) if kinds else (3, b"", ""))
     image.write_bytes(data[:4] + b"\1" + data[5:])
     assert lab("run", image)[2].endswith(f"(E09 Class): the class isn't 2, 64 bits: {words} -mabi=lp64\n")
     make_image(program, image, ".word 0x20b56533")
     other = "It would be an instruction of another extension, as Zba or Zbb, and the machine has none"
-    status, _, told = lab("run", image)
-    assert status == 139 and told.endswith(f"10000: .word 0x20b56533. {other}: {words}.\n")
+    status, _, errors = lab("run", image)
+    assert status == 139 and errors.endswith(f"10000: .word 0x20b56533. {other}: {words}.\n")
 
 
 def test_ticks_run_out(lab: Lab, program: pathlib.Path, tmp_path: pathlib.Path) -> None:
     image = tmp_path / "forever"
     make_image(program, image, FOREVER)
-    told = f"vecmon-lab: {image}: the ticks ran out at 10000\n"
-    assert lab("run", "--ticks", "5000000", image) == (124, b"", told)
-    assert lab("run", "--ticks", "7", "--trace", tmp_path / "trace", image) == (124, b"", told)
+    errors = f"vecmon-lab: {image}: the ticks ran out at 10000\n"
+    assert lab("run", "--ticks", "5000000", image) == (124, b"", errors)
+    assert lab("run", "--ticks", "7", "--trace", tmp_path / "trace", image) == (124, b"", errors)
     assert (tmp_path / "trace").read_text() == "10000     -                   jal x0, 0\n" * 7
-    status, _, told = lab("run", "--ticks", "14", "--stats", image)
-    assert (status, told.splitlines()[0]) == (124, "14 instructions in 14 ticks")
+    status, _, errors = lab("run", "--ticks", "14", "--stats", image)
+    assert (status, errors.splitlines()[0]) == (124, "14 instructions in 14 ticks")
 
 
 def test_a_full_buffer(lab: Lab, program: pathlib.Path, tmp_path: pathlib.Path) -> None:
@@ -101,8 +101,8 @@ def test_commands_carry_out_the_same(lab: Lab, program: pathlib.Path, tmp_path: 
     """1,000 times eight instructions write seven bytes, which doesn't divide 1,024; one before that, and two behind."""
     source = WRITES.replace("5000", "1000").replace("1234567", "123456").replace("li a2, 8", "li a2, 7")
     make_image(program, tmp_path / "pieces", source.replace("loop:   j loop", EXIT))
-    status, output, told = lab("run", "--stats", "--trace", tmp_path / "trace", tmp_path / "pieces")
-    assert (status, output) == (7, b"123456\n" * 1000) and told.startswith("8,003 instructions in 8,003 ticks\n")
+    status, output, errors = lab("run", "--stats", "--trace", tmp_path / "trace", tmp_path / "pieces")
+    assert (status, output) == (7, b"123456\n" * 1000) and errors.startswith("8,003 instructions in 8,003 ticks\n")
     assert len((tmp_path / "trace").read_text().splitlines()) == 8003
     assert lab("run", tmp_path / "pieces") == (7, output, "")
     assert lab("profile", tmp_path / "pieces")[1].endswith(b"8,003 instructions in 8,003 ticks; status 7\n")
@@ -114,8 +114,8 @@ def test_a_run_that_is_long(lab: Lab, program: pathlib.Path, tmp_path: pathlib.P
         program, tmp_path / "long", f"lui t0, 0x2fb\naddi t0, t0, -0x10\nloop: addi t0, t0, -1\nbnez t0, loop\n{EXIT}"
     )
     rounds = (0x2FB << 12) - 0x10
-    status, _, told = lab("run", "--stats", tmp_path / "long")
-    assert (status, told.splitlines()[0]) == (0, f"{4 + 2 * rounds:,} instructions in {4 + 2 * rounds:,} ticks")
+    status, _, errors = lab("run", "--stats", tmp_path / "long")
+    assert (status, errors.splitlines()[0]) == (0, f"{4 + 2 * rounds:,} instructions in {4 + 2 * rounds:,} ticks")
 
 
 def test_arguments(lab: Lab, program: pathlib.Path, tmp_path: pathlib.Path) -> None:
@@ -136,7 +136,7 @@ def test_output_comes_while_it_runs_and_ctrl_c_ends_it(program: pathlib.Path, tm
 
 
 @pytest.mark.parametrize(
-    "words, told",
+    "words, expected",
     [
         ([], "vecmon-lab run: the following arguments are required: IMAGE; --help says more"),
         (["--ticks", "0", SUM], "vecmon-lab run: argument --ticks: 0 is no number from 1 to 9223372036854775808; "),
@@ -156,25 +156,25 @@ def test_output_comes_while_it_runs_and_ctrl_c_ends_it(program: pathlib.Path, tm
         ([SUM, "x" * 9000], f"vecmon-lab: {SUM}: arguments take 8,192 bytes of the stack at most"),
     ],
 )
-def test_bad_input(lab: Lab, words: list[object], told: str) -> None:
-    status, output, complaint = lab("run", *words)
-    assert (status, output, complaint.count("\n")) == (2, b"", 1)
-    assert complaint.startswith(told)
+def test_bad_input(lab: Lab, words: list[object], expected: str) -> None:
+    status, output, errors = lab("run", *words)
+    assert (status, output, errors.count("\n")) == (2, b"", 1)
+    assert errors.startswith(expected)
 
 
 def test_no_program(lab: Lab, monkeypatch: pytest.MonkeyPatch) -> None:
     monkeypatch.setenv("VECMON", "none")
     monkeypatch.delenv("VECMON_RECORD", raising=False)
-    status, output, told = lab("run", SUM)
-    assert (status, output, told.count("\n")) == (2, b"", 1)
-    assert told.startswith("vecmon-lab: VECMON=none is no program; ")
+    status, output, errors = lab("run", SUM)
+    assert (status, output, errors.count("\n")) == (2, b"", 1)
+    assert errors.startswith("vecmon-lab: VECMON=none is no program; ")
 
 
 def test_no_recorder(lab: Lab, monkeypatch: pytest.MonkeyPatch) -> None:
     monkeypatch.setenv("VECMON_RECORD", "none")
-    status, output, told = lab("run", SUM)
-    assert (status, output, told.count("\n")) == (2, b"", 1)
-    assert told.startswith("vecmon-lab: there is no program none; counts and runs need it, ")
+    status, output, errors = lab("run", SUM)
+    assert (status, output, errors.count("\n")) == (2, b"", 1)
+    assert errors.startswith("vecmon-lab: there is no program none; counts and runs need it, ")
 
 
 def test_standard_output_that_is_full() -> None:
@@ -198,9 +198,9 @@ def test_a_file_that_may_have_five_bytes_more(tmp_path: pathlib.Path) -> None:
 
 def test_counts(lab: Lab) -> None:
     """Instructions and elements were counted by hand, in the listing that objdump makes of the program."""
-    status, output, told = lab("run", "--stats", SUM)
+    status, output, errors = lab("run", "--stats", SUM)
     assert (status, output) == (0, b"328350\n")
-    lines = [line.split() for line in told.splitlines()]
+    lines = [line.split() for line in errors.splitlines()]
     assert lines[0] == "250 instructions in 721 ticks".split()
     assert ["7", "vle32.v"] in lines and ["1", "vredsum.vs"] in lines and ["2", "ecall"] in lines
     assert "43 vector instructions".split() in lines and lines[-1] in (
@@ -212,5 +212,5 @@ def test_counts(lab: Lab) -> None:
 
 def test_a_count_of_what_stops(lab: Lab, program: pathlib.Path, tmp_path: pathlib.Path) -> None:
     make_image(program, tmp_path / "stops", "nop\nnop\nebreak")
-    status, _, told = lab("run", "--count", tmp_path / "stops")
-    assert status == 133 and told.splitlines()[0] == "2 instructions in 2 ticks" and told.count("\n") == 2
+    status, _, errors = lab("run", "--count", tmp_path / "stops")
+    assert status == 133 and errors.splitlines()[0] == "2 instructions in 2 ticks" and errors.count("\n") == 2

@@ -42,8 +42,8 @@ def test_a_length_that_is_taken_anew(lab: Lab, clang: Compiler, tmp_path: pathli
     letters = compiled(clang, copied(tmp_path / "first", "letters.c", shorter))
     once = {"i = 0; i < length(bytes)": "i = 0, end = length(bytes); i < end"}
     better = compiled(clang, copied(tmp_path / "once", "letters.c", shorter | once))
-    status, _, told = lab("run", "--count", letters)
-    assert status == 68 and int(told.split()[0].replace(",", "")) > 4 * 1000 * 1001
+    status, _, errors = lab("run", "--count", letters)
+    assert status == 68 and int(errors.split()[0].replace(",", "")) > 4 * 1000 * 1001
     rows = [table.splitlines()[1].split() for table in lab("profile", letters)[1].decode().split("\n\n")]
     assert rows[0][3] == "letters.c:12-13" and int(rows[0][4]) >= 1000 * 1001
     assert rows[1][:2] == ["length", "1001"] and rows[2][:3] == ["_start", "enlarge", "1"]
@@ -56,13 +56,14 @@ def test_a_length_that_is_taken_anew(lab: Lab, clang: Compiler, tmp_path: pathli
 def test_pieces(lab: Lab, clang: Compiler, tmp_path: pathlib.Path) -> None:
     """Two writes, of 994 bytes and of 60; 256 of the first come out. All commands execute equally many instructions."""
     pieces, trace = compiled(clang, copied(tmp_path / "first", "pieces.c")), tmp_path / "trace"
-    status, output, told = lab("run", "--count", "--trace", trace, "--from", "18001", pieces)
+    status, output, errors = lab("run", "--count", "--trace", trace, "--from", "18001", pieces)
     assert (status, output) == (0, SQUARES[:256] + SQUARES[994:]) and len(SQUARES) == 1054
     lines = trace.read_text().splitlines()
     assert [line.split()[-1] for line in lines if " ecall" in line][:2] == ["x10=100", "x10=3c"]
-    number = told.split()[0]
+    number = errors.split()[0]
     assert (
-        int(number.replace(",", "")) == 18_000 + len(lines) and ": the call was given 994 bytes and wrote 256, " in told
+        int(number.replace(",", "")) == 18_000 + len(lines)
+        and ": the call was given 994 bytes and wrote 256, " in errors
     )
     assert lab("profile", pieces)[1].decode().splitlines()[-1].startswith(f"{number} instructions ")
     loop = "    for (long done; count > 0; bytes += done, count -= done)\n        done = call(64"

@@ -28,9 +28,9 @@ def test_a_kernel(lab: Lab, clang: Compiler, tmp_path: pathlib.Path) -> None:
     words = command.replace("\\\n", "").replace("$runtime", f"{RUNTIME}").replace("=lld-19", "=lld").split()
     shutil.copy(GREY, tmp_path)
     subprocess.run([clang.name, *words], cwd=tmp_path, check=True)
-    told = [lab("profile", image) for image in (tmp_path / "grey", tmp_path / "grey.c")]
-    row = told[1][1].decode().splitlines()[1].split()
-    assert told[0] == told[1] and told[1][0] == 0
+    expected = [lab("profile", image) for image in (tmp_path / "grey", tmp_path / "grey.c")]
+    row = expected[1][1].decode().splitlines()[1].split()
+    assert expected[0] == expected[1] and expected[1][0] == 0
     assert row[3:5] == ["grey.c:14-20", "2"] and row[-5:] == ["270", "0", "114", "70", "%"]
     status, output, _ = lab("run", GREY)
     pixels = [(5 * i % 256, (255 - 3 * i) % 256, i * i % 256) for i in range(45)]
@@ -54,16 +54,16 @@ def test_mistakes_and_what_is_missing(
 ) -> None:
     bad = tmp_path / "bad.c"
     bad.write_text("int main(void)\n{\n    int x = y;\n    return z;\n}\n")
-    told = [f"{bad}:3:13: use of undeclared identifier 'y'", f"{bad}:4:12: use of undeclared identifier 'z'"]
-    assert lab("run", bad) == (2, b"", "".join(f"vecmon-lab: {line}\n" for line in told))
+    expected = [f"{bad}:3:13: use of undeclared identifier 'y'", f"{bad}:4:12: use of undeclared identifier 'z'"]
+    assert lab("run", bad) == (2, b"", "".join(f"vecmon-lab: {line}\n" for line in expected))
     bad.write_text("int twice(int x) { return 2 * x; }\n")
     assert lab("profile", bad) == (2, b"", f"vecmon-lab: {bad}: undefined symbol: main\n")
     assert lab("run", tmp_path / "none.c") == (2, b"", f"vecmon-lab: {tmp_path}/none.c: No such file or directory\n")
-    status, _, complaint = lab("run", "--trace", GREY, GREY)
-    assert status == 2 and complaint.startswith(f"vecmon-lab: {GREY} would be overwritten")
+    status, _, errors = lab("run", "--trace", GREY, GREY)
+    assert status == 2 and errors.startswith(f"vecmon-lab: {GREY} would be overwritten")
     monkeypatch.setattr(shutil, "which", lambda name, path=None: None)
-    complaint = f"vecmon-lab: {GREY}: there is no compiler for C: apt-get install clang-19 lld-19 bubblewrap\n"
-    assert lab("gdb", GREY) == lab("console", GREY) == (2, b"", complaint)
+    errors = f"vecmon-lab: {GREY}: there is no compiler for C: apt-get install clang-19 lld-19 bubblewrap\n"
+    assert lab("gdb", GREY) == lab("console", GREY) == (2, b"", errors)
 
 
 def test_nothing_is_left(clang: Compiler, tmp_path: pathlib.Path, monkeypatch: pytest.MonkeyPatch) -> None:

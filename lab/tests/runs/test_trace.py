@@ -47,8 +47,8 @@ def test_a_trace_beside_one_of_qemu(lab: Lab, tmp_path: pathlib.Path) -> None:
     machine, emulator = State(), State()
     for mine, other in zip(ours[:-1], theirs[:-1]):
         assert mine.split()[0] == other.split()[0]
-        machine.take_in(re.split(" {2,}", mine)[3:])
-        emulator.take_in([_as_ours(change) for change in other.split()[1:]])
+        machine.apply(re.split(" {2,}", mine)[3:])
+        emulator.apply([_as_ours(change) for change in other.split()[1:]])
         assert vars(machine) == vars(emulator), mine
     assert theirs[-1].split() == ["112dc", "W00"] and re.split(" {2,}", ours[-1])[:3] == [
         "112dc",
@@ -60,8 +60,8 @@ def test_a_trace_beside_one_of_qemu(lab: Lab, tmp_path: pathlib.Path) -> None:
 def _as_ours(change: str) -> str:
     """A change of QEMU's trace, which has numbers in hexadecimal, with vl and vtype as the lab's has them."""
     name, _, value = change.partition("=")
-    told = {"vl": lambda: f"{int(value, 16)}", "vtype": lambda: vtype_text(int(value, 16))}
-    return f"{name}={told[name]()}" if name in told else change
+    expected = {"vl": lambda: f"{int(value, 16)}", "vtype": lambda: vtype_text(int(value, 16))}
+    return f"{name}={expected[name]()}" if name in expected else change
 
 
 class State:
@@ -71,7 +71,7 @@ class State:
         self.registers: dict[str, str] = {}
         self.vectors = bytearray(1024)
 
-    def take_in(self, changes: list[str]) -> None:
+    def apply(self, changes: list[str]) -> None:
         """Carries out changes; those of memory are left out."""
         for change in changes:
             if vector := re.fullmatch(r"v(\d+)\.e(\d+)\[(\d+)(?:\.\.\d+)?\]=(.*)", change):
@@ -108,8 +108,8 @@ def test_a_window_of_a_long_run(lab: Lab, program: pathlib.Path, tmp_path: pathl
     """Number 2 k + 1 is the subtraction that leaves k less in the register."""
     make_image(program, tmp_path / "long", LONG)
     lines = traced(lab, tmp_path, tmp_path / "long", "--from", "5000001", "--to", "5000003")
-    told = [f"10008 - addi x5, x5, -1 x5={ROUNDS - k:x}" for k in (2_500_000, 2_500_001)]
-    assert [" ".join(line.split()) for line in lines] == [told[0], "1000c - bne x5, x0, -4", told[1]]
+    expected = [f"10008 - addi x5, x5, -1 x5={ROUNDS - k:x}" for k in (2_500_000, 2_500_001)]
+    assert [" ".join(line.split()) for line in lines] == [expected[0], "1000c - bne x5, x0, -4", expected[1]]
 
 
 def test_a_window_behind_much_output(lab: Lab, program: pathlib.Path, tmp_path: pathlib.Path) -> None:
@@ -127,7 +127,7 @@ def test_what_stops_a_run_is_its_last_line(lab: Lab, program: pathlib.Path, tmp_
 
 
 @pytest.mark.parametrize(
-    "words, told",
+    "words, expected",
     [
         (["--from", "2"], "--from and --to are of a trace or a log: --trace FILE or --log FILE names its file"),
         (["--to", "2"], "--from and --to are of a trace or a log: --trace FILE or --log FILE names its file"),
@@ -136,8 +136,8 @@ def test_what_stops_a_run_is_its_last_line(lab: Lab, program: pathlib.Path, tmp_
     ],
 )
 def test_windows_that_are_none(
-    lab: Lab, monkeypatch: pytest.MonkeyPatch, tmp_path: pathlib.Path, words: list[str], told: str
+    lab: Lab, monkeypatch: pytest.MonkeyPatch, tmp_path: pathlib.Path, words: list[str], expected: str
 ) -> None:
     monkeypatch.chdir(tmp_path)
-    status, _, complaint = lab("run", *words, SUM)
-    assert (status, complaint) == (2, f"vecmon-lab: {told}\n")
+    status, _, errors = lab("run", *words, SUM)
+    assert (status, errors) == (2, f"vecmon-lab: {expected}\n")

@@ -27,7 +27,7 @@ next:   li a0, 1
 
 
 @pytest.mark.parametrize(
-    "count, step, is_told",
+    "count, step, is_reported",
     [
         (256, "zero", False),  # all that is given is written
         (255, "zero", False),
@@ -37,21 +37,21 @@ next:   li a0, 1
     ],
 )
 def test_short_writes(
-    lab: Lab, program: pathlib.Path, tmp_path: pathlib.Path, count: int, step: str, is_told: bool
+    lab: Lab, program: pathlib.Path, tmp_path: pathlib.Path, count: int, step: str, is_reported: bool
 ) -> None:
     image = tmp_path / "writes"
     make_image(program, image, WRITES.replace("COUNT", str(count)).replace("STEP", step))
-    status, output, told = lab("run", image)
+    status, output, errors = lab("run", image)
     assert (status, len(output)) == (0, 2 * min(256, count))
     line = f"the call was given {count} bytes and wrote 256, the most that one writes: a0 has how many"
-    assert told == (f"vecmon-lab: {image}: 10018: {line}\n" if is_told else "")
+    assert errors == (f"vecmon-lab: {image}: 10018: {line}\n" if is_reported else "")
 
 
 def test_the_last_call(lab: Lab, program: pathlib.Path, tmp_path: pathlib.Path) -> None:
     """Reported if no other call follows, next to the cause of the stop."""
     source = "li a0, 1\nlui a1, 0x10\nli a2, 500\nli a7, 64\necall\nebreak\n.zero 800"
     make_image(program, tmp_path / "writes", source)
-    status, output, told = lab("run", tmp_path / "writes")
-    lines = told.splitlines()
+    status, output, errors = lab("run", tmp_path / "writes")
+    lines = errors.splitlines()
     assert (status, len(output), len(lines)) == (133, 256, 2)
     assert "ebreak" in lines[0] and "10010: the call was given 500 bytes and wrote 256" in lines[1]

@@ -11,7 +11,7 @@ from typing import Any
 import pytest
 
 from support.commands import Lab
-from support.left_out import NO_BINUTILS, leave_out
+from support.skips import NO_BINUTILS, leave_out
 from vecmon_lab.instructions.table import instruction_table
 from vecmon_lab.vectors import on_qemu
 from vecmon_lab.vectors.command import golden_results
@@ -63,8 +63,8 @@ def test_on_vecmon_no_case_differs(lab: Lab, tmp_path: pathlib.Path) -> None:
     for name in NAMES:
         if name == "jal":  # all go to other pages
             continue
-        status, output, told = lab("run", tmp_path / f"{name}.elf")
-        assert (status, told) == (0, ""), name
+        status, output, errors = lab("run", tmp_path / f"{name}.elf")
+        assert (status, errors) == (0, ""), name
         assert output.decode() == (tmp_path / f"{name}.reference").read_text("ascii") + "00000000\n"
 
 
@@ -99,17 +99,17 @@ def test_a_planted_fault_is_found_at_its_case(lab: Lab, program: pathlib.Path, t
 
 
 def test_cases_unavailable_in_environment_are_left_out(lab: Lab, tmp_path: pathlib.Path) -> None:
-    told = {}
+    expected = {}
     for environment in ("linux", "vecmon", "bare"):
         status, output, _ = lab("vectors", "vle8.v", "ecall", "ebreak", "--elf", tmp_path, "--environment", environment)
-        told[environment] = output.decode().splitlines()
-    assert told["linux"] == [
+        expected[environment] = output.decode().splitlines()
+    assert expected["linux"] == [
         "84 cases in 2 programs",
         "left out: 32 of call",
     ]  # 22 types, masked or not, and 8; 24 and 8
-    assert told["vecmon"][0].endswith("cases in 1 programs")
-    assert {line.rpartition(" of ")[2] for line in told["vecmon"][1:]} == {"call", "ebreak", "fault 2", "fault 5"}
-    assert {line.rpartition(" of ")[2] for line in told["bare"][1:]} == {"call", "fault 5"}
+    assert expected["vecmon"][0].endswith("cases in 1 programs")
+    assert {line.rpartition(" of ")[2] for line in expected["vecmon"][1:]} == {"call", "ebreak", "fault 2", "fault 5"}
+    assert {line.rpartition(" of ")[2] for line in expected["bare"][1:]} == {"call", "fault 5"}
 
 
 @pytest.mark.parametrize("environment", ["linux", "bare"])

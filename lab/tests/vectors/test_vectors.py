@@ -16,14 +16,14 @@ from vecmon_lab.machine.answers import ControlRegisters
 from vecmon_lab.machine.session import Session
 from vecmon_lab.vectors import on_qemu
 from vecmon_lab.vectors.cases import Case, draw_case, plan
-from vecmon_lab.vectors.command import carry_out, golden_results
+from vecmon_lab.vectors.command import execute_case, golden_results
 
 E8, E16 = 0xC0, 0xC8  # with LMUL 1, ta, ma
 
 
 def changes(session: Session, name: str, case: Case) -> dict[str, Any]:
     """How a case ends, and what it changes."""
-    golden = carry_out(session, instruction_table()[name], case)
+    golden = execute_case(session, instruction_table()[name], case)
     return {key: golden[key] for key in ("end", "cause", "value", "status", "after") if key in golden}
 
 
@@ -73,7 +73,7 @@ def test_calls_put_out_and_end(session: Session) -> None:
 
 def test_agnostic_elements_become_ones_if_that_is_asked_for(session: Session) -> None:
     case = Case(0x021FB157, ControlRegisters(1, E8), v={2: bytes(32)})  # vadd.vi v2, v1, -1
-    golden = carry_out(session, instruction_table()["vadd.vi"], case, "ones")
+    golden = execute_case(session, instruction_table()["vadd.vi"], case, "ones")
     assert golden["after"] == {"pc": "10804", "v": {2: "ff" * 32}}
 
 
@@ -87,7 +87,7 @@ def test_results_are_those_that_qemu_gave(session: Session) -> None:
         x = {int(number): int(value, 16) for number, value in recorded["x"].items()}
         v = {int(number): bytes.fromhex(value) for number, value in recorded["v"].items()}
         case = Case(int(recorded["word"], 16), control, x, v)
-        golden = json.loads(json.dumps(carry_out(session, instruction_table()[recorded["name"]], case)))
+        golden = json.loads(json.dumps(execute_case(session, instruction_table()[recorded["name"]], case)))
         assert golden == recorded
     assert len(lines) == 28
 
@@ -98,7 +98,7 @@ def test_results_are_those_that_qemu_gave(session: Session) -> None:
 )
 def test_a_plan_has_each_legal_type_and_mask(name: str, types: int) -> None:
     row = instruction_table()[name]
-    kinds = [kind for kind in plan(row, 5) if not kind.is_illegal and not kind.is_astray]
+    kinds = [kind for kind in plan(row, 5) if not kind.is_illegal and not kind.is_out_of_range]
     masks = 1 if name == "vl8re8.v" else 2
     assert len(kinds) == len(set(kinds)) == masks * types
     assert len({kind.vtype for kind in kinds}) == types

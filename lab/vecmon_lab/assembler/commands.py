@@ -10,7 +10,7 @@ from ..machine.answers import Refused, is_refusal, read
 from ..machine.lines import words_of
 from ..tables.table import read_table
 from .instruction import Statement, refusal
-from .misfits import misfit
+from .argument_errors import argument_error
 
 
 @dataclass(frozen=True)
@@ -58,24 +58,24 @@ def refusal_in_words(line: str, answer: Refused) -> list[str]:
     own, other, whose = (f"* {word}", word, "a user") if line[0] == "*" else (word, f"* {word}", "the operator")
     match answer.code:
         case "E03" if other in COMMANDS:
-            told = f"{word} is {whose}'s: {COMMANDS[other].form}"
+            message = f"{word} is {whose}'s: {COMMANDS[other].form}"
         case "E03" if word:
-            told = f"there is no command {word}"
+            message = f"there is no command {word}"
         case "E04":
-            told = f"{misfit(line, COMMANDS[own].form)}; the form is {COMMANDS[own].form}"
+            message = f"{argument_error(line, COMMANDS[own].form)}; the form is {COMMANDS[own].form}"
         case "E08":
-            told = f"there is no image {words_of(line)[1]}"
+            message = f"there is no image {words_of(line)[1]}"
         case "E13":
-            told = "there is no breakpoint" if word == "unbreak" else "there already is a breakpoint"
+            message = "there is no breakpoint" if word == "unbreak" else "there already is a breakpoint"
         case "E09":
-            told = _IMAGE_FAULTS[str(answer)]
+            message = _IMAGE_FAULTS[str(answer)]
         case "E15":
             text = line[2:].strip(" ").split(maxsplit=2)[2]
-            told = refusal(Statement(0, 1, text, tuple(range(1, len(text) + 2))), int(answer.detail)).message
-            return [text, f"{'^':>{answer.detail}}", f"E15: {told}"]
+            message = refusal(Statement(0, 1, text, tuple(range(1, len(text) + 2))), int(answer.detail)).message
+            return [text, f"{'^':>{answer.detail}}", f"E15: {message}"]
         case code:
-            told = MEANINGS[code]
-    return [f"{answer}: {told}"]
+            message = MEANINGS[code]
+    return [f"{answer}: {message}"]
 
 
 def refusal_on_pages(line: str, answer: Sequence[str]) -> str:

@@ -29,7 +29,7 @@ class SourceError(LabError):
     def __str__(self) -> str:
         return f"line {self.line}, column {self.column}: {self.message}"
 
-    def told(self, name: str) -> str:
+    def diagnostic(self, name: str) -> str:
         """The same in a line of a source of this name; line 0 if it is at no line."""
         return f"{name}:{self.line}:{self.column}: {self.message}" if self.line else f"{name}: {self.message}"
 

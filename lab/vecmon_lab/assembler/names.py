@@ -21,5 +21,5 @@ def no_instruction(name: str, names: Set[str] = SOURCE_NAMES) -> str:
     if len(name) <= 3 and not near:  # as jmp, which has one letter of jal
         near = get_close_matches(small, own, MOST_NEAR, 1 / 3)
     *others, last = near or [""]
-    told = f"; near it {'are' if others else 'is'} {' and '.join(filter(None, [', '.join(others), last]))}"
-    return f"there is no instruction {name}{told if near else ''}"
+    hint = f"; near it {'are' if others else 'is'} {' and '.join(filter(None, [', '.join(others), last]))}"
+    return f"there is no instruction {name}{hint if near else ''}"

@@ -61,12 +61,12 @@ class Program:
         lines, first = ["", *text.split("\n")], dict[int, Statement]()
         for statement in self.statements:
             first.setdefault(statement.line, statement)
-        told = {}
+        comments = {}
         for number, statement in first.items():
             own, above = lines[number][statement.columns[0] - 1 :].strip(), lines[number - 1].strip()
             is_alone = above.startswith(("#", "//")) and "#" not in own and "//" not in own
-            told[f"{statement.address:x}"] = f"{own}  {above}" if is_alone else own
-        return told
+            comments[f"{statement.address:x}"] = f"{own}  {above}" if is_alone else own
+        return comments
 
 
 def assemble(text: str, origin: int = 0x10000) -> Program:

@@ -21,6 +21,6 @@ def all_mistakes(source: Program, vecmon: Vecmon) -> list[SourceError]:
     with Session(vecmon) as trial:
         trial.do_all(["1 enter", "1 map 0 1 rx"])
         answers = [trial.do_all(lines[at : at + TOGETHER]) for at in range(0, len(lines), TOGETHER)]
-    told = zip(source.statements, map(read, itertools.chain(*answers)))
-    refused = [refusal(each, int(answer.detail)) for each, answer in told if isinstance(answer, Refused)]
+    results = zip(source.statements, map(read, itertools.chain(*answers)))
+    refused = [refusal(each, int(answer.detail)) for each, answer in results if isinstance(answer, Refused)]
     return in_order([*source.mistakes, *refused])

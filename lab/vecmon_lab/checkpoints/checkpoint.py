@@ -10,7 +10,7 @@ from .. import LabError
 from ..machine.answers import Granted, read
 from ..machine.program import images_of
 from ..machine.session import Checkpoint, Session
-from .machine_state import Machine, Opening, carry_out, fresh_memory, machine_after
+from .machine_state import Machine, Opening, replay_script, fresh_memory, machine_after
 from .set_up import lines_of
 
 MOMENTS = (0, 1, 2, 4, 8, 16, 32, 64, 128, 256, 512)  # lines before the end of a script at which it is tried
@@ -41,7 +41,7 @@ def whole_checkpoint(opening: Opening, script: bytes, images: Mapping[str, pathl
     waiting = [digit for digit, shown in machine.shown.items() if shown.is_at_breakpoint]
     if waiting:
         with opening() as session:
-            carry_out(session, script)
+            replay_script(session, script)
             if any(_stops_at_once(session, machine, digit) for digit in waiting):
                 raise NoCheckpoint("a running program is about to stop at its breakpoint")
     fresh = {digit: fresh_memory(opening, user) for digit, user in machine.users.items()}

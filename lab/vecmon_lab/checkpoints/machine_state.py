@@ -94,7 +94,7 @@ class Machine:
         return "".join(texts)
 
 
-def carry_out(session: Session, script: bytes) -> dict[str, User]:
+def replay_script(session: Session, script: bytes) -> dict[str, User]:
     """Carries out a script that a session recorded; its users by digit."""
     users = dict[str, User]()
     for line, answer in session.do_script(script):
@@ -105,7 +105,7 @@ def carry_out(session: Session, script: bytes) -> dict[str, User]:
 
 def machine_after(session: Session, script: bytes, images: Mapping[str, pathlib.Path]) -> Machine:
     """The machine that a script leaves in a new session, which is of no use any more then."""
-    users = carry_out(session, script)
+    users = replay_script(session, script)
     for user in users.values():
         user.pages = dict(pages_of(user, images))
     owner = _switches(session)["owner"]
@@ -155,19 +155,19 @@ def pages_of(user: User, images: Mapping[str, pathlib.Path]) -> Iterator[tuple[i
 
 def _look(guest: Guest, user: User) -> Shown:
     """Looks at a user, whose program is stopped for that, and whose output buffer is emptied."""
-    is_running = guest.told("state", Position).run == "running"
+    is_running = guest.query("state", Position).run == "running"
     if is_running:
-        guest.told("stop", Position)
+        guest.query("stop", Position)
     return Shown(
         is_running,
-        guest.told("regs", ScalarRegisters),
-        guest.told("vcsr", ControlRegisters),
+        guest.query("regs", ScalarRegisters),
+        guest.query("vcsr", ControlRegisters),
         guest.session.policy[guest.user],
         guest.vectors(),
-        list(guest.told("breaks", Addresses).addresses),
-        list(guest.told("trace", Addresses).addresses),
+        list(guest.query("breaks", Addresses).addresses),
+        list(guest.query("trace", Addresses).addresses),
         {page: guest.peek(page, PAGE_BYTES) for page in user.pages},
-        guest.told("out", Output).data,
+        guest.query("out", Output).data,
     )
 
 
@@ -183,11 +183,11 @@ def _find_areas(session: Session, users: Mapping[str, User], owner: str) -> bool
     touching = {digit: page for digit, user in users.items() if (page := user.first("x")) is not None}
     own_page, is_dirty = touching.pop(owner, None), False
     if own_page is not None:
-        stranger = next((digit for digit in DIGITS if digit not in touching and digit != owner), "")
+        outsider = next((digit for digit in DIGITS if digit not in touching and digit != owner), "")
         if not touching:
             for command in ("leave", "enter", "map 0 1 x"):
-                session.do(f"{stranger} {command}")
-        touching = (touching or {stranger: 0}) | {owner: own_page}
+                session.do(f"{outsider} {command}")
+        touching = (touching or {outsider: 0}) | {owner: own_page}
     before = first = _switches(session)
     for digit, page in touching.items():
         for command in (f"asm {page:x} {TOUCHING}", f"setpc {page:x}", "step 1"):

@@ -61,25 +61,27 @@ class _SetUp:
 
     def lines(self, is_touching: bool) -> list[str]:
         """Sets all up but for policy, breakpoints and running. The user touches the vector unit, or doesn't."""
-        begin = ["enter", *([f"load {self.user.image}"] if self.user.image else [])]
-        begin += [f"map {address:x} {pages} {permission}" for address, pages, permission in self.user.maps]
-        return self._told([*begin, *self._carried_out(is_touching), *self._written()])
+        start = ["enter", *([f"load {self.user.image}"] if self.user.image else [])]
+        start += [f"map {address:x} {pages} {permission}" for address, pages, permission in self.user.maps]
+        return self._with_user([*start, *self._executed(is_touching), *self._written()])
 
     def touching(self) -> list[str]:
         """Behind all that: the user touches the unit, which has no other effect."""
         page = self._code
-        return self._told([*self._step(page, TOUCHING), *self._restored(page), f"setpc {self._shown.registers.pc:x}"])
+        return self._with_user(
+            [*self._step(page, TOUCHING), *self._restored(page), f"setpc {self._shown.registers.pc:x}"]
+        )
 
     def ending(self) -> list[str]:
         """The policy, the breakpoints, and whether the program runs."""
         policy = [] if self._shown.policy == "keep" else [f"policy {self._shown.policy}"]
         breakpoints = [f"break {address:x}" for address in self._shown.breakpoints]
-        return self._told(policy + breakpoints + ["go"] * self._shown.is_running)
+        return self._with_user(policy + breakpoints + ["go"] * self._shown.is_running)
 
-    def _told(self, commands: Iterable[str]) -> list[str]:
+    def _with_user(self, commands: Iterable[str]) -> list[str]:
         return [f"{self._digit} {command}" for command in commands]
 
-    def _carried_out(self, is_touching: bool) -> Iterator[str]:
+    def _executed(self, is_touching: bool) -> Iterator[str]:
         """The results of instructions: output, control registers and the trace; and the vector registers."""
         trace, vstart = self._shown.trace, self._shown.control.vstart if is_touching else 0
         is_full = len(trace) == TRACED  # else it has each executed instruction

@@ -10,8 +10,8 @@ from ..compilers.compiled import IMAGE_BYTES, CompiledProgram, read_compiled_pro
 from ..compilers.compiler import Compiler
 from ..compilers.compiling import words_for
 from ..compilers.failures import ToolError
-from ..compilers.sandbox import answer_beside, sandboxed_compiler
-from .beside import alone
+from ..compilers.sandbox import run_in_sandbox_async, sandboxed_compiler
+from .worker_pool import exclusive
 from .requests import BadRequest
 
 
@@ -42,10 +42,10 @@ class Builds:
         compiler = other or self.compiler
         if compiler is None:
             raise BadRequest(f"this class takes no C: {self.no_c}")
-        with alone(seat, self._busy, BadRequest("a source of this seat is being compiled")):
+        with exclusive(seat, self._busy, BadRequest("a source of this seat is being compiled")):
             words = words_for(text, compiler, choice, is_answer)
             async with self._places:
-                answer = await answer_beside(words, text)
+                answer = await run_in_sandbox_async(words, text)
             return await asyncio.to_thread(read_compiled_program, answer, self._most)
 
 

@@ -21,12 +21,12 @@ from ..assembler.source import SourceError
 from ..compilers.compiled import CompiledProgram
 from ..compilers.failures import ToolError
 from ..exercises.answer import settled
-from ..exercises.check import Told, failed_check
+from ..exercises.check import CheckResult, failed_check
 from ..exercises.exercise import Exercise, read_exercise
-from ..exercises.taken import Taken
-from .beside import Beside
+from ..exercises.answer_cost import AnswerCost
+from .worker_pool import WorkerPool
 from .builds import Builds
-from .kept import attempt, texts
+from .stored_files import attempt, texts
 from .languages import SourceText
 from .names import local_time
 from .requests import BadRequest
@@ -52,7 +52,7 @@ class Checks:
 
         `tell` is called with the names of seats that have news. Raises LabError and OSError for a bad exercise.
         """
-        self._store, self._tell, self._beside, self._builds = store, tell, Beside(PLACES, SECONDS), builds
+        self._store, self._tell, self._workers, self._builds = store, tell, WorkerPool(PLACES, SECONDS), builds
         kept = [pathlib.Path(path) for path in store.read(EXERCISES, texts, WITHOUT).values()]
         found: dict[str, Exercise] = {}
         for folder in list(folders) or kept:
@@ -67,7 +67,7 @@ class Checks:
         self._tasks: set[asyncio.Task[None]] = set()
         self._unsaved: dict[str, Try] = {}
         self._lessons: dict[str, bytes] = {}  # before exercises, by name
-        self._good: dict[str, Taken] = {}  # the instructions and work of good answers, if known
+        self._good: dict[str, AnswerCost] = {}  # the instructions and work of good answers, if known
         self._making = asyncio.Lock()
         for seat, name, number, done in sorted(found_answers(store), key=itemgetter(0, 1, 2)):
             progress = self.exercises.progress(seat, name)
@@ -103,7 +103,7 @@ class Checks:
         busy[seat] = ""
         try:
             compiled = await self._compiled(seat, progress.source)
-            return await self._run(name, str(progress.told["number"]), progress.source.text, compiled)
+            return await self._run(name, str(progress.last_result["number"]), progress.source.text, compiled)
         finally:
             del busy[seat]
 
@@ -138,27 +138,27 @@ class Checks:
     async def _check(self, seat: str, name: str, source: SourceText) -> None:
         """Checks an answer, saves it if it counts as a try, and wakes the tabs."""
         try:
-            told = await self._told(seat, name, source)
+            result = await self._check_result(seat, name, source)
         finally:
             del self.exercises.busy[seat]
-        if "failure" in told:
-            print(f"vecmon-lab: a check of {name} of seat {seat} failed: {told['failure']}", file=sys.stderr)
-        if "good" in told:
-            self._good[name] = told["good"]
-        done = Try(time=int(time.time()), text=source.text, suffix=source.suffix, told=told)
+        if "failure" in result:
+            print(f"vecmon-lab: a check of {name} of seat {seat} failed: {result['failure']}", file=sys.stderr)
+        if "good" in result:
+            self._good[name] = result["good"]
+        done = Try(time=int(time.time()), text=source.text, suffix=source.suffix, told=result)
         if self.exercises.take(seat, name, done):
             self._unsaved[_file(seat, name, len(self.exercises.progress(seat, name).tries))] = done
             self.keep()
         self._tell([seat])
 
-    async def _told(self, seat: str, name: str, source: SourceText) -> Told:
+    async def _check_result(self, seat: str, name: str, source: SourceText) -> CheckResult:
         """The result of a check. If the server's side fails, it runs once more, and a second failure is the result."""
         cause = ""
         for _ in range(RUNS):
             try:
                 compiled = await self._compiled(seat, source)
-                told: Told = json.loads(await self._run(name, "check", source.text, compiled))
-                return told
+                result: CheckResult = json.loads(await self._run(name, "check", source.text, compiled))
+                return result
             except (LabError, OSError, ValueError) as error:
                 cause = f"{error}" or type(error).__name__
         return failed_check(cause)
@@ -177,7 +177,7 @@ class Checks:
     async def _run(self, name: str, what: str, text: str = "", compiled: CompiledProgram | None = None) -> bytes:
         """The output of the process that checks a text, or makes a lesson. Raises LabError."""
         given = pickle.dumps((self.exercises.by_name[name], text, compiled, self._good.get(name)))
-        return await self._beside.run("exercises.check", str(self._store.program), what, script=given)
+        return await self._workers.run("exercises.check", str(self._store.program), what, script=given)
 
 
 def kept_answers(store: Store, seat: str) -> dict[str, SourceText]:

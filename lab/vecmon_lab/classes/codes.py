@@ -24,7 +24,7 @@ class Codes:
         seats = [f"{machine}{digit}" for machine in machines for digit in DIGITS]
         self.codes = {name: kept.get(name) or new_code() for name in (TEACHER, WALL, *seats)}
 
-    def who(self, code: object) -> str | None:
+    def owner(self, code: object) -> str | None:
         """Whose code it is, if anybody's; it takes as long for any text."""
         text = code.encode("utf-8", "replace") if isinstance(code, str) else b""
         matches = [secrets.compare_digest(known.encode("ascii"), text) for known in self.codes.values()]

@@ -47,8 +47,8 @@ def _add_addresses(parser: argparse.ArgumentParser) -> None:
         "--port", metavar="P", type=port, default=8765, help="the port; 0 takes a free one; by default %(default)s"
     )
     parser.add_argument("--address", metavar="URL", type=_address, help="where students reach the class")
-    told = "serve HTTPS with this certificate and its private key, both PEM files"
-    parser.add_argument("--tls", nargs=2, metavar=("CERT", "KEY"), type=pathlib.Path, help=told)
+    help_text = "serve HTTPS with this certificate and its private key, both PEM files"
+    parser.add_argument("--tls", nargs=2, metavar=("CERT", "KEY"), type=pathlib.Path, help=help_text)
     parser.add_argument("--name", action="append", default=[], help="another host name of the page")
 
 
@@ -61,9 +61,9 @@ def _add_exercises(parser: argparse.ArgumentParser) -> None:
         type=machines,
         help="the number of machines with eight seats each, 1 to 12; by default 1",
     )
-    told = "an exercise for all seats: a name of the course, or a folder; repeatable"
+    help_text = "an exercise for all seats: a name of the course, or a folder; repeatable"
     folder = pathlib.Path
-    parser.add_argument("--exercise", metavar="NAME|DIR", type=folder, action="append", default=[], help=told)
+    parser.add_argument("--exercise", metavar="NAME|DIR", type=folder, action="append", default=[], help=help_text)
     parser.add_argument("--course", action="store_true", help="all exercises of the course, before those of --exercise")
     parser.add_argument("--cc", metavar="NAME", help="the compiler of sources in C, such as clang-19")
     most = between(1, 512)
@@ -79,19 +79,19 @@ def _add_exercises(parser: argparse.ArgumentParser) -> None:
 def _add_machines(parser: argparse.ArgumentParser) -> None:
     """Add the options of each machine's slices, clock and spare process."""
     parser.add_argument("--quantum", metavar="N", type=int, help="ticks of a slice, 1 to 1000; by default 100")
-    told = "start new machines with the clock off"
-    parser.add_argument("--no-clock", action="store_true", help=told)
-    told = "keep a second process for each machine, which replaces a failed one"
-    parser.add_argument("--spare", action="store_true", help=told)
+    help_text = "start new machines with the clock off"
+    parser.add_argument("--no-clock", action="store_true", help=help_text)
+    help_text = "keep a second process for each machine, which replaces a failed one"
+    parser.add_argument("--spare", action="store_true", help=help_text)
 
 
 def _add_actions(parser: argparse.ArgumentParser) -> None:
     """Add the options that do something else instead of serving the class."""
     parser.add_argument("--forget", action="store_true", help="delete the names that DIR keeps, and serve nothing")
-    told = "give the teacher a new code, and serve nothing; seats keep theirs"
-    parser.add_argument("--renew-teacher", action="store_true", help=told)
-    told = "report the state of DIR, and serve nothing; the status is 1 if a file is damaged"
-    parser.add_argument("--check", action="store_true", help=told)
+    help_text = "give the teacher a new code, and serve nothing; seats keep theirs"
+    parser.add_argument("--renew-teacher", action="store_true", help=help_text)
+    help_text = "report the state of DIR, and serve nothing; the status is 1 if a file is damaged"
+    parser.add_argument("--check", action="store_true", help=help_text)
 
 
 def run(arguments: argparse.Namespace) -> int:
@@ -124,7 +124,7 @@ def _serve(arguments: argparse.Namespace) -> None:
         raise LabError(f"--tls serves HTTPS, so the address of the class begins with https://: {arguments.address}")
     store = Store(arguments.folder, find_program(), images, arguments.quantum, arguments.machines)
     try:
-        doors = listening(host, arguments.port)  # before the class is replayed, which may take a while
+        listeners = listening(host, arguments.port)  # before the class is replayed, which may take a while
     except LabError:
         store.close()
         raise
@@ -135,7 +135,7 @@ def _serve(arguments: argparse.Namespace) -> None:
         print(f"vecmon-lab: warning: {sentence}", file=sys.stderr)
     members.address = arguments.address or ""
     hosts = {*arguments.name, urlsplit(members.address).hostname or host}
-    asyncio.run(serve(members, host, doors, hosts, tls=tls))
+    asyncio.run(serve(members, host, listeners, hosts, tls=tls))
 
 
 def _address(text: str) -> str:

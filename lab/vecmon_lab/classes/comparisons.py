@@ -5,7 +5,7 @@ import pathlib
 
 from .. import LabError
 from ..compilers.compiler import C_SOURCE, CHOICES
-from .beside import Beside
+from .worker_pool import WorkerPool
 from .builds import Builds
 from .codes import new_code
 from .languages import SourceText
@@ -21,7 +21,7 @@ class Comparisons:
     """
 
     def __init__(self, builds: Builds, program: pathlib.Path) -> None:
-        self._builds, self._program, self._beside = builds, program, Beside(1)
+        self._builds, self._program, self._workers = builds, program, WorkerPool(1)
         choices = [choice for choice, it in enumerate(CHOICES) if it.source == C_SOURCE]
         self._others = [(compiler, choice) for compiler in builds.others for choice in choices]
         self.names = [compiler.title(choice) for compiler, choice in self._others]
@@ -44,6 +44,6 @@ class Comparisons:
             assert compiler and choice is not None
             program = await self._builds.compile(seat, source.text, choice, compiler)
             program.check(compiler.title(choice))
-            listings.append((compiler.title(choice), program.told.decode("utf-8", "replace")))
+            listings.append((compiler.title(choice), program.reply.decode("utf-8", "replace")))
         script = json.dumps([source.text, listings]).encode("ascii")
-        return await self._beside.run("lessons.listings", str(self._program), script=script)
+        return await self._workers.run("lessons.listings", str(self._program), script=script)

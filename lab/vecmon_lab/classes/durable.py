@@ -27,7 +27,7 @@ class Flusher:
     """
 
     def __init__(self, folder: pathlib.Path) -> None:
-        self.troubles: dict[str, str] = {}
+        self.failures: dict[str, str] = {}
         self._folder = folder
         self._waiting: dict[str, bytes | None] = {}  # None for a file that will be removed
         self._appended: set[Appended] = set()
@@ -85,7 +85,7 @@ class Flusher:
             self._remove([name for name, data in waiting.items() if data is None])
             with self._lock:
                 for name, data in waiting.items():
-                    if name not in self.troubles and self._waiting.get(name, b"") is data:
+                    if name not in self.failures and self._waiting.get(name, b"") is data:
                         del self._waiting[name]
 
     def end(self) -> None:
@@ -108,7 +108,7 @@ class Flusher:
             try:
                 replace_file(self._folder / name, data)
             except OSError as error:
-                self.troubles[name] = f"{name} isn't saved: {error.strerror}"
+                self.failures[name] = f"{name} isn't saved: {error.strerror}"
             else:
                 written.setdefault((self._folder / name).parent, []).append(name)
         for folder, names in written.items():
@@ -121,23 +121,23 @@ class Flusher:
                 os.unlink(self._folder / name)
             except OSError:  # an older file that is left over loses nothing
                 pass
-            self.troubles.pop(name, None)
+            self.failures.pop(name, None)
 
     def _sync(self, folder: pathlib.Path, names: list[str]) -> None:
         """Flushes a folder in which files of these names were replaced."""
         try:
             sync_folder(folder)
         except OSError as error:
-            self.troubles |= {name: f"{name} isn't saved: {error.strerror}" for name in names}
+            self.failures |= {name: f"{name} isn't saved: {error.strerror}" for name in names}
             return
         for name in names:
-            self.troubles.pop(name, None)
+            self.failures.pop(name, None)
 
     def _run(self) -> None:
         """Flushes in batches until the end."""
         while not self._is_ending.is_set():
             self._has_work.wait()
-            self._is_ending.wait(RETRY_SECONDS if self.troubles else FLUSH_SECONDS)
+            self._is_ending.wait(RETRY_SECONDS if self.failures else FLUSH_SECONDS)
             self._has_work.clear()
             self.flush()
             with self._lock:

@@ -22,8 +22,8 @@ PATIENCE = 10.0  # seconds of silence
 
 def add_arguments(parser: argparse.ArgumentParser) -> None:
     """The words of `vecmon-lab explore`."""
-    told = "a source in C (.c) or assembler (.s)"
-    parser.add_argument("source", metavar="FILE", type=pathlib.Path, help=told)
+    help_text = "a source in C (.c) or assembler (.s)"
+    parser.add_argument("source", metavar="FILE", type=pathlib.Path, help=help_text)
     parser.add_argument(
         "--port", metavar="P", type=between(0, 65535), default=0, help="the port; by default a free one"
     )

@@ -6,7 +6,7 @@ from collections.abc import Sequence
 from .. import LabError
 from ..machine.lines import DIGITS
 from .checks import ANSWERS, EXERCISES, found_answers
-from .kept import texts
+from .stored_files import texts
 from .names import NAMES
 from .notices import NOTICES, open_notices
 from .sources import kept_program

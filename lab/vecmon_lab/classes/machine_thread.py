@@ -27,11 +27,11 @@ class MachineThread:
     stopped, down, rebuilding: why the machine answers no more, or not now; "" where it does
     """
 
-    def __init__(self, machine: SharedMachine, changed: Callable[[], None], doubted: Callable[[], None]) -> None:
+    def __init__(self, machine: SharedMachine, changed: Callable[[], None], replay_differs: Callable[[], None]) -> None:
         """changed: called where seats have news; doubted: called where the machine is stopped, since a replay differs"""
         self.lock = asyncio.Lock()  # which is given first come, first served
         self.stopped = self.down = self.rebuilding = ""
-        self.changed, self.machine, self._doubted = changed, machine, doubted
+        self.changed, self.machine, self._replay_differs = changed, machine, replay_differs
         self._thread = concurrent.futures.ThreadPoolExecutor(1)
 
     async def execute(self, turn: Turn) -> None:
@@ -45,7 +45,7 @@ class MachineThread:
             self.down = ""
         except ReplayDiffers as error:
             self.stopped = f"machine {letter} was stopped, so that nothing goes on in doubt: {error}"
-            self._doubted()
+            self._replay_differs()
             raise Stopped(self.stopped) from error
         except (ProgramGone, OutOfStep) as error:
             self.down = f"machine {letter} is down: {error}"
@@ -57,11 +57,11 @@ class MachineThread:
 
     async def call(self, call: Callable[[], None]) -> None:
         """Calls in the machine's thread. A caller who is cancelled waits for it, so that no notes are made meanwhile."""
-        begun = asyncio.get_running_loop().run_in_executor(self._thread, call)
+        started = asyncio.get_running_loop().run_in_executor(self._thread, call)
         try:
-            await asyncio.shield(begun)
+            await asyncio.shield(started)
         except asyncio.CancelledError:
-            await asyncio.wait([begun])
+            await asyncio.wait([started])
             raise
 
     def end(self) -> None:

@@ -6,7 +6,7 @@ from typing import NotRequired, TypedDict
 
 from ..compilers.compiled import STACK
 from ..exercises.answer import C_SUFFIX, inputs
-from ..exercises.check import Told
+from ..exercises.check import CheckResult
 from ..exercises.exercise import Exercise
 from .codes import new_code
 from .languages import NUMBERS, C, SourceText
@@ -15,7 +15,7 @@ from .requests import BadRequest
 MOST_TRIES = 200  # of a seat at an exercise
 MOST_FAILURES = 50  # of checks, which the teacher is shown
 
-Try = TypedDict("Try", {"time": int, "text": str, "suffix": NotRequired[str], "told": Told})
+Try = TypedDict("Try", {"time": int, "text": str, "suffix": NotRequired[str], "told": CheckResult})
 """An answer: when, in seconds since 1970; the source, and that of its language, else `s`; and the result of its check."""
 CheckFailure = TypedDict("CheckFailure", {"seat": str, "exercise": str, "time": int, "cause": str})
 """A check that failed twice on the server's side: the seat, the exercise, the time in seconds since 1970, and the cause."""
@@ -41,7 +41,7 @@ class ExerciseView(TypedDict):
     tries: int
     passed: bool
     checking: bool
-    told: Told
+    told: CheckResult
     lesson: str
 
 
@@ -54,18 +54,18 @@ class Progress:
 
     tries: list[tuple[int, int]] = field(default_factory=list)
     source: SourceText = SourceText()
-    told: Told = field(default_factory=lambda: Told())
+    last_result: CheckResult = field(default_factory=lambda: CheckResult())
     first: int = 0
     ticket: str = ""
 
     def add(self, done: Try) -> bool:
         """Adds the result of a check; returns whether it counts as a try, which mistakes of form don't."""
-        self.told, self.ticket = done["told"], ""
-        if "cases" not in self.told:
+        self.last_result, self.ticket = done["told"], ""
+        if "cases" not in self.last_result:
             return False
-        cases, self.source = self.told["cases"], source_of(done)
+        cases, self.source = self.last_result["cases"], source_of(done)
         self.tries.append((done["time"], sum(cases)))
-        self.ticket = new_code() if "number" in self.told else ""
+        self.ticket = new_code() if "number" in self.last_result else ""
         if cases and all(cases) and not self.first:
             self.first = len(self.tries)
         return True
@@ -123,11 +123,11 @@ class Exercises:
 
         Raises BadRequest where none has failed.
         """
-        exercise, told = self.exercise(name), self.progress(seat, name).told
-        if "number" not in told:
+        exercise, result = self.exercise(name), self.progress(seat, name).last_result
+        if "number" not in result:
             raise BadRequest("no case that is shown has failed")
-        case, stack = exercise.cases[told["number"]], STACK if source.choice is None else ()
-        return lambda begin: [*stack, *inputs(exercise, case, begin)]
+        case, stack = exercise.cases[result["number"]], STACK if source.choice is None else ()
+        return lambda start: [*stack, *inputs(exercise, case, start)]
 
     def answered(self, ticket: str) -> tuple[str, str, Progress] | None:
         """The seat and the exercise of the answer whose lesson a ticket opens, and the progress there."""
@@ -150,7 +150,7 @@ class Exercises:
             "tries": len(progress.tries),
             "passed": progress.first > 0,
             "checking": self.busy.get(seat) == name,
-            "told": progress.told,
+            "told": progress.last_result,
             "lesson": f"lesson/{progress.ticket}" if progress.ticket else "",
         }
 

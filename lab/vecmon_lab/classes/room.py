@@ -12,17 +12,17 @@ from ..assembler.source import Program
 from ..assembler.trial import read_whole_source
 from ..machine.lines import DIGITS, is_look
 from ..machine.session import Session
-from .beside import Beside
+from .worker_pool import WorkerPool
 from .builds import Builds
 from .clock import Clock
 from .languages import SourceText
 from .machine_thread import MachineThread, rebuilding
-from .past import Past
+from .history import History
 from .requests import BadRequest, Lines
 from .scripts import Scripts
 from .seats import Seat
 from .shared_machine import Answers, MakeProgram, Mistakes, Result, SharedMachine, Steps, Turn, own_lines
-from .kept import Notes
+from .stored_files import Notes
 from .store import ScriptFile
 
 WATCH_SECONDS = 0.5  # between looks at a program that runs
@@ -36,7 +36,7 @@ class Room:
     saves notes, and returns whether that succeeded; `compile` compiles a seat's source.
     """
 
-    def __init__(self, letter: str, session: Session, file: ScriptFile, makers: Beside) -> None:
+    def __init__(self, letter: str, session: Session, file: ScriptFile, makers: WorkerPool) -> None:
         """makers: places where checkpoints are made"""
         self.letter, self.machine, self.clock = letter, SharedMachine(letter, session, file), Clock(self._tick)
         self.seats, self.own_slices = self.machine.seats, True
@@ -57,9 +57,9 @@ class Room:
         return self.machine.session
 
     @property
-    def trouble(self) -> str:
+    def warning(self) -> str:
         """What is wrong with the machine, or the disk."""
-        return self.thread.stopped or self.thread.down or self.thread.rebuilding or self.scripts.file.trouble
+        return self.thread.stopped or self.thread.down or self.thread.rebuilding or self.scripts.file.warning
 
     def is_busy(self) -> bool:
         """Whether somebody has the machine."""
@@ -71,10 +71,10 @@ class Room:
         progress: is called with sentences on the progress; lose: is called with sentences on lines that are lost
         """
         self.session.progress = lambda percent: progress(rebuilding(self.letter, percent))
-        past, self.scripts.set_up = Past(notes.scripts[-1]), notes.scripts
+        history, self.scripts.set_up = History(notes.scripts[-1]), notes.scripts
         for block in self.scripts.file.replay(self.session, notes, lose):
-            past.add(*block)
-        past.tell(self.seats)
+            history.add(*block)
+        history.tell(self.seats)
         self.seats.take(self.seats.look(self.session, [], DIGITS))
         self.own_slices = notes.own_slices
         self.set_clock(notes.clock)
@@ -148,7 +148,7 @@ class Room:
             await asyncio.sleep(WATCH_SECONDS)
             has_run, self.machine.has_run = self.machine.has_run, False
             for digit in sorted(self.seats.running()) if has_run else ():
-                await self._attend(self.seats.users[digit])
+                await self._stop_unattended(self.seats.users[digit])
 
     def end(self) -> None:
         """Ends the machine, whatever it does."""
@@ -164,7 +164,7 @@ class Room:
         vecmon = pathlib.Path(self.session.command[0])
         return await loop.run_in_executor(self._assembler, read_whole_source, source.text, vecmon)
 
-    async def _attend(self, seat: Seat) -> None:
+    async def _stop_unattended(self, seat: Seat) -> None:
         """Shows a program that runs, if somebody looks at it. One that runs in vain is stopped, with a sentence."""
         now, is_watched = asyncio.get_running_loop().time(), seat.name in self.watched()
         seat.seen = now if is_watched or not seat.seen else seat.seen

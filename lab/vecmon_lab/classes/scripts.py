@@ -8,7 +8,7 @@ from collections.abc import Callable, Sequence
 
 from .. import LabError
 from ..machine.session import Checkpoint, Session
-from .beside import Beside
+from .worker_pool import WorkerPool
 from .machine_thread import MachineThread
 from .store import ScriptFile
 
@@ -28,7 +28,7 @@ class Scripts:
     set_up: of each script, how many lines at its beginning set the machine up
     """
 
-    def __init__(self, thread: MachineThread, file: ScriptFile, makers: Beside, save: Saver) -> None:
+    def __init__(self, thread: MachineThread, file: ScriptFile, makers: WorkerPool, save: Saver) -> None:
         """makers: places where checkpoints are made"""
         self.file = file
         self.set_up: Sequence[int] = [0]
@@ -86,19 +86,19 @@ class Scripts:
 
     def _begin_next(self) -> None:
         """Starts another script; called in the machine's thread."""
-        heir = self._machine.session.renewed()
-        set_up = [*self.set_up, heir.lines]
+        replacement = self._machine.session.renewed()
+        set_up = [*self.set_up, replacement.lines]
         try:
-            if heir.size > MOST_SET_UP_BYTES or not self.file.is_saved:
+            if replacement.size > MOST_SET_UP_BYTES or not self.file.is_saved:
                 raise LabError("there is no room for another script")
-            file = self.file.successor(len(set_up), heir.script)
-            if not self._save(heir, set_up):
+            file = self.file.successor(len(set_up), replacement.script)
+            if not self._save(replacement, set_up):
                 file.discard()
                 raise LabError("the notes of the script aren't saved")
         except BaseException:
-            heir.close()
+            replacement.close()
             raise
-        old, self._machine.session = self._machine.session, heir
+        old, self._machine.session = self._machine.session, replacement
         old.end()
         old.close()
         self.file.close()

@@ -12,12 +12,12 @@ from ..compilers.compiled import CompiledProgram, variable_rows
 from ..guest.guest import Guest
 from ..instructions.reasons import brief_stop
 from ..lessons.frames import MOST_NAMED
-from ..machine.answers import ControlRegisters, Granted, Stop, by_whom, is_refusal, is_stop, read
+from ..machine.answers import ControlRegisters, Granted, Stop, answers_by_user, is_refusal, is_stop, read
 from ..machine.lines import DIGITS, is_look, words_of
 from ..machine.session import Session
 from .languages import SourceText
 from .live import is_servers
-from ..page.state import ABSENT, RowChoice, Sight, State, look_at, with_rows
+from ..page.state import ABSENT, VisibleRows, WatchSet, State, look_at, with_rows
 
 LOG_ENTRIES = 500
 UNNAMED: State = {"labels": {}, "lines": {}}
@@ -52,8 +52,8 @@ class Seat:
     number: int = 0
     state: State = field(default_factory=ABSENT.copy)
     shown: State = field(default_factory=ABSENT.copy)
-    sight: Sight = field(default_factory=Sight)
-    rows: RowChoice = field(default_factory=RowChoice)
+    watch_set: WatchSet = field(default_factory=WatchSet)
+    rows: VisibleRows = field(default_factory=VisibleRows)
     named: State = field(default_factory=UNNAMED.copy)
     written: SourceText = SourceText()
     program: Program | None = None
@@ -61,7 +61,7 @@ class Seat:
     stop: str = ""
     line: str = ""
     answer: str = ""
-    stands: str = ""
+    condition: str = ""
     is_stuck: bool = False
     since: float = field(default_factory=time.time)
     stepped: State | None = None
@@ -79,14 +79,14 @@ class Seat:
     def follow(self, state: State, shown: State) -> None:
         """Set a state, and the program's condition in it."""
         before, self.state, self.shown = self.state, state, shown
-        stands, is_stuck = _standing(state, self.stop)
+        condition, is_stuck = _condition(state, self.stop)
         has_moved = state["run"] == "stopped" and before.get("pc") != state["pc"]
-        if has_moved or (before["run"], self.stands) != (state["run"], stands):
-            self.stand(stands, is_stuck)
+        if has_moved or (before["run"], self.condition) != (state["run"], condition):
+            self.set_condition(condition, is_stuck)
 
-    def stand(self, stands: str, is_stuck: bool) -> None:
+    def set_condition(self, condition: str, is_stuck: bool) -> None:
         """Set its condition from now on."""
-        self.stands, self.is_stuck, self.since = stands, is_stuck, time.time()
+        self.condition, self.is_stuck, self.since = condition, is_stuck, time.time()
 
     def take(self, source: SourceText, program: Program) -> None:
         """Set the source that is in the machine now."""
@@ -100,7 +100,7 @@ class Seat:
     def list_program(self, program: Program) -> None:
         """Has instructions and variables of a program shown that a compiler made, in place of all that lines name."""
         if isinstance(program, CompiledProgram):
-            self.sight.take_compiled(program.text(), variable_rows(program.variables)[:MOST_NAMED])
+            self.watch_set.take_compiled(program.text(), variable_rows(program.variables)[:MOST_NAMED])
 
     def put_out(self, digits: str) -> None:
         """Append output of the program. Full blocks stay as they are, so that pages don't receive them again."""
@@ -135,9 +135,9 @@ class Seats:
         """Takes up what a user's line says of the user's memory."""
         if line[0] in self.users and not is_refusal(answer):
             seat = self.users[line[0]]
-            seat.sight.follow(line)
+            seat.watch_set.follow(line)
             if _begins_anew(line, answer):
-                seat.rows = RowChoice()
+                seat.rows = VisibleRows()
 
     def touched(self, done: Sequence[Done]) -> set[str]:
         """Whom lines may have changed: their users, and whose programs an operator's line may have run."""
@@ -147,19 +147,19 @@ class Seats:
     def look(self, session: Session, done: Sequence[Done], digits: Iterable[str]) -> dict[str, tuple[State, State]]:
         """The states of users after what was done: all that is known, and what pages show of it."""
         lines, states = [line for line, _ in done], {}
-        said = [each for _, answer in done for each in by_whom(answer)]
+        said = [each for _, answer in done for each in answers_by_user(answer)]
         for digit in digits:
             seat = self.users[digit]
             anew = any(line[0] == digit and _begins_anew(line, answer) for line, answer in done)
             before = ABSENT if anew else seat.state
             own = [each for whom, each in said if whom == digit]
             single = lines == [f"{digit} step 1"] and before["run"] == "stopped"
-            carried_out = before["code"].get(before["pc"], "")[9:] if single else ""
+            executed = before["code"].get(before["pc"], "")[9:] if single else ""
             is_done = not all(map(is_look, lines))
-            state = look_at(Guest(session, int(digit)), seat.sight, before, own, carried_out, is_done)
+            state = look_at(Guest(session, int(digit)), seat.watch_set, before, own, executed, is_done)
             state.pop("output", None)  # which the seat has
             seat.rows.add(state)
-            states[digit] = state, with_rows(state, seat.rows.rows(seat.sight, 1 + seat.sight.is_compiled))
+            states[digit] = state, with_rows(state, seat.rows.rows(seat.watch_set, 1 + seat.watch_set.is_compiled))
         return states
 
     def take(self, states: dict[str, tuple[State, State]], done: Sequence[Done] = ()) -> None:
@@ -171,7 +171,7 @@ class Seats:
                 seat.stepped = seat.state if lines == [f"{digit} step 1"] and seat.state["run"] == "stopped" else None
             seat.follow(*pair)
 
-    def observe(self, line: str, answer: Sequence[str], is_told: bool) -> None:
+    def observe(self, line: str, answer: Sequence[str], is_reported: bool) -> None:
         """Send seats a line and its answer. Lines of the clock, and those that grant own slices, are left out.
 
         For the server's own lines, seats receive the number of bytes of output.
@@ -186,7 +186,7 @@ class Seats:
                 asker.note("=" + " ".join(answer[0].split()[:3]))
             asker.stop = "" if words == ["go"] else asker.stop
             return
-        if is_told:
+        if is_reported:
             asker.note(f">{line}")
             asker.line = line[2:]
         if line[0] == "*" and words[:1] == ["run"] and words[1:] and words[1] in self.users:
@@ -200,7 +200,7 @@ class Seats:
             asker.stop, asker.slices, asker.seen = "", 0.0, 0.0
         for part, entry in zip(answer, log_entries(line, answer)):
             seat = self.users.get(part[0], self.operator)
-            if is_told or seat is not self.operator:
+            if is_reported or seat is not self.operator:
                 seat.note(entry)
                 seat.answer = part[2:]
             if is_stop(part):
@@ -213,7 +213,7 @@ def _comes_again(entry: str) -> bool:
     return entry[0] == "=" or entry[2:10] == " outfull"
 
 
-def _standing(state: State, last: str) -> tuple[str, bool]:
+def _condition(state: State, last: str) -> tuple[str, bool]:
     """The condition of a program in this state, in a few words, and whether it has a fault; last is its last stop."""
     if state["run"] != "stopped":
         return "", False

@@ -129,7 +129,7 @@ class Server:
         """The machine that a request names, or the first one. Raises HTTPNotFound unless it has somebody's code of these."""
         code, place = request.headers.get("Authorization", "").removeprefix("Bearer "), request.match_info
         room = self.members.rooms.get(place.get("machine", place.get("seat", "A"))[0])
-        if self.members.codes.who(code) not in names or room is None:
+        if self.members.codes.owner(code) not in names or room is None:
             await asyncio.sleep(WRONG_CODE_SECONDS)
             raise web.HTTPNotFound
         return room
@@ -180,14 +180,14 @@ class Server:
         async with self._nameless:
             await own.prepare(request)
             self._sockets.add(own)
-            who = await self._who(own)
-        others = sum(tab.who == who for tab in self.members.tabs)
-        if who is None:
+            role = await self._who(own)
+        others = sum(tab.who == role for tab in self.members.tabs)
+        if role is None:
             await own.close(code=CLOSED, message=b"no such code")
-        elif others >= (2 * SOCKETS if who == TEACHER else SOCKETS):
+        elif others >= (2 * SOCKETS if role == TEACHER else SOCKETS):
             await own.close(code=CROWDED, message=b"too many tabs")
         else:
-            await TabSocket(self._requests, own, Tab(who), partial(_abort, request)).serve(lambda: self._is_ending)
+            await TabSocket(self._requests, own, Tab(role), partial(_abort, request)).serve(lambda: self._is_ending)
         return own
 
     async def _who(self, own: web.WebSocketResponse) -> str | None:
@@ -196,10 +196,10 @@ class Server:
             first = json.loads(await own.receive_str(timeout=PATIENCE))
         except (TypeError, ValueError, RecursionError, asyncio.TimeoutError):
             return None
-        who = self.members.codes.who(first.get("code") if isinstance(first, dict) else None)
-        if who is None:
+        role = self.members.codes.owner(first.get("code") if isinstance(first, dict) else None)
+        if role is None:
             await asyncio.sleep(WRONG_CODE_SECONDS)
-        return who
+        return role
 
 
 def listening(host: str, port: int) -> list[socket.socket]:
@@ -223,7 +223,7 @@ def is_loopback(host: str) -> bool:
 
 @contextlib.asynccontextmanager
 async def served(
-    members: Class, doors: Iterable[socket.socket], names: set[str], tls: ssl.SSLContext | None = None
+    members: Class, listeners: Iterable[socket.socket], names: set[str], tls: ssl.SSLContext | None = None
 ) -> AsyncIterator[int]:
     """Serves a class at sockets that listen, by HTTPS if there is a context for it; the port of the first. Ends it behind."""
     logging.getLogger("aiohttp.server").addFilter(_is_ours)
@@ -232,9 +232,9 @@ async def served(
     await runner.setup()
     tasks = []
     try:
-        for door in doors:
-            plain = web.SockSite(runner, door, shutdown_timeout=LAST_SECONDS)
-            await (TlsSite(runner, door, tls, UNKNOWN, PATIENCE) if tls else plain).start()
+        for listener in listeners:
+            plain = web.SockSite(runner, listener, shutdown_timeout=LAST_SECONDS)
+            await (TlsSite(runner, listener, tls, UNKNOWN, PATIENCE) if tls else plain).start()
         rooms = members.rooms.values()
         work = [
             server.sweep(runner),
@@ -257,9 +257,9 @@ async def served(
 async def serve(
     members: Class,
     host: str,
-    doors: Iterable[socket.socket],
+    listeners: Iterable[socket.socket],
     names: set[str],
-    who: str = TEACHER,
+    role: str = TEACHER,
     tls: ssl.SSLContext | None = None,
 ) -> None:
     """Serves a class at a host's sockets until SIGINT or SIGTERM, and prints the address of somebody's page.
@@ -273,9 +273,9 @@ async def serve(
     for sign in (signal.SIGINT, signal.SIGTERM):
         loop.add_signal_handler(sign, ended.set)
     members.is_unencrypted = tls is None and not is_loopback(host)
-    async with served(members, doors, {host, *names}, tls) as port:
-        whose = "page" if who != TEACHER else who
-        print(f"{whose}: {_address(host, port, 'https' if tls else 'http')}#{members.codes.codes[who]}", flush=True)
+    async with served(members, listeners, {host, *names}, tls) as port:
+        whose = "page" if role != TEACHER else role
+        print(f"{whose}: {_address(host, port, 'https' if tls else 'http')}#{members.codes.codes[role]}", flush=True)
         if members.is_unencrypted:
             warning = f"codes travel unencrypted, and all computers that reach {host} can use them: use a network that you trust"
             print(f"vecmon-lab: warning: {warning}, or --tls (docs/CLASS_ADMIN.md)", file=sys.stderr)

@@ -12,7 +12,7 @@ from typing import Protocol, TypeVar
 from .. import LabError
 from ..assembler.source import Program, SourceError, in_order, refusal
 from ..compilers.compiled import CompiledProgram
-from ..guest.changes import Carried
+from ..guest.changes import Retired
 from ..guest.guest import Guest
 from ..machine.answers import Granted, Listing, Position, Refused, Stop, read
 from ..machine.lines import is_look
@@ -111,7 +111,7 @@ class SharedMachine:
         yield TakeSeat()
         breaks: Sequence[int] = []
         if source is None:
-            source, program, breaks = seat.written, seat.program, sorted(seat.sight.breaks)
+            source, program, breaks = seat.written, seat.program, sorted(seat.watch_set.breaks)
         if program is None:
             raise BadRequest("this machine has no loaded source to restart")
         warnings = program.warnings if isinstance(program, CompiledProgram) else []
@@ -128,8 +128,8 @@ class SharedMachine:
 
         Raises BadRequest where the seat's share of the script has no room for it.
         """
-        begin = [*LEAVING[seat.state["run"]], "enter", *program.lines, f"setpc {program.entry:x}"]
-        lines = own_lines(seat, [*begin, *(f"break {address:x}" for address in breaks)])
+        start = [*LEAVING[seat.state["run"]], "enter", *program.lines, f"setpc {program.entry:x}"]
+        lines = own_lines(seat, [*start, *(f"break {address:x}" for address in breaks)])
         self._check_share(seat, lines)
         statements = {f"{seat.digit} {each.command}": each for each in program.statements}
         mistakes, done = list[SourceError](), list[Done]()
@@ -174,12 +174,12 @@ class SharedMachine:
     def _why(self, seat: Seat, before: State, name: str) -> str:
         line, stop = before["code"].get(before["pc"], "00000000 "), seat.stop and read([f"{seat.digit} {seat.stop}"])
         is_own = isinstance(stop, Stop) and f"{stop.pc:x}" == before["pc"]
-        carried = Carried(
+        retired = Retired(
             int(before["pc"], 16), int(line[:8], 16), line[9:], [], stop if isinstance(stop, Stop) and is_own else None
         )
         try:
             explanation = explanation_of(
-                Guest(self.session, int(seat.digit)), registers_of(before), registers_of(seat.state).control, carried
+                Guest(self.session, int(seat.digit)), registers_of(before), registers_of(seat.state).control, retired
             )
             return explanation.why(*read_name(name)).text
         except LabError as error:
@@ -194,15 +194,15 @@ class SharedMachine:
         """A turn that grants slices to all programs that run."""
         return Turn(lambda turn: self.do(turn, f"* slices {slices}"))
 
-    def show(self, seat: Seat, why: str, who: str) -> Steps[None]:
+    def show(self, seat: Seat, why: str, role: str) -> Steps[None]:
         """Shows a running program, which stops for that, and goes on unless there is a reason why it mustn't.
 
         who: stops it then: the server, or the page
         """
         yield Turn(partial(self._show, seat, not why))
         if why and seat.state["run"] == "stopped":
-            seat.stand(f"stopped, since {why}", True)
-            seat.note(f"!The {who} stopped the program, since {why}. go lets it run on.")
+            seat.set_condition(f"stopped, since {why}", True)
+            seat.note(f"!The {role} stopped the program, since {why}. go lets it run on.")
 
     def has_run_long(self, seat: Seat, limit: int) -> str:
         """Why a running program must stop: it has run for about this number of ticks; "" if it hasn't."""
@@ -259,13 +259,13 @@ class SharedMachine:
     def _step_line(self, seat: Seat, program: CompiledProgram, turn: Turn) -> None:
         """Steps to another line of a source, block by block."""
         pc = int(seat.state["pc"], 16)
-        begun = program.line_at(pc)
+        started = program.line_at(pc)
         for _ in range(LINE_BLOCKS):
             answer = read(*self.do(turn, f"{seat.digit} step {self._block(seat, program, pc)}"))
             if not isinstance(answer, Position):
                 return
             pc = answer.pc
-            if program.line_at(pc) not in (0, begun) or pc in seat.sight.breaks:
+            if program.line_at(pc) not in (0, started) or pc in seat.watch_set.breaks:
                 return
 
     def _block(self, seat: Seat, program: CompiledProgram, pc: int) -> int:
@@ -275,7 +275,11 @@ class SharedMachine:
         number = 0
         for number, word in enumerate(words, 1):
             after = word.address + 4
-            if word.text[0] in LEAVES or program.line_at(after) != program.line_at(pc) or after in seat.sight.breaks:
+            if (
+                word.text[0] in LEAVES
+                or program.line_at(after) != program.line_at(pc)
+                or after in seat.watch_set.breaks
+            ):
                 break
         return max(number, 1)
 
@@ -290,7 +294,7 @@ class SharedMachine:
         """Looks at a running program, which stops for that, and may go on; at no breakpoint, since `go` passes one."""
         turn.is_last = False
         place = read(self.session.look(f"{seat.digit} state"))
-        if not isinstance(place, Position) or place.run != "running" or place.pc in seat.sight.breaks:
+        if not isinstance(place, Position) or place.run != "running" or place.pc in seat.watch_set.breaks:
             return
         self.do(turn, server_line(seat.digit, "stop"), server_line(seat.digit, "out"))
         self._look(turn)

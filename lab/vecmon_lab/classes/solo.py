@@ -19,8 +19,8 @@ PATIENCE = 30.0
 
 def add_arguments(parser: argparse.ArgumentParser) -> None:
     """The words of `vecmon-lab solo`."""
-    told = "the folder of a class, which may be running"
-    parser.add_argument("folder", metavar="DIR", type=pathlib.Path, help=told)
+    help_text = "the folder of a class, which may be running"
+    parser.add_argument("folder", metavar="DIR", type=pathlib.Path, help=help_text)
     parser.add_argument("seat", metavar="SEAT", help="A1 to L8")
 
 

@@ -132,8 +132,8 @@ class SeatSource:
         if (self.exercise, self.own) != self._saved and self._write_own():
             self._saved = (self.exercise, self.own)
         if self.written != self._saved_written:
-            told = program.told.decode("utf-8", "replace") if isinstance(program, CompiledProgram) else ""
-            is_saved = self._store.write_text(f"{self._name}.{MADE}", told)
+            reply = program.reply.decode("utf-8", "replace") if isinstance(program, CompiledProgram) else ""
+            is_saved = self._store.write_text(f"{self._name}.{MADE}", reply)
             if is_saved and self._write(f"{self._name}.written", self.written):
                 self._saved_written = self.written
         for version in self.versions:

@@ -29,7 +29,7 @@ from ..machine.program import digest_of
 from ..machine.session import BadLine, Block, OutOfStep, Session, recorded_lines
 from .codes import LETTERS, TEACHER, Codes, new_code
 from .durable import Flusher, replace_file, sync_folder
-from .kept import SCRIPT_NAME, Facts, Notes, codes
+from .stored_files import SCRIPT_NAME, Facts, Notes, codes
 
 
 class BadFolder(LabError):
@@ -45,7 +45,7 @@ NEWLINE = b"\n"
 class ScriptFile:
     """A script on the disk: each line is appended before the machine is asked, and flushed to the disk soon.
 
-    Where the disk takes nothing, lines wait in memory and follow later; `trouble` says so. For one thread at a time, but
+    Where the disk takes nothing, lines wait in memory and follow later; `warning` says so. For one thread at a time, but
     `sync`, which another thread may call.
     """
 
@@ -104,7 +104,7 @@ class ScriptFile:
         return not self._waiting
 
     @property
-    def trouble(self) -> str:
+    def warning(self) -> str:
         """Why lines aren't saved; empty if all are."""
         return self._write_trouble or self._sync_trouble
 
@@ -122,7 +122,7 @@ class ScriptFile:
             self._flush_soon()
 
     def sync(self) -> None:
-        """Flushes to the disk what was appended, and the file's name at first. Raises OSError; `trouble` reports it too."""
+        """Flushes to the disk what was appended, and the file's name at first. Raises OSError; `warning` reports it too."""
         with self._sync_turn:
             if not self._is_open:
                 return
@@ -213,9 +213,9 @@ class Store:
         )
         self.images = {name: self._image(name) for name in restored}
         self.codes = Codes(self.machines, self.read("codes.json", codes, "all seats and the teacher have new codes"))
-        begun: dict[str, Mapping[str, object]] = {"codes.json": self.codes.codes, "class.json": asdict(facts)}
-        if not self._is_reading and not all(self.write_now(name, value) for name, value in begun.items()):
-            raise BadFolder(self.trouble)
+        started: dict[str, Mapping[str, object]] = {"codes.json": self.codes.codes, "class.json": asdict(facts)}
+        if not self._is_reading and not all(self.write_now(name, value) for name, value in started.items()):
+            raise BadFolder(self.warning)
 
     def close(self) -> None:
         """Brings to the disk what waits, and leaves the folder to others."""
@@ -279,10 +279,10 @@ class Store:
     def scripts(self, machine: str) -> Iterator[tuple[bytes, bytes]]:
         """A machine's scripts: of each the lines that set the machine up, and those behind them that were answered."""
         notes = self.notes(machine)
-        for number, begin in enumerate(notes.scripts, 1):
+        for number, start in enumerate(notes.scripts, 1):
             lines = self._lines(machine, number)
             end = notes.lines if number == len(notes.scripts) else len(lines)
-            yield b"".join(lines[:begin]), b"".join(lines[begin:end])
+            yield b"".join(lines[:start]), b"".join(lines[start:end])
 
     def check_program(self) -> bool:
         """Whether the program is there. Raises BadFolder if another is in its place, as after an upgrade."""
@@ -311,13 +311,13 @@ class Store:
     def loss(self) -> str:
         """The losses, for a page: the first few sentences; empty if nothing is lost."""
         more = len(self.lost) - SHOWN
-        told = [*self.lost[:SHOWN], *([f"and {more} more, which the terminal lists"] if more > 0 else [])]
-        return f"Lost before the class was started: {'; '.join(told)}." if told else ""
+        shown = [*self.lost[:SHOWN], *([f"and {more} more, which the terminal lists"] if more > 0 else [])]
+        return f"Lost before the class was started: {'; '.join(shown)}." if shown else ""
 
     @property
-    def trouble(self) -> str:
+    def warning(self) -> str:
         """Why something isn't saved; empty if all is."""
-        return "".join(list(self._flusher.troubles.values())[:1]) if self._flusher else ""
+        return "".join(list(self._flusher.failures.values())[:1]) if self._flusher else ""
 
     def files(self, pattern: str) -> Iterator[tuple[str, float]]:
         """The names that match a pattern, and their times; of those that wait for the disk the present time."""
@@ -342,7 +342,7 @@ class Store:
             return ""
 
     def write(self, name: str, value: Mapping[str, object]) -> bool:
-        """Keeps an object, which is on the disk soon, as a whole or not at all. `trouble` says why it isn't."""
+        """Keeps an object, which is on the disk soon, as a whole or not at all. `warning` says why it isn't."""
         return self.write_text(name, json.dumps(value, indent=1))
 
     def write_now(self, name: str, value: Mapping[str, object]) -> bool:

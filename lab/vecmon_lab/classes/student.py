@@ -3,7 +3,7 @@
 from collections.abc import Callable, Mapping
 
 from .. import LabError
-from ..exercises.check import mistakes_told
+from ..exercises.check import mistakes_json
 from .languages import LANGUAGES, SourceText
 from .messages import Message, shown, source_view
 from .progress import Exercises
@@ -71,11 +71,11 @@ class Student:
                 self._check(self.seat.name, name, source)
             case TryCase(name, source):
                 case = self.exercises.failed(self.seat.name, name, source)
-                told = yield from self._write(source, is_answer=True)
-                if not told["mistakes"]:
+                result = yield from self._write(source, is_answer=True)
+                if not result["mistakes"]:
                     given = Lines("", case(int(self.seat.state["pc"], 16)), 0, [])
                     yield from self.machine.lines(self.seat, given, [])
-                return told
+                return result
         return {}
 
     def _write(self, source: SourceText | None, number: int = -1, is_answer: bool = False) -> Steps[Message]:
@@ -84,8 +84,8 @@ class Student:
             self.source.write(source, number)
         mistakes, warnings = yield from self.machine.write(self.seat, source, is_answer)
         if mistakes:
-            self.seat.stand(f"{len(mistakes)} mistake{'s' * (len(mistakes) > 1)} in the source", True)
-        return {"mistakes": mistakes_told(mistakes), "warnings": mistakes_told(warnings)}
+            self.seat.set_condition(f"{len(mistakes)} mistake{'s' * (len(mistakes) > 1)} in the source", True)
+        return {"mistakes": mistakes_json(mistakes), "warnings": mistakes_json(warnings)}
 
     def view(self, more: Mapping[str, object]) -> Mapping[str, object]:
         """The student's view; more: fields that aren't the seat's own."""

@@ -18,7 +18,7 @@ from ..lessons.page import lesson_page
 from ..lessons.script import Script, Step, add_line, read_assembled, read_compiled
 from ..machine.lines import words_of
 from .checks import kept_answers
-from .kept import texts
+from .stored_files import texts
 from .languages import SourceText
 from .live import is_servers
 from .names import NAMES

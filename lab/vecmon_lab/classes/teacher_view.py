@@ -80,8 +80,8 @@ def wall_view(members: Class) -> WallView:
     """The wall's view: no code, and nothing of other seats."""
     if members.wall is None:
         return {"seat": "", "state": {}, "stop": "", "trouble": ""}
-    trouble = members.rooms[members.wall.name[0]].trouble
-    return {"seat": members.wall.name, "state": shown(members.wall), "stop": members.wall.stop, "trouble": trouble}
+    warning = members.rooms[members.wall.name[0]].warning
+    return {"seat": members.wall.name, "state": shown(members.wall), "stop": members.wall.stop, "trouble": warning}
 
 
 def teacher_view(members: Class, tab: Tab) -> TeacherView:
@@ -91,7 +91,7 @@ def teacher_view(members: Class, tab: Tab) -> TeacherView:
         "share": SEAT_BYTES,
         "images": list(members.store.images),
         "quantum": members.store.quantum,
-        "trouble": " ".join(filter(None, [members.store.trouble, members.store.loss])),
+        "trouble": " ".join(filter(None, [members.store.warning, members.store.loss])),
         "shoulder": tab.shoulder.name if tab.shoulder else "",
         "state": shown(tab.shoulder) if tab.shoulder else {},
         "wall": members.wall.name if members.wall else "",
@@ -118,7 +118,7 @@ def _machine_view(members: Class, room: Room) -> MachineView:
         "digest": room.session.digest,
         "restarts": len(room.session.losses),
         "loss": "".join(room.session.losses[-1:]),
-        "trouble": room.trouble,
+        "trouble": room.warning,
     }
 
 
@@ -127,7 +127,7 @@ def _seat_view(members: Class, seat: Seat) -> SeatView:
         "name": members.names.get(seat.name, ""),
         "tabs": sum(tab.who == seat.name for tab in members.tabs),
         "run": seat.state["run"],
-        "stands": seat.stands,
+        "stands": seat.condition,
         "stuck": seat.is_stuck,
         "since": int(seat.since),
         "line": seat.line,

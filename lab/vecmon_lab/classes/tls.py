@@ -65,17 +65,17 @@ class HandshakeServer:
 
     def __init__(
         self,
-        door: socket.socket,
+        listener: socket.socket,
         make: Callable[[], asyncio.Protocol],
         context: ssl.SSLContext,
         most: int,
         seconds: float,
     ) -> None:
         """make: returns the protocol of a connection; most, seconds: of handshakes at once, and the limit of one"""
-        self.sockets = (door,)
+        self.sockets = (listener,)
         self._make, self._context, self._most, self._seconds = make, context, most, seconds
         self._handshakes: deque[asyncio.Task[None]] = deque()  # the oldest first; some have ended
-        self._accepting = asyncio.create_task(self._accept(door))
+        self._accepting = asyncio.create_task(self._accept(listener))
 
     def close(self) -> None:
         """Accepts nothing more, and gives up the handshakes under way."""
@@ -87,12 +87,12 @@ class HandshakeServer:
         await asyncio.gather(self._accepting, *self._handshakes, return_exceptions=True)
         self.sockets[0].close()
 
-    async def _accept(self, door: socket.socket) -> None:
+    async def _accept(self, listener: socket.socket) -> None:
         """Accepts connections for ever. Of too many handshakes the oldest is given up."""
-        door.setblocking(False)
+        listener.setblocking(False)
         while True:
             try:
-                connection, _ = await asyncio.get_running_loop().sock_accept(door)
+                connection, _ = await asyncio.get_running_loop().sock_accept(listener)
             except OSError:
                 await asyncio.sleep(ACCEPT_PAUSE)
                 continue
@@ -128,10 +128,10 @@ class TlsSite(web.SockSite):
     __slots__ = ("_limits",)
 
     def __init__(
-        self, runner: web.BaseRunner, door: socket.socket, context: ssl.SSLContext, most: int, seconds: float
+        self, runner: web.BaseRunner, listener: socket.socket, context: ssl.SSLContext, most: int, seconds: float
     ) -> None:
         """most, seconds: of handshakes at once, and the limit of one"""
-        super().__init__(runner, door, ssl_context=context, shutdown_timeout=LAST_SECONDS)
+        super().__init__(runner, listener, ssl_context=context, shutdown_timeout=LAST_SECONDS)
         self._limits = most, seconds
 
     async def start(self) -> None:

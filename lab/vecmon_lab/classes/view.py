@@ -9,7 +9,7 @@ from dataclasses import asdict, replace
 from functools import partial
 
 from .. import LabError
-from .beside import Beside, alone
+from .worker_pool import WorkerPool, exclusive
 from .builds import Builds
 from .checks import Checks
 from .codes import TEACHER, WALL
@@ -20,7 +20,7 @@ from .notices import Notices
 from .requests import BadRequest
 from .room import Room
 from .seats import Seat
-from .kept import Notes, texts
+from .stored_files import Notes, texts
 from .store import Store, script_name
 from .student import Student
 
@@ -30,8 +30,8 @@ COUNTS_SECONDS = 1.0  # between notes of a machine that only count more lines
 class Tab:
     """A tab and what it was sent. `changed` is set when there may be more; `is_open` falls with its code."""
 
-    def __init__(self, who: str) -> None:
-        self.who = who
+    def __init__(self, role: str) -> None:
+        self.who = role
         self.shoulder: Seat | None = None  # whom a teacher looks at
         self.sent = Updates()
         self.changed = asyncio.Event()
@@ -73,7 +73,7 @@ class Class:
         self.students: dict[str, Student] = {}
         self._kept: dict[str, tuple[Notes, float]] = {}  # and when they were kept
         self._trouble = ""  # as pages have it
-        makers, self._packers, self._packing = Beside(1), Beside(2), set[str]()
+        makers, self._packers, self._packing = WorkerPool(1), WorkerPool(2), set[str]()
         try:
             self.checks = Checks(store, exercises, self.tell, self.builds)
             for letter in store.machines:
@@ -107,22 +107,22 @@ class Class:
         for room in self.rooms.values():
             if room.is_busy():
                 continue
-            before = room.trouble
+            before = room.warning
             room.scripts.file.catch_up()
-            if room.trouble != before:
+            if room.warning != before:
                 self.tell(room.seats.names())
             notes = room.notes()
             if room.scripts.file.is_saved and self._are_due(room.letter, notes, with_counts):
                 self.store.write(f"{room.letter}.json", asdict(notes))
                 self._kept[room.letter] = notes, time.monotonic()
         self.checks.keep()
-        if self.store.trouble != self._trouble:
-            self._trouble = self.store.trouble
+        if self.store.warning != self._trouble:
+            self._trouble = self.store.warning
             self.tell([])
 
     async def take_home(self, seat: str) -> bytes:
         """The archive that a student takes home. Raises LabError where there is none, or it is being made already."""
-        with alone(seat, self._packing, LabError("it is being made already")):
+        with exclusive(seat, self._packing, LabError("it is being made already")):
             self.keep()
             await asyncio.to_thread(self.store.flush)
             return await self._packers.run("classes.take_home", f"{self.store.folder}", f"{self.store.program}", seat)
@@ -159,7 +159,7 @@ class Class:
             "no_c": self.builds.no_c,
             "against": self.comparisons.names,
             "ready": not room.thread.rebuilding,
-            "trouble": room.trouble,
+            "trouble": room.warning,
         }
         return student.view(more)
 
@@ -202,7 +202,7 @@ class Class:
         rows: list[Sequence[object]] = [("seat", "name", "state", "details", "since", "bytes of the script")]
         for seat in self.seats(""):
             name, since = self.names.get(seat.name, ""), local_time(seat.since)
-            rows.append((seat.name, name, seat.state["run"], seat.stands, since, seat.used))
+            rows.append((seat.name, name, seat.state["run"], seat.condition, since, seat.used))
         return as_csv(rows)
 
     def exercise_table(self) -> bytes:

@@ -63,5 +63,5 @@ def shape(entry: "DIE | None") -> tuple[str, list[int]]:
 def _counts(entry: "DIE") -> list[int]:
     """The dimensions of an array; 0 for one without a constant."""
     ranges = [child.attributes for child in entry.iter_children() if child.tag == "DW_TAG_subrange_type"]
-    told = [[each[name].value + more for name, more in _COUNTS if name in each] for each in ranges]
-    return [number[0] if number and isinstance(number[0], int) else 0 for number in told]
+    counts = [[each[name].value + more for name, more in _COUNTS if name in each] for each in ranges]
+    return [number[0] if number and isinstance(number[0], int) else 0 for number in counts]

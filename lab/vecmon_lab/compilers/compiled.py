@@ -25,14 +25,14 @@ _DATA = re.compile(rb"[^\0]+(?:\0{1,15}[^\0]+)*")  # bytes with few zeros betwee
 STACK = (f"map {STACK_END - 0x4000:x} 4 rw", f"set x2 {STACK_POINTER:x}")
 
 Isolation = Callable[[Sequence[str], str], bytes]
-"""A function that runs `inside` with these arguments for a source of others, apart from the user's files; its output."""
+"""A function that runs `sandbox_main` with these arguments for a source of others, apart from the user's files; its output."""
 
 
 @dataclass(frozen=True)
 class CompiledProgram(Program):
     """A program that a compiler made.
 
-    told: the data it was read from
+    reply: the data it was read from
     rows: where instructions of a line of the source begin, with that line (0 for none) and the function that was inlined
     there, in rising order; warnings: the compiler's; variables: those of the source
     stops: the addresses of a line's breakpoints, by its number; entries: where functions and their inlined copies are
@@ -44,12 +44,12 @@ class CompiledProgram(Program):
     variables: Sequence[Variable] = ()
     stops: Mapping[int, Sequence[int]] = field(default_factory=dict)
     entries: Mapping[str, Sequence[int]] = field(default_factory=dict)
-    told: bytes = b""
+    reply: bytes = b""
 
     def check(self, name: str) -> None:
         """Raises LabError where a source of this name has mistakes, with a line for each."""
         if self.mistakes:
-            raise LabError("\n".join(error.told(name) for error in self.mistakes))
+            raise LabError("\n".join(error.diagnostic(name) for error in self.mistakes))
 
     def text(self) -> range:
         """The addresses of its instructions."""
@@ -66,8 +66,8 @@ class CompiledProgram(Program):
         An instruction is of the last line that begins at its address or before it.
         """
         numbers = {address: number for address, number, _ in self.rows}  # of several at an address the last one
-        told = zip(numbers.items(), [None, *numbers.values()])
-        return {f"{address:x}": number for (address, number), before in told if number != before}
+        pairs = zip(numbers.items(), [None, *numbers.values()])
+        return {f"{address:x}": number for (address, number), before in pairs if number != before}
 
     def line_stops(self) -> dict[str, list[str]]:
         """The addresses of each line's breakpoints, by its number."""
@@ -76,27 +76,27 @@ class CompiledProgram(Program):
     def source_lines(self, text: str) -> dict[str, str]:
         """The number and the text of the line that instructions are of, by the address of their first word."""
         lines = ["", *text.split("\n")]
-        told, before = {}, 0
+        texts, before = {}, 0
         for address, number, inlined in self.rows:
             if number != before and 0 < number < len(lines):
                 of = f"  ({inlined}, inlined)" if inlined else ""
-                told[f"{address:x}"] = f"{number}  {lines[number].strip()}{of}"
+                texts[f"{address:x}"] = f"{number}  {lines[number].strip()}{of}"
             before = number
-        return told
+        return texts
 
     def addresses(self) -> dict[int, int]:
         """The first instruction of each line of the source that has one."""
         return {number: address for address, number, _ in reversed(self.rows) if number}
 
 
-def read_compiled_program(told: bytes, most: int = IMAGE_BYTES) -> CompiledProgram:
-    """The program of what `inside` printed. Raises LabError where that is in bad form, or too much.
+def read_compiled_program(reply: bytes, most: int = IMAGE_BYTES) -> CompiledProgram:
+    """The program of what `sandbox_main` printed. Raises LabError where that is in bad form, or too much.
 
     Raises ToolError where the source couldn't be compiled, and that says nothing about it.
     """
     errors, warnings = list[SourceError](), list[SourceError]()
     try:
-        answer = json.loads(told)
+        answer = json.loads(reply)
         if failure := answer.get("failure"):
             raise ToolError(str(failure)[:MESSAGE_LETTERS])
         for line, column, is_error, text in answer["messages"][:MOST_MESSAGES]:
@@ -105,7 +105,7 @@ def read_compiled_program(told: bytes, most: int = IMAGE_BYTES) -> CompiledProgr
             return CompiledProgram([], {}, [], 0, errors, (), warnings)
         program = program_of(answer["image"], warnings, most)
         program.names()  # so that a malformed field is reported now
-        return replace(program, told=told)
+        return replace(program, reply=reply)
     except (ValueError, TypeError, LookupError, AttributeError, RecursionError) as error:
         raise LabError("the compiler's output can't be read") from error
 
@@ -145,17 +145,19 @@ def variable_rows(variables: Sequence[Sequence[Any]]) -> list[int]:
 
 
 def _stops(
-    told: Mapping[str, Sequence[int]] | None, rows: Sequence[tuple[int, int, str]]
+    addresses_by_name: Mapping[str, Sequence[int]] | None, rows: Sequence[tuple[int, int, str]]
 ) -> tuple[dict[int, list[int]], dict[str, list[int]]]:
     """The addresses of breakpoints by line, and by function. Images of version 1.0 have none, so a line's are where it begins."""
     stops, entries = dict[int, list[int]](), dict[str, list[int]]()
-    for name, addresses in islice((told or {}).items(), MOST_ROWS):
+    for name, addresses in islice((addresses_by_name or {}).items(), MOST_ROWS):
         places = sorted({int(address) for address in islice(addresses, MOST_STOPS)})
         if number := _own_line(name):
             stops[number] = places
         else:
             entries[name[:NAME_LETTERS]] = places
-    for (address, number, _), before in zip(rows if told is None else (), [0, *(number for _, number, _ in rows)]):
+    for (address, number, _), before in zip(
+        rows if addresses_by_name is None else (), [0, *(number for _, number, _ in rows)]
+    ):
         if number not in (0, before):
             stops.setdefault(number, []).append(address)
     return stops, entries

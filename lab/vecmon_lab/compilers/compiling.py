@@ -49,7 +49,7 @@ def compiled_image(path: pathlib.Path) -> pathlib.Path:
 
 
 def words_for(text: str, compiler: Compiler, choice: int, is_answer: bool = False) -> list[str]:
-    """The words of `inside` for a source. Raises LabError where that is too long."""
+    """The words of `sandbox_main` for a source. Raises LabError where that is too long."""
     if len(text.encode("utf-8", "replace")) > SOURCE_BYTES:
         raise LabError(f"a source that is compiled has {SOURCE_BYTES:,} bytes at most")
     return [compiler.name, f"{choice}", *[FUNCTION] * is_answer]

@@ -41,7 +41,7 @@ def check_container(*private: pathlib.Path) -> None:
 
 
 def answer_as_nobody(words: Sequence[str], text: str) -> bytes:
-    """The output of `inside` with these arguments, which runs as the user nobody. Raises LabError, and ToolError."""
+    """The output of `sandbox_main` with these arguments, which runs as the user nobody. Raises LabError, and ToolError."""
     with tempfile.TemporaryDirectory() as place:
         lab, folder = pathlib.Path(place, "lab"), pathlib.Path(place, "folder")
         for module in MODULES:  # since the lab may be in a folder that root alone can read

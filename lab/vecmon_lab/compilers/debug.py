@@ -91,13 +91,13 @@ def _segments(elf: "ELFFile") -> Iterator[Segment]:
 def _rows(elf: "ELFFile") -> tuple[list[LineRow], dict[str, list[int]]]:
     """The rows of the line tables, by addresses, and where breakpoints of lines and functions of the source are; none if those are damaged."""
     try:
-        told, copies = [*islice(source_rows(elf), MOST_ROWS)], [*copies_in(elf)]
+        listed, copies = [*islice(source_rows(elf), MOST_ROWS)], [*copies_in(elf)]
     except Exception:  # pylint: disable=broad-except  # damaged data makes pyelftools raise what its parts do
         return [], {}
-    copy_at = innermost((row.address for row in told), copies)
+    copy_at = innermost((row.address for row in listed), copies)
     inlined = {address: copy.name for address, copy in copy_at.items() if copy.called}
-    rows = [LineRow(row.address, row.line[:NAME_LETTERS], inlined.get(row.address, "")) for row in told]
-    stops = {line: at[:MOST_STOPS] for line, at in line_addresses(told, copies).items() if _is_own(line)}
+    rows = [LineRow(row.address, row.line[:NAME_LETTERS], inlined.get(row.address, "")) for row in listed]
+    stops = {line: at[:MOST_STOPS] for line, at in line_addresses(listed, copies).items() if _is_own(line)}
     for copy in copies:
         if _is_own(copy.declared):
             stops.setdefault(copy.name, []).extend(copy.entries)

@@ -12,7 +12,7 @@ def print_compilers() -> None:
     print(f"compilers for sources in C: {', '.join(names) or missing}")
     try:
         sandboxed_compiler(None)
-        told = "it starts"
+        state = "it starts"
     except LabError as error:
-        told = f"not available: {error}"
-    print(f"sandbox for sources in C in class, explore and grade: {told}")
+        state = f"not available: {error}"
+    print(f"sandbox for sources in C in class, explore and grade: {state}")

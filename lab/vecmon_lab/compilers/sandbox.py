@@ -24,7 +24,7 @@ SECONDS, ANSWER_BYTES, FOLDER_BYTES = 20, 4 << 20, 64 << 20  # by the clock; of 
 COMPLAINT_BYTES = 4096  # of standard error, the last ones
 PROCESSES = 32  # and threads
 REMEDIES = "CLASS_ADMIN.md, `Where the sandbox doesn't start`, says what helps"
-MODULE = ("-m", "vecmon_lab.compilers.inside")
+MODULE = ("-m", "vecmon_lab.compilers.sandbox_main")
 
 _SPACES = ("--unshare-ipc", "--unshare-pid", "--unshare-net", "--unshare-uts", "--unshare-cgroup-try")
 _EMPTY = (*_SPACES, "--die-with-parent", "--new-session", "--clearenv")
@@ -67,18 +67,18 @@ def sandboxed_compiler(name: str | None) -> Compiler:
 
 
 def answer_sandboxed(words: Sequence[str], text: str) -> bytes:
-    """The output of `inside` with these arguments for a source of others. Raises LabError, and ToolError."""
-    return asyncio.run(answer_beside(words, text))
+    """The output of `sandbox_main` with these arguments for a source of others. Raises LabError, and ToolError."""
+    return asyncio.run(run_in_sandbox_async(words, text))
 
 
-async def answer_beside(words: Sequence[str], text: str) -> bytes:
+async def run_in_sandbox_async(words: Sequence[str], text: str) -> bytes:
     """As `answer_sandboxed`, without blocking an event loop."""
     files = await asyncio.to_thread(_sandbox, Compiler(words[0]))
     return await run_inside([*files, *_INSIDE, *MODULE, *words], text, pathlib.Path("/"), _environment())
 
 
 def answer_of_own(words: Sequence[str], text: str, headers: pathlib.Path, kept: pathlib.Path | None = None) -> bytes:
-    """The output of `inside` for your own source, which includes headers of a folder. Raises LabError, and ToolError.
+    """The output of `sandbox_main` for your own source, which includes headers of a folder. Raises LabError, and ToolError.
 
     kept: the folder that keeps source and image; without it they are deleted
     """
@@ -101,7 +101,7 @@ def _environment() -> dict[str, str]:
 
 
 async def run_inside(command: Sequence[str], text: str, folder: pathlib.Path, variables: Mapping[str, str]) -> bytes:
-    """The output of a command that runs `inside` for a text. Raises LabError where that is too much, and ToolError where it fails."""
+    """The output of a command that runs `sandbox_main` for a text. Raises LabError where that is too much, and ToolError where it fails."""
     try:
         child = await asyncio.create_subprocess_exec(
             *command, stdin=PIPE, stdout=PIPE, stderr=PIPE, cwd=folder, env=variables, start_new_session=True
@@ -109,16 +109,16 @@ async def run_inside(command: Sequence[str], text: str, folder: pathlib.Path, va
     except OSError as error:
         raise ToolError(f"{command[0]} can't be started: {error.strerror}") from error
     assert child.stderr
-    complaint = asyncio.create_task(_last_bytes(child.stderr))
+    errors = asyncio.create_task(_last_bytes(child.stderr))
     try:
         async with asyncio.timeout(SECONDS):
             answer = await _output(child, text.encode("utf-8", "replace"))
             status = await child.wait()
-            said = await complaint
+            said = await errors
     except asyncio.TimeoutError as error:
         raise ToolError(f"the compiler was stopped: it took more than {SECONDS} s by the clock") from error
     finally:
-        complaint.cancel()
+        errors.cancel()
         with contextlib.suppress(ProcessLookupError):
             os.killpg(child.pid, signal.SIGKILL)
         await child.wait()

@@ -22,14 +22,14 @@ PLACE = "/lab"  # where Python finds the modules within
 MODULES = (
     "vecmon_lab/__init__.py",
     *(f"vecmon_lab/compilers/{name}.py" for name in ("__init__", "c_types", "compiler", "debug")),
-    *(f"vecmon_lab/compilers/{name}.py" for name in ("failures", "inside", "locations", "variables")),
+    *(f"vecmon_lab/compilers/{name}.py" for name in ("failures", "sandbox_main", "locations", "variables")),
     "vecmon_lab/compilers/runtime/runtime.c",
     "vecmon_lab/compilers/runtime/vecmon.h",
     *(f"vecmon_lab/guest/{name}.py" for name in ("__init__", "entries", "jumps", "source_lines", "symbols")),
     "vecmon_lab/machine/__init__.py",
     "vecmon_lab/machine/image.py",
 )
-"""The files of the lab in the sandbox: `inside.py`, the modules that it imports, and what is linked to a source."""
+"""The files of the lab in the sandbox: `sandbox_main.py`, the modules that it imports, and what is linked to a source."""
 
 TRUE = "/usr/bin/true"  # which the sandbox runs once, to see whether it starts
 _PROGRAMS_OF_ROOT = () if os.geteuid() else ("/usr/bin/setpriv", "/usr/bin/unshare")

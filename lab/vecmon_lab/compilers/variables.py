@@ -55,10 +55,10 @@ def variables_of(elf: "ELFFile") -> list[Variable]:
     return found
 
 
-def read_variables(told: Iterable[Any]) -> list[Variable]:
+def read_variables(entries: Iterable[Any]) -> list[Variable]:
     """Variables as they came as JSON. Raises ValueError and TypeError where that is in another form."""
     found = list[Variable]()
-    for name, words, element, counts, function, scopes, locations in islice(told, MOST_VARIABLES):
+    for name, words, element, counts, function, scopes, locations in islice(entries, MOST_VARIABLES):
         if not _ELEMENT.fullmatch(element):
             raise ValueError("a kind of numbers that there isn't")
         parts = locations[:MOST_PARTS]
@@ -98,21 +98,21 @@ class _Unit:
 
     def _frame(self, entry: "DIE") -> Sum | None:
         """The base of a function's frame, if the entry has it: a scalar register."""
-        told = entry.attributes.get("DW_AT_frame_base")
-        place = self._location(0, CODE_END, told.value, None) if told else None
+        attribute = entry.attributes.get("DW_AT_frame_base")
+        place = self._location(0, CODE_END, attribute.value, None) if attribute else None
         return (place.register, 0) if place and place.kind == "register" else None
 
     def _locations(self, entry: "DIE", frame: Sum | None) -> Sequence[Location]:
         """Where a variable lies."""
-        told, constant = (entry.attributes.get(name) for name in ("DW_AT_location", "DW_AT_const_value"))
+        attribute, constant = (entry.attributes.get(name) for name in ("DW_AT_location", "DW_AT_const_value"))
         if constant and isinstance(constant.value, int):
             return [Location(0, CODE_END, "value", 0, f"{constant.value % (1 << 64):x}")]
-        if told is None:
+        if attribute is None:
             return []
-        if told.form == "DW_FORM_exprloc":
-            return [self._location(0, CODE_END, told.value, frame)]
+        if attribute.form == "DW_FORM_exprloc":
+            return [self._location(0, CODE_END, attribute.value, frame)]
         base, found = self._base, list[Location]()
-        for each in self._debug.location_lists().get_location_list_at_offset(told.value, entry)[:MOST_PARTS]:
+        for each in self._debug.location_lists().get_location_list_at_offset(attribute.value, entry)[:MOST_PARTS]:
             if hasattr(each, "base_address"):
                 base = each.base_address
             else:

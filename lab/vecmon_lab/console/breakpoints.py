@@ -62,7 +62,7 @@ class Breakpoints:
         """All breakpoints with their conditions."""
         return {address: self._conditions.by_address.get(address) for address in self._there()}
 
-    def begin_anew(self, kept: Kept, is_same: bool) -> None:
+    def restart(self, kept: Kept, is_same: bool) -> None:
         """After a program was brought in: sets the breakpoints that there were again if it is the same, or reports their end."""
         if is_same:
             self._guest.ask(*(f"break {address:x}" for address in kept))
@@ -74,8 +74,8 @@ class Breakpoints:
 
     def _there(self) -> Sequence[int]:
         """The addresses of all breakpoints; none if the machine doesn't show them."""
-        (told,) = self._guest.ask("breaks")
-        return told.addresses if isinstance(told, Addresses) else ()
+        (reply,) = self._guest.ask("breaks")
+        return reply.addresses if isinstance(reply, Addresses) else ()
 
     def _send(self, command: str, addresses: Sequence[str]) -> bool:
         """Sends a command for each address, up to one that is refused; whether none was."""
@@ -91,5 +91,5 @@ class Breakpoints:
     def _say_done(self, place: Place) -> None:
         """Says where the breakpoints of a place are, unless an address was named."""
         where = [self._names.place(int(each, 16)) for each in place.addresses if not place.is_address]
-        told = ", ".join(filter(None, [place.taken, f"at {', '.join(where)}" if where else ""]))
-        self._screen.say(f"ok: {told}" if told else "ok")
+        description = ", ".join(filter(None, [place.taken, f"at {', '.join(where)}" if where else ""]))
+        self._screen.say(f"ok: {description}" if description else "ok")

@@ -24,8 +24,8 @@ MARK = "vecmon> "
 
 def add_arguments(parser: argparse.ArgumentParser) -> None:
     """The words of `vecmon-lab console`."""
-    told = "an image, or a source in C (.c) or assembler (.s, .S); without one, there is no program"
-    add_program(parser, told, is_needed=False)
+    help_text = "an image, or a source in C (.c) or assembler (.s, .S); without one, there is no program"
+    add_program(parser, help_text, is_needed=False)
 
 
 def run(arguments: argparse.Namespace) -> int:
@@ -39,7 +39,7 @@ def run(arguments: argparse.Namespace) -> int:
             from .prompt import terminal_prompt  # whose library takes a third of a second
 
             prompt = terminal_prompt(MARK, console.names.choices, console.bar)
-        console.execution.tell_place()
+        console.execution.show_place()
         while console.is_open:
             try:
                 console.do(prompt())
@@ -60,7 +60,7 @@ def _console(arguments: argparse.Namespace, screen: Screen) -> Iterator[Console]
         words, symbols = [path.name, *arguments.words], Symbols.read(path)
         report = Reporter(lambda address: console.names.symbols.place(address))
         with started(path, arguments=words, file=arguments.input, write=screen.write, report=report) as guest:
-            screen.say(*filter(None, [symbols.trouble]))
+            screen.say(*filter(None, [symbols.warning]))
             console = Console(guest, screen, symbols)
             yield console
         return

@@ -50,15 +50,15 @@ class Conditions:
     def drop_old(self) -> None:
         """Drops the conditions of breakpoints that aren't there any more."""
         if self.by_address:
-            (told,) = self._guest.ask("breaks")
-            there = told.addresses if isinstance(told, Addresses) else []
+            (reply,) = self._guest.ask("breaks")
+            there = reply.addresses if isinstance(reply, Addresses) else []
             self.by_address = {at: it for at, it in self.by_address.items() if at in there}
 
     def hold(self, address: int) -> bool:
         """Whether the condition of a breakpoint holds, if it has one."""
         if address not in self.by_address:
             return True
-        registers, control = self._guest.told("regs", ScalarRegisters), self._guest.told("vcsr", ControlRegisters)
+        registers, control = self._guest.query("regs", ScalarRegisters), self._guest.query("vcsr", ControlRegisters)
         return self.by_address[address].holds(dict(zip(NAMES, [*registers.x, *vars(control).values()])))
 
     def text(self, address: int) -> str:

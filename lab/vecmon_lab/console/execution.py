@@ -7,11 +7,11 @@ from collections.abc import Collection, Iterable, Iterator, Sequence
 
 from .. import LabError
 from ..assembler.commands import refusal_in_words
-from ..guest.changes import NAMES, Carried, Change, Stepper
+from ..guest.changes import NAMES, Retired, Change, Stepper
 from ..guest.guest import Guest
 from ..instructions.accesses import REGISTER_BYTES
 from ..instructions.reasons import describe_stop
-from ..machine.answers import Addresses, Position, Refused, Standing, Stop, read
+from ..machine.answers import Addresses, Position, Refused, ProgramState, Stop, read
 from ..replay.timeline import Timeline
 from ..replay.watches import Watch
 from .conditions import REGISTERS, Conditions
@@ -41,8 +41,8 @@ class Execution:
 
     def until(self, places: Sequence[str]) -> None:
         """As `run`, also to one of these addresses."""
-        _, told = self._guest.ask("stop", "breaks")
-        there = told.addresses if isinstance(told, Addresses) else ()
+        _, errors = self._guest.ask("stop", "breaks")
+        there = errors.addresses if isinstance(errors, Addresses) else ()
         numbers = {place: int(place, 16) if re.fullmatch(DIGITS, place) else -1 for place in places}
         new = [place for place, address in numbers.items() if address not in there]
         lines = [f"{self._guest.user} break {place}" for place in new]
@@ -63,17 +63,17 @@ class Execution:
         self._guest.ask("stop")
         self.look()
         before = self._value(name)
-        for carried in self._stepped(itertools.count()):
+        for retired in self._stepped(itertools.count()):
             if self._value(name) != before:
-                self._tell_step(carried)
+                self._tell_step(retired)
                 break
-        self.tell_place()
+        self.show_place()
 
     def step(self, number: int) -> None:
         """Step a number of instructions, and show each with its changes."""
-        for carried in self._stepped(range(number)):
-            self._tell_step(carried)
-        self.tell_place()
+        for retired in self._stepped(range(number)):
+            self._tell_step(retired)
+        self.show_place()
 
     def back(self, number: int) -> None:
         """Go back a number of instructions."""
@@ -102,7 +102,7 @@ class Execution:
         """Look at all registers again, if the machine shows them; return the changes."""
         return self._stepper.look() if state_of(self._guest)[0] == "stopped" else []
 
-    def tell_place(self) -> None:
+    def show_place(self) -> None:
         """Shows the next instruction."""
         run, pc = state_of(self._guest)
         if run == "stopped":
@@ -119,20 +119,20 @@ class Execution:
             if self.interrupt.is_set():
                 return None
 
-    def _stepped(self, numbers: Iterable[int]) -> Iterator[Carried]:
+    def _stepped(self, numbers: Iterable[int]) -> Iterator[Retired]:
         """Steps instructions of these numbers, 0 first, up to a stop, a breakpoint or Ctrl-C, which is shown."""
-        breaks = self._guest.told("breaks", Addresses).addresses
+        breaks = self._guest.query("breaks", Addresses).addresses
         for number in numbers:
             pc, is_interrupted = self._guest.pc, self.interrupt.is_set()
             if is_interrupted or number and pc in breaks and self._conditions.hold(pc):
-                self._screen.say(describe_stop(Standing("stopped" if is_interrupted else "break", pc)))
+                self._screen.say(describe_stop(ProgramState("stopped" if is_interrupted else "break", pc)))
                 return
-            carried = self._stepper.step()
-            self.has_mask = carried.text.endswith("v0.t")
-            if carried.stop:
-                self._screen.say(self._guest.explain(carried.stop))
+            retired = self._stepper.step()
+            self.has_mask = retired.text.endswith("v0.t")
+            if retired.stop:
+                self._screen.say(self._guest.explain(retired.stop))
                 return
-            yield carried
+            yield retired
 
     def _tell_run(self, stop: Stop | None) -> None:
         """Why the program stopped, and what has changed since it began."""
@@ -152,12 +152,12 @@ class Execution:
         if len(rows) > MOST_ROWS:
             rows = [*rows[: MOST_ROWS - 1], f"      and {len(rows) - MOST_ROWS + 1} rows more: see changes"]
         self._screen.say(*rows, kind="changed")
-        self.tell_place()
+        self.show_place()
 
-    def _tell_step(self, carried: Carried) -> None:
+    def _tell_step(self, retired: Retired) -> None:
         """Shows an instruction that was stepped, with what it changed."""
-        self._screen.say(f"   {self._names.place(carried.pc)}  {carried.text}")
-        self._screen.say(*self._change_rows(carried.changes), kind="changed")
+        self._screen.say(f"   {self._names.place(retired.pc)}  {retired.text}")
+        self._screen.say(*self._change_rows(retired.changes), kind="changed")
 
     def _change_rows(self, changes: Sequence[Change]) -> list[str]:
         """The changes: scalar and control registers first, then each vector register, and memory, in separate rows."""

@@ -67,7 +67,7 @@ class Console:
         try:
             for line in filter(None, map(str.strip, entry.split("\n"))):
                 if self.is_open and not self.execution.interrupt.is_set() and not line.startswith("#"):
-                    self._carry_out(line)
+                    self._execute(line)
         finally:
             signal.signal(signal.SIGINT, before)
 
@@ -82,7 +82,7 @@ class Console:
         self.names.symbols = Symbols.of_labels(script.labels)
         self._source.own = path, {each.address: each.line for each in script.statements.values()}
         self._conditions.by_address.clear()
-        self._breakpoints.begin_anew(kept, is_same)
+        self._breakpoints.restart(kept, is_same)
         self.execution.look()
 
     def bar(self) -> str:
@@ -93,7 +93,7 @@ class Console:
         control, policy = self._stepper.registers.control, self._guest.session.policy[self._guest.user]
         return f"pc {self.names.place(pc)}   vtype {vtype_text(control.vtype)}   vl {control.vl}   policy {policy}"
 
-    def _carry_out(self, line: str) -> None:
+    def _execute(self, line: str) -> None:
         """Execute a line; report its mistakes."""
         try:
             match self.names.words(line):
@@ -125,7 +125,7 @@ class Console:
                     self._screen.say(*self._source.rows(at, state_of(self._guest)[1]))
                 case ["source", path]:
                     self.source(pathlib.Path(path).expanduser())
-                    self.execution.tell_place()
+                    self.execution.show_place()
                 case ["step", number] if state_of(self._guest)[0] == "stopped" and number in STEPS:
                     self.execution.step(int(number))
                 case [("quit" | "run" | "source" | "until" | "changes" | "list" | "back" | "why") as name, *_]:
@@ -147,7 +147,7 @@ class Console:
         lines = self._guest.session.do(line)
         answer = read(lines)
         if isinstance(answer, Loaded) and line[0] == str(self._guest.user):
-            self._guest.ask(*self._guest.laid)
+            self._guest.ask(*self._guest.start_commands)
         if not is_look(line):
             self.execution.look()
             self._conditions.drop_old()
@@ -157,12 +157,12 @@ class Console:
             self._screen.say(*lines if has_user else self._shown(answer, lines))
         if isinstance(answer, Loaded):
             self.names.symbols, self._source.own = self._image_symbols, None
-            self._breakpoints.begin_anew(kept, words == self._program)
+            self._breakpoints.restart(kept, words == self._program)
             self._program = words[has_user:]
         elif words[has_user] in ("enter", "leave") and not isinstance(answer, Refused):
             self._program = []
         if words[0] in ("load", "setpc"):
-            self.execution.tell_place()
+            self.execution.show_place()
         return answer
 
     def _shown(self, answer: Answer, lines: Sequence[str]) -> Iterable[str]:

@@ -56,7 +56,7 @@ class Places:
         if addresses := stops.get(f"{file}:{number}"):
             return [f"{address:x}" for address in addresses]
         if not stops:
-            raise LabError(symbols.trouble or "no source lines are known: compile the image with -g")
+            raise LabError(symbols.warning or "no source lines are known: compile the image with -g")
         lines = sorted(int(line) for name, _, line in (each.rpartition(":") for each in stops) if name == file)
         if not lines:
             files = sorted({each.rpartition(":")[0] for each in stops})

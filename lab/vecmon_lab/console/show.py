@@ -63,14 +63,14 @@ class Screen:
         values = [f"{value:0{register.width // 4}x}" for value in elements_in(register.data, register.width)]
         name, group = f"v{register.number}", max(1, int(Fraction(register.width, control.sew) * control.lmul))
         first = register.number % group * len(values)
-        texts = [self.paint(value, _lie(first + place, control, mask)) for place, value in enumerate(values)]
+        texts = [self.paint(value, _placement(first + place, control, mask)) for place, value in enumerate(values)]
         most = max(1, min(ELEMENTS_WIDTH, self.width - 4) // (register.width // 4 + 1))
         room = 1 << most.bit_length() - 1
         for row in range(0, len(texts), room):
             yield f"{'' if row else name:3} {' '.join(texts[row : row + room])}"
 
 
-def _lie(element: int, control: ControlRegisters, mask: int | None) -> str:
+def _placement(element: int, control: ControlRegisters, mask: int | None) -> str:
     """How an element lies: in the tail, masked off, or neither; where there is no vector type, neither."""
     if control.vtype >> 63:
         return ""

@@ -143,7 +143,7 @@ def ready(
             send(guest, ["enter", *answer.commands], answer.source)
         guest.ask("stop")  # where a script's last line is `go`
         guest.output()
-        send(guest, inputs(exercise, case, guest.told("state", Position).pc))
+        send(guest, inputs(exercise, case, guest.query("state", Position).pc))
         guest.write = write or guest.write
         yield guest
 
@@ -187,7 +187,7 @@ def _run(guest: Guest, limits: Limits) -> tuple[Stop | None, bool]:
     return guest.go(limits.ticks), limits.instructions < UNLIMITED
 
 
-def inputs(exercise: Exercise, case: Case, begin: int) -> list[str]:
+def inputs(exercise: Exercise, case: Case, start: int) -> list[str]:
     """The commands between an answer and its run, which begins at this address.
 
     The places don't have the expected values before.
@@ -198,23 +198,23 @@ def inputs(exercise: Exercise, case: Case, begin: int) -> list[str]:
     registers = {name: value ^ turned for name, value in case.expected.registers.items()} | dict(case.registers)
     written = [command for address, data in places for command in pokes(address, data)]
     values = [f"set {name} {value:x}" for name, value in registers.items()]
-    junk = _junk(case.name, begin) if exercise.junk else []
+    junk = _junk(case.name, start) if exercise.junk else []
     return [*exercise.set_up, *_RETURN_PAGE, *junk, f"policy {case.policy}", *written, *values]
 
 
-def _junk(name: str, begin: int) -> Iterator[str]:
+def _junk(name: str, start: int) -> Iterator[str]:
     """The commands that fill x5 to x31, v0 to v31 and vxrm with what isn't 0: by the name of the case, always the same."""
     random = Random(name)
     yield from (f"set x{number} {random.randrange(1, 1 << 64):x}" for number in range(5, 32))
     yield from (f"vset v{number} {random.randbytes(32).hex()}" for number in range(32))
     place = RETURN + 4  # of the one instruction that is needed
     yield f"asm {place:x} csrrwi x0, vxrm, {random.randrange(1, 4)}"
-    yield from (f"setpc {place:x}", "step 1", f"setpc {begin:x}")
+    yield from (f"setpc {place:x}", "step 1", f"setpc {start:x}")
 
 
 def _results(guest: Guest, expected: Results, output: bytes) -> Results:
     """The contents of the places with expected values."""
-    x = guest.told("regs", ScalarRegisters).x
+    x = guest.query("regs", ScalarRegisters).x
     registers = {name: x[int(name[1:])] for name in expected.registers}
     memory = [place.holding(guest.peek(place.address, len(place.data))) for place in expected.memory]
     return Results(registers, memory, None if expected.output is None else output)

@@ -39,14 +39,14 @@ def run(arguments: argparse.Namespace) -> int:
     for number, hint in enumerate(exercise.hints, 1):
         print(f"after {number} {'try' if number == 1 else 'tries'}: {hint}")
     is_fit = True
-    for path, shall_pass in _answers(exercise):
+    for path, should_pass in _answers(exercise):
         if path.suffix == C_SUFFIX and not find_compilers():
             print(f"{path.relative_to(exercise.folder)}: it isn't tried, since there is no compiler for C")
             continue
         outcomes = grade(program, exercise, path, is_own=True)
-        is_fit &= any(outcomes) != shall_pass
+        is_fit &= any(outcomes) != should_pass
         print(f"{path.relative_to(exercise.folder)}: {_verdict(exercise, outcomes)}", end="")
-        print("" if any(outcomes) != shall_pass else f", and it shall {'pass' if shall_pass else 'fail'}")
+        print("" if any(outcomes) != should_pass else f", and it shall {'pass' if should_pass else 'fail'}")
     return int(not is_fit)
 
 
@@ -59,9 +59,9 @@ def _check_sandbox() -> None:
 
 def _answers(exercise: Exercise) -> Iterator[tuple[pathlib.Path, bool]]:
     """The answers that an exercise has, and whether each shall pass; the reference's results are expected anyway."""
-    for key, shall_pass in (("good", True), ("start", False), ("start_c", False)):
+    for key, should_pass in (("good", True), ("start", False), ("start_c", False)):
         if key in exercise.files:
-            yield exercise.files[key], shall_pass
+            yield exercise.files[key], should_pass
     for path in sorted((exercise.folder / "wrong").glob("*")):
         yield path, False
 

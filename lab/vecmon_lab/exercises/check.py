@@ -26,7 +26,7 @@ from ..machine.process import Vecmon
 from .answer import inputs, read_answer, source_answer
 from .exercise import ADDRESSES, Case, Exercise, Results
 from .outcome import outcome
-from .taken import Taken, taken_by
+from .answer_cost import AnswerCost, answer_cost
 
 NAME = pathlib.Path("answer")
 MOST_SHOWN, BEFORE = 48, 4  # numbers of a row; and of them before the first wrong one
@@ -39,7 +39,7 @@ Mistake = TypedDict("Mistake", {"line": int, "column": int, "message": str})
 """A mistake of the source's form."""
 
 
-class Told(TypedDict, total=False):
+class CheckResult(TypedDict, total=False):
     """The cases that pass; of the first visible one that fails its number and why; the cost of an answer that passes.
 
     Rows have what is given there, expected and found, and notes what else holds there. Without cases the source has
@@ -59,8 +59,8 @@ class Told(TypedDict, total=False):
     given: list[NumberRow]
     expected: list[NumberRow]
     found: list[NumberRow]
-    taken: Taken
-    good: Taken
+    taken: AnswerCost
+    good: AnswerCost
 
 
 def check_or_failure(
@@ -75,7 +75,7 @@ def check_or_failure(
         return failed_check(without_folders(f"{error}"))
 
 
-def failed_check(cause: str) -> Told:
+def failed_check(cause: str) -> CheckResult:
     """The result of a check that failed itself, which is no try."""
     return {"failure": cause, "unchecked": UNCHECKED}
 
@@ -97,26 +97,26 @@ def check(program: Vecmon, exercise: Exercise, text: str, compiled: CompiledProg
     except LabError as error:
         of_form = compiled.mistakes if compiled else all_mistakes(read_source(text), program)
         mistakes = of_form or [SourceError(1, 1, f"{error}")]
-        return {"mistakes": mistakes_told(mistakes)}
-    told: Told = {"cases": [not reason for reason, _ in outcomes]}
+        return {"mistakes": mistakes_json(mistakes)}
+    reply: CheckResult = {"cases": [not reason for reason, _ in outcomes]}
     if compiled and compiled.warnings:
-        told["warnings"] = mistakes_told(compiled.warnings)
+        reply["warnings"] = mistakes_json(compiled.warnings)
     for number, (case, (reason, done)) in enumerate(zip(exercise.cases, outcomes)):
         if reason and not case.is_hidden:
             expected, found = _compared(case.expected, done.found if done else case.expected)
             given = _given(case, next((row for row in expected if row["first"]), None))
-            told.update({"number": number, "reason": reason, "given": given, "expected": expected})
-            told["notes"] = _notes(exercise, case)
-            told.update({"found": found} if done else {})
-            return told
-    if all(told["cases"]) and "good" in exercise.files:
+            reply.update({"number": number, "reason": reason, "given": given, "expected": expected})
+            reply["notes"] = _notes(exercise, case)
+            reply.update({"found": found} if done else {})
+            return reply
+    if all(reply["cases"]) and "good" in exercise.files:
         with contextlib.suppress(LabError):  # without a compiler for C, or a recorder
-            good = good or taken_by(program, read_answer(exercise.files["good"], is_own=True), exercise)
-            told.update({"taken": taken_by(program, answer, exercise), "good": good})
-    return told
+            good = good or answer_cost(program, read_answer(exercise.files["good"], is_own=True), exercise)
+            reply.update({"taken": answer_cost(program, answer, exercise), "good": good})
+    return reply
 
 
-def mistakes_told(errors: Iterable[SourceError]) -> list[Mistake]:
+def mistakes_json(errors: Iterable[SourceError]) -> list[Mistake]:
     """Mistakes of a source, or warnings, as messages."""
     return [{"line": it.line, "column": it.column, "message": it.message} for it in errors]
 
@@ -207,12 +207,12 @@ def main(program: str, what: str) -> None:
     (exercise, text, compiled, good), vecmon = pickle.load(sys.stdin.buffer), pathlib.Path(program)
     match what:
         case "check":
-            told = json.dumps(check_or_failure(vecmon, exercise, text, compiled, good))
+            reply = json.dumps(check_or_failure(vecmon, exercise, text, compiled, good))
         case "before":
-            told = lesson_before(vecmon, exercise)
+            reply = lesson_before(vecmon, exercise)
         case number:
-            told = lesson(vecmon, exercise, int(number), text, compiled)
-    sys.stdout.buffer.write(told.encode("utf-8", "replace"))
+            reply = lesson(vecmon, exercise, int(number), text, compiled)
+    sys.stdout.buffer.write(reply.encode("utf-8", "replace"))
 
 
 if __name__ == "__main__":

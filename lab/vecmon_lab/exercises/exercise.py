@@ -219,5 +219,5 @@ def _numbers(where: str, entries: Mapping[object, object], by_reference: bool) -
                 return kind, numbers
             raise LabError(f"{where}: {odd[0]} is no {kind}")
     form = "how many numbers there are" if by_reference else "a text, or a list of numbers"
-    told = ", ".join(f"{key} = {value}" for key, value in entries.items()) or "nothing"
-    raise LabError(f"{where} has {form}, by their type, i8 to u64, and not {told}")
+    listed = ", ".join(f"{key} = {value}" for key, value in entries.items()) or "nothing"
+    raise LabError(f"{where} has {form}, by their type, i8 to u64, and not {listed}")

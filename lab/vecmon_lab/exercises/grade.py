@@ -23,10 +23,10 @@ from .answer import C_SUFFIX, read_answer, settled
 from .exercise import OURS, Exercise, read_exercise
 from .outcome import outcome
 from .reports import Grades, gradescope, junit
-from .taken import Taken, taken_by
+from .answer_cost import AnswerCost, answer_cost
 
 COUNTS = ("instructions", "work")  # columns of what an answer takes
-Graded = tuple[list[str], Taken | None]
+Graded = tuple[list[str], AnswerCost | None]
 """Why an answer fails, or "", for each case; and what it takes, if that is counted and it passes."""
 
 EXERCISE = "a folder with a file exercise.toml, or the name of an exercise of the course"
@@ -96,7 +96,7 @@ def _isolation(arguments: argparse.Namespace, exercise: Exercise) -> Isolation:
 def _report(arguments: argparse.Namespace, exercise: Exercise, done: Sequence[tuple[pathlib.Path, Graded]]) -> None:
     """Prints the table or the rows of answers that were graded, and writes the other reports."""
     grades = [(path, outcomes) for path, (outcomes, _) in done]
-    more = [_cells(taken) for _, (_, taken) in done] if arguments.counts else [[] for _ in done]
+    more = [_cells(cost) for _, (_, cost) in done] if arguments.counts else [[] for _ in done]
     if arguments.junit:
         arguments.junit.write_text(junit(exercise, grades), "utf-8")
     if arguments.gradescope:
@@ -131,7 +131,7 @@ def graded(
     except LabError as error:
         return [str(error)] * len(exercise.cases), None
     outcomes = [outcome(program, answer, exercise, case)[0] for case in exercise.cases]
-    return outcomes, taken_by(program, answer, exercise) if is_counted and not any(outcomes) else None
+    return outcomes, answer_cost(program, answer, exercise) if is_counted and not any(outcomes) else None
 
 
 def graded_or_failure(
@@ -146,9 +146,9 @@ def graded_or_failure(
         return error
 
 
-def _cells(taken: Taken | None) -> list[str]:
+def _cells(cost: AnswerCost | None) -> list[str]:
     """The cost of an answer, as cells of a table; empty ones if it fails."""
-    return [f"{taken['instructions']}", f"{taken['work']} %"] if taken else ["", ""]
+    return [f"{cost['instructions']}", f"{cost['work']} %"] if cost else ["", ""]
 
 
 def _reasons(exercise: Exercise, outcomes: list[str]) -> list[str]:

@@ -116,8 +116,8 @@ class Target:
                 return self._write_register(int(number, 16), digits)
             case "m", [address, length]:  # gdb asks again for what is left
                 most = LINE_BYTES - int(address, 16) % LINE_BYTES
-                (told,) = self._guest.ask(f"peek {address} {min(int(length, 16), most)}")
-                return told.data.hex() if isinstance(told, Memory) else str(told)
+                (help_text,) = self._guest.ask(f"peek {address} {min(int(length, 16), most)}")
+                return help_text.data.hex() if isinstance(help_text, Memory) else str(help_text)
             case "M", [address, _, digits]:
                 return self._do(f"poke {address} {digits}")
             case ("Z" | "z"), ["0" | "1", address, _]:
@@ -148,7 +148,7 @@ class Target:
             if is_step:
                 is_there: bool | None = self._timeline.back()
             else:
-                breaks = self._guest.told("breaks", Addresses).addresses
+                breaks = self._guest.query("breaks", Addresses).addresses
                 is_there = self._timeline.back_to_halt(breaks, self._link.is_interrupted)
         except LabError as error:
             self._tell(str(error))
@@ -175,7 +175,7 @@ class Target:
 
     def _scalars(self) -> list[str]:
         """The registers before the vector registers: x0 to x31, pc, and the control registers."""
-        registers, control = self._guest.told("regs", ScalarRegisters), self._guest.told("vcsr", ControlRegisters)
+        registers, control = self._guest.query("regs", ScalarRegisters), self._guest.query("vcsr", ControlRegisters)
         values = (*registers.x, registers.pc, *vars(control).values())
         return [value.to_bytes(8, "little").hex() for value in values]
 
@@ -184,10 +184,10 @@ class Target:
         if number < FIRST_VECTOR:
             return self._scalars()[number]
         if number == VCSR:
-            control = self._guest.told("vcsr", ControlRegisters)
+            control = self._guest.query("vcsr", ControlRegisters)
             return (control.vxrm << 1 | control.vxsat).to_bytes(8, "little").hex()
-        (told,) = self._guest.ask(f"vreg v{number - FIRST_VECTOR} 8")
-        return told.data.hex() if isinstance(told, VectorRegister) else REFUSED
+        (help_text,) = self._guest.ask(f"vreg v{number - FIRST_VECTOR} 8")
+        return help_text.data.hex() if isinstance(help_text, VectorRegister) else REFUSED
 
     def _write_register(self, number: int, digits: str) -> str:
         """Writes a register; the control registers can't be written from outside."""

@@ -27,7 +27,7 @@ class Code:
 
     def __init__(self) -> None:
         self.places: Sequence[int] = ()
-        self.doubtful: Sequence[int] = ()
+        self.uncertain: Sequence[int] = ()
         self._session: Session | None = None  # whose script was read
         self._size = 0  # bytes of it that were read
         self._lines = list[bytes]()  # that make the code
@@ -47,7 +47,7 @@ class Code:
         key = b"\n".join(self._lines)
         if key not in self._found:
             self._found[key] = _search(words_in(guest, sorted(self._pages)))
-        self.places, self.doubtful = self._found[key]
+        self.places, self.uncertain = self._found[key]
 
     def _follow(self, guest: "Guest", command: bytes, words: bytes) -> None:
         """Takes up a line that may change the code."""
@@ -69,8 +69,8 @@ def unshown_calls(image: bytes, executed: Iterable[int]) -> list[int]:
     for address, rights, _, data in segments_of(image):
         if "x" in rights:
             words |= _words(address, data)
-    places, doubtful = _search(words)
-    return sorted(set(executed).difference(set(places).difference(doubtful)))
+    places, uncertain = _search(words)
+    return sorted(set(executed).difference(set(places).difference(uncertain)))
 
 
 def shown_calls(words: Mapping[int, int]) -> dict[int, str]:
@@ -119,8 +119,8 @@ def _search(words: Mapping[int, int]) -> tuple[Sequence[int], Sequence[int]]:
     """The addresses of all ECALLs among words, and those of the doubtful ones."""
     places = sorted(address for address, word in words.items() if word == ECALL)
     targets = _targets(words) if places else set()
-    doubtful = [place for place in places if not _is_shown(words, targets, place)]
-    return places, doubtful
+    uncertain = [place for place in places if not _is_shown(words, targets, place)]
+    return places, uncertain
 
 
 def _is_shown(words: Mapping[int, int], targets: set[int], place: int) -> bool:

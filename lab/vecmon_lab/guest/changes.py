@@ -80,7 +80,7 @@ Change = RegisterChange | ElementsChange | MemoryChange
 
 
 @dataclass(frozen=True)
-class Carried:
+class Retired:
     """An instruction that was executed, or that stopped the program instead.
 
     word, text: 0 and "" where nothing can be fetched
@@ -125,7 +125,7 @@ class Stepper:
 
     def __init__(self, guest: Guest) -> None:
         self.guest = guest
-        self.last: tuple[Registers, Carried] | None = None
+        self.last: tuple[Registers, Retired] | None = None
         self.registers = Registers([0] * 32, ControlRegisters(), bytearray(32 * REGISTER_BYTES))
         self.look()
 
@@ -135,12 +135,12 @@ class Stepper:
         self.last = None
         before = self.registers.copy()
         looks = ["regs", "vcsr", *(f"vreg v{number} 64" for number in range(32))]
-        self._take_in(self.guest.ask(*looks))
+        self._apply(self.guest.ask(*looks))
         sew = ControlRegisters(vtype=self.registers.control.vtype & 0x3F).sew
         singles = [Operand("destination", sew, Fraction(1), False, 1, range(32))]
         return self._changes_since(before, singles)
 
-    def step(self) -> Carried:
+    def step(self) -> Retired:
         """Execute one instruction. Output to file 1 is passed on, or kept for `Guest.output`."""
         pc, before = self.guest.pc, self.registers.copy()
         word, text = self.fetch(pc)
@@ -154,16 +154,16 @@ class Stepper:
             spans = stored_spans(word, before.x, before.control, before.v)
         peeks = [f"peek {address:x} {length}" for address, length in spans]
         stop, answers = self.guest.step_between(peeks, looks + peeks)
-        self._take_in(answers)
+        self._apply(answers)
         if word == ECALL:
             self.guest.empty_buffer()
         stored = [change for span in zip(spans, answers, answers[-len(spans) :]) for change in _memory_changes(*span)]
         for change in stored:
             for address in range(change.address & ~3, change.address + len(change.after), 4):
                 self._listing.pop(address, None)
-        carried = Carried(pc, word, text, [*self._changes_since(before, targets), *stored], stop)
-        self.last = before, carried
-        return carried
+        retired = Retired(pc, word, text, [*self._changes_since(before, targets), *stored], stop)
+        self.last = before, retired
+        return retired
 
     def fetch(self, pc: int) -> tuple[int, str]:
         """The word at an address and its text; 0 and "" where nothing can be fetched."""
@@ -174,7 +174,7 @@ class Stepper:
                 self._listing |= {each.address: (each.word, each.text) for each in listing.words}
         return self._listing.get(pc, (0, ""))
 
-    def _take_in(self, answers: Sequence[Answer]) -> None:
+    def _apply(self, answers: Sequence[Answer]) -> None:
         """Takes in what looks at registers show."""
         for answer in answers:
             match answer:

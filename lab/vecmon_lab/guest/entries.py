@@ -39,10 +39,10 @@ def ranges_of(debug: "DWARFInfo", unit: "CompileUnit", entry: "DIE") -> Iterator
 
 def first_of(entry: "DIE", ranges: Sequence[tuple[int, int]]) -> int:
     """Where the code of an entry with these ranges is entered (DWARF 5, section 2.18)."""
-    told, first = entry.attributes.get("DW_AT_entry_pc"), ranges[0][0]
-    if told is None:
+    entry_pc, first = entry.attributes.get("DW_AT_entry_pc"), ranges[0][0]
+    if entry_pc is None:
         return first
-    return int(told.value) if told.form.startswith("DW_FORM_addr") else first + int(told.value)
+    return int(entry_pc.value) if entry_pc.form.startswith("DW_FORM_addr") else first + int(entry_pc.value)
 
 
 def entry_at(entry: "DIE", attribute: str) -> "DIE | None":

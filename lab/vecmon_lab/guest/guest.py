@@ -37,7 +37,7 @@ PACES = ((MOST_STEPS, OUTPUT_BYTES - 1), (SAFE_STEPS, OUTPUT_BYTES))
 
 STACK_POINTER, STACK_END, STACK_BYTES = 0x7FFF_EFC0, 0x7FFF_F000, 0x4000  # as `load` leaves them
 
-Told = TypeVar("Told", bound=Answer)
+AnswerType = TypeVar("AnswerType", bound=Answer)
 
 
 class Guest:
@@ -63,7 +63,7 @@ class Guest:
         """
         self.session, self.user = session, user
         self.pc = self.ticks = 0
-        self.laid: Sequence[str] = ()
+        self.start_commands: Sequence[str] = ()
         self._kept: list[bytes] = []
         self.write = write or self._kept.append
         self.runner = Runner(self, report or Reporter())
@@ -76,7 +76,7 @@ class Guest:
             answers += map(read, self.session.do_all(lines))
         return answers
 
-    def told(self, command: str, kind: type[Told]) -> Told:
+    def query(self, command: str, kind: type[AnswerType]) -> AnswerType:
         """The answer to a command, which is of this kind. Raises LabError where it is another one."""
         (answer,) = self.ask(command)
         if not isinstance(answer, kind):
@@ -85,17 +85,17 @@ class Guest:
 
     def peek(self, address: int, length: int) -> bytes:
         """The bytes from an address on, which are all in pages that are mapped."""
-        return b"".join(told.data for told in self.ask(*peeks(address, length)) if isinstance(told, Memory))
+        return b"".join(answer.data for answer in self.ask(*peeks(address, length)) if isinstance(answer, Memory))
 
     def vectors(self) -> list[bytes]:
         """The bytes of each vector register."""
         answers = self.ask(*(f"vreg v{number} 64" for number in range(32)))
-        return [told.data for told in answers if isinstance(told, VectorRegister)]
+        return [answer.data for answer in answers if isinstance(answer, VectorRegister)]
 
     def words(self, addresses: Iterable[int]) -> list[Word]:
         """The words at addresses where pages are mapped, with their texts."""
         answers = self.ask(*(f"dis {run[0]:x} {len(run)}" for run in runs_of(addresses)))
-        return [word for told in answers if isinstance(told, Listing) for word in told.words]
+        return [word for answer in answers if isinstance(answer, Listing) for word in answer.words]
 
     def start(
         self, image: str, policy: str = "keep", arguments: Sequence[str] = (), data: Mapping[int, bytes] | None = None
@@ -112,8 +112,8 @@ class Guest:
         self.pc = loaded.pc
         written = [command for address, part in (data or {}).items() for command in pokes(address, part)]
         place = STACK_END - len(block)
-        self.laid = [*written, *((*pokes(place, block), f"set x2 {place:x}") if arguments else ())]
-        for command, answer in zip(self.laid, self.ask(*self.laid)):
+        self.start_commands = [*written, *((*pokes(place, block), f"set x2 {place:x}") if arguments else ())]
+        for command, answer in zip(self.start_commands, self.ask(*self.start_commands)):
             if isinstance(answer, Refused):
                 raise LabError(f"the machine refuses to write from {command.split()[1]} on ({answer})")
 
@@ -130,15 +130,15 @@ class Guest:
         No call finds too little room for its output: where one may have, they are executed again in smaller parts.
         """
         size, pc, stop, at_once = self.session.size, self.pc, None, 1
-        if not self.runner.has_doubtful():
+        if not self.runner.has_uncertain():
             stop, (output, *answers) = self.step_between([], ["out", *looks], number)
             data = output.data if isinstance(output, Output) else b""
             if len(data) < OUTPUT_BYTES:
-                self.hand_on(data)
+                self.emit_output(data)
                 return stop, answers
             self.go_back(size, pc)
             stop, at_once = None, SAFE_STEPS
-        self.pc = self.told("state", Position).pc
+        self.pc = self.query("state", Position).pc
         while number > 0 and stop is None:
             self.runner.look(self.pc)
             stop = self.step_between([], [], min(at_once, number))[0]
@@ -155,7 +155,7 @@ class Guest:
     def step(self) -> Stop | None:
         """Carries out one instruction; the stop, if it stops instead. The output buffer is emptied before."""
         self.empty_buffer()
-        if self.runner.has_doubtful():
+        if self.runner.has_uncertain():
             self.runner.look(self.pc)
         return self.step_between([], [])[0]
 
@@ -167,11 +167,11 @@ class Guest:
         The stop may be `outfull`, at an ecall. number: of instructions, 1 to 256
         """
         answers = self.ask(*before, f"step {number}", *after)
-        told = answers.pop(len(before))
-        if not isinstance(told, Position | Stop):
-            raise LabError(f"the machine answers {told}")
-        self.pc = told.pc
-        return told if isinstance(told, Stop) else None, answers
+        reply = answers.pop(len(before))
+        if not isinstance(reply, Position | Stop):
+            raise LabError(f"the machine answers {reply}")
+        self.pc = reply.pc
+        return reply if isinstance(reply, Stop) else None, answers
 
     def pass_over(self, instructions: int, at_once: int = MOST_STEPS, most: int = OUTPUT_BYTES) -> bool:
         """Execute a number of instructions, which don't stop the program, in groups, and empty the buffer after each.
@@ -181,16 +181,16 @@ class Guest:
         while instructions:
             part = min(instructions, MOST_ROUNDS * at_once)
             outputs = [answer.data for answer in self.ask(*stepping(part, at_once)) if isinstance(answer, Output)]
-            self.hand_on(b"".join(outputs))
+            self.emit_output(b"".join(outputs))
             if max(map(len, outputs)) > most:
                 return False
             instructions -= part
-        self.pc = self.told("state", Position).pc
+        self.pc = self.query("state", Position).pc
         return True
 
     def empty_buffer(self) -> None:
         """Takes what the program has written out of the machine's buffer."""
-        self.hand_on(self.told("out", Output).data)
+        self.emit_output(self.query("out", Output).data)
 
     def output(self) -> bytes:
         """The output of the program since the last call; empty if `write` gets it, now at the latest."""
@@ -201,13 +201,13 @@ class Guest:
 
     def word_at(self, address: int) -> tuple[int, str]:
         """The word at an address and its text; 0 and "" where nothing is mapped."""
-        (told,) = self.ask(f"dis {address:x} 1")
-        return (told.words[0].word, told.words[0].text) if isinstance(told, Listing) else (0, "")
+        (reply,) = self.ask(f"dis {address:x} 1")
+        return (reply.words[0].word, reply.words[0].text) if isinstance(reply, Listing) else (0, "")
 
     def explain(self, stop: Stop) -> str:
         """A stop in sentences, by the instruction at its place."""
         word, text = self.word_at(stop.pc)
-        return describe_stop(stop, word, self.told("vcsr", ControlRegisters), text)
+        return describe_stop(stop, word, self.query("vcsr", ControlRegisters), text)
 
     def tell(self, stop: Stop | None, place: str = "") -> str:
         """A stop in a line: its address, and the place by a symbol; the instruction there; and why, in sentences.
@@ -219,7 +219,7 @@ class Guest:
         text = self.word_at(stop.pc)[1]
         return ": ".join(filter(None, [f"{stop.pc:x} {place}".rstrip(), text, self.explain(stop)]))
 
-    def hand_on(self, data: bytes) -> None:
+    def emit_output(self, data: bytes) -> None:
         """Hands on what the program has written, if anything, or keeps it."""
         if data:
             self.write(data)

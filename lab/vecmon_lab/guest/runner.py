@@ -78,8 +78,8 @@ class Runner:
         as one slice.
         """
         guest = self._guest
-        self._breaks, at_once, stop = guest.told("breaks", Addresses).addresses, 1, None
-        guest.pc = guest.told("state", Position).pc
+        self._breaks, at_once, stop = guest.query("breaks", Addresses).addresses, 1, None
+        guest.pc = guest.query("state", Position).pc
         self._code.update(guest)
         self._choose_places()
         while slices != 0 and stop is None and not is_interrupted():
@@ -91,7 +91,7 @@ class Runner:
                 self._go_back(size, pc)
                 stop = None
                 continue
-            guest.hand_on(output)
+            guest.emit_output(output)
             if stop and stop.kind == "break" and stop.pc in self._places:
                 used, stop = used - 1 + self._count_call(len(output)), None
             if len(output) <= LITTLE_BYTES:
@@ -105,22 +105,22 @@ class Runner:
 
     def look(self, pc: int, x: Sequence[int] | None = None) -> None:
         """Reports the call at an address, which is executed next, if it isn't supported. x: the registers, if known."""
-        if self.looks_left and (x or pc in self._code.doubtful):
+        if self.looks_left and (x or pc in self._code.uncertain):
             self.looks_left -= 1
-            sentence = unsupported_call(x or self._guest.told("regs", ScalarRegisters).x)
+            sentence = unsupported_call(x or self._guest.query("regs", ScalarRegisters).x)
             if sentence:
                 self.report(pc, sentence)
             if self.looks_left == 0 and self._places:
                 self._choose_places()
 
-    def has_doubtful(self) -> bool:
+    def has_uncertain(self) -> bool:
         """Whether the program has an ECALL that may be a call that isn't supported."""
         self._code.update(self._guest)
-        return self.looks_left > 0 and bool(self._code.doubtful)
+        return self.looks_left > 0 and bool(self._code.uncertain)
 
     def _choose_places(self) -> None:
         """Sets breakpoints at all ECALLs, where the output is taken there, else at the doubtful ones."""
-        places = self._code.places if self._stops_at_calls else self._code.doubtful if self.looks_left else ()
+        places = self._code.places if self._stops_at_calls else self._code.uncertain if self.looks_left else ()
         free, own = MOST_BREAKPOINTS - len(self._breaks), [place for place in places if place not in self._breaks]
         self._is_stepping = self._is_stepping or self._stops_at_calls and len(own) > free
         self._set_places(() if self._is_stepping else own[:free])
@@ -146,7 +146,7 @@ class Runner:
                 break
         else:
             stop = self._halt()
-        return stop, used, guest.told("out", Output).data
+        return stop, used, guest.query("out", Output).data
 
     def _grant(self, number: int) -> tuple[int, Stop | None]:
         """Grants slices; how many they were, and the stop that ended them."""
@@ -161,10 +161,10 @@ class Runner:
     def _halt(self) -> Stop | None:
         """Stops the running program. Where its next slice would stop it at a breakpoint, that is granted first."""
         breaks = {*self._breaks, *self._places}
-        while breaks and self._guest.told("state", Position).pc in breaks:
+        while breaks and self._guest.query("state", Position).pc in breaks:
             if stop := self._grant(1)[1]:
                 return stop
-        self._guest.pc = self._guest.told("stop", Position).pc
+        self._guest.pc = self._guest.query("stop", Position).pc
         return None
 
     def _step_on(self) -> tuple[Stop | None, int, bytes]:
@@ -173,7 +173,7 @@ class Runner:
         answers = self._guest.ask(*[f"step {SAFE_STEPS}", "out"] * times)
         output = b"".join(answer.data for answer in answers if isinstance(answer, Output))
         stop = next((answer for answer in answers if isinstance(answer, Stop)), None)
-        self._guest.pc = stop.pc if stop else self._guest.told("state", Position).pc
+        self._guest.pc = stop.pc if stop else self._guest.query("state", Position).pc
         if stop is None and self._guest.pc in self._breaks:
             stop = Stop("break", self._guest.pc)
         return stop, self._count_call(len(output)), output

@@ -77,7 +77,7 @@ class SourceLines:
         return rows[at].line if at >= 0 else ""
 
     @property
-    def trouble(self) -> str:
+    def warning(self) -> str:
         """Why the line tables can't be read, in a line; "" if nothing is wrong."""
         return self._table[1]
 

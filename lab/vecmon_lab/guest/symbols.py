@@ -84,9 +84,9 @@ class Symbols:
         return self.source.at(address)
 
     @property
-    def trouble(self) -> str:
+    def warning(self) -> str:
         """Why source lines can't be read though the file has some, in a line; "" where nothing is wrong."""
-        return self.source.trouble
+        return self.source.warning
 
     @functools.cached_property
     def source(self) -> SourceLines:

@@ -6,7 +6,7 @@ An instruction is illegal where the RISC-V "V" manual, version 1.0, reserves it,
 from collections.abc import Iterator, Sequence
 from fractions import Fraction
 
-from ..machine.answers import ControlRegisters, Standing
+from ..machine.answers import ControlRegisters, ProgramState
 from ..tables.table import read_table
 from .words import VECTOR_ACCESSES, NoInstruction, Operand, Trait, VectorInstruction, decode, listed
 
@@ -118,7 +118,7 @@ _SENTENCES = dict(read_table("stops"))
 
 
 def describe_stop(
-    where: Standing, word: int | None = None, view: ControlRegisters | None = None, text: str = ""
+    where: ProgramState, word: int | None = None, view: ControlRegisters | None = None, text: str = ""
 ) -> str:
     """A stop, or an answer to `step`, `go`, `stop` or `state`, in sentences.
 
@@ -137,7 +137,7 @@ def describe_stop(
 _BRIEF = dict(read_table("brief_stops"))
 
 
-def brief_stop(where: Standing, word: int | None, view: ControlRegisters, text: str) -> str:
+def brief_stop(where: ProgramState, word: int | None, view: ControlRegisters, text: str) -> str:
     """A stop in a few words, from what `describe_stop` is given."""
     name = text.partition(" ")[0] or f"{where.pc:#x}"
     if _has_elements(where, word):
@@ -146,6 +146,6 @@ def brief_stop(where: Standing, word: int | None, view: ControlRegisters, text: 
     return form.format(number=where.number, pc=f"{where.pc:#x}", name=name, text=text or f"{where.value:#010x}")
 
 
-def _has_elements(where: Standing, word: int | None) -> bool:
+def _has_elements(where: ProgramState, word: int | None) -> bool:
     """Whether it is a fault of a vector access, which the word is."""
     return where.cause in (5, 7) and word is not None and word & 0x7F in VECTOR_ACCESSES

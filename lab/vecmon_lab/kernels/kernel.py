@@ -27,7 +27,7 @@ from ..machine.answers import Memory, Refused, ScalarRegisters, Stop
 from ..machine.program import find_program
 from ..machine.session import Session
 from ..meanings.stepped import Step
-from ..runs.beginning import beginning_at
+from ..runs.initial_state import initial_state_at
 from ..runs.counts import Counts
 from ..runs.recorder import record
 from ..tables.table import html_table
@@ -156,7 +156,7 @@ class Kernel(contextlib.AbstractContextManager["Kernel"]):
         """
         if ticks < 1:
             raise LabError(f"a call has a tick at least, and not {ticks}")
-        values, places, given = self._laid(symbol, arguments)
+        values, places, given = self._placed(symbol, arguments)
         registers = [f"set x{FIRST_ARGUMENT + number} {value:x}" for number, value in enumerate(values)]
         lines = [*(line for place in places for line in place.lines), *registers]
         policies = ("keep", "ones") if policy == "both" else (policy,)
@@ -173,18 +173,18 @@ class Kernel(contextlib.AbstractContextManager["Kernel"]):
 
         Each is executed when it is asked for; `step.why("v8", 5)` says why an element has its value then. Raises LabError.
         """
-        values, places, _ = self._laid(symbol, arguments)
+        values, places, _ = self._placed(symbol, arguments)
         registers = [f"set x{FIRST_ARGUMENT + number} {value:x}" for number, value in enumerate(values)]
         self._renew()
         self._begin_call(symbol, policy, [*(line for place in places for line in place.lines), *registers])
         guest, stepper, self._is_stopped = self._guest, Stepper(self._guest), True
         for _ in range(most):
             before = stepper.registers.copy()
-            carried = stepper.step()
-            if guest.pc == carried.pc and carried.pc == RETURN:
+            retired = stepper.step()
+            if guest.pc == retired.pc and retired.pc == RETURN:
                 return
-            yield Step(guest, before, stepper.registers.control, carried)
-            if carried.stop or guest.pc == RETURN:
+            yield Step(guest, before, stepper.registers.control, retired)
+            if retired.stop or guest.pc == RETURN:
                 return
 
     def _opened(self) -> Guest:
@@ -193,13 +193,13 @@ class Kernel(contextlib.AbstractContextManager["Kernel"]):
         guest.ask("enter")
         return guest
 
-    def _laid(
+    def _placed(
         self, symbol: str, arguments: Sequence["int | Array | Placed"]
     ) -> tuple[list[int], list[_Place], list[Array]]:
-        """What `_laid` makes of the arguments of a function. Raises LabError where there is none of this name."""
+        """What `_placed` makes of the arguments of a function. Raises LabError where there is none of this name."""
         if symbol not in self._symbols.addresses:
             raise LabError(f"{self._path} has no symbol {symbol}")
-        return _laid(arguments)
+        return _placed(arguments)
 
     def _renew(self) -> None:
         """Takes another session where the script of this one is long, or its program may run."""
@@ -225,7 +225,7 @@ class Kernel(contextlib.AbstractContextManager["Kernel"]):
         before = self._begin_call(symbol, policy, lines)
         counts = None
         if counted:
-            counts = record(beginning_at(guest, self._images.get("image"), [f"1 {line}" for line in before]), ticks)
+            counts = record(initial_state_at(guest, self._images.get("image"), [f"1 {line}" for line in before]), ticks)
         stop, found = guest.execute(MOST_STEPS, looks)
         if stop is None:
             stop = guest.go(ticks)
@@ -267,7 +267,7 @@ def _read(path: pathlib.Path, options: str, compiler: str | None) -> tuple[Answe
     return answer, Symbols.read(path)
 
 
-def _laid(arguments: Sequence["int | Array | Placed"]) -> tuple[list[int], list[_Place], list[Array]]:
+def _placed(arguments: Sequence["int | Array | Placed"]) -> tuple[list[int], list[_Place], list[Array]]:
     """The values of arguments as registers have them; the places of arrays; and the arrays as they were given."""
     if len(arguments) > MOST_ARGUMENTS:
         raise LabError(f"a call has {MOST_ARGUMENTS} arguments at most, and this one has {len(arguments)}")
@@ -317,13 +317,13 @@ def _like(given: Array, data: bytes) -> Array:
 
 def _differences(kept: _Left, ones: _Left) -> Iterator[str]:
     """The differences between the results under `ones` and under `keep`."""
-    told = "{} under keep, {} under ones"
+    template = "{} under keep, {} under ones"
     if kept[0] != ones[0]:
-        yield f"the result is {told.format(f'{kept[0]:#x}', f'{ones[0]:#x}')}"
+        yield f"the result is {template.format(f'{kept[0]:#x}', f'{ones[0]:#x}')}"
     for number, pair in enumerate(zip(kept[1], ones[1]), 1):
         wrong = [at for at, (one, other) in enumerate(zip(*pair)) if one != other]
         if wrong:
-            bytes_there = told.format(*(f"{data[wrong[0]]:02x}" for data in pair))
+            bytes_there = template.format(*(f"{data[wrong[0]]:02x}" for data in pair))
             yield f"array {number}, byte {wrong[0]}: {bytes_there}; {len(wrong):,} bytes of it differ"
     if kept[2] != ones[2]:
-        yield f"it writes {told.format(repr(kept[2][:40]), repr(ones[2][:40]))}"
+        yield f"it writes {template.format(repr(kept[2][:40]), repr(ones[2][:40]))}"

@@ -12,11 +12,11 @@ from ..compilers.compiled import variable_rows
 from ..guest.guest import Guest
 from ..guest.notebook import registers_html
 from ..instructions.accesses import REGISTER_BYTES
-from ..machine.answers import Answer, Position, Refused, by_whom, read
+from ..machine.answers import Answer, Position, Refused, answers_by_user, read
 from ..machine.lines import DIGITS, BadLine, is_look, words_of
 from ..machine.process import Vecmon
 from ..machine.session import Session
-from ..page.state import ABSENT, RowChoice, Sight, State, look_at, registers_of, with_rows
+from ..page.state import ABSENT, VisibleRows, WatchSet, State, look_at, registers_of, with_rows
 from .script import Script, Step, refused_statement
 
 MOST_NAMED = 40  # rows of memory that variables of a source in C have for certain
@@ -70,7 +70,7 @@ class _Maker:
 
     def __init__(self, script: Script, whole: Session, single: Session) -> None:
         self._script, self._whole, self._single = script, whole, single
-        self._sights: dict[str, Sight] = {}
+        self._watch_sets: dict[str, WatchSet] = {}
         self._states: dict[str, State] = {}
         self._frames: list[Frame] = []
 
@@ -78,7 +78,7 @@ class _Maker:
         """Carries out a step, and adds its frame, or a frame for each instruction of a line that steps several."""
         log, answers = list[str](), list[tuple[str, Answer]]()
         for line in step.lines:
-            self._carry_out(line, log, answers)
+            self._execute(line, log, answers)
         number = _steps(step, answers)
         if number:
             self._step_singly(step, number, log, answers)
@@ -89,10 +89,10 @@ class _Maker:
                     self._single.do(line)
         self._look(step.lines, answers)
         before = self._frames[-1].user if self._frames else "1"
-        user = next((entry[1] for entry in log if entry[1:2] in self._sights), before)
+        user = next((entry[1] for entry in log if entry[1:2] in self._watch_sets), before)
         self._add_frame(step, user, log, step.note)
 
-    def _carry_out(self, line: str, log: list[str], answers: list[tuple[str, Answer]]) -> None:
+    def _execute(self, line: str, log: list[str], answers: list[tuple[str, Answer]]) -> None:
         """Add a line and its answer to the log, and the parts of the answer to their users."""
         log.append(f">{line}")
         try:
@@ -104,22 +104,22 @@ class _Maker:
         if line in self._script.statements and isinstance(answer, Refused):
             raise refused_statement(self._script, line, answer)
         if line[0] in DIGITS:
-            sight = self._sights.setdefault(line[0], Sight())
+            watch_set = self._watch_sets.setdefault(line[0], WatchSet())
             if not isinstance(answer, Refused):
-                sight.follow(line)
+                watch_set.follow(line)
         log += log_entries(line, parts)
-        answers += by_whom(parts)
+        answers += answers_by_user(parts)
 
     def _step_singly(self, step: Step, number: int, log: list[str], answers: Sequence[tuple[str, Answer]]) -> None:
         """Step as often as the line did: up to its number, a stop, or a breakpoint after its first instruction."""
         line, user = step.lines[0], step.lines[0][0]
         for place in range(1, number + 1):
-            state, part = self._states[user], by_whom(self._single.do(f"{user} step 1"))
+            state, part = self._states[user], answers_by_user(self._single.do(f"{user} step 1"))
             ends = not isinstance(part[0][1], Position) or place == number or f"{part[0][1].pc:x}" in state["breaks"]
             self._look([line], [*part, *answers] if ends else part, state["code"].get(state["pc"], "")[9:])
             own_log = ([] if place > 1 else log[:1]) + (log[1:] if ends else [])
-            told_of = int(self._states[user].get("instruction", "0"), 16)  # whose sentence the source may have
-            note = step.note if place == 1 and step.note else self._script.notes.get(told_of, "")
+            address = int(self._states[user].get("instruction", "0"), 16)  # whose sentence the source may have
+            note = step.note if place == 1 and step.note else self._script.notes.get(address, "")
             shown = line if number == 1 else f"{line}: instruction {place}"
             self._add_frame(Step([shown]), user, own_log, note)
             if ends:
@@ -127,13 +127,13 @@ class _Maker:
         if number > 1 and self._whole.look(f"{user} regs") != self._single.look(f"{user} regs"):
             raise LabError(f"{line!r} leaves something else than its instructions one by one")
 
-    def _look(self, lines: Sequence[str], answers: Sequence[tuple[str, Answer]], carried_out: str = "") -> None:
+    def _look(self, lines: Sequence[str], answers: Sequence[tuple[str, Answer]], executed: str = "") -> None:
         """Looks at those users whom lines, or an instruction, may have changed: an operator's line may, all of them."""
         users = {line[:1] for line in lines if not is_look(line)}
-        for user, sight in self._sights.items():
+        for user, watch_set in self._watch_sets.items():
             if user in users or "*" in users:
                 own, before = [answer for whom, answer in answers if whom == user], self._states.get(user, ABSENT)
-                self._states[user] = look_at(Guest(self._single, int(user)), sight, before, own, carried_out)
+                self._states[user] = look_at(Guest(self._single, int(user)), watch_set, before, own, executed)
 
     def _add_frame(self, step: Step, user: str, log: list[str], note: str) -> None:
         line, more = step.lines[0] if step.lines else "", sum(not is_look(line) for line in step.lines[1:])
@@ -141,13 +141,13 @@ class _Maker:
 
     def finish(self) -> list[Frame]:
         """The frames, with only the most relevant rows of memory."""
-        for user, sight in self._sights.items():
+        for user, watch_set in self._watch_sets.items():
             if self._script.variables:  # and not what else the image has
-                sight.named = set(variable_rows(self._script.variables)[:MOST_NAMED])
-            choice = RowChoice()
+                watch_set.named = set(variable_rows(self._script.variables)[:MOST_NAMED])
+            choice = VisibleRows()
             for frame in self._frames:
                 choice.add(frame.states.get(user, ABSENT))
-            rows = choice.rows(sight, 2 if self._script.variables else 1)
+            rows = choice.rows(watch_set, 2 if self._script.variables else 1)
             for frame in self._frames:
                 if user in frame.states:
                     frame.states[user] = with_rows(frame.states[user], rows)

@@ -29,8 +29,8 @@ def add_compiler(parser: argparse.ArgumentParser) -> None:
 
 def add_arguments(parser: argparse.ArgumentParser) -> None:
     """The words of `vecmon-lab lesson`."""
-    told = "a script, or a source in assembler (.s, .S) or C (.c)"
-    parser.add_argument("script", metavar="SCRIPT", type=pathlib.Path, help=told)
+    help_text = "a script, or a source in assembler (.s, .S) or C (.c)"
+    parser.add_argument("script", metavar="SCRIPT", type=pathlib.Path, help=help_text)
     parser.add_argument(
         "images", metavar="NAME=PATH", nargs="*", default=[], help="images that the script loads by name"
     )

@@ -13,7 +13,7 @@ from ..compilers.compiled import CompiledProgram, read_compiled_program
 from ..guest.guest import Guest
 from ..machine.session import Session
 from ..page.pages import lone_page
-from ..runs.beginning import beginning_at
+from ..runs.initial_state import initial_state_at
 from ..runs.counts import CountedWord
 from ..runs.profile import summary_of
 from ..runs.recorder import record
@@ -41,14 +41,14 @@ def listing_of(program: CompiledProgram, name: str, machine: pathlib.Path) -> Co
 
     Raises LabError where the machine refuses it.
     """
-    told = {address: (line, inlined) for address, line, inlined in program.rows}
-    of_source = [(range(first, end, 4), told[first]) for first, end in pairwise(told) if told[first][0]]
+    lines = {address: (line, inlined) for address, line, inlined in program.rows}
+    of_source = [(range(first, end, 4), lines[first]) for first, end in pairwise(lines) if lines[first][0]]
     lines = dict(islice(((address, line) for run, line in of_source for address in run), MOST_WORDS))
     with Session(machine) as session:
         guest = Guest(session)
         send(guest, ["enter", *program.lines, f"setpc {program.entry:x}"])
         words = guest.words(lines)
-        counts, stop = record(beginning_at(guest), MOST_TICKS), guest.go(MOST_TICKS)
+        counts, stop = record(initial_state_at(guest), MOST_TICKS), guest.go(MOST_TICKS)
         end = f"status {stop.number}" if stop and stop.kind == "exit" else guest.tell(stop)
     by_address = {place.address: place for place in counts.places}
     places = [(word, by_address.get(word.address, CountedWord(word.address, word.word))) for word in words]
@@ -67,6 +67,7 @@ if __name__ == "__main__":
     os.nice(10)
     source, made = json.load(sys.stdin)
     sides = [
-        listing_of(read_compiled_program(told.encode("utf-8")), name, pathlib.Path(sys.argv[1])) for name, told in made
+        listing_of(read_compiled_program(reply.encode("utf-8")), name, pathlib.Path(sys.argv[1]))
+        for name, reply in made
     ]
     sys.stdout.write(listings_page("Side by side", source, sides))

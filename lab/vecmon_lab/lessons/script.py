@@ -79,7 +79,7 @@ def read_assembled(text: str, name: str) -> Script:
     try:
         program = assemble(text)
     except SourceError as error:
-        raise LabError(error.told(name)) from error
+        raise LabError(error.diagnostic(name)) from error
     return _script_of(program, [line.strip() for line in text.split("\n")], name)
 
 
@@ -114,7 +114,7 @@ def refused_statement(script: Script, line: str, answer: Refused) -> LabError:
     """What is wrong with an instruction of the source, by the machine's answer to the line that writes it."""
     statement = script.statements[line]
     if answer.code == "E15":
-        return LabError(refusal(statement, int(answer.detail)).told(script.source))
+        return LabError(refusal(statement, int(answer.detail)).diagnostic(script.source))
     return LabError(f"{script.source}:{statement.line}: the machine answers {answer.code} to {statement.text}")
 
 
@@ -141,12 +141,12 @@ def _source_notes(lines: list[str], program: Program) -> tuple[str, dict[int, st
     """The sentence before all else, and those before an instruction by its address."""
     addresses = program.addresses()
     introduction, notes, waiting = "", dict[int, str](), list[str]()
-    begun = False
+    started = False
     for number, line in enumerate(lines, 1):
         if line.startswith("#"):
             waiting += [] if line.startswith(("##", "#>")) else [line]
-        elif line and not begun:
-            begun, introduction = True, _sentence(waiting)
+        elif line and not started:
+            started, introduction = True, _sentence(waiting)
             waiting.clear()
         if number in addresses:
             notes[addresses[number]] = _sentence(waiting)

@@ -43,16 +43,16 @@ def _script(name: str, title: str) -> Script:
 
     In a kernel, which comes compiled, those are one frame.
     """
-    lines, told = iter((TOURS / name).read_text("ascii").splitlines()), TOURS / f"{name}.json"
+    lines, data_path = iter((TOURS / name).read_text("ascii").splitlines()), TOURS / f"{name}.json"
     steps: list[Step] = []
     for sentence in (TOURS / f"{name}.steps").read_text("utf-8").splitlines():
         number, _, note = sentence.partition(" ")
-        if told.exists():
+        if data_path.exists():
             steps.append(Step([*islice(lines, int(number))], note))
             continue
         for place in range(int(number)):
             _add_line(steps, next(lines), "" if place else note)
-    return Script(title, steps, **json.loads(told.read_text("ascii")) if told.exists() else {})
+    return Script(title, steps, **json.loads(data_path.read_text("ascii")) if data_path.exists() else {})
 
 
 def _add_line(steps: list[Step], line: str, note: str) -> None:

@@ -20,11 +20,11 @@ _STOP = "(?:(?:break|ebreak|outfull|exit D) pc=V16|fault cause=[01257] pc=V16 va
 _WORDS = {"STOP": _STOP, "V16": "[0-9a-f]{16}", "WORD": "[0-9a-f]{8}", "HEX": "(?:[0-9a-f]{2})+", "D": "[0-9]+"}
 
 
-def _pattern(form: str, who: str = "[1-8*]") -> re.Pattern[str]:
+def _pattern(form: str, role: str = "[1-8*]") -> re.Pattern[str]:
     """The pattern of a line of a form, with its prefix."""
     for word, expression in _WORDS.items():
         form = form.replace(word, expression)
-    return re.compile(f"{who} (?:{form})")
+    return re.compile(f"{role} (?:{form})")
 
 
 _STOP_LINE = _pattern("STOP", "[1-8]")
@@ -142,7 +142,7 @@ class Addresses:
 
 
 @dataclass(frozen=True)
-class Standing:
+class ProgramState:
     """Where a program is, and why.
 
     number: how often it has stepped, or the status of an exit
@@ -166,7 +166,7 @@ class Standing:
         return f"{self.what}{number} pc={self.pc:016x}{value}"
 
 
-class Position(Standing):
+class Position(ProgramState):
     """It has `stepped` so often, is `running` or `stopped` now, or is shown: `state running` or `state stopped`."""
 
     @property
@@ -175,7 +175,7 @@ class Position(Standing):
         return "running" if self.kind.endswith("running") else "stopped"
 
 
-class Stop(Standing):
+class Stop(ProgramState):
     """It has stopped by itself: an `exit`, a `fault`, a `break`, an `ebreak`, or a full output buffer, `outfull`."""
 
 
@@ -264,7 +264,7 @@ def read(answer: Sequence[str]) -> Answer:
     return Listing(listed) if listed[0].text else listed[0]
 
 
-def by_whom(answer: Sequence[str]) -> list[tuple[str, Answer]]:
+def answers_by_user(answer: Sequence[str]) -> list[tuple[str, Answer]]:
     """A whole answer, by users: those whose programs stopped, and the one who gets the answer."""
     said = read(answer)
     return [*(said.stops if isinstance(said, Granted) else ()), (answer[-1][0], said)]

@@ -29,8 +29,8 @@ class PipedProcess:
         assert self._child.stdin and self._child.stdout and self._child.stderr
         self.number = self._child.pid
         self._feed, self._source = self._child.stdin.fileno(), self._child.stdout.fileno()
-        self._complaints = self._child.stderr.fileno()
-        os.set_blocking(self._complaints, False)
+        self._stderr = self._child.stderr.fileno()
+        os.set_blocking(self._stderr, False)
         self._readable = select.poll()
         self._readable.register(self._source, select.POLLIN)
 
@@ -46,7 +46,7 @@ class PipedProcess:
             raise OutOfStep(f"after the answer to {lines[-1][:60]!r} there came {self._unread[:60]!r}")
         return answers
 
-    def pour(self, script: bytes) -> Iterator[bytes]:
+    def stream(self, script: bytes) -> Iterator[bytes]:
         """Feeds lines that do, as the process takes them, and gives their answers as they come, in whole lines.
 
         Nobody looks how the answers are made. Raises ProgramGone.
@@ -112,8 +112,8 @@ class PipedProcess:
         status = self._child.wait()
         how = f"with status {status}" if status >= 0 else f"by {signal.Signals(-status).name}"
         with contextlib.suppress(BlockingIOError):
-            complaint = os.read(self._complaints, 4096).decode("utf-8", "replace")
-            how = ": ".join([how, *complaint.splitlines()[:1]])
+            errors = os.read(self._stderr, 4096).decode("utf-8", "replace")
+            how = ": ".join([how, *errors.splitlines()[:1]])
         return f"the program ended {how}"
 
     def kill(self) -> None:

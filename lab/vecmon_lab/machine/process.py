@@ -26,7 +26,7 @@ class Process(Protocol):
     def ask(self, lines: Sequence[str]) -> list[list[str]]:
         """The answers to lines that go in together. Raises ProgramGone and OutOfStep; then the process is of no use."""
 
-    def pour(self, script: bytes) -> Iterator[bytes]:
+    def stream(self, script: bytes) -> Iterator[bytes]:
         """Feeds lines that do, and gives their answers as they come, in whole lines. Raises ProgramGone."""
 
     def kill(self) -> None:

@@ -70,10 +70,12 @@ def check_is_vecmon(program: pathlib.Path) -> None:
     import subprocess  # which the synchronous core does without
 
     try:
-        told = subprocess.run([program, "--help"], stdin=subprocess.DEVNULL, capture_output=True, timeout=10).stdout
+        help_text = subprocess.run(
+            [program, "--help"], stdin=subprocess.DEVNULL, capture_output=True, timeout=10
+        ).stdout
     except (OSError, subprocess.TimeoutExpired):
         return
-    if not told.startswith(b"Runs a script on a trainer machine for the RISC-V vector extension"):
+    if not help_text.startswith(b"Runs a script on a trainer machine for the RISC-V vector extension"):
         raise NoProgram(f"{program} is no vecmon; VECMON=PATH names one")
 
 
@@ -118,5 +120,5 @@ def check_flags(image: pathlib.Path) -> None:
     is_riscv = header[:6] == b"\x7fELF\2\1" and header[18:20] == b"\xf3\0"
     kinds = [kind for bits, kind in _FLAGS.items() if is_riscv and int.from_bytes(header[48:52], "little") & bits]
     if kinds:
-        told = f"it is compiled for {' and '.join(kinds)}, and the machine has none"
-        raise LabError(f"{told}: compile with {MARCH} -mabi=lp64")
+        message = f"it is compiled for {' and '.join(kinds)}, and the machine has none"
+        raise LabError(f"{message}: compile with {MARCH} -mabi=lp64")

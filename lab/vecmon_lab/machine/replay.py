@@ -57,8 +57,8 @@ class Replayer:
             for lines, answers in self.piped(copy.process, script, tell):
                 for line, answer, mark in zip(lines, answers, marks(answers)):
                     if mark != self._script.marks[copy.number]:
-                        told = f"line {copy.number + 1}, {line[:60]!r}, now with {answer[:60]!r}"
-                        raise ReplayDiffers(f"{DIFFERS}: {told}")
+                        message = f"line {copy.number + 1}, {line[:60]!r}, now with {answer[:60]!r}"
+                        raise ReplayDiffers(f"{DIFFERS}: {message}")
                     copy.number += 1
         except BaseException:
             copy.process.close()
@@ -73,7 +73,7 @@ class Replayer:
         lines, number, stops = script.decode("ascii").split("\n")[:-1], 0, ""
         left = iter(lines)
         line = next(left, "")
-        for block in process.pour(script) if lines else ():
+        for block in process.stream(script) if lines else ():
             if self.has_ended:
                 raise ProgramGone("the session has ended")
             tell(min(99, 100 * number // len(lines)))

@@ -49,11 +49,11 @@ class Script:
 
     def record(self, lines: Sequence[str], answers: Sequence[str]) -> None:
         """Adds lines and their answers."""
-        self.take_up(lines, answers)
+        self.add_replayed(lines, answers)
         # by now each line there has its mark, also for a spare's thread
         self.text += "\n".join([*lines, ""]).encode("ascii")
 
-    def take_up(self, lines: Sequence[str], answers: Sequence[str]) -> None:
+    def add_replayed(self, lines: Sequence[str], answers: Sequence[str]) -> None:
         """Adds answers to the digest and the marks, and follows the policies that their lines set."""
         self.answers.update("\n".join([*answers, ""]).encode("latin-1"))
         self.marks.extend(marks(answers))
@@ -61,9 +61,9 @@ class Script:
             if line[2:3] in "elp ":
                 self._follow_policy(line, answer)
 
-    def spend(self, began: float) -> None:
+    def spend(self, started: float) -> None:
         """Counts the time since then, by `time.monotonic`."""
-        seconds = time.monotonic() - began
+        seconds = time.monotonic() - started
         self.spent, self.total = self.spent + seconds, self.total + seconds
 
     def _follow_policy(self, line: str, answer: str) -> None:

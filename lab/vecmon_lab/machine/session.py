@@ -159,12 +159,12 @@ class Session(contextlib.AbstractContextManager["Session"]):
         """As `do_script`, in blocks as they come: for callers that do nothing with most lines."""
         if len(recorded_lines(script)) < len(script):
             raise BadLine("a script has lines that no session records")
-        began = time.monotonic()
+        started = time.monotonic()
         for block in self._replayer.piped(self._process or self._replay(), script, self._tell):
-            self.recorded.take_up(*block)
+            self.recorded.add_replayed(*block)
             yield block
         self.recorded.text += script
-        self.recorded.spend(began)
+        self.recorded.spend(started)
 
     @property
     def short_script(self) -> bytes:
@@ -197,22 +197,22 @@ class Session(contextlib.AbstractContextManager["Session"]):
     def renewed(self) -> "Session":
         """A session on the same machine whose script is `short_script`. Raises as a replay does."""
         recorded = self.recorded
-        heir, since = self.rewound(self.short_script), recorded.marks[recorded.base[0].number :]
-        if heir.recorded.marks[heir.lines - len(since) :] != since:
-            heir.close()
+        replacement, since = self.rewound(self.short_script), recorded.marks[recorded.base[0].number :]
+        if replacement.recorded.marks[replacement.lines - len(since) :] != since:
+            replacement.close()
             raise ReplayDiffers(DIFFERS)
-        heir.losses = self.losses
-        return heir
+        replacement.losses = self.losses
+        return replacement
 
     def rewound(self, script: bytes) -> "Session":
         """A session with the same images whose script is this one. Raises as `do_script` does."""
-        heir = self._opening()
+        replacement = self._opening()
         try:
-            deque(heir.do_blocks(script), 0)
+            deque(replacement.do_blocks(script), 0)
         except BaseException:
-            heir.close()
+            replacement.close()
             raise
-        return heir
+        return replacement
 
     def look(self, line: str) -> list[str]:
         """The answer to a line that only looks. Raises BadLine for any other one, and else as `do`."""
@@ -244,13 +244,13 @@ class Session(contextlib.AbstractContextManager["Session"]):
         size = sum(map(len, lines))
         if self._process and self._process.fed + size >= self._script_bytes + self._script_bytes // 10:
             self.close()
-        began = time.monotonic()
+        started = time.monotonic()
         try:
             answers = self._answers_to(lines)
             done = [(line, "\n".join(answer)) for line, answer in zip(lines, answers) if not is_look(line)]
             if done:
                 self._record(*zip(*done))
-                self.recorded.spend(began)
+                self.recorded.spend(started)
         except BaseException:
             self.close()
             raise

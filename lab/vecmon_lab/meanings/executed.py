@@ -15,10 +15,13 @@ from .formula import Assignment, Bits, Formula, evaluate, sext, zext
 from .record import Record, record_of
 
 WORD = (1 << 64) - 1
-Fate = enum.Enum("Fate", "RESULT KEPT MASKED TAIL BEFORE_START NO_ELEMENTS AFTER_FAULT SHORTENED")
+ElementOutcome = enum.Enum("Fate", "RESULT KEPT MASKED TAIL BEFORE_START NO_ELEMENTS AFTER_FAULT SHORTENED")
 """Why an element of a destination has its value: the formula; or it kept its value, unless policy ones sets what is agnostic."""
 
-_AGNOSTIC = {Fate.MASKED: 0x80, Fate.TAIL: 0x40}  # the bit of vtype that makes elements of this fate agnostic
+_AGNOSTIC = {
+    ElementOutcome.MASKED: 0x80,
+    ElementOutcome.TAIL: 0x40,
+}  # the bit of vtype that makes elements of this fate agnostic
 _CONTROL_FIELDS = {  # of control registers that can be written, by number: the lowest bit and the largest value
     0x008: {"vstart": (0, 0xFF)},
     0x009: {"vxsat": (0, 1)},
@@ -160,21 +163,21 @@ class Execution:
         """Whether the record says that the element at present isn't written."""
         return self.record.kept is not None and bool(evaluate(self.record.kept, self.names))
 
-    def fate(self, element: int) -> Fate:
+    def outcome(self, element: int) -> ElementOutcome:
         """The fate of an element of the destination, apart from a fault or a shortened length."""
         control, body = self.before.control, self.body
         if self.is_single:
             body = range(control.vl > control.vstart)
         if not len(body):
-            return Fate.NO_ELEMENTS
+            return ElementOutcome.NO_ELEMENTS
         if element < body.start:
-            return Fate.BEFORE_START
+            return ElementOutcome.BEFORE_START
         if element >= body.stop:
-            return Fate.TAIL
+            return ElementOutcome.TAIL
         self.at(element)
         if self.is_kept():
-            return Fate.KEPT
-        return Fate.RESULT if self.is_single or element in self.active else Fate.MASKED
+            return ElementOutcome.KEPT
+        return ElementOutcome.RESULT if self.is_single or element in self.active else ElementOutcome.MASKED
 
     def _names(self) -> dict[str, object]:
         before, control, word = self.before, self.before.control, self.before.word
@@ -268,7 +271,7 @@ def _execute_once(execution: Execution, after: After) -> None:
 def _execute_elements(execution: Execution, after: After, operand: Operand) -> None:
     """Executes an instruction by element, from vstart on. Raises NoAccess."""
     for element in execution.active if not execution.is_single else range(1):
-        if execution.fate(element) != Fate.RESULT:
+        if execution.outcome(element) != ElementOutcome.RESULT:
             continue
         try:
             _execute_element(execution, after, operand, element)
@@ -306,21 +309,21 @@ def _write(execution: Execution, after: After, operand: Operand, number: int, pl
     after.v[part] = (others | new << at % 8).to_bytes(part.stop - part.start, "little")
 
 
-def agnostic(execution: Execution, fate: Fate) -> bool:
+def agnostic(execution: Execution, outcome: ElementOutcome) -> bool:
     """Whether an element of this fate becomes ones."""
     operand, vtype = execution.operand, execution.before.control.vtype
     if not execution.before.has_ones or operand is None or operand.noun != "destination" or operand.eew == 1:
         return False
-    return (execution.is_single or not operand.is_whole) and bool(vtype & _AGNOSTIC.get(fate, 0))
+    return (execution.is_single or not operand.is_whole) and bool(vtype & _AGNOSTIC.get(outcome, 0))
 
 
 def _set_ones(execution: Execution, after: After, operand: Operand, stop: int, has_tail: bool) -> None:
     """Sets agnostic elements to ones: masked-off ones before an element, and the tail."""
-    if not any(agnostic(execution, fate) for fate in _AGNOSTIC):
+    if not any(agnostic(execution, outcome) for outcome in _AGNOSTIC):
         return
     for element in range(operand.group * REGISTER_BITS // operand.eew):
-        fate = execution.fate(element)
-        if agnostic(execution, fate) and (has_tail if fate == Fate.TAIL else element < stop):
+        outcome = execution.outcome(element)
+        if agnostic(execution, outcome) and (has_tail if outcome == ElementOutcome.TAIL else element < stop):
             for number in range(execution.fields):
                 _write(execution, after, operand, number, element, -1)
 

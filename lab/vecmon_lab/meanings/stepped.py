@@ -4,7 +4,7 @@ import functools
 from collections.abc import Callable, Sequence
 
 from .. import LabError
-from ..guest.changes import Carried, Change, Registers, Stepper
+from ..guest.changes import Retired, Change, Registers, Stepper
 from ..guest.guest import Guest
 from ..instructions.accesses import LINE_BYTES, vector_instruction
 from ..instructions.words import LOAD, LOAD_FP
@@ -17,18 +17,18 @@ def why_stepped(stepper: Stepper, name: str, element: int | None = None) -> Reas
     """Why a register, or an element of a vector register, has its value. Raises LabError, also where nothing was stepped."""
     if stepper.last is None:
         raise LabError(NO_STEP)
-    before, carried = stepper.last
-    return explanation_of(stepper.guest, before, stepper.registers.control, carried).why(name, element)
+    before, retired = stepper.last
+    return explanation_of(stepper.guest, before, stepper.registers.control, retired).why(name, element)
 
 
 class Step:
     """An instruction of a call that was stepped: its address, word and text, its changes, and why registers have their values."""
 
-    def __init__(self, guest: Guest, before: Registers, after: ControlRegisters, carried: Carried) -> None:
-        self.pc, self.word, self.text = carried.pc, carried.word, carried.text
-        self.changes: Sequence[Change] = carried.changes
-        self._explanation: Callable[[], Explanation] = lambda: explanation_of(guest, before, after, carried)
-        if carried.word & 0x7F in (LOAD, LOAD_FP) and carried.text and carried.stop is None:
+    def __init__(self, guest: Guest, before: Registers, after: ControlRegisters, retired: Retired) -> None:
+        self.pc, self.word, self.text = retired.pc, retired.word, retired.text
+        self.changes: Sequence[Change] = retired.changes
+        self._explanation: Callable[[], Explanation] = lambda: explanation_of(guest, before, after, retired)
+        if retired.word & 0x7F in (LOAD, LOAD_FP) and retired.text and retired.stop is None:
             made = self._explanation()  # before later steps change memory
             self._explanation = lambda: made
 
@@ -40,24 +40,24 @@ class Step:
         return self._explanation().why(name, element)
 
 
-def explanation_of(guest: Guest, before: Registers, after: ControlRegisters, carried: Carried) -> Explanation:
+def explanation_of(guest: Guest, before: Registers, after: ControlRegisters, retired: Retired) -> Explanation:
     """The execution of an instruction for `why`, by the registers before it, and `vl` after it.
 
     Memory is read now: no load has changed it, and what a store has written isn't read. Raises LabError.
     """
-    if not carried.text:
-        raise LabError(f"no instruction can be fetched at {carried.pc:#x}, so nothing was changed")
-    stop, word = carried.stop, carried.word
+    if not retired.text:
+        raise LabError(f"no instruction can be fetched at {retired.pc:#x}, so nothing was changed")
+    stop, word = retired.stop, retired.word
     fault = stop.value if stop and stop.kind == "fault" else -1
     instruction = vector_instruction(word, before.control.vtype)
     end = 1 << 64  # of what a load that only faults first has read
-    if instruction and carried.text.partition(" ")[0].endswith("ff.v") and after.vl < before.control.vl:
+    if instruction and retired.text.partition(" ")[0].endswith("ff.v") and after.vl < before.control.vl:
         end = before.x[word >> 15 & 31] + after.vl * ((word >> 29) + 1) * instruction.operands[0].eew // 8
 
     @functools.cache
     def line(number: int) -> bytes | None:
-        (told,) = guest.ask(f"peek {number * LINE_BYTES:x} {LINE_BYTES}")
-        return told.data if isinstance(told, Memory) else None
+        (reply,) = guest.ask(f"peek {number * LINE_BYTES:x} {LINE_BYTES}")
+        return reply.data if isinstance(reply, Memory) else None
 
     def read(address: int, length: int) -> bytes | None:
         if address == fault or address >= end:
@@ -67,6 +67,6 @@ def explanation_of(guest: Guest, before: Registers, after: ControlRegisters, car
 
     has_ones = guest.session.policy[guest.user] == "ones"
     state = Before(
-        carried.pc, word, before.x, before.control, bytes(before.v), has_ones, read, lambda at, _: at != fault
+        retired.pc, word, before.x, before.control, bytes(before.v), has_ones, read, lambda at, _: at != fault
     )
     return Explanation(state)

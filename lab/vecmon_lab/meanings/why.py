@@ -10,7 +10,7 @@ from ..instructions.accesses import REGISTER_BITS
 from ..instructions.reasons import illegal_reasons
 from ..instructions.table import REGISTERS
 from ..instructions.words import OP_V
-from .executed import WORD, After, Before, Execution, Fate, agnostic, element_of, execute
+from .executed import WORD, After, Before, Execution, ElementOutcome, agnostic, element_of, execute
 from .formula import CLIPS, FUNCTIONS, MEMORIES, OPERANDS, Assignment, elements_in, evaluate
 
 MOST_TERMS = 8  # of a list of elements that is shown whole
@@ -104,10 +104,10 @@ def _why_written(execution: Execution, after: After, register: int, field: int, 
     is_mask, control = execution.target.kind == "mask", after.control
     unit, target = 1 if is_mask else execution.width, f"v{register}{'.mask' * is_mask}[{index}]"
     old, new = (element_of(data, register, unit, index) for data in (execution.before.v, after.v))
-    fate = execution.fate(index)
-    if fate != Fate.RESULT:
-        cause = _cause(execution, fate, index)
-        if new != old or agnostic(execution, fate) and after.fault is None and new == (1 << unit) - 1:
+    outcome = execution.outcome(index)
+    if outcome != ElementOutcome.RESULT:
+        cause = _cause(execution, outcome, index)
+        if new != old or agnostic(execution, outcome) and after.fault is None and new == (1 << unit) - 1:
             return Reason(f"{target} = {new:#x}, all ones, since it is agnostic under policy ones: {cause}", new)
         return _kept(target, old, cause)
     if after.fault is not None and index >= control.vstart:
@@ -121,7 +121,7 @@ def _why_written(execution: Execution, after: After, register: int, field: int, 
     return _explained(execution, target, execution.target, unit)
 
 
-def _cause(execution: Execution, fate: Fate, index: int) -> str:
+def _cause(execution: Execution, outcome: ElementOutcome, index: int) -> str:
     """Why the formula doesn't count for an element."""
     control, body = execution.before.control, execution.body
     stop = f"vl = {control.vl}" if body.stop == control.vl else f"{body.stop}"
@@ -130,12 +130,12 @@ def _cause(execution: Execution, fate: Fate, index: int) -> str:
     execution.at(index)
     kept = execution.record.kept
     return {
-        Fate.MASKED: f"masked off by v0[{index}] = 0",
-        Fate.TAIL: f"tail, since {index} >= {stop}",
-        Fate.BEFORE_START: f"before vstart = {control.vstart}",
-        Fate.NO_ELEMENTS: f"no element is written, since vstart = {control.vstart} >= {body.stop}, the end of the body",
-        Fate.KEPT: f"not written, since {_text(execution, kept, True)}" if kept else "",
-    }[fate]
+        ElementOutcome.MASKED: f"masked off by v0[{index}] = 0",
+        ElementOutcome.TAIL: f"tail, since {index} >= {stop}",
+        ElementOutcome.BEFORE_START: f"before vstart = {control.vstart}",
+        ElementOutcome.NO_ELEMENTS: f"no element is written, since vstart = {control.vstart} >= {body.stop}, the end of the body",
+        ElementOutcome.KEPT: f"not written, since {_text(execution, kept, True)}" if kept else "",
+    }[outcome]
 
 
 def _kept(target: str, value: int, cause: str) -> Reason:

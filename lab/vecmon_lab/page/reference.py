@@ -20,7 +20,7 @@ def reference() -> dict[str, list[list[str]]]:
     return {
         "Commands": commands,
         "Instructions": [
-            [row.name, f"{row.name} {row.operands}".rstrip(), _told(row)] for row in instruction_table().values()
+            [row.name, f"{row.name} {row.operands}".rstrip(), _description(row)] for row in instruction_table().values()
         ],
         "Pseudo-instructions": [["li", "li rd, imm", records()["li"].does], *_pseudo_entries()],
         "Directives": _entries("directive"),
@@ -36,7 +36,7 @@ def reference_text() -> str:
     return json.dumps(reference(), separators=(",", ":")).replace("<", "\\u003c")
 
 
-def _told(row: Row) -> str:
+def _description(row: Row) -> str:
     """What an instruction does, with its formula as code."""
     record = record_of(row.name)
     formula = record.formula_of(row.name)

@@ -79,7 +79,7 @@ _ADDRESS = re.compile(r"(-?\d+)?\(x(\d+)\)")
 _STORE = re.compile(r"(s[bhwd]|vs\S+) .*\(x\d+\)")
 
 
-class Sight:
+class WatchSet:
     """The watched places of one user's memory: the program's words, and pages of data; and breakpoints."""
 
     def __init__(self) -> None:
@@ -131,11 +131,16 @@ class Sight:
 
 
 def look_at(
-    guest: Guest, sight: Sight, before: State, answers: Sequence[Answer], carried_out: str = "", is_done: bool = True
+    guest: Guest,
+    watch_set: WatchSet,
+    before: State,
+    answers: Sequence[Answer],
+    executed: str = "",
+    is_done: bool = True,
 ) -> State:
     """The user's state after lines that were answered to the user so; before them the state was `before`.
 
-    carried_out: the text of the instruction that a line may have executed, if it did nothing else
+    executed: the text of the instruction that a line may have executed, if it did nothing else
     is_done: whether a line did more than look
     While the program runs the machine shows nothing else, so that all but `run` and `pc` stays as it was.
     """
@@ -155,29 +160,29 @@ def look_at(
         return state
     control = _take_registers(guest, state)
     state["policy"] = guest.session.policy[guest.user]
-    if not carried_out or carried_out.startswith("v"):
+    if not executed or executed.startswith("v"):
         state["v"] = {f"{number}": data.hex() for number, data in enumerate(guest.vectors())}
-    trace = guest.told("trace", Addresses).addresses
+    trace = guest.query("trace", Addresses).addresses
     stepped = any(isinstance(answer, Position) and answer.kind == "stepped" for answer in answers)
-    may_store = not carried_out or _STORE.match(carried_out) is not None
-    code = _code(guest, sight, place.pc, trace, {} if may_store else state["code"])
+    may_store = not executed or _STORE.match(executed) is not None
+    code = _code(guest, watch_set, place.pc, trace, {} if may_store else state["code"])
     if code != state.get("code"):
         state["code"] = code
         state["operands"] = {address: shown_operands(int(line[:8], 16)) for address, line in code.items()}
     text = state["code"].get(state["pc"], "")
     _take_calls(state)
-    pages = len(sight.pages)
-    sight.add_accessed(text[9:], state["x"])
-    if may_store or len(sight.pages) > pages:
-        state["memory"] = _memory(guest, sight)
-    if trace and (stepped or trace != sight.trace):
+    pages = len(watch_set.pages)
+    watch_set.add_accessed(text[9:], state["x"])
+    if may_store or len(watch_set.pages) > pages:
+        state["memory"] = _memory(guest, watch_set)
+    if trace and (stepped or trace != watch_set.trace):
         state["instruction"] = f"{trace[-1]:x}"
     stop = next((answer for answer in reversed(answers) if isinstance(answer, Stop)), None)
     if stop:
         state["stop"] = describe_stop(stop, int(text[:8], 16) if text else None, control, text[9:])
     if stop and stop.kind == "fault":
         state.update({"instruction": state["pc"], "faulted": True})
-    sight.trace = trace
+    watch_set.trace = trace
     return state
 
 
@@ -188,7 +193,7 @@ def registers_of(state: State) -> Registers:
     return Registers([int(digits, 16) for digits in x], ControlRegisters(*control), bytearray.fromhex("".join(v)))
 
 
-class RowChoice:
+class VisibleRows:
     """The rows of a user's memory that are shown: those that lines name, that change, and that aren't zero.
 
     Words in the listing aren't shown again, unless a line names it.
@@ -207,11 +212,11 @@ class RowChoice:
             self._weights[row] = max(self._weights[row], 2 if has_changed else int(digits.strip("0") != ""))
         self._last = state["memory"]
 
-    def rows(self, sight: Sight, least: int = 1) -> set[str]:
+    def rows(self, watch_set: WatchSet, least: int = 1) -> set[str]:
         """The addresses of the most relevant rows; 2 is the least for rows that have changed."""
-        listing = {f"{address // ROW_BYTES * ROW_BYTES:x}" for address in sight.code}
+        listing = {f"{address // ROW_BYTES * ROW_BYTES:x}" for address in watch_set.code}
         weights = Counter({row: it for row, it in self._weights.items() if it >= least and row not in listing})
-        weights.update({f"{row:x}": 3 for row in sight.named if f"{row:x}" in self._weights})
+        weights.update({f"{row:x}": 3 for row in watch_set.named if f"{row:x}" in self._weights})
         return {row for row, _ in weights.most_common(MOST_ROWS)}
 
 
@@ -252,15 +257,15 @@ def _take_calls(state: State) -> None:
         del state["calls"]
 
 
-def _code(guest: Guest, sight: Sight, pc: int, trace: Sequence[int], known: dict[str, str]) -> dict[str, str]:
+def _code(guest: Guest, watch_set: WatchSet, pc: int, trace: Sequence[int], known: dict[str, str]) -> dict[str, str]:
     """The listing: words that lines wrote, executed words, and some from the program counter on.
 
     What is known of it is as it was.
     """
-    if len(sight.code) < MOST_WORDS:
-        sight.code.update(trace)
-        sight.code.update(_ahead(guest, pc))
-    new = {address for address in sight.code if f"{address:x}" not in known}
+    if len(watch_set.code) < MOST_WORDS:
+        watch_set.code.update(trace)
+        watch_set.code.update(_ahead(guest, pc))
+    new = {address for address in watch_set.code if f"{address:x}" not in known}
     return known | {f"{it.address:x}": f"{it.word:08x} {it.text}" for it in guest.words(new)}
 
 
@@ -273,10 +278,10 @@ def _ahead(guest: Guest, pc: int) -> Iterator[int]:
         yield word.address
 
 
-def _memory(guest: Guest, sight: Sight) -> dict[str, str]:
+def _memory(guest: Guest, watch_set: WatchSet) -> dict[str, str]:
     """The rows of all pages that are watched and mapped."""
     rows = dict[str, str]()
-    for page in sorted(sight.pages):
+    for page in sorted(watch_set.pages):
         data = guest.peek(page, PAGE_BYTES)
         rows |= {f"{page + at:x}": data[at : at + ROW_BYTES].hex() for at in range(0, len(data), ROW_BYTES)}
     return rows

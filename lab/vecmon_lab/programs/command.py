@@ -92,7 +92,7 @@ def _write(arguments: argparse.Namespace, seed: int) -> tuple[int, Coverage]:
         digests[drawn.digests] = digest(left[BLOCK_BYTES:])
     _write_image(path, environment, drawn, state)
     path.with_suffix(".reference").write_text(signature_text(digests), "ascii")
-    path.with_suffix(".state").write_text(f"{json.dumps(_told(left, environment.base), indent=1)}\n", "ascii")
+    path.with_suffix(".state").write_text(f"{json.dumps(_state_json(left, environment.base), indent=1)}\n", "ascii")
     return drawn.executed, drawn.coverage
 
 
@@ -133,13 +133,19 @@ def _write_image(path: pathlib.Path, environment: Environment, drawn: Drawn, sta
     return code
 
 
-def _told(block: bytes, base: int) -> dict[str, object]:
+def _state_json(block: bytes, base: int) -> dict[str, object]:
     """A state by the keys of golden vectors."""
     values = dict(zip(NAMES, LAYOUT.unpack(block)))
-    told: dict[str, object] = {name: values[name] for name in ("vl", "vstart", "vxrm", "vxsat")}
+    help_text: dict[str, object] = {name: values[name] for name in ("vl", "vstart", "vxrm", "vxsat")}
     v, memory = values["v"], values["memory"].hex()
-    told |= {"vtype": f"{values['vtype']:x}", "x": {number: f"{values[f'x{number}']:x}" for number in range(1, 30)}}
-    return told | {"v": {n: v[32 * n : 32 * n + 32].hex() for n in range(32)}, "memory": {f"{base + MEMORY:x}": memory}}
+    help_text |= {
+        "vtype": f"{values['vtype']:x}",
+        "x": {number: f"{values[f'x{number}']:x}" for number in range(1, 30)},
+    }
+    return help_text | {
+        "v": {n: v[32 * n : 32 * n + 32].hex() for n in range(32)},
+        "memory": {f"{base + MEMORY:x}": memory},
+    }
 
 
 def _table(coverage: Coverage) -> Iterator[str]:

@@ -26,13 +26,13 @@ def differences(
     shift: the distance from the machine's stack to the log's, in bytes
     peek: the machine's bytes after the instruction, by their address and number
     """
-    if step.commit.word not in (None, step.carried.word):
-        yield f"word: {step.carried.word:08x} here, {step.commit.word:08x} in the log", set()
+    if step.commit.word not in (None, step.retired.word):
+        yield f"word: {step.retired.word:08x} here, {step.commit.word:08x} in the log", set()
     yield from _of_scalars(step, after, shift)
     yield from _of_vectors(step, after) if "v" in step.commit.compared else ()
     yield from _of_vector_type(step, after)
     yield from _of_control(step, after)
-    if "memory" in step.commit.compared and not step.carried.stop:
+    if "memory" in step.commit.compared and not step.retired.stop:
         yield from _of_memory(step, after, peek)
 
 
@@ -47,7 +47,7 @@ def _of_scalars(step: LoggedStep, after: Registers, shift: int) -> Iterator[Diff
 
 def _of_vectors(step: LoggedStep, after: Registers) -> Iterator[Difference]:
     """Elements of vector registers, of the width of the destination."""
-    instruction = vector_instruction(step.carried.word, step.before.control.vtype)
+    instruction = vector_instruction(step.retired.word, step.before.control.vtype)
     width = max(8, instruction.operands[0].eew) if instruction and instruction.operands else 8
     names = {number: elements_in(data, width) for number, data in step.commit.v.items()}
     for number, at in enumerate(range(0, 32 * REGISTER_BYTES, REGISTER_BYTES)):
@@ -90,7 +90,7 @@ def _of_control(step: LoggedStep, after: Registers) -> Iterator[Difference]:
 
 def _of_memory(step: LoggedStep, after: Registers, peek: Callable[[int, int], bytes]) -> Iterator[Difference]:
     """Addresses of elements that were loaded; addresses and bytes of those that were stored."""
-    opcode, commit, here = step.carried.word & 0x7F, step.commit, list(_elements(step, after))
+    opcode, commit, here = step.retired.word & 0x7F, step.commit, list(_elements(step, after))
     is_store = opcode in (STORE, STORE_FP)
     bytes_here = {address + at for address, length in here for at in range(length)}
     stored = {address + at: byte for address, data in commit.stores for at, byte in enumerate(data)}
@@ -112,7 +112,7 @@ def _of_memory(step: LoggedStep, after: Registers, peek: Callable[[int, int], by
 
 def _elements(step: LoggedStep, after: Registers) -> Iterator[Element]:
     """The elements that an instruction accessed here, the fields of a segment one after another."""
-    word, before = step.carried.word, step.before
+    word, before = step.retired.word, step.before
     if word & 0x7F in (LOAD, STORE):
         yield scalar_span(word, before.x)
     instruction = vector_instruction(word, before.control.vtype) if word & 0x7F in VECTOR_ACCESSES else None
@@ -120,7 +120,7 @@ def _elements(step: LoggedStep, after: Registers) -> Iterator[Element]:
         body = body_of(word, instruction, before.control)
         active, width = {*active_of(instruction, body, before.v)}, max(1, instruction.operands[0].eew // 8)
         spans = zip(body, vector_spans(word, before.x, before.control, before.v, instruction))
-        is_shortened = "ff.v" in step.carried.text
+        is_shortened = "ff.v" in step.retired.text
         for element, (address, length) in spans:
             if element in active and not (is_shortened and element >= after.control.vl):
                 yield from (((address + at) % (1 << 64), width) for at in range(0, length, width))

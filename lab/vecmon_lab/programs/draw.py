@@ -232,7 +232,7 @@ class _Generator:
         if row.name.startswith("vset"):
             return self._set_type(row.name)
         numbers = self._placed(row)
-        return numbers is not None and self._carry_out(row, numbers)
+        return numbers is not None and self._execute(row, numbers)
 
     def _placed(self, row: Row) -> dict[str, int] | None:
         """Registers for the vector operands of an instruction, and 1 or 0 for `vm`; None where it isn't legal now."""
@@ -277,7 +277,7 @@ class _Generator:
         bits = numbers["vm"] << 25 | (0 if {"vs1", "rs1"} & set(numbers) else self._draws.randrange(32) << 15)
         return bits | sum(number << PLACES[place] for place, number in numbers.items() if place != "vm")
 
-    def _carry_out(self, row: Row, numbers: dict[str, int]) -> bool:
+    def _execute(self, row: Row, numbers: dict[str, int]) -> bool:
         """Appends a vector instruction with these registers, and what reads its results where the standard fixes only a part."""
         for place in row.fields():
             if place in ("rs1", "rs2") and place not in numbers:
@@ -328,7 +328,7 @@ class _Generator:
         if index and offsets is not None:
             self._make_index(index, numbers["vs2"], offsets)
         numbers["rs1"] = self._base()
-        return self._carry_out(row, numbers)
+        return self._execute(row, numbers)
 
     def _make_index(self, index: Operand, number: int, source: int) -> None:
         """Offsets below 512, multiples of 8 unless there are choices, in a group, of the elements of another."""

@@ -8,7 +8,7 @@ from collections import deque
 from collections.abc import Iterator, Sequence
 
 from .. import LabError, mistakes_in
-from ..guest.changes import Carried, Stepper, vtype_text
+from ..guest.changes import Retired, Stepper, vtype_text
 from ..guest.guest import Guest, started
 from ..guest.symbols import Symbols
 from ..instructions.accesses import REGISTER_BYTES
@@ -77,7 +77,7 @@ class _Lockstep:
         lines = dict(differences(step, self._stepper.registers, self._shift, self._guest.peek))
         if lines:
             return self._report(lines, is_trap=False)
-        return self._agree(step) if step.carried.stop else None
+        return self._agree(step) if step.retired.stop else None
 
     def _step(self, commit: Commit) -> LoggedStep:
         """Executes an instruction, for this one of the log."""
@@ -85,7 +85,7 @@ class _Lockstep:
         self.number += 1
         if self.number == 1 and commit.stack is not None:
             self._shift = commit.stack - before.x[2]
-        step = LoggedStep(_carried(self._stepper, commit), before, self.number, commit)
+        step = LoggedStep(_retire(self._stepper, commit), before, self.number, commit)
         self._steps.append(step)
         return step
 
@@ -97,22 +97,22 @@ class _Lockstep:
         if self._log.end is Kind.TRUNCATED:
             raise self._truncated(self._guest.pc)
         step = self._step(Commit(self._guest.pc, is_done=False))
-        if step.carried.stop:
+        if step.retired.stop:
             self.number -= 1
             return self._agree(step)
         if self._log.end is Kind.OPEN:
             self.number -= 1
-            raise self._truncated(step.carried.pc)
+            raise self._truncated(step.retired.pc)
         return self._report({f"executed here, {self._log.end_text} in the log": {("vstart", 0)}}, is_trap=True)
 
     def _agree(self, step: LoggedStep) -> int:
         """Prints that all agrees up to a stop."""
-        print(f"{self.number:,} instructions agree; {self._told_stop(step)}")
+        print(f"{self.number:,} instructions agree; {self._stop_text(step)}")
         return 0
 
-    def _told_stop(self, step: LoggedStep) -> str:
+    def _stop_text(self, step: LoggedStep) -> str:
         """Where and why the program stopped."""
-        return self._guest.tell(step.carried.stop, self._symbols.place(self._guest.pc))
+        return self._guest.tell(step.retired.stop, self._symbols.place(self._guest.pc))
 
     def _truncated(self, pc: int) -> LabError:
         """The error that the log ends before the instruction at an address."""
@@ -122,10 +122,10 @@ class _Lockstep:
 
     def _trap(self, step: LoggedStep, following: Commit | None) -> str | None:
         """How one device refused what the other executed, if it did, by the log's next instruction and its end. Raises LabError."""
-        commit, stop, log = step.commit, step.carried.stop, self._log
+        commit, stop, log = step.commit, step.retired.stop, self._log
         if stop:
-            has_gone_on = commit.is_done and (commit.word is not None or following and following.pc == commit.pc + 4)
-            return f"{stop.kind} here, executed in the log" if has_gone_on and stop.kind != "exit" else None
+            has_advanced = commit.is_done and (commit.word is not None or following and following.pc == commit.pc + 4)
+            return f"{stop.kind} here, executed in the log" if has_advanced and stop.kind != "exit" else None
         if commit.is_done and (following is None or commit.word is not None or following.pc == self._guest.pc):
             return None
         if following:
@@ -134,7 +134,7 @@ class _Lockstep:
             return f"executed here, {log.end_text} in the log"
         if log.has_calls:  # so a signal would have its line
             self.number -= 1
-            raise self._truncated(step.carried.pc)
+            raise self._truncated(step.retired.pc)
         return (
             "executed here, the end of the log: refused there, or the log is truncated (QEMU's -d strace shows which)"
         )
@@ -145,13 +145,13 @@ class _Lockstep:
         return 1
 
 
-def _carried(stepper: Stepper, commit: Commit) -> Carried:
+def _retire(stepper: Stepper, commit: Commit) -> Retired:
     """Executes an instruction. The result of a call is the log's: it depends on the other device's system."""
-    before, carried = stepper.registers.x[10], stepper.step()
-    if carried.word == ECALL and commit.is_done:
+    before, retired = stepper.registers.x[10], stepper.step()
+    if retired.word == ECALL and commit.is_done:
         stepper.guest.ask(f"set x10 {commit.x.get(10, before):x}")
         stepper.look()
-    return carried
+    return retired
 
 
 def _report(steps: Sequence[LoggedStep], lines: dict[str, set[Cell]], is_trap: bool, symbols: Symbols) -> Iterator[str]:
@@ -168,10 +168,10 @@ def _report(steps: Sequence[LoggedStep], lines: dict[str, set[Cell]], is_trap: b
 
 def _shown(step: LoggedStep, symbols: Symbols) -> Iterator[str]:
     """An instruction, and before it the control registers and the registers that it names."""
-    pc, control, told = step.carried.pc, step.before.control, []
-    yield f"instruction {step.number:,}: {f'{pc:x} {symbols.place(pc)}'.rstrip()}: {step.carried.text}"
-    for kind, number in dict.fromkeys((kind, int(digits)) for kind, digits in _NUMBER.findall(step.carried.text)):
+    pc, control, sources = step.retired.pc, step.before.control, []
+    yield f"instruction {step.number:,}: {f'{pc:x} {symbols.place(pc)}'.rstrip()}: {step.retired.text}"
+    for kind, number in dict.fromkeys((kind, int(digits)) for kind, digits in _NUMBER.findall(step.retired.text)):
         data = step.before.v[REGISTER_BYTES * number : REGISTER_BYTES * (number + 1)]
-        told.append(f"x{number}={step.before.x[number]:x}" if kind == "x" else f"v{number}={data.hex()}")
+        sources.append(f"x{number}={step.before.x[number]:x}" if kind == "x" else f"v{number}={data.hex()}")
     state = f"vl={control.vl} vtype={vtype_text(control.vtype)} vstart={control.vstart} vxrm={control.vxrm}"
-    yield " ".join(["before:", state, *told])
+    yield " ".join(["before:", state, *sources])

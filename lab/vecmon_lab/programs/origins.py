@@ -39,7 +39,7 @@ def origin(
         if met or step is last:
             if sentence := _left_open(step, met, is_trap and step is last, is_part, last):
                 return step, sentence
-            made_of = (part[1] for part in met if step is last or step.carried.text.startswith("v"))
+            made_of = (part[1] for part in met if step is last or step.retired.text.startswith("v"))
             places = places.difference(*(part[0] for part in met)).union(*made_of)
             places = {place for place in places if place[0] in unseen}
     return None
@@ -47,7 +47,7 @@ def origin(
 
 def _left_open(step: LoggedStep, met: Sequence[Part], is_trap: bool, is_part: bool, last: LoggedStep) -> str | None:
     """The parts that the standard leaves open for an instruction, by the parts it wrote, or because it is refused."""
-    text, kinds = step.carried.text, {kind for _, _, kind in met} - {""}
+    text, kinds = step.retired.text, {kind for _, _, kind in met} - {""}
     agnostic = sorted(kinds - {"active"})
     if agnostic and (is_part or len(agnostic) == len(kinds)):
         allowed = "perhaps allowed: some of" if is_part else "allowed:"
@@ -56,9 +56,9 @@ def _left_open(step: LoggedStep, met: Sequence[Part], is_trap: bool, is_part: bo
     names = {name for name, _ in written}
     holds = {"trap": is_trap, "value": "v" in names, "vl": "vl" in names, "order": len(written) > len(set(written))}
     holds |= {"vstart": text.startswith("v") and step.before.control.vstart > 0}
-    instruction = vector_instruction(step.carried.word, step.before.control.vtype)
+    instruction = vector_instruction(step.retired.word, step.before.control.vtype)
     holds |= {"reserved": instruction is not None and bool(registers_of_two_widths(instruction))}
-    holds |= {"control": last.carried.text.startswith("csr") and not names.isdisjoint(CONTROL)}
+    holds |= {"control": last.retired.text.startswith("csr") and not names.isdisjoint(CONTROL)}
     rows = read_table("left_open")
     fitting = (row for row in rows if holds[row[0]] and re.match(row[1], text))
     return next((row[2] if row[2].startswith("reserved: ") else f"perhaps allowed: {row[2]}" for row in fitting), None)

@@ -9,7 +9,7 @@ from typing import BinaryIO
 
 from ..instructions.accesses import LINE_BYTES
 from ..machine.answers import Stop
-from ..runs.beginning import Beginning
+from ..runs.initial_state import InitialState
 from ..runs.counts import Counts
 from ..runs.recorder import Record, record
 from .watches import Watch, logged_access
@@ -25,11 +25,11 @@ breakpoint is there."""
 class Search:
     """The accesses of a run to watched places, and where it reaches breakpoints.
 
-    beginning: of the run, with all of its memory
+    initial_state: of the run, with all of its memory
     """
 
-    def __init__(self, beginning: Beginning, watches: Sequence[Watch], breaks: Iterable[int]) -> None:
-        self._beginning, self._breaks = beginning, {b"%016x" % address for address in breaks}
+    def __init__(self, initial_state: InitialState, watches: Sequence[Watch], breaks: Iterable[int]) -> None:
+        self._initial_state, self._breaks = initial_state, {b"%016x" % address for address in breaks}
         self._changed = [watch for watch in watches if watch.kind == "watch"]
         self._accessed = [watch for watch in watches if watch.kind != "watch"]
 
@@ -98,12 +98,12 @@ class Search:
             halts = pool.submit(lambda: _ends(read(file)))
             with open(other, "wb", 0) as pipe:
                 more = [Record(words, pipe)] if words else []
-                done = record(self._beginning, ticks, lambda data: sizes.append(len(data)), more)
+                done = record(self._initial_state, ticks, lambda data: sizes.append(len(data)), more)
             return done, halts.result(), sum(sizes)
 
     def _places(self, watch: Watch) -> Iterator[str]:
         """The words for a place, as far as there is memory."""
-        for address, _, data in self._beginning.memory:
+        for address, _, data in self._initial_state.memory:
             first, end = max(address, watch.address), min(address + len(data), watch.address + watch.length)
             for at in range(first, end, LINE_BYTES):
                 yield f"{at:x}:{min(LINE_BYTES, end - at)}"

@@ -7,13 +7,13 @@ from collections.abc import Callable, Iterator, Sequence
 from operator import itemgetter
 
 from .. import LabError
-from ..checkpoints.machine_state import carry_out, pages_of
+from ..checkpoints.machine_state import pages_of, replay_script
 from ..compilers.compiled import maps
 from ..guest.guest import MOST_STEPS, Guest, stepping
 from ..guest.runner import OUTPUT_BYTES, SAFE_STEPS
 from ..machine.answers import Addresses, Position, Stop
-from ..runs.beginning import Beginning, beginning_at
-from .legs import Leg, Legs
+from ..runs.initial_state import InitialState, initial_state_at
+from .intervals import Interval, Intervals
 from .recorded import Halt, Search
 from .watches import Watch, accessed
 
@@ -35,7 +35,7 @@ class Timeline:
         self.watches = list[Watch]()
         self.hit: Watch | None = None
         self._guest = guest
-        self._legs = Legs(guest.user, guest.session.quantum)
+        self._intervals = Intervals(guest.user, guest.session.quantum)
 
     def go(self, is_interrupted: Callable[[], bool]) -> Stop | None:
         """The program runs to a stop, or to an instruction that does what is watched for; None where it is interrupted."""
@@ -75,9 +75,9 @@ class Timeline:
     def back(self, number: int = 1) -> bool:
         """Go back by a number of instructions; return whether there were enough, else be at the first. Raises LabError."""
         self._catch_up()
-        before, legs, self.hit = self._held(), self._legs.legs, None
-        for place in reversed(range(len(legs))):
-            count = self._count(legs[place])
+        before, intervals, self.hit = self._held(), self._intervals.intervals, None
+        for place in reversed(range(len(intervals))):
+            count = self._count(intervals[place])
             if number <= count:
                 self._rewind(place, count - number)
                 break
@@ -114,23 +114,23 @@ class Timeline:
 
     def _halts(self, breaks: Sequence[int]) -> Iterator[tuple[int, list[Halt]]]:
         """The halts of each window of the legs, the last one first, with the leg's place."""
-        for place, leg in [*enumerate(self._legs.legs)][::-1]:
-            count = self._count(leg)
-            search = Search(self._beginning(self._script(leg)), self.watches, breaks)
-            yield from ((place, halts) for halts in search.back(max(1, leg.ticks, count), count))
+        for place, interval in [*enumerate(self._intervals.intervals)][::-1]:
+            count = self._count(interval)
+            search = Search(self._beginning(self._script(interval)), self.watches, breaks)
+            yield from ((place, halts) for halts in search.back(max(1, interval.ticks, count), count))
 
     def _catch_up(self) -> None:
         """Takes up what the script has had since the last time."""
-        script, size = self._guest.session.script, self._legs.size
+        script, size = self._guest.session.script, self._intervals.size
         if size < len(script):
             with self._guest.session.rewound(script[:size]) as session:
                 for line, answer in session.do_script(script[size:]):
-                    self._legs.follow(line, answer)
+                    self._intervals.follow(line, answer)
 
     def _begin(self) -> None:
         """Goes back to the first instant."""
         self.hit = None
-        if self._legs.legs:
+        if self._intervals.intervals:
             self._rewind(0, 0)
 
     def _rewind(self, place: int, count: int) -> None:
@@ -138,7 +138,7 @@ class Timeline:
         guest, breaks = self._guest, self._breaks()
         full = f"{guest.user} out {OUTPUT_BYTES} ", f"{guest.user} outfull "
         for at_once in (MOST_STEPS, SAFE_STEPS):
-            session = guest.session.rewound(self._script(self._legs.legs[place]))
+            session = guest.session.rewound(self._script(self._intervals.intervals[place]))
             answers = [answer[0] for _, answer in session.do_script(self._lines(*stepping(count, at_once), "out"))]
             if at_once == SAFE_STEPS or not any(answer.startswith(full) for answer in answers):
                 break
@@ -146,12 +146,12 @@ class Timeline:
         guest.session.close()
         guest.session = session
         guest.ask(*(f"break {address:x}" for address in breaks))
-        guest.pc = guest.told("state", Position).pc
-        self._legs.cut(place, count, session.size, breaks)
+        guest.pc = guest.query("state", Position).pc
+        self._intervals.cut(place, count, session.size, breaks)
 
     def _breaks(self) -> Sequence[int]:
         """The addresses of breakpoints."""
-        return self._guest.told("breaks", Addresses).addresses
+        return self._guest.query("breaks", Addresses).addresses
 
     def _held(self) -> dict[Watch, bytes]:
         """The contents of the places watched for changes."""
@@ -162,22 +162,26 @@ class Timeline:
         """The guest's lines with these commands."""
         return "".join(f"{self._guest.user} {command}\n" for command in commands).encode("ascii")
 
-    def _script(self, leg: Leg) -> bytes:
+    def _script(self, interval: Interval) -> bytes:
         """The script that brings a machine to where a leg begins, and has no breakpoints then."""
-        return self._guest.session.script[: leg.start] + self._lines("stop", *(f"unbreak {it:x}" for it in leg.breaks))
+        return self._guest.session.script[: interval.start] + self._lines(
+            "stop", *(f"unbreak {it:x}" for it in interval.breaks)
+        )
 
-    def _count(self, leg: Leg) -> int:
+    def _count(self, interval: Interval) -> int:
         """How many instructions a leg has. Raises LabError where they are too many."""
-        if (leg.count or leg.ticks) > MOST_BACK:
+        if (interval.count or interval.ticks) > MOST_BACK:
             raise LabError(TOO_FAR)
-        if leg.count is None:
-            search = Search(self._beginning(self._script(leg)), (), leg.breaks if leg.has_stopped else ())
-            leg.count = search.length(leg.ticks, self._guest.session.quantum)
-        return leg.count
+        if interval.count is None:
+            search = Search(
+                self._beginning(self._script(interval)), (), interval.breaks if interval.has_stopped else ()
+            )
+            interval.count = search.length(interval.ticks, self._guest.session.quantum)
+        return interval.count
 
-    def _beginning(self, script: bytes) -> Beginning:
+    def _beginning(self, script: bytes) -> InitialState:
         """The state at the start of a run after a script."""
         with self._guest.session.rewound(b"") as session:
-            pages = dict(pages_of(carry_out(session, script)[str(self._guest.user)], session.images))
+            pages = dict(pages_of(replay_script(session, script)[str(self._guest.user)], session.images))
             # by `go` the program may have written to each of them
-            return beginning_at(Guest(session, self._guest.user), lines=[f"1 {it}" for it in (*maps(pages), "go")])
+            return initial_state_at(Guest(session, self._guest.user), lines=[f"1 {it}" for it in (*maps(pages), "go")])

@@ -17,8 +17,8 @@ from ..instructions.accesses import REGISTER_BYTES
 from ..machine.answers import Stop
 from ..machine.program import segments_of
 from ..machine.session import ScriptFull
-from .beginning import Beginning, beginning_of
-from .partings import Pair, alike_until, explain, recorded
+from .initial_state import InitialState, initial_state_of
+from .divergence import Pair, alike_until, explain, recorded
 from .run import status_of
 
 POLICIES, QUANTUMS = ("keep", "ones"), (1000, 7, 1)
@@ -69,30 +69,32 @@ def run(arguments: argparse.Namespace) -> int:
         with started(image, policy=policy, quantum=quantum, arguments=words, file=file, report=report) as guest:
             outcome = outcomes[policy, quantum] = _outcome(guest, ticks)
         is_same = len(outcomes) > 1 and outcome.is_like(outcomes["keep", QUANTUMS[0]])
-        print(f"{policy}, slices of {quantum:>5,}:  {'the same' if is_same else _told(outcome.end, outcome.output)}")
-    keep, ones = (beginning_of(image, words, file, policy) for policy in POLICIES)
+        print(
+            f"{policy}, slices of {quantum:>5,}:  {'the same' if is_same else _outcome_text(outcome.end, outcome.output)}"
+        )
+    keep, ones = (initial_state_of(image, words, file, policy) for policy in POLICIES)
     runs = {LOADED: keep, **{name: filled(keep, turned) for name, turned in FILLED.items()}, ONES: ones}
-    stop, relies = _relies(runs, symbols, ticks)
+    stop, is_dependent = _find_dependence(runs, symbols, ticks)
     if not all(outcomes[policy, quantum].is_like(outcomes[policy, QUANTUMS[0]]) for policy, quantum in outcomes):
         print("the runs in short slices differ: a vector store that was cut has overwritten its own word")
     are_alike = all(outcome.is_like(outcomes["keep", QUANTUMS[0]]) for outcome in outcomes.values())
-    return status_of(stop) if are_alike and not relies else 1
+    return status_of(stop) if are_alike and not is_dependent else 1
 
 
-def filled(beginning: Beginning, turned: int) -> Beginning:
+def filled(initial_state: InitialState, turned: int) -> InitialState:
     """The same, with numbers in all registers but x2, in vxrm and vxsat, and in the stack below x2.
 
     turned: the bits of each byte that are turned round, by which there are two ways
     """
-    random, pointer = Random(0), int(dict(line.split() for line in beginning.registers)["x2"], 16)
+    random, pointer = Random(0), int(dict(line.split() for line in initial_state.registers)["x2"], 16)
     junk = [bytes(byte ^ turned for byte in random.randbytes(size)) for size in [8] * 31 + [REGISTER_BYTES] * 32]
     registers = [f"x{number} {data.hex()}" for number, data in enumerate(junk[:31], 1)]
     registers += [f"v{number} {data.hex()}" for number, data in enumerate(junk[31:])]
     registers += [f"vxrm {1 ^ turned & 3}", f"vxsat {1 ^ turned & 1}"]
     stack = bytes(byte ^ turned for byte in random.randbytes(pointer + STACK_BYTES - STACK_END))
-    own = _segments_in_stack(beginning.image) if beginning.image else ()
-    memory = [(STACK_END - STACK_BYTES, "rw", stack), *own, *beginning.memory]
-    return replace(beginning, memory=memory, registers=[*registers, *beginning.registers])
+    own = _segments_in_stack(initial_state.image) if initial_state.image else ()
+    memory = [(STACK_END - STACK_BYTES, "rw", stack), *own, *initial_state.memory]
+    return replace(initial_state, memory=memory, registers=[*registers, *initial_state.registers])
 
 
 def _segments_in_stack(image: pathlib.Path) -> Iterator[tuple[int, str, bytes]]:
@@ -102,23 +104,23 @@ def _segments_in_stack(image: pathlib.Path) -> Iterator[tuple[int, str, bytes]]:
             yield address, "rw", data.ljust(length, b"\0")
 
 
-def _relies(runs: dict[str, Beginning], symbols: Symbols, ticks: int) -> tuple[Stop | None, bool]:
+def _find_dependence(runs: dict[str, InitialState], symbols: Symbols, ticks: int) -> tuple[Stop | None, bool]:
     """Prints which runs do otherwise than the first one, and why: of those that are filled, of one.
 
     How the first one stops, if it does; and whether another one does otherwise.
     """
     with ThreadPoolExecutor(len(runs)) as pool:
-        found = dict(zip(runs, pool.map(lambda beginning: recorded(beginning, ticks), runs.values())))
-    unlike, told = [name for name, each in found.items() if each != found[LOADED]], set[str]()
+        found = dict(zip(runs, pool.map(lambda initial_state: recorded(initial_state, ticks), runs.values())))
+    unlike, printed = [name for name, each in found.items() if each != found[LOADED]], set[str]()
     for name in FILLED:
         done, output = found[name]
-        print(f"{f'keep, {name}:':<22}  {_told(f'{done.end}', output) if name in unlike else 'the same'}")
+        print(f"{f'keep, {name}:':<22}  {_outcome_text(f'{done.end}', output) if name in unlike else 'the same'}")
     for name in dict.fromkeys([*unlike[:1], *unlike[-1:]]) if ONES in unlike else unlike[:1]:
         names = (LOADED if name in FILLED else "under keep", name)
         lines = _reason((runs[LOADED], runs[name]), names, symbols, ticks)
-        if lines[-1] not in told:
+        if lines[-1] not in printed:
             print(*lines, sep="\n")
-        told.add(lines[-1])
+        printed.add(lines[-1])
     return found[LOADED][0].stop, bool(unlike)
 
 
@@ -142,7 +144,7 @@ def _outcome(guest: Guest, ticks: int) -> Outcome:
     return Outcome(stop, end, bytes(written), runner.has_exact_ticks)
 
 
-def _told(end: str, output: bytes) -> str:
+def _outcome_text(end: str, output: bytes) -> str:
     """An outcome in a line."""
     more = "..." if len(output) > SHOWN_BYTES else ""
     return f"{end}; {len(output):,} bytes: {output[:SHOWN_BYTES]!r}{more}"

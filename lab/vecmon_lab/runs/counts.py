@@ -43,7 +43,7 @@ class Counts:
     places: Sequence[CountedWord]
     lengths: Counter[tuple[str, int]]
     calls: Mapping[tuple[int, int], int]
-    end: answers.Standing
+    end: answers.ProgramState
     instructions: int
     ticks: int
     short_writes: int = 0
@@ -98,7 +98,7 @@ def read_counts(text: str) -> Counts:
                     raise ValueError(row)
         stop, instructions, ticks = last.rsplit(" ", 2)
         end = answers.read([f"1 {stop}"])
-        if not isinstance(end, answers.Standing):
+        if not isinstance(end, answers.ProgramState):
             raise ValueError(last)
     except ValueError as error:
         raise LabError(f"{RECORDER} prints no counts: {str(error)[:60]!r}") from error

@@ -4,7 +4,7 @@ import re
 from collections.abc import Iterator
 from dataclasses import dataclass
 
-from ..guest.changes import Carried, Registers
+from ..guest.changes import Retired, Registers
 from ..instructions.accesses import (
     ACCUMULATES,
     FIRST_ELEMENT,
@@ -40,7 +40,7 @@ _CALLS = {93: (17, 10), 64: (17, 10, 11, 12)}  # registers that an exit and a wr
 class Executed:
     """An executed instruction, and the registers before it."""
 
-    carried: Carried
+    retired: Retired
     before: Registers
 
 
@@ -78,9 +78,9 @@ def conditions(step: Executed) -> set[Cell]:
     """The values that an instruction depends on, except its elements and bytes: scalar registers, its vector type
     and length, its mask, and of an access the indices."""
     control = step.before.control
-    scalars = scalars_read(step.carried.word, step.before.x[17])
+    scalars = scalars_read(step.retired.word, step.before.x[17])
     places = set[Cell]().union(*map(bits_of_scalar, scalars))
-    instruction = vector_instruction(step.carried.word, control.vtype)
+    instruction = vector_instruction(step.retired.word, control.vtype)
     if instruction:
         places |= {("vl", 0), ("vtype", 0)} | (bits_of_registers(0, control.vl) if instruction.is_masked else set())
         for operand in instruction.operands:
@@ -91,23 +91,23 @@ def conditions(step: Executed) -> set[Cell]:
 
 def parts(step: Executed) -> Iterator[Part]:
     """The possible results of an instruction, written or used for its effect."""
-    word, text, before = step.carried.word, step.carried.text, step.before
+    word, text, before = step.retired.word, step.retired.text, step.before
     opcode, rd = word & 0x7F, word >> 7 & 31
     if opcode in (LOAD, STORE):
         address, length = scalar_span(word, before.x)
         for at in range(length):
             byte, register = {("memory", address + at)}, rd if opcode == LOAD else word >> 20 & 31
-            told = bits_of_scalar(register, 8 * at, 8)
-            yield (told, byte, "") if opcode == LOAD else (byte, told, "")
+            cells = bits_of_scalar(register, 8 * at, 8)
+            yield (cells, byte, "") if opcode == LOAD else (byte, cells, "")
         if opcode == LOAD and length < 8:  # the bits above are zeros, or the sign
             yield bits_of_scalar(rd, 8 * length, 64 - 8 * length), {("memory", address + length - 1)}, ""
     if opcode in _ARITHMETIC or opcode in _OF_NOTHING:
         sources = scalars_read(word) if opcode in _ARITHMETIC else ()
         yield bits_of_scalar(rd), set[Cell]().union(*map(bits_of_scalar, sources)), ""
-    told = bits_of_scalar(rd)
-    yield from (({(name, 0)} | told, {(name, 0)}, "") for name in CONTROL if re.match(f"csr.* {name}", text))
+    cells = bits_of_scalar(rd)
+    yield from (({(name, 0)} | cells, {(name, 0)}, "") for name in CONTROL if re.match(f"csr.* {name}", text))
     if text.startswith("vset"):
-        yield {("vl", 0)} | told, set() if word & (31 << 15 | 31 << 7) else {("vl", 0)}, ""
+        yield {("vl", 0)} | cells, set() if word & (31 << 15 | 31 << 7) else {("vl", 0)}, ""
         yield {("vtype", 0)}, set(), ""
     if re.match(r"vl\w*ff", text):
         yield {("vl", 0)}, set(), ""
@@ -124,7 +124,7 @@ def parts(step: Executed) -> Iterator[Part]:
 def _moved(step: Executed, instruction: VectorInstruction, active: set[int]) -> Iterator[Part]:
     """The bytes that a vector load or store moves."""
     before, data = step.before, instruction.operands[0]
-    spans = vector_spans(step.carried.word, before.x, before.control, before.v, instruction)
+    spans = vector_spans(step.retired.word, before.x, before.control, before.v, instruction)
     for element, (address, length) in enumerate(spans, before.control.vstart):
         width = length * data.group // len(data.registers)
         for at in range(length if element in active else 0):
@@ -136,7 +136,7 @@ def _moved(step: Executed, instruction: VectorInstruction, active: set[int]) -> 
 
 def _made(step: Executed, instruction: VectorInstruction, active: set[int]) -> Iterator[Part]:
     """The results of an operation in vector registers, and the agnostic elements of a load as well."""
-    text, control, target = step.carried.text, step.before.control, instruction.operands[0]
+    text, control, target = step.retired.text, step.before.control, instruction.operands[0]
     read = [operand for operand in instruction.operands if operand.noun == "source" or text.startswith(ACCUMULATES)]
     sources = [(256 * it.registers.start, it.eew, sum(needed(text, "vs2", it, control.vl))) for it in read]
     if text.startswith(("vred", "vwred")):  # which reads element 0 of vs1 alone
@@ -147,10 +147,10 @@ def _made(step: Executed, instruction: VectorInstruction, active: set[int]) -> I
     if target.noun == "source":
         first, width, _ = sources[0]
         made_of = bits_of_registers(first, width) | _VSTART if text.startswith("vmv.x.s") else whole
-        yield bits_of_scalar(step.carried.word >> 7 & 31), made_of, "active"
+        yield bits_of_scalar(step.retired.word >> 7 & 31), made_of, "active"
     most = REGISTER_BITS * target.group // target.eew if target.noun == "destination" else 0
     agnostic = {"tail": control.vtype & 0x40 or target.eew == 1, "masked off": control.vtype & 0x80}
-    agnostic |= {"active": step.carried.word & 0x7F == OP_V}
+    agnostic |= {"active": step.retired.word & 0x7F == OP_V}
     for element in range(control.vstart, most):
         is_tail = element >= (1 if text.startswith(FIRST_ELEMENT) else control.vl)
         is_masked_off = not is_tail and element not in active and instruction.leaves_out

@@ -13,7 +13,7 @@ from ..guest.symbols import Symbols
 from ..page.pages import lone_page
 from ..tables.table import table_lines
 from .counts import Counts
-from .spent import ELEMENTS, Spent, Table, TableRow, compared, elements_row, share
+from .tick_profile import ELEMENTS, TickProfile, Table, TableRow, compared, elements_row, share
 from .run import counted, ending, report_calls, status_of
 
 HEAD = ("address", "place", "source", "instruction", "times", "ticks", *ELEMENTS)
@@ -38,11 +38,11 @@ def run(arguments: argparse.Namespace) -> int:
         raise LabError(f"-o names a page, FILE.html, and {page} is none")
     for output in (page, page and page.with_suffix(".csv")):
         check_output(output, image, *filter(None, [arguments.input, other]))
-    counts, symbols, spent, summary = _profiled(arguments, image)
-    tables = [table for table in spent.tables() if table.rows]
+    counts, symbols, ticks_spent, summary = _profiled(arguments, image)
+    tables = [table for table in ticks_spent.tables() if table.rows]
     if other:
         _, _, theirs, more = _profiled(arguments, other)
-        tables = [*compared(spent, theirs), *tables]
+        tables = [*compared(ticks_spent, theirs), *tables]
         summary += [f"against {other.name}: {line}" for line in more]
     rows = [*_rows(counts, symbols)]
     lines = [line for table in tables for line in (*_shown(table), "")]
@@ -52,20 +52,20 @@ def run(arguments: argparse.Namespace) -> int:
             csv.writer(file).writerows([HEAD, *rows])
         data = {"summary": summary, "tables": [vars(table) for table in tables], "rows": rows}
         lengths = [(kind, vl, times) for (kind, vl), times in sorted(counts.lengths.items())]
-        data |= {"lengths": lengths, "frames": [asdict(frame) for frame in spent.callers.frames()]}
+        data |= {"lengths": lengths, "frames": [asdict(frame) for frame in ticks_spent.callers.frames()]}
         page.write_text(lone_page("profile", f"Profile of {image.name}", data), "utf-8")
     return status_of(counts.stop)
 
 
-def _profiled(arguments: argparse.Namespace, image: pathlib.Path) -> tuple[Counts, Symbols, Spent, list[str]]:
+def _profiled(arguments: argparse.Namespace, image: pathlib.Path) -> tuple[Counts, Symbols, TickProfile, list[str]]:
     """The counts of an image's run, its symbols, where its ticks were spent, and all that in sentences."""
     words = argparse.Namespace(**{**vars(arguments), "image": image})
     symbols, counts = Symbols.read(image), counted(words)
-    if symbols.trouble:
-        print(f"vecmon-lab: {symbols.trouble}", file=sys.stderr)
+    if symbols.warning:
+        print(f"vecmon-lab: {symbols.warning}", file=sys.stderr)
     report_calls(words, counts, symbols)
     entry = int.from_bytes(image.read_bytes()[24:32], "little")  # e_entry
-    return counts, symbols, Spent(counts, symbols, entry), [*summary_of(counts, ending(words, counts, symbols))]
+    return counts, symbols, TickProfile(counts, symbols, entry), [*summary_of(counts, ending(words, counts, symbols))]
 
 
 def _rows(counts: Counts, symbols: Symbols) -> Iterator[TableRow]:

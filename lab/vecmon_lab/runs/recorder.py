@@ -10,7 +10,7 @@ from subprocess import DEVNULL, PIPE, Popen
 
 from .. import LabError
 from ..machine.program import RECORDER, find_recorder, image_refusal
-from .beginning import Beginning
+from .initial_state import InitialState
 from .counts import Counts, read_counts
 
 TAKEN_BYTES = 1 << 16  # of the output, at once
@@ -26,7 +26,7 @@ class Record:
 
 
 def record(
-    beginning: Beginning,
+    initial_state: InitialState,
     ticks: int | None = None,
     write: Callable[[bytes], object] | None = None,
     more: Sequence[Record] = (),
@@ -35,25 +35,27 @@ def record(
 
     more: further records. Raises LabError without a recorder, or if it refuses its arguments.
     """
-    registers, counts = "\n".join(beginning.registers).encode(), _in_memory()
-    given = [(["--memory"], f"{at:x}:{permissions}:", _in_memory(data)) for at, permissions, data in beginning.memory]
+    registers, counts = "\n".join(initial_state.registers).encode(), _in_memory()
+    given = [
+        (["--memory"], f"{at:x}:{permissions}:", _in_memory(data)) for at, permissions, data in initial_state.memory
+    ]
     given += [(["--registers"], "", _in_memory(registers))] if registers else []
     given += [(["--counts"], "", counts), *((list(each.words), "", each.file) for each in more)]
-    words = ["--policy", beginning.policy, *(["--ticks", f"{ticks}"] if ticks else [])]
+    words = ["--policy", initial_state.policy, *(["--ticks", f"{ticks}"] if ticks else [])]
     with contextlib.ExitStack() as stack:
         files = [stack.enter_context(file) for *_, file in given]
         for option, place, file in given:
             words += [*option, f"{place}/dev/fd/{file.fileno()}"]
-        words += ["--", str(beginning.image)] if beginning.image else []
-        status, told = _carry_out(words, files, len(more), write)
+        words += ["--", str(initial_state.image)] if initial_state.image else []
+        status, operands = _run_recorder(words, files, len(more), write)
         counts.seek(0)
         text = counts.read().decode("ascii")
     if status != 0:
-        raise LabError(_refusal(told, beginning) or f"{RECORDER} ended with status {status}")
-    return replace(read_counts(text), short_writes=int(told.rpartition(" ")[2] or 0))
+        raise LabError(_refusal(operands, initial_state) or f"{RECORDER} ended with status {status}")
+    return replace(read_counts(text), short_writes=int(operands.rpartition(" ")[2] or 0))
 
 
-def _carry_out(
+def _run_recorder(
     words: Sequence[str], files: Sequence[io.FileIO], number: int, write: Callable[[bytes], object] | None
 ) -> tuple[int, str]:
     """Runs the recorder, which is given files, to its end; its status, and what it says on standard error.
@@ -69,18 +71,18 @@ def _carry_out(
             while write and (data := os.read(process.stdout.fileno(), TAKEN_BYTES) if process.stdout else b""):
                 write(data)
             assert process.stderr
-            told = process.stderr.read().decode("utf-8", "replace")
-            return process.wait(), told
+            operands = process.stderr.read().decode("utf-8", "replace")
+            return process.wait(), operands
         except BaseException:  # as Ctrl-C, or output that can't be written
             process.kill()
             raise
 
 
-def _refusal(told: str, beginning: Beginning) -> str:
+def _refusal(operands: str, initial_state: InitialState) -> str:
     """Why the recorder recorded nothing, by what it says; of an image as the monitor has it."""
-    reason = told.removeprefix(f"{RECORDER}: ").strip()
+    reason = operands.removeprefix(f"{RECORDER}: ").strip()
     if refused := re.search("(?:bad image: ([A-Za-z]+)|image takes too many pages)$", reason):
-        return f"{beginning.image}: " + image_refusal("image", f"E09 {refused[1]}" if refused[1] else "E10")
+        return f"{initial_state.image}: " + image_refusal("image", f"E09 {refused[1]}" if refused[1] else "E10")
     return reason
 
 

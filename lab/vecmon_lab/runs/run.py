@@ -20,7 +20,7 @@ from ..instructions.calls import ECALL
 from ..instructions.reasons import describe_stop
 from ..machine.answers import Stop
 from ..output import write_out
-from .beginning import beginning_of
+from .initial_state import initial_state_of
 from .counts import Counts
 from .recorder import Record, record
 from .trace import trace
@@ -70,8 +70,8 @@ def run(arguments: argparse.Namespace) -> int:
         sys.stderr.writelines(f"{line}\n" for line in lines)
         window = _window(arguments, counts)
         if file:
-            begin = functools.partial(_begun, arguments)
-            file.writelines(f"{line}\n" for line in trace(begin, symbols, window))
+            start = functools.partial(_begun, arguments)
+            file.writelines(f"{line}\n" for line in trace(start, symbols, window))
     return counts.stop.number if counts.stop and is_exit else status_of(counts.stop)
 
 
@@ -85,8 +85,8 @@ def counted(
     Raises LabError and OSError for bad input.
     """
     words = [arguments.image.name, *arguments.words]
-    beginning = beginning_of(arguments.image, words, arguments.input, arguments.policy)
-    return record(beginning, arguments.ticks, write, more)
+    initial_state = initial_state_of(arguments.image, words, arguments.input, arguments.policy)
+    return record(initial_state, arguments.ticks, write, more)
 
 
 def ending(arguments: argparse.Namespace, counts: Counts, symbols: Symbols) -> str:

@@ -25,7 +25,7 @@ def short_write(guest: Guest, counts: Counts, symbols: Symbols) -> str:
         stop = guest.go(counts.ticks)
         if stop is None or stop.kind != "break":
             break
-        x = guest.told("regs", ScalarRegisters).x
+        x = guest.query("regs", ScalarRegisters).x
         if (x[A7], x[A0]) == (WRITE, STANDARD_OUTPUT):
             if found:
                 return "" if x[A1] == rest else found

@@ -49,7 +49,7 @@ class Kind:
     vtype: int
     is_masked: bool = False
     is_illegal: bool = False
-    is_astray: bool = False
+    is_out_of_range: bool = False
 
 
 @dataclass
@@ -116,9 +116,9 @@ def plan(row: Row, seed: int) -> list[Kind]:
         types = [*SUPPORTED, VILL]
     kinds = [Kind(vtype, masked) for masked in masks[: 1 + (_MASKABLE in row.operands)] for vtype in types]
     for number in range(_TROUBLES):
-        strays = touches_memory(row) and number % 4 != 0
-        vtype = draws.choice(types if strays else [*SUPPORTED, VILL])
-        kinds.append(Kind(vtype, draws.choice(masks), not strays, strays))
+        is_out_of_range = touches_memory(row) and number % 4 != 0
+        vtype = draws.choice(types if is_out_of_range else [*SUPPORTED, VILL])
+        kinds.append(Kind(vtype, draws.choice(masks), not is_out_of_range, is_out_of_range))
     draws.shuffle(kinds)
     return kinds
 
@@ -136,7 +136,7 @@ def draw_case(row: Row, number: int, seed: int) -> Case:
     _fill_scalars(case, row, draws)
     _fill_vectors(case, operands, draws)
     if touches_memory(row):
-        _fill_memory(case, row, operands, kind.is_astray, draws)
+        _fill_memory(case, row, operands, kind.is_out_of_range, draws)
     return case
 
 
@@ -220,7 +220,7 @@ def _fill_vectors(case: Case, operands: list[Operand], draws: _Draws) -> None:
         case.v |= {n: draws.elements(operand.eew, limit, is_offset) for n in operand.registers if n < 32}
 
 
-def _fill_memory(case: Case, row: Row, operands: list[Operand], is_astray: bool, draws: _Draws) -> None:
+def _fill_memory(case: Case, row: Row, operands: list[Operand], is_out_of_range: bool, draws: _Draws) -> None:
     """Gives the base register an address, the stride a value, and bytes to the memory around it."""
     base = 11 if row.name == "ecall" else case.register("rs1")
     distance, before, after = 0, 0, 256
@@ -235,7 +235,7 @@ def _fill_memory(case: Case, row: Row, operands: list[Operand], is_astray: bool,
         distance, after = number - (number >> 11 << 12), 8
     end = READ_ONLY if row.opcode in _STORES else DATA_END
     address = draws.randrange(DATA + before, end - after) & ~draws.choice((0, 0, 7))
-    if is_astray:
+    if is_out_of_range:
         edge = draws.choice((DATA, end, end, end)) - draws.randrange(1, 2 + (after >> draws.randrange(5)))
         address = draws.choice((edge, edge, edge, draws.choice(_WILD)))
     case.x[base] = (address - distance) % (1 << 64)

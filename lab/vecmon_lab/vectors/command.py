@@ -72,7 +72,7 @@ def run(arguments: argparse.Namespace) -> int:
         else:
             sys.stdout.writelines(f"{json.dumps(golden, separators=(',', ':'))}\n" for golden in results)
     if writer:
-        print("\n".join(writer.told()))
+        print("\n".join(writer.summary()))
     return 0
 
 
@@ -87,10 +87,10 @@ def golden_results(
     for first in range(0, count, _CASES_OF_A_SESSION):
         with Session(program) as session:
             for number in range(first, min(count, first + _CASES_OF_A_SESSION)):
-                yield carry_out(session, row, moved(draw_case(row, number, seed), row, base), policy, base)
+                yield execute_case(session, row, moved(draw_case(row, number, seed), row, base), policy, base)
 
 
-def carry_out(session: Session, row: Row, case: Case, policy: str = "keep", base: int = 0) -> dict[str, object]:
+def execute_case(session: Session, row: Row, case: Case, policy: str = "keep", base: int = 0) -> dict[str, object]:
     """A case with the machine's results, as in the page on the format. User 1 enters, and leaves again.
 
     base: how much further on than that page says the instruction and the memory of the case lie

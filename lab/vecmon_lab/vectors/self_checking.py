@@ -42,7 +42,7 @@ class Writer:
             part = shown[first : first + CASES_OF_A_PROGRAM]
             self._write_part(f"{name}_{first // CASES_OF_A_PROGRAM + 1}" if first else name, part)
 
-    def told(self) -> Iterator[str]:
+    def summary(self) -> Iterator[str]:
         """The written files, and the cases that can't run in the environment, each in a line."""
         yield f"{self._cases:,} cases in {self._programs:,} programs"
         yield from (f"left out: {count:,} of {kind}" for kind, count in sorted(self._left_out.items()))

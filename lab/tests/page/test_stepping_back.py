@@ -2,7 +2,7 @@
 
 from page.conftest import Sit
 
-TOLD = "one('#listing .told')?.dataset.address"
+SHOWN_ADDRESS = "one('#listing .told')?.dataset.address"
 V1 = "all(\"#elements [data-register='1'] td\").map((cell) => cell.firstChild.data).join(' ')"
 DOUBLES = "vsetivli zero, 8, e32, m1, ta, ma\nvid.v v1\nvadd.vv v2, v1, v1\nli a0, 7\nebreak\n"
 
@@ -19,19 +19,22 @@ def test_back_and_forth(sit: Sit) -> None:
     teacher.wait("one('#listing .next')")
     for address in ("10000", "10004", "10008"):
         tab.click("#one")
-        tab.wait(f"{TOLD} === arguments[0]", address)
-        teacher.wait(f"{TOLD} === arguments[0]", address)
+        tab.wait(f"{SHOWN_ADDRESS} === arguments[0]", address)
+        teacher.wait(f"{SHOWN_ADDRESS} === arguments[0]", address)
     for page in (tab, teacher):
         assert page.run("[id('forth').disabled, id('now').disabled, id('says-past').hidden]") == [True, True, True]
         page.click("#backward")
-        assert page.run(f"[{TOLD}, id('says-past').textContent]") == ["10004", "This is the past, one moment ago."]
+        assert page.run(f"[{SHOWN_ADDRESS}, id('says-past').textContent]") == [
+            "10004",
+            "This is the past, one moment ago.",
+        ]
     tab.keys("#listing", Keys.F7)
-    assert tab.run(TOLD) == "10000" and "2 moments" in tab.text("#says-past")
+    assert tab.run(SHOWN_ADDRESS) == "10000" and "2 moments" in tab.text("#says-past")
     assert "vsetivli" in tab.text("#step") and tab.run("id('facts').textContent.includes('vl8 of 8')")
     seen = "all('#log li').filter((item) => item.checkVisibility()).at(-1).textContent"
     assert tab.run(seen) == "stepped 1 pc=0000000000010004"
     tab.keys("#listing", Keys.SHIFT, Keys.F7, Keys.NULL)
-    assert tab.run(TOLD) == "10004" and tab.run(V1) == " ".join(f"{element:08x}" for element in range(8))
+    assert tab.run(SHOWN_ADDRESS) == "10004" and tab.run(V1) == " ".join(f"{element:08x}" for element in range(8))
     asked = tab.run("all('#log .asked').length")
     for button in ("one", "many", "go", "again", "new"):
         assert tab.run("id(arguments[0]).matches(':disabled')", button)
@@ -41,15 +44,23 @@ def test_back_and_forth(sit: Sit) -> None:
     assert tab.run("all('#log .asked').length") == asked and not tab.run("id('edit').open || one('.breakpoint')")
     tab.keys("#listing", Keys.ESCAPE)
     assert (
-        tab.run(TOLD) == "10008" and tab.run("id('says-past').hidden") and not tab.run("id('one').matches(':disabled')")
+        tab.run(SHOWN_ADDRESS) == "10008"
+        and tab.run("id('says-past').hidden")
+        and not tab.run("id('one').matches(':disabled')")
     )
     tab.run("(id('moment').value = 0, id('moment').dispatchEvent(new Event('input')))")
-    assert tab.run(TOLD) is None and tab.run("id('backward').disabled") and "3 moments" in tab.text("#says-past")
+    assert (
+        tab.run(SHOWN_ADDRESS) is None and tab.run("id('backward').disabled") and "3 moments" in tab.text("#says-past")
+    )
     tab.command("step 1")
-    assert tab.run(TOLD) == "1000c" and tab.text("[data-edit='set x10']") == "7" and tab.run("id('says-past').hidden")
-    assert teacher.run(TOLD) == "10004" and "2 moments" in teacher.text("#says-past")  # who stays in the past
+    assert (
+        tab.run(SHOWN_ADDRESS) == "1000c"
+        and tab.text("[data-edit='set x10']") == "7"
+        and tab.run("id('says-past').hidden")
+    )
+    assert teacher.run(SHOWN_ADDRESS) == "10004" and "2 moments" in teacher.text("#says-past")  # who stays in the past
     teacher.click("#now")
-    assert teacher.run(TOLD) == "1000c"
+    assert teacher.run(SHOWN_ADDRESS) == "1000c"
     teacher.click("tr[data-seat='A1'] td:nth-child(2) button")
     teacher.wait("id('desk').hidden")
 
@@ -84,7 +95,7 @@ def test_again_and_what_would_be_lost(sit: Sit) -> None:
     tab.run("id('source').value = 'nop'")  # not written
     tab.click("#again")
     tab.wait("id('run').textContent === 'stopped' && one('#listing .next').dataset.address === '10000'")
-    assert tab.run("one('.breakpoint').closest('tr').dataset.address") == "10008" and not tab.run(TOLD)
+    assert tab.run("one('.breakpoint').closest('tr').dataset.address") == "10008" and not tab.run(SHOWN_ADDRESS)
     assert "li a0, 7" in DOUBLES and "addi x10, x0, 7" in tab.text("#listing")
     tab.click("#new")
     assert "would be lost" in tab.text("#question")

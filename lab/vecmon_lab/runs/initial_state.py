@@ -11,12 +11,12 @@ from ..instructions.accesses import PAGE_BYTES, Span
 from ..machine.answers import ControlRegisters, ScalarRegisters
 from ..machine.lines import words_of
 
-Laid = tuple[int, str, bytes]
+PlacedBytes = tuple[int, str, bytes]
 """Memory: an address, the permissions of pages that aren't there, and bytes."""
 
 
 @dataclass(frozen=True)
-class Beginning:
+class InitialState:
     """The start of a run.
 
     image: an ELF file; without one there is no memory, and all registers are 0
@@ -26,14 +26,14 @@ class Beginning:
     """
 
     image: pathlib.Path | None = None
-    memory: Sequence[Laid] = ()
+    memory: Sequence[PlacedBytes] = ()
     registers: Sequence[str] = ()
     policy: str = "keep"
 
 
-def beginning_of(
+def initial_state_of(
     image: pathlib.Path, arguments: Sequence[str], file: pathlib.Path | None = None, policy: str = "keep"
-) -> Beginning:
+) -> InitialState:
     """The start of a run of an image, with arguments, the first of them its name; file: its input.
 
     Raises LabError and OSError where the image can't be read or isn't for this machine, or these have no room.
@@ -41,12 +41,14 @@ def beginning_of(
     check_image(image)
     with mistakes_in(image):
         block, given = argument_block(arguments), input_of(image, file) if file else {}
-    laid = {**given, STACK_END - len(block): block}
-    memory = [(address, "rw", data) for address, data in laid.items()]
-    return Beginning(image, memory, [f"x2 {STACK_END - len(block):x}"], policy)
+    placed = {**given, STACK_END - len(block): block}
+    memory = [(address, "rw", data) for address, data in placed.items()]
+    return InitialState(image, memory, [f"x2 {STACK_END - len(block):x}"], policy)
 
 
-def beginning_at(guest: Guest, image: pathlib.Path | None = None, lines: Iterable[str] | None = None) -> Beginning:
+def initial_state_at(
+    guest: Guest, image: pathlib.Path | None = None, lines: Iterable[str] | None = None
+) -> InitialState:
     """The start of a run from a guest's state, after these lines since it entered; without them, its script.
 
     image: the one that they loaded, if any, whose other pages nothing has written to
@@ -61,18 +63,18 @@ def beginning_at(guest: Guest, image: pathlib.Path | None = None, lines: Iterabl
                 spans[int(address, 16), len(text) // 2 if command == "poke" else 4] = None
             case ["step" | "go", *_]:  # the instructions may write to any page
                 spans |= dict.fromkeys((page, PAGE_BYTES) for page in pages)
-    control, scalars = guest.told("vcsr", ControlRegisters), guest.told("regs", ScalarRegisters)
+    control, scalars = guest.query("vcsr", ControlRegisters), guest.query("regs", ScalarRegisters)
     registers = [f"pc {scalars.pc:x}", *(f"{name} {value:x}" for name, value in vars(control).items())]
     registers += [f"x{number} {scalars.x[number]:x}" for number in range(1, 32)]
     registers += [f"v{number} {data.hex()}" for number, data in enumerate(guest.vectors())]
     memory = [(page, permissions, bytes(PAGE_BYTES)) for page, permissions in pages.items()]
     memory += [(first, "rw", guest.peek(first, length)) for first, length in spans]
-    return Beginning(image, _joined(memory), registers, guest.session.policy[guest.user])
+    return InitialState(image, _joined(memory), registers, guest.session.policy[guest.user])
 
 
-def _joined(memory: Iterable[Laid]) -> Sequence[Laid]:
+def _joined(memory: Iterable[PlacedBytes]) -> Sequence[PlacedBytes]:
     """The same, where what follows each other with the same permissions is one."""
-    joined = list[Laid]()
+    joined = list[PlacedBytes]()
     for address, permissions, data in memory:
         first, before, held = joined[-1] if joined else (0, "", b"")
         if (before, first + len(held)) == (permissions, address):

@@ -5,7 +5,7 @@ import subprocess
 
 from support.images import make_image
 from vecmon_lab.machine.program import find_recorder
-from vecmon_lab.replay.legs import MOST_TICKS
+from vecmon_lab.replay.intervals import MOST_TICKS
 
 # A group of 256 elements, the largest one, at the end of the stack; of the second load the last element faults.
 SOURCE = """\

@@ -16,7 +16,7 @@ from ..instructions.accesses import REGISTER_BITS
 from ..instructions.calls import ECALL
 from ..instructions.words import listed
 from ..machine.answers import CONTROL
-from .beginning import Beginning
+from .initial_state import InitialState
 from .counts import Counts
 from .dataflow import Cell, Executed, conditions, parts
 from .recorder import record
@@ -27,7 +27,7 @@ MOST_WRITTEN, SHOWN = 256, 4
 _AGNOSTIC = {"tail": "the tail of", "masked off": "elements masked off by"}
 _CONTROLS = {(name, 0) for name in CONTROL}
 
-Pair = Sequence[Beginning]
+Pair = Sequence[InitialState]
 """The start of two runs."""
 
 Given = TypeVar("Given")
@@ -45,17 +45,17 @@ class CommonStep:
         """Whether a place isn't the same in both runs before it. Memory is taken to differ."""
         return place[0] == "memory" or len({_value_at(place, run.before) for run in self.runs}) > 1
 
-    def told(self, symbols: Symbols) -> str:
+    def describe(self, symbols: Symbols) -> str:
         """Its address, the place by a symbol, the source line, and its text."""
-        carried = self.runs[0].carried
-        places = [symbols.place(carried.pc), symbols.line(carried.pc)]
-        return f"{' '.join([f'{carried.pc:x}', *filter(None, places)])}: {carried.text}"
+        retired = self.runs[0].retired
+        places = [symbols.place(retired.pc), symbols.line(retired.pc)]
+        return f"{' '.join([f'{retired.pc:x}', *filter(None, places)])}: {retired.text}"
 
 
-def recorded(beginning: Beginning, ticks: int | None) -> tuple[Counts, bytes]:
+def recorded(initial_state: InitialState, ticks: int | None) -> tuple[Counts, bytes]:
     """The executed instructions of a run, and its output."""
     output = list[bytes]()
-    return record(beginning, ticks, output.append), b"".join(output)
+    return record(initial_state, ticks, output.append), b"".join(output)
 
 
 def alike_until(pair: Pair, ticks: int) -> int:
@@ -65,7 +65,7 @@ def alike_until(pair: Pair, ticks: int) -> int:
     """
 
     def are_unlike(most: int) -> bool:
-        one, other = _side_by_side(lambda beginning: recorded(beginning, most), pair)
+        one, other = _side_by_side(lambda initial_state: recorded(initial_state, most), pair)
         return one != other
 
     least, most = 0, 1024
@@ -84,16 +84,16 @@ def explain(pair: Pair, number: int, names: Sequence[str], symbols: Symbols) -> 
     with _guests_at(pair, first) as guests:
         *steps, last = _stepped(guests, first, number + 1)
         places = {place for place in conditions(last.runs[0]) if last.differs(place)}
-        if not places and last.runs[0].carried.word == ECALL:
+        if not places and last.runs[0].retired.word == ECALL:
             places = set(_put_out_otherwise(guests, last.runs[0].before))
         values = [_values(places, guest, run.before) for guest, run in zip(guests, last.runs)]
-    yield f"the runs diverge at {last.told(symbols)}"
+    yield f"the runs diverge at {last.describe(symbols)}"
     for name in list(values[0])[:SHOWN]:
         yield f"  {name}: {', '.join(f'{value[name]:x} {run}' for value, run in zip(values, names))}"
     chain = list[CommonStep]()
     source = _source(pair, first, steps, places, chain, symbols)
     if chain:
-        yield f"  first read at {chain[-1].told(symbols)}"
+        yield f"  first read at {chain[-1].describe(symbols)}"
     if source:
         yield f"  {source}"
 
@@ -109,7 +109,7 @@ def _source(
     while places:
         found, places = _followed(steps, places, chain)
         if found:
-            return f"which comes from {found[1]} {found[0].told(symbols)}"
+            return f"which comes from {found[1]} {found[0].describe(symbols)}"
         unwritten = places and _never_written(pair, first, places)
         if unwritten:
             return f"which comes from {_listed(unwritten)}, where nothing has been written"
@@ -164,9 +164,9 @@ def _last_change(pair: Pair, number: int, places: set[Cell], is_exact: bool) -> 
 
 def _never_written(pair: Pair, number: int, places: set[Cell]) -> set[Cell]:
     """The places that still have their initial values after a number of instructions, and differ."""
-    begin, now = (_contents(pair, count, places) for count in (0, number))
-    names = {name for name, value in begin[0].items() if value != begin[1][name]}
-    names = {name for name in names if all(run[name] == later[name] for run, later in zip(begin, now))}
+    start, now = (_contents(pair, count, places) for count in (0, number))
+    names = {name for name, value in start[0].items() if value != start[1][name]}
+    names = {name for name in names if all(run[name] == later[name] for run, later in zip(start, now))}
     return {place for place in places if _name(place) in names}
 
 
@@ -225,16 +225,16 @@ def _put_out_otherwise(guests: Sequence[Guest], before: Registers) -> Iterator[C
 def _guests_at(pair: Pair, number: int) -> Iterator[Sequence[Guest]]:
     """The guests of both runs, each on a private machine, after a number of instructions."""
     with ExitStack() as stack:
-        yield _side_by_side(lambda beginning: _carried_on(beginning, number, stack), pair)
+        yield _side_by_side(lambda initial_state: _continued(initial_state, number, stack), pair)
 
 
-def _carried_on(beginning: Beginning, number: int, stack: ExitStack) -> Guest:
+def _continued(initial_state: InitialState, number: int, stack: ExitStack) -> Guest:
     """A guest of a run after a number of instructions, until the stack ends."""
-    assert beginning.image
+    assert initial_state.image
     for pace in PACES:
-        guest = stack.enter_context(started(beginning.image, policy=beginning.policy, report=unreported))
-        guest.ask(*(poke for at, _, data in beginning.memory for poke in pokes(at, data)))
-        guest.ask(*itertools.chain(*(_writes(line, guest) for line in beginning.registers)))
+        guest = stack.enter_context(started(initial_state.image, policy=initial_state.policy, report=unreported))
+        guest.ask(*(poke for at, _, data in initial_state.memory for poke in pokes(at, data)))
+        guest.ask(*itertools.chain(*(_writes(line, guest) for line in initial_state.registers)))
         if guest.pass_over(number, *pace):
             break
     return guest

@@ -1,6 +1,6 @@
 """The program in the sandbox: it compiles the source on its input, and prints messages and the image as JSON.
 
-`inside COMPILER CHOICE [answer | PATH]` runs in a folder of its own, with `answer` for an answer to an exercise, and a path
+`sandbox_main COMPILER CHOICE [answer | PATH]` runs in a folder of its own, with `answer` for an answer to an exercise, and a path
 that debug data names. The object has `messages`, `image` where there is one (`debug.py`), and `failure`: why the source
 couldn't be compiled, where that says nothing about the source.
 """
@@ -56,10 +56,10 @@ class Diagnostic(NamedTuple):
     text: str
 
 
-def read_messages(complaint: str) -> list[Diagnostic]:
+def read_messages(errors: str) -> list[Diagnostic]:
     """The messages of a compiler and its linker, without folders of this system."""
     messages = []
-    for line in complaint.split("\n"):
+    for line in errors.split("\n"):
         if found := _MESSAGE.fullmatch(line.strip()):
             file, number, column, kind, text = found.groups()
             if text.startswith("linker command failed"):  # which has said why

@@ -5,7 +5,7 @@ from collections.abc import Sequence
 import pytest
 
 from support.class_tabs import LOOP
-from vecmon_lab.classes.past import Past
+from vecmon_lab.classes.history import History
 from vecmon_lab.classes.seats import LOG_ENTRIES, Seats
 from vecmon_lab.machine.session import Session
 
@@ -13,13 +13,13 @@ SCRIPT = [f"{digit} {line}" for digit in "12" for line in LOOP] + ["2 break 1000
 STEPS = 2 * LOG_ENTRIES
 
 
-def told(session: Session, blocks: Sequence[Sequence[str]], set_up: int = 0) -> Seats:
+def seats_after(session: Session, blocks: Sequence[Sequence[str]], set_up: int = 0) -> Seats:
     """Seats after these lines, block by block."""
-    past, seats = Past(set_up), Seats("A")
+    history, seats = History(set_up), Seats("A")
     for block in blocks:
         for lines, answers in session.do_blocks("".join(f"{line}\n" for line in block).encode()):
-            past.add(lines, answers)
-    past.tell(seats)
+            history.add(lines, answers)
+    history.tell(seats)
     return seats
 
 
@@ -27,20 +27,20 @@ def told(session: Session, blocks: Sequence[Sequence[str]], set_up: int = 0) -> 
 def test_what_seats_know_by_lines_in_blocks(session: Session, size: int) -> None:
     """Of one seat the last steps, and of a silent one all, however the lines come."""
     lines = SCRIPT + ["1 step 1"] * STEPS + ["1 out "]
-    seats = told(session, [lines[at : at + size] for at in range(0, len(lines), size)])
+    seats = seats_after(session, [lines[at : at + size] for at in range(0, len(lines), size)])
     one, two = seats.users["1"], seats.users["2"]
     pairs = [[">1 step 1", f"<1 stepped 1 pc=00000000000{place}"] for place in ("10004", "10000")]
     assert list(one.log) == (LOG_ENTRIES // 4) * [entry for pair in pairs for entry in pair]
     assert list(two.log)[-5:-1] == [">2 break 10004", "<2 ok", ">2 go", "<2 running pc=0000000000010000"]
     assert two.log[-1].startswith("<2 break pc=0000000000010004") and two.stop == "break pc=0000000000010004"
-    assert (one.sight.breaks, two.sight.breaks) == (set(), {0x10004})
+    assert (one.watch_set.breaks, two.watch_set.breaks) == (set(), {0x10004})
     assert one.used == sum(len(line) + 1 for line in lines if line[0] == "1" and line != "1 out ")
     assert two.used == sum(len(line) + 1 for line in lines if line[0] == "2") + len("* run 2\n")
 
 
 def test_lines_that_set_a_machine_up(session: Session) -> None:
     """Nobody receives them, and no share is charged for them; seats know by them what is watched."""
-    seats = told(session, [SCRIPT], set_up=len(SCRIPT) - 3)
+    seats = seats_after(session, [SCRIPT], set_up=len(SCRIPT) - 3)
     two = seats.users["2"]
-    assert list(two.log)[:2] == [">2 go", "<2 running pc=0000000000010000"] and two.sight.breaks == {0x10004}
+    assert list(two.log)[:2] == [">2 go", "<2 running pc=0000000000010000"] and two.watch_set.breaks == {0x10004}
     assert two.used == len("2 go\n") + len("* run 2\n") and seats.users["1"].used == 0

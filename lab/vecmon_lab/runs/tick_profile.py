@@ -32,7 +32,7 @@ class Table:
         return html_table([self.head, *self.rows], self.texts)
 
 
-class Spent:
+class TickProfile:
     """The cost of a run, by the places of an image whose entry is at this address."""
 
     def __init__(self, counts: Counts, symbols: Symbols, entry: int) -> None:
@@ -56,18 +56,18 @@ class Spent:
 
     def tables(self) -> Iterator[Table]:
         """The loops, functions, calls and source lines, as far as there are any."""
-        spent = ("instructions", "ticks", "share", *ELEMENTS)
-        yield Table("Loops", ("loop", "to", "place", "source", "rounds", *spent), 4, _sorted(self._loops(), -6))
+        ticks_spent = ("instructions", "ticks", "share", *ELEMENTS)
+        yield Table("Loops", ("loop", "to", "place", "source", "rounds", *ticks_spent), 4, _sorted(self._loops(), -6))
         functions = self._summed((self.function(place.address), place) for place in self._counts.places)
         called = Counter[str]()
         for (_, callee), times in self._calls.items():
             called[callee] += times
         rows = [(name, called[f"{name}"], round(self.callers.total[f"{name}"]), *row) for name, *row in functions]
-        yield Table("Functions", ("function", "called", "with callees", *spent), 1, _sorted(rows, -6))
+        yield Table("Functions", ("function", "called", "with callees", *ticks_spent), 1, _sorted(rows, -6))
         yield Table("Calls", ("caller", "callee", "calls", "ticks"), 2, _sorted(self.callers.edges(), -1))
         lines = [(self._symbols.line(place.address), place) for place in self._counts.places]
         of_lines = self._summed((line, place) for line, place in lines if line)
-        yield Table("Source lines", ("source", *spent), 1, _sorted(of_lines, -6))
+        yield Table("Source lines", ("source", *ticks_spent), 1, _sorted(of_lines, -6))
 
     def ticks(self, by_line: bool) -> Counter[str]:
         """The ticks of each source line, or of each function; those of no line are of the function."""
@@ -133,7 +133,7 @@ def share(number: int, whole: int) -> str:
     return f"{100 * number / max(1, whole):.0f} %"
 
 
-def compared(ours: Spent, theirs: Spent) -> Iterator[Table]:
+def compared(ours: TickProfile, theirs: TickProfile) -> Iterator[Table]:
     """The ticks of two runs side by side, largest savings first: by source lines, if both have some, and functions."""
     for by_line in (True, False) if ours.has_lines and theirs.has_lines else (False,):
         mine, others = ours.ticks(by_line), theirs.ticks(by_line)

@@ -6,13 +6,13 @@ from ..machine.process import Vecmon
 from .answer import Answer, ready
 from .exercise import Exercise
 
-Taken = TypedDict("Taken", {"instructions": int, "work": int})
+AnswerCost = TypedDict("AnswerCost", {"instructions": int, "work": int})
 """The cost of an answer in all visible cases: instructions, and of 100 elements those that did work."""
 
 
 def taken_by(program: Vecmon, answer: Answer, exercise: Exercise) -> Taken:
     """The cost of an answer that passes. Raises LabError without a recorder."""
-    from ..runs.beginning import beginning_at  # which is for answers that pass
+    from ..runs.initial_state import initial_state_at  # which is for answers that pass
     from ..runs.recorder import record
 
     instructions, elements = 0, [0, 0, 0]
@@ -20,7 +20,7 @@ def taken_by(program: Vecmon, answer: Answer, exercise: Exercise) -> Taken:
         if not case.is_hidden:
             with ready(program, answer, exercise, case) as guest:
                 image = answer.path if answer.commands is None else None
-                counts = record(beginning_at(guest, image), exercise.limits.ticks)
+                counts = record(initial_state_at(guest, image), exercise.limits.ticks)
             instructions += counts.instructions
             elements = [sum(pair) for pair in zip(elements, counts.elements)]
     return {"instructions": instructions, "work": round(100 * elements[0] / max(1, sum(elements)))}

@@ -5,7 +5,7 @@ import random
 import pytest
 
 from vecmon_lab.assembler.commands import COMMANDS
-from vecmon_lab.assembler.misfits import misfit
+from vecmon_lab.assembler.argument_errors import argument_error
 from vecmon_lab.machine.session import Session
 from vecmon_lab.page.reference import OF_THE_CONSOLE
 
@@ -31,15 +31,15 @@ def test_what_is_told_is_what_the_machine_refuses(session: Session) -> None:
     for line, name in lines.items():
         session.do_all(["1 enter", "1 stop", line])
         is_refused = session.do(line)[0][2:] == "E04"
-        told = misfit(line, COMMANDS[name].form)
+        shown = argument_error(line, COMMANDS[name].form)
         is_past_the_end = line.startswith("1 map fffffffff000 ") and line.split()[3] != "1"
-        assert is_refused == (told != PAST_THE_END or is_past_the_end), line
+        assert is_refused == (shown != PAST_THE_END or is_past_the_end), line
         refused += is_refused
     assert refused > 500 and len(lines) - refused > 100
 
 
 @pytest.mark.parametrize(
-    "line, told",
+    "line, expected",
     [
         ("1 break nosuch", "nosuch is no address, which has hexadecimal digits alone"),
         ("1 break 0x10000", "0x10000 begins with 0x, which is left out here"),
@@ -64,8 +64,8 @@ def test_what_is_told_is_what_the_machine_refuses(session: Session) -> None:
         ("* run 9", "9 is no user, who are 1 to 8"),
     ],
 )
-def test_how_it_is_told(session: Session, line: str, told: str) -> None:
+def test_how_it_is_told(session: Session, line: str, expected: str) -> None:
     session.do("1 enter")
     assert session.do(line)[0][2:] == "E04"
     name = line.split()[1] if line[0] != "*" else line[:5]
-    assert misfit(line, COMMANDS[name].form) == told
+    assert argument_error(line, COMMANDS[name].form) == expected

@@ -4,17 +4,17 @@ import re
 
 from ..tables.table import read_table
 
-_DEMANDS = [(where.split(), re.compile(pattern), told) for where, pattern, told in read_table("arguments")]
+_DEMANDS = [(where.split(), re.compile(pattern), message) for where, pattern, message in read_table("arguments")]
 
 
-def misfit(line: str, form: str) -> str:
+def argument_error(line: str, form: str) -> str:
     """Why a line is answered E04, by the first of its words that doesn't fit the form of its command."""
     name, *kinds = form.removeprefix("* ").split()
     _, *words = line[2:].split(None, len(kinds) if "TEXT" in kinds else -1)
     for kind, word in zip(kinds, words):
-        for where, pattern, told in _DEMANDS:
+        for where, pattern, message in _DEMANDS:
             if where in ([kind], [name, kind]) and not pattern.fullmatch(word):
-                return f"{word} {told}"
+                return f"{word} {message}"
     if len(words) < len(kinds):
         return f"{kinds[len(words)]} is missing"
     return f"{words[len(kinds)]} is a word too many" if len(words) > len(kinds) else "the pages would end past 2^48"

@@ -67,11 +67,11 @@ def attempt(**values: object) -> Try:
     """A try; without values one that was lost, in which nothing passes."""
     if not values:
         return Try(time=0, text="", told={"cases": [], "reason": "the answer was lost"})
-    time, text, suffix, told = (values.get(key) for key in ("time", "text", "suffix", "told"))
-    if type(time) is int and isinstance(text, str) and isinstance(suffix, str | None) and isinstance(told, dict):
-        cases, number = told.get("cases"), told.get("number", 0)
+    time, text, suffix, result = (values.get(key) for key in ("time", "text", "suffix", "told"))
+    if type(time) is int and isinstance(text, str) and isinstance(suffix, str | None) and isinstance(result, dict):
+        cases, number = result.get("cases"), result.get("number", 0)
         if isinstance(cases, list) and all(type(each) is bool for each in cases) and number in range(len(cases) or 1):
-            return Try(time=time, text=text, suffix=suffix or "s", told=told)  # type: ignore[typeddict-item]
+            return Try(time=time, text=text, suffix=suffix or "s", told=result)  # type: ignore[typeddict-item]
     raise ValueError("no try")
 
 

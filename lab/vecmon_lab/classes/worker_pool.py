@@ -16,7 +16,7 @@ LAB = pathlib.Path(__file__).resolve().parents[2]
 
 
 @contextlib.contextmanager
-def alone(seat: str, busy: set[str], refusal: LabError) -> Iterator[None]:
+def exclusive(seat: str, busy: set[str], refusal: LabError) -> Iterator[None]:
     """A seat is busy as long as its context lasts. Raises the refusal where it is already."""
     if seat in busy:
         raise refusal
@@ -27,7 +27,7 @@ def alone(seat: str, busy: set[str], refusal: LabError) -> Iterator[None]:
         busy.discard(seat)
 
 
-class Beside:
+class WorkerPool:
     """Room for this number of processes at once: later ones wait."""
 
     def __init__(self, places: int, seconds: float | None = None) -> None:
@@ -50,7 +50,7 @@ class Beside:
                 raise ToolError(f"{sys.executable} can't be started: {error.strerror}") from error
             try:
                 async with asyncio.timeout(self._seconds):
-                    told, complaint = await child.communicate(script)
+                    output, errors = await child.communicate(script)
             except TimeoutError as error:
                 raise ToolError(f"{module} took more than {self._seconds:g} s") from error
             finally:
@@ -60,6 +60,6 @@ class Beside:
         if child.returncode and child.returncode < 0:
             raise ToolError(f"the process of {module} was ended by the signal {signal.Signals(-child.returncode).name}")
         if child.returncode:
-            last = complaint.decode("utf-8", "replace").strip().rpartition("\n")[2]
+            last = errors.decode("utf-8", "replace").strip().rpartition("\n")[2]
             raise LabError(last.partition("Error: ")[2] or last)
-        return told
+        return output

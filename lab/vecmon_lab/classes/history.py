@@ -16,7 +16,7 @@ _TURNS = {"running", "break", "ebreak", "outfull", "exit", "fault"}  # the last 
 _PLACES = {"map", "pok", "asm", "bre", "unb"}  # how lines begin that name places of memory
 
 
-class Past:
+class History:
     """The lines that seats know something by: a script may have a million of them, so little is done with most.
 
     Of each seat these are the last ones, the one with its last stop, and those that name places of memory, or
@@ -90,7 +90,7 @@ class Past:
         kept = {done[0]: done for done in chain(self._turns.values(), *self._last.values(), *self._output.values())}
         for number in sorted(kept):
             _, line, answer = kept[number]
-            seats.observe(line, answer.split("\n"), is_told=not line.startswith(("* slices", "* run")))
+            seats.observe(line, answer.split("\n"), is_reported=not line.startswith(("* slices", "* run")))
         used = Counter[str]()
         for line, times in self._lines.items():
             payer = "".join(words_of(line)[1:2]) if line.startswith("* run") else line[0]

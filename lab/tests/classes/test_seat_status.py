@@ -21,21 +21,21 @@ FAULT = """
 
 def seat(teacher: Tab, digit: str) -> Message:
     """The row of a seat of machine A in the teacher's table."""
-    told: Message = teacher.view["machines"]["A"]["seats"][digit]
-    return told
+    reply: Message = teacher.view["machines"]["A"]["seats"][digit]
+    return reply
 
 
 async def test_how_seats_stand(tmp_path: pathlib.Path) -> None:
-    began = int(time.time())
+    started = int(time.time())
     async with served(tmp_path / "class") as room:
         tab, teacher = await room.sit("A1"), await room.sit("teacher")
 
-        async def until(stands: str, is_stuck: bool) -> None:
-            wanted = (stands, is_stuck)
+        async def until(condition: str, is_stuck: bool) -> None:
+            wanted = (condition, is_stuck)
             await teacher.until(lambda view: (seat(teacher, "1")["stands"], seat(teacher, "1")["stuck"]) == wanted)
 
         assert (seat(teacher, "2")["stands"], seat(teacher, "2")["stuck"]) == ("", False)
-        assert began <= seat(teacher, "2")["since"] <= time.time()
+        assert started <= seat(teacher, "2")["since"] <= time.time()
         await tab.ask("source", text="frob x1, x2\nadd x1, x2")
         await until("2 mistakes in the source", True)
         await tab.ask("source", text=FAULT)
