@@ -26,7 +26,7 @@ def misplaced(order: Sequence[str]) -> list[str]:
     return [path.stem for place, path in paths if not imported(path, 1) <= set(order[:place])]
 
 
-def test_each_room_stands_on_those_above_it() -> None:
+def test_packages_import_only_packages_above() -> None:
     order = names_in("## The lab")
     assert sorted(order) == ROOMS
     for place, room in enumerate(order):
@@ -34,13 +34,13 @@ def test_each_room_stands_on_those_above_it() -> None:
             assert imported(path, 2) & set(ROOMS) <= set(order[:place]), path
 
 
-def test_each_module_of_a_class_stands_on_those_above_it() -> None:
+def test_class_modules_import_only_modules_above() -> None:
     assert sorted(CORE + SERVER) == sorted(path.stem for path in (LAB / "classes").glob("[a-z]*.py"))
     assert misplaced(CORE + SERVER) == []
     assert misplaced([*CORE[:-2], CORE[-1], CORE[-2]]) == [CORE[-1]]
 
 
-def test_the_version_is_that_of_the_changelog() -> None:
+def test_version_equals_changelog() -> None:
     changelog = (TOP / "CHANGELOG.md").read_text("utf-8")
     headings = re.findall(r"^## (.*)$", changelog, re.MULTILINE)
     dated = [re.fullmatch(r"\[([0-9.]+)\] - (\d{4}-\d\d-\d\d)", it) for it in headings if it != "[Unreleased]"]

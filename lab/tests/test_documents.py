@@ -51,7 +51,7 @@ def variables_for(folder: pathlib.Path, program: pathlib.Path) -> dict[str, str]
 
 
 @pytest.mark.parametrize("chain", chains(), ids=str)
-def test_a_chain_of_blocks(chain: Chain, program: pathlib.Path, tmp_path: pathlib.Path) -> None:
+def test_document_blocks_run(chain: Chain, program: pathlib.Path, tmp_path: pathlib.Path) -> None:
     missing = [name for name in chain.needs if not shutil.which(name)]
     for name in set(missing) - OPTIONAL:
         leave_out(f"{NO_TOOL} {name}")
@@ -66,7 +66,7 @@ def test_a_chain_of_blocks(chain: Chain, program: pathlib.Path, tmp_path: pathli
     assert "\n".join(chain.faults(tmp_path, variables)) == ""
 
 
-def test_each_block_has_a_marker() -> None:
+def test_every_block_has_marker() -> None:
     """A new block without one fails here: lab/support/documents.py has the markers."""
     expected = [f"{it.page}:{it.number}: {why}" for it in blocks() if (why := misplaced(it, TOP))]
     assert "\n".join(expected) == ""
@@ -99,7 +99,7 @@ def faults(page: str, folder: pathlib.Path) -> list[str]:
     return list(chain.faults(folder, {"PATH": os.environ["PATH"]}))
 
 
-def test_a_page_that_is_right(tmp_path: pathlib.Path) -> None:
+def test_correct_page_has_no_fault(tmp_path: pathlib.Path) -> None:
     assert [misplaced(block, TOP) for block in blocks_of("PAGE.md", PAGE)] == ["", ""]
     assert faults(PAGE, tmp_path) == []
 
@@ -114,7 +114,7 @@ def test_a_page_that_is_right(tmp_path: pathlib.Path) -> None:
         ("$ false", "$ exit 3", "PAGE.md:8: it fails with status 3: exit 3\n"),
     ],
 )
-def test_a_page_that_is_wrong(tmp_path: pathlib.Path, old: str, new: str, fault: str) -> None:
+def test_wrong_page_is_reported(tmp_path: pathlib.Path, old: str, new: str, fault: str) -> None:
     assert PAGE.count(old) == 1
     shown = faults(PAGE.replace(old, new), tmp_path)
     assert shown and shown[0].startswith(fault)
@@ -130,7 +130,7 @@ def test_a_page_that_is_wrong(tmp_path: pathlib.Path, old: str, new: str, fault:
         ("<!-- tested by lab/tests/conftest.py -->", f"{TOP}/lab/tests/conftest.py doesn't name PAGE.md"),
     ],
 )
-def test_a_marker_that_is_wrong(marker: str, why: str) -> None:
+def test_wrong_marker_is_reported(marker: str, why: str) -> None:
     for fence, line in (("sh", "true"), ("text", "$ true"), ("console", "$ true")):
         (block,) = blocks_of("PAGE.md", f"Text.\n\n{marker}\n```{fence}\n{line}\n```\n")
         assert misplaced(block, TOP).startswith(why)
@@ -138,7 +138,7 @@ def test_a_marker_that_is_wrong(marker: str, why: str) -> None:
 
 
 @pytest.mark.by_command("examples")
-def test_examples(lab: Lab, tmp_path: pathlib.Path) -> None:
+def test_examples_command_copies_examples(lab: Lab, tmp_path: pathlib.Path) -> None:
     folder = tmp_path / "try"
     expected = f"{folder}: the examples, in which the documents' commands run\n"
     assert lab("examples", folder) == (0, expected.encode(), "")

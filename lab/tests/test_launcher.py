@@ -54,7 +54,7 @@ def completed(folder: pathlib.Path, *words: str) -> list[str]:
     return done.stdout.split()
 
 
-def test_completion(tmp_path: pathlib.Path) -> None:
+def test_completion_lists_commands(tmp_path: pathlib.Path) -> None:
     (tmp_path / "monday").mkdir()
     for name in ("A.script", "B.script", "A.json", "class.json"):
         (tmp_path / "monday" / name).touch()
@@ -71,31 +71,27 @@ def test_completion(tmp_path: pathlib.Path) -> None:
     assert "--no-clock" in completed(tmp_path, "class", "--n")
 
 
-def test_another_python_that_has_no_library(installed: pathlib.Path, program: pathlib.Path) -> None:
+def test_python_without_library_is_refused(installed: pathlib.Path, program: pathlib.Path) -> None:
     assert run(installed, "class", "monday", python="plain/bin/python") == (2, "", WITHOUT_AIOHTTP)
     for command in ("class", "explore"):
-        status, help_text, errors = run(installed, command, "--help", python="plain/bin/python")
-        assert (status, errors) == (0, "") and help_text.startswith(f"usage: vecmon-lab {command} ")
-    status, help_text, _ = run(installed, "check", python="plain/bin/python")
-    assert (
-        status == 0 and "aiohttp for class and explore: not installed: sudo apt install python3-aiohttp\n" in help_text
-    )
+        status, output, errors = run(installed, command, "--help", python="plain/bin/python")
+        assert (status, errors) == (0, "") and output.startswith(f"usage: vecmon-lab {command} ")
+    status, output, _ = run(installed, "check", python="plain/bin/python")
+    assert status == 0 and "aiohttp for class and explore: not installed: sudo apt install python3-aiohttp\n" in output
     assert run(installed, "console", python="plain/bin/python") == (0, "=> 0  \n", "")
-    status, _, help_text = run(installed, "console", SUM, python="plain/bin/python")
-    assert status == 2 and help_text.startswith(
-        "vecmon-lab: this needs the Python library pyelftools: `sudo apt install "
-    )
-    assert "python3-pyelftools`" in help_text
+    status, _, output = run(installed, "console", SUM, python="plain/bin/python")
+    assert status == 2 and output.startswith("vecmon-lab: this needs the Python library pyelftools: `sudo apt install ")
+    assert "python3-pyelftools`" in output
 
 
-def test_another_python_that_has_the_library(installed: pathlib.Path, program: pathlib.Path) -> None:
+def test_python_with_library_is_used(installed: pathlib.Path, program: pathlib.Path) -> None:
     (packages,) = (installed / "plain" / "lib").glob("python3*/site-packages")
     (packages / "elftools").symlink_to(pathlib.Path(elftools.__file__).parent)
     assert run(installed, "run", SUM, python="plain/bin/python") == (0, "328350\n", "")
     assert run(installed, "run", SUM, python=str(installed / "plain" / "bin" / "python")) == (0, "328350\n", "")
 
 
-def test_no_other_python(installed: pathlib.Path, program: pathlib.Path) -> None:
+def test_missing_python_is_reported(installed: pathlib.Path, program: pathlib.Path) -> None:
     assert run(installed, "run", SUM) == (0, "328350\n", "")
     expected = "vecmon-lab: VECMON_PYTHON=/nowhere: No such file or directory\n"
     assert run(installed, "check", python="/nowhere") == (2, "", expected)

@@ -43,7 +43,7 @@ def sleeper() -> Iterator[subprocess.Popen[bytes]]:
         process.kill()
 
 
-def test_a_process_of_the_run(sleeper: subprocess.Popen[bytes], folder: pathlib.Path) -> None:
+def test_process_of_run_is_reported(sleeper: subprocess.Popen[bytes], folder: pathlib.Path) -> None:
     assert left("one", folder) == (1, f"tools/left_behind.py: left: process {sleeper.pid}: sleep 600\n")
     assert left("two", folder) == (0, "") and left("on", folder) == (0, "")
     sleeper.kill()
@@ -51,19 +51,19 @@ def test_a_process_of_the_run(sleeper: subprocess.Popen[bytes], folder: pathlib.
     assert left("one", folder) == (0, "")
 
 
-def test_a_process_in_the_folder(folder: pathlib.Path) -> None:
+def test_process_in_folder_is_reported(folder: pathlib.Path) -> None:
     with subprocess.Popen(["sleep", "600"], cwd=folder / "pytest-of-root") as process:
         shown = left("none", folder)
         process.kill()
     assert shown == (1, f"tools/left_behind.py: left: process {process.pid}: sleep 600\n")
 
 
-def test_a_folder(folder: pathlib.Path) -> None:
+def test_left_folder_is_reported(folder: pathlib.Path) -> None:
     (folder / "scoped_dir1").mkdir()
     assert left("none", folder) == (1, f"tools/left_behind.py: left: folder or file {folder}/scoped_dir1\n")
 
 
-def test_all_processes_of_a_tree_are_ended() -> None:
+def test_process_tree_is_ended() -> None:
     """Of a shell with a child in its own group and one in another, as a browser's command that is killed alone."""
     code = "sleep 600 & setsid sleep 601 & echo started; wait"
     with subprocess.Popen(["sh", "-c", code], stdout=subprocess.PIPE) as shell:

@@ -218,7 +218,7 @@ def test_first_and_second_start(clone: Clone) -> None:
     assert command.with_name("vecmon-record").read_text().endswith(f'/{folder}/vecmon-record "$@"\n')
 
 
-def test_the_sources_choose_the_program(clone: Clone) -> None:
+def test_sources_select_program(clone: Clone) -> None:
     clone.run()
     first = clone.folders()
     clone.write("crates/other/src/lib.rt", "fn elsewhere() {}\n")  # neither program is built from it
@@ -244,7 +244,7 @@ def test_the_sources_choose_the_program(clone: Clone) -> None:
         ("tools/linked_kit.py", "pass\n"),
     ],
 )
-def test_the_digest_changes(clone: Clone, name: str, text: str) -> None:
+def test_digest_follows_sources(clone: Clone, name: str, text: str) -> None:
     before = clone.digest().stdout
     assert len(before) == 65 and clone.digest().stdout == before
     clone.write("crates/low/out/made", "made\n")
@@ -260,7 +260,7 @@ def prove(clone: Clone, program: pathlib.Path) -> None:
         clone.write(f"crates/{crate}/out/{crate}", f'#!/bin/sh\nexec "{program}" "$@"\n')
 
 
-def test_proved_programs(clone: Clone, program: pathlib.Path) -> None:
+def test_proved_program_is_preferred(clone: Clone, program: pathlib.Path) -> None:
     prove(clone, program)
     proved = f"tools/run: built with proofs: {clone.top}/crates/vecmon/out/vecmon\n"
     digest = clone.digest().stdout.strip()
@@ -279,7 +279,7 @@ def test_proved_programs(clone: Clone, program: pathlib.Path) -> None:
     assert "tools/run: built without proofs: " in clone.run().stderr
 
 
-def test_programs_without_a_record_are_not_taken(clone: Clone, program: pathlib.Path) -> None:
+def test_program_without_record_is_ignored(clone: Clone, program: pathlib.Path) -> None:
     prove(clone, program)
     assert "tools/run: built without proofs: " in clone.run().stderr
     reply = clone.digest("record", "0" * 64)
@@ -288,7 +288,7 @@ def test_programs_without_a_record_are_not_taken(clone: Clone, program: pathlib.
 
 
 @pytest.mark.parametrize("number, status", [(signal.SIGHUP, 129), (signal.SIGINT, 130), (signal.SIGTERM, 143)])
-def test_interrupted(clone: Clone, number: int, status: int) -> None:
+def test_interrupted_build_is_repeated(clone: Clone, number: int, status: int) -> None:
     process = clone.start()
     os.killpg(process.pid, number)
     process.communicate(timeout=60)
@@ -298,7 +298,7 @@ def test_interrupted(clone: Clone, number: int, status: int) -> None:
     assert clone.run().returncode == 0 and len(clone.folders()) == 1
 
 
-def test_killed(clone: Clone) -> None:
+def test_killed_build_is_repeated(clone: Clone) -> None:
     process = clone.start()
     process.kill()
     process.communicate(timeout=60)
@@ -309,7 +309,7 @@ def test_killed(clone: Clone) -> None:
     assert [name.split(".")[0] for name in clone.folders()] == [(clone.unproved / "current").read_text().strip()]
 
 
-def test_two_at_once(clone: Clone) -> None:
+def test_concurrent_starts_build_once(clone: Clone) -> None:
     one, other = clone.start(), clone.start()
     time.sleep(0.5)
     (clone.top / "wait").unlink()
@@ -320,7 +320,7 @@ def test_two_at_once(clone: Clone) -> None:
     assert "waiting for another tools/run" in ended[1][1]
 
 
-def test_another_script_and_images(clone: Clone, program: pathlib.Path, tmp_path: pathlib.Path) -> None:
+def test_script_and_images_are_passed_on(clone: Clone, program: pathlib.Path, tmp_path: pathlib.Path) -> None:
     (tmp_path / "script").write_text("1 enter\n1 list\n")
     (tmp_path / "image").write_bytes(b"no image")
     for words in (
@@ -337,14 +337,14 @@ def test_another_script_and_images(clone: Clone, program: pathlib.Path, tmp_path
     assert ran.returncode == 2
 
 
-def test_rt_is_missing(clone: Clone) -> None:
+def test_missing_rt_is_reported(clone: Clone) -> None:
     ran = clone.run(path="/usr/bin:/bin")
     assert (ran.returncode, ran.stdout, ran.stderr.count("\n")) == (2, "", 1)
     assert "rt not found: install the Rattle kit" in ran.stderr and "install the vecmon package instead" in ran.stderr
     assert not clone.unproved.exists()
 
 
-def test_packages_are_missing_without_root(clone: Clone) -> None:
+def test_missing_packages_are_reported(clone: Clone) -> None:
     for name in ("lab/setup", "tools/debian_packages"):
         shutil.copy(TOP / name, clone.top / name)
     clone.write("rattle/id", "#!/bin/sh\necho 1000\n")
@@ -358,21 +358,21 @@ def test_packages_are_missing_without_root(clone: Clone) -> None:
     assert clone.builds() == []
 
 
-def test_a_folder_that_is_not_writable(clone: Clone) -> None:
+def test_unwritable_folder_is_reported(clone: Clone) -> None:
     (clone.top / "build").write_text("a file")
     ran = clone.run()
     assert (ran.returncode, ran.stdout, ran.stderr.count("\n")) == (2, "", 1)
     assert f"{clone.unproved} isn't writable" in ran.stderr
 
 
-def test_a_build_that_fails(clone: Clone) -> None:
+def test_failed_build_is_reported(clone: Clone) -> None:
     (clone.top / "fail").touch()
     ran = clone.run()
     assert (ran.returncode, ran.stdout, clone.folders()) == (2, "", [])
     assert ran.stderr.endswith("no module was made\ntools/run: the build failed: see the lines above\n")
 
 
-def test_sources_that_change_during_the_build(clone: Clone) -> None:
+def test_changed_sources_during_build_are_detected(clone: Clone) -> None:
     process = clone.start()
     clone.write("crates/low/src/lib.rt", "fn changed() {}\n")
     (clone.top / "wait").unlink()
@@ -381,7 +381,7 @@ def test_sources_that_change_during_the_build(clone: Clone) -> None:
     assert errors.endswith("tools/run: the sources changed during the build: run tools/run again\n")
 
 
-def test_help(clone: Clone) -> None:
+def test_help_shows_usage(clone: Clone) -> None:
     ran = clone.run("--help", path="/usr/bin:/bin")
     assert (ran.returncode, ran.stderr) == (0, "") and ran.stdout.startswith("Runs a script with vecmon")
     assert ran.stdout.rstrip().endswith("that of vecmon.")

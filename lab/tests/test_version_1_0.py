@@ -75,7 +75,7 @@ async def check_seats(room: Served) -> None:
 
 
 @pytest.mark.asyncio
-async def test_a_class_goes_on(folder: pathlib.Path) -> None:
+async def test_class_of_1_0_continues(folder: pathlib.Path) -> None:
     """Seats, names, sources, tries and the transcript are those of the class; new lines are added and saved."""
     async with served(folder) as room:
         await check_seats(room)
@@ -90,7 +90,7 @@ async def test_a_class_goes_on(folder: pathlib.Path) -> None:
 
 
 @pytest.mark.parametrize("seat", ARCHIVES)
-def test_an_archive(tmp_path: pathlib.Path, program: pathlib.Path, folder: pathlib.Path, seat: str) -> None:
+def test_archive_of_1_0_opens(tmp_path: pathlib.Path, program: pathlib.Path, folder: pathlib.Path, seat: str) -> None:
     """Its script replays to the answers of its lesson, and is the seat's part of the class's script."""
     packed = zipfile.ZipFile(WRITTEN / "archives" / f"{seat}.zip")
     assert packed.namelist() == [f"{seat}/{name}" for name in ARCHIVES[seat]]
@@ -106,11 +106,11 @@ def test_an_archive(tmp_path: pathlib.Path, program: pathlib.Path, folder: pathl
 
 
 @pytest.mark.parametrize("name", ["lesson", "lesson_in_c"])
-def test_a_lesson(program: pathlib.Path, name: str) -> None:
+def test_lesson_of_1_0_is_reproduced(program: pathlib.Path, name: str) -> None:
     assert check_lesson(program, WRITTEN / f"{name}.html")
 
 
-def test_a_course(program: pathlib.Path) -> None:
+def test_course_of_1_0_is_reproduced(program: pathlib.Path) -> None:
     """Its index lists the twelve exercises, and the lesson before each replays."""
     entries = data_of((WRITTEN / "course" / "index.html").read_text("utf-8"))
     assert len(entries) == 12 and sorted(entry["name"] for entry in entries) == sorted(COURSE)

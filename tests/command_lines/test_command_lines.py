@@ -18,19 +18,19 @@ SAME_TICKS = [
 
 
 @pytest.mark.parametrize("name", ALL_TEMPLATES)
-def test_page(name: str) -> None:
+def test_page_equals_stored_page(name: str) -> None:
     shown = difference(page(built(), ALL_TEMPLATES[name]), STORED.pages[name])
     assert not shown, shown
 
 
 @pytest.mark.parametrize("line", LINES)
-def test_command_line(line: str) -> None:
+def test_command_line_equals_stored_record(line: str) -> None:
     shown = difference(record(built(), line), STORED.records[line])
     assert not shown, shown
 
 
 @pytest.mark.parametrize("line, other", SAME_TICKS)
-def test_equal_ticks_in_other_slices_print_the_same(line: str, other: str) -> None:
+def test_equal_ticks_in_other_slices_print_same_output(line: str, other: str) -> None:
     """However its ticks are divided, a user's lines are the same."""
     reply, wanted = ([it for it in lines_of(record(built(), each)) if it.startswith("1 ")] for each in (line, other))
     assert reply == wanted

@@ -12,10 +12,10 @@ STORED = (pathlib.Path(__file__).parent / "stdout").read_text("ascii").splitline
 
 
 @pytest.mark.parametrize("place, name", enumerate(PROGRAMS), ids=PROGRAMS)
-def test_slices_of_each_length_print_the_same(place: int, name: str) -> None:
+def test_slice_length_does_not_change_output(place: int, name: str) -> None:
     assert compare_program(built(), GRAMMAR, name) == STORED[place]
 
 
-def test_eight_users_print_the_same_as_private_machines() -> None:
+def test_eight_users_equal_private_machines() -> None:
     shown = difference("".join(eight_users(built(), HOSTILE_ROUNDS)), "".join(STORED[len(PROGRAMS) :]))
     assert not shown, shown

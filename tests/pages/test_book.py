@@ -31,7 +31,7 @@ def small(tmp_path: Path) -> Path:
     return tmp_path
 
 
-def test_the_index_has_each_page_with_its_first_sentence(small: Path) -> None:
+def test_index_lists_pages_with_first_sentences(small: Path) -> None:
     index = index_page(small, read_groups(small))
     assert "- **[First](README.md)**: It `is` so here.\n- **[Second](docs/A.md)**\n" in index
     assert ":caption: Users\n\nREADME\ndocs/A\n```\n" in index
@@ -41,7 +41,7 @@ def test_the_index_has_each_page_with_its_first_sentence(small: Path) -> None:
     "text, sentence",
     [("# T\n\nOne two.\nThree.\n", "One two."), ("# T\n\n```sh\nx.\n```\n", ""), ("# T\n\nNo stop\n", "")],
 )
-def test_a_first_sentence(text: str, sentence: str) -> None:
+def test_first_sentence_is_extracted(text: str, sentence: str) -> None:
     assert first_sentence(text) == sentence
 
 
@@ -53,7 +53,7 @@ def test_a_first_sentence(text: str, sentence: str) -> None:
         ('["README.md", "docs/A.md", "README.md"]', "README.md is listed 2 times; list it once"),
     ],
 )
-def test_a_wrong_list_is_refused(small: Path, pages: str, fault: str) -> None:
+def test_wrong_list_is_refused(small: Path, pages: str, fault: str) -> None:
     (small / "docs" / "book.toml").write_text(f'[[groups]]\nname = "users"\ntitle = "Users"\npages = {pages}\n')
     with pytest.raises(NavigationError, match=re.escape(fault)):
         read_groups(small)
@@ -79,7 +79,7 @@ def kinds(lexer: TranscriptLexer | RattleLexer, text: str) -> list[tuple[str, st
     ]
 
 
-def test_a_transcript_is_highlighted() -> None:
+def test_transcript_is_highlighted() -> None:
     assert kinds(TranscriptLexer(), "> 1 asm 10000 vadd.vi v2, v1, 1\n1 E15\n") == [
         ("Generic.Prompt", ">"),
         ("Name.Tag", "1"),
@@ -95,13 +95,13 @@ def test_a_transcript_is_highlighted() -> None:
     assert kinds(TranscriptLexer(), "250 instructions\n  2 more\n") == []
 
 
-def test_a_contract_is_highlighted() -> None:
+def test_contract_is_highlighted() -> None:
     found = kinds(RattleLexer(), "fn f() requires { 1 ≤ 2 } ensures headline { result ≡ x }")
     assert ("Keyword.Declaration", "requires") in found and ("Name.Label", "headline") in found
     assert ("Operator", "≤") in found and ("Operator", "≡") in found and not [it for it in found if it[0] == "Error"]
 
 
-def test_a_folder_that_is_no_book_is_refused(tmp_path: Path) -> None:
+def test_folder_without_book_is_refused(tmp_path: Path) -> None:
     (tmp_path / "mine").write_text("x")
     ran = subprocess.run([TOP / "tools/book", tmp_path], capture_output=True, text=True, check=False)
     assert ran.returncode == 2 and (tmp_path / "mine").read_text() == "x"

@@ -41,14 +41,14 @@ def test_words_and_sentences_are_counted() -> None:
     assert [it.partition(" words")[0] for it in whole.long] == ["a.md:1: 32"]
 
 
-def test_a_place_is_allowed_by_its_path_and_text() -> None:
+def test_place_is_allowed_by_path_and_text() -> None:
     assert not count("a standing wave", allowed="a.md  standing wave").forms
     assert len(count("a standing wave", allowed="b.md  standing wave").forms) == 1
     assert len(count("a standing wave", allowed="a.md  standing wall").forms) == 1
     assert check_prose.Allowed("# title\na.md  no such").unused()[0].endswith("'no such' not found; remove the entry")
 
 
-def test_a_page_is_read_without_its_code() -> None:
+def test_code_of_page_is_skipped() -> None:
     page = "# A title\n\nOne `stood` line\nand more.\n\n```sh\ntold\n```\n- an [item](stood.md)\n\n| a | b c |\n|---|---|\n"
     assert texts(".md", page) == ["A title", "One `` line and more.", "an [item]", "a", "b c"]
 
@@ -82,7 +82,7 @@ def test_texts_and_comments_are_read(suffix: str, text: str, strings: list[str],
     assert (texts(suffix, text), texts(suffix, text, True)) == (strings, comments)
 
 
-def test_a_figure_above_its_limit_is_a_fault(monkeypatch: pytest.MonkeyPatch) -> None:
+def test_figure_above_limit_is_fault(monkeypatch: pytest.MonkeyPatch) -> None:
     monkeypatch.setitem(check_prose.LIMITS, "users", check_prose.Limits(2, 3, 50))
     files = {"small": check_prose.Count(499, 1, ["it"] * 9), "large": check_prose.Count(2501, 1, ["it"] * 8, ["long"])}
     assert [it.partition(",")[0] for it in check_prose.report("users", files)[1]] == [
@@ -93,7 +93,7 @@ def test_a_figure_above_its_limit_is_a_fault(monkeypatch: pytest.MonkeyPatch) ->
     assert check_prose.report("users", files)[1] == ["users: 66.67 % of the sentences are above 30 words, at most 50 %"]
 
 
-def test_each_page_is_in_a_group() -> None:
+def test_every_page_is_in_group() -> None:
     top = Path(__file__).resolve().parents[2]
     groups = {group.name for group in read_groups(top)}
     assert groups | {"messages", *check_prose.COMMENTS} == check_prose.LIMITS.keys()

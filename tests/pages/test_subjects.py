@@ -67,7 +67,7 @@ def test_check_covers_commits_after_base(clone: Path, capsys: pytest.CaptureFixt
     assert "lab: adding a test: begins with 'adding'" in capsys.readouterr().out
 
 
-def test_check_left_out_without_base(clone: Path, tmp_path: Path, capsys: pytest.CaptureFixture[str]) -> None:
+def test_check_is_skipped_without_base(clone: Path, tmp_path: Path, capsys: pytest.CaptureFixture[str]) -> None:
     base = git(clone, "rev-parse", "HEAD")
     git(clone, "commit", "--quiet", "--allow-empty", "--message=The second")
     git(tmp_path, "clone", "--quiet", "--depth=1", f"file://{clone}", "shallow")

@@ -8,7 +8,7 @@ from tests.recordings.recorder import Recorded, record
 from tests.recordings.stepping import Place, stepped_changes
 from tests.recordings.test_initial_state import WRITE_AND_EXIT, code
 from tests.recordings.test_counts import IMAGES, MASKED_VECTORS
-from tests.recordings.test_refusals import GOOD
+from tests.recordings.test_bad_changes_option_is_refused import GOOD
 
 MOST = 1500  # instructions that are stepped of an image
 STACK = [Place(0x7FFFEF00, 192), Place(0x7FFFEF80, 64), Place(0x7FFFEFB9, 7), Place(0x7FFFEFFF, 1)]
@@ -127,7 +127,7 @@ def test_changes_equal_monitor_steps(tmp_path: pathlib.Path, image: pathlib.Path
         (["--watch", "ffffffffffffffff:2", "--changes", "changes"], 4, "a place of --watch has no memory"),
     ],
 )
-def test_refusals(tmp_path: pathlib.Path, words: list[str], status: int, message: str) -> None:
+def test_bad_changes_option_is_refused(tmp_path: pathlib.Path, words: list[str], status: int, message: str) -> None:
     """Nothing runs, and no file is made."""
     ran = record(tmp_path, *words, GOOD)
     assert (ran.status, ran.stderr) == (status, f"vecmon-record: {message}\n")

@@ -72,7 +72,7 @@ def test_addresses_equal_those_qemu_executes(tmp_path: pathlib.Path, image: path
     assert retired == Counter(int(pc, 16) for pc in logged)
 
 
-def test_the_first_ticks_of_a_run(tmp_path: pathlib.Path) -> None:
+def test_first_ticks_of_run_are_counted(tmp_path: pathlib.Path) -> None:
     """The last instruction may take more than are left: a store of five elements has one tick of five."""
     words = write_inputs(tmp_path, MASKED_VECTORS)
     stored = read_counts((HERE / "data/masked_vectors").read_text("ascii"))

@@ -12,7 +12,7 @@ PAGE = (TOP / "docs/RECORDER.md").read_text("utf-8")
 SESSIONS = [block for block in re.findall(r"^```sh\n(.*?)^```$", PAGE, re.MULTILINE | re.DOTALL) if block[:2] == "$ "]
 
 
-def test_examples(tmp_path: pathlib.Path) -> None:
+def test_page_examples_are_reproduced(tmp_path: pathlib.Path) -> None:
     """A command follows `$ `, and its output is below it."""
     (tmp_path / "vecmon-record").symlink_to(built_recorder())
     environment = {**os.environ, "PATH": f"{tmp_path}:{os.environ['PATH']}"}
@@ -32,7 +32,7 @@ def test_examples(tmp_path: pathlib.Path) -> None:
         assert not difference(output, session), difference(output, session)
 
 
-def test_there_are_examples() -> None:
+def test_page_has_examples() -> None:
     assert len(SESSIONS) == 4
 
 

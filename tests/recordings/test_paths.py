@@ -63,7 +63,7 @@ def test_two_outputs_in_one_file_are_refused(
 
 @pytest.mark.parametrize("option", OUTPUTS)
 @pytest.mark.parametrize("name", INPUTS)
-def test_an_output_that_is_an_input(tmp_path: pathlib.Path, option: str, name: str) -> None:
+def test_output_equal_to_input_is_refused(tmp_path: pathlib.Path, option: str, name: str) -> None:
     """By the same path, by another one and by a link; the input keeps its bytes."""
     assert run(tmp_path, **{option[2:]: name}) == (2, OVERWRITES.format(option, name))
     assert run(tmp_path, **{option[2:]: f"./{name}"}) == (2, OVERWRITES.format(option, name))
@@ -72,7 +72,7 @@ def test_an_output_that_is_an_input(tmp_path: pathlib.Path, option: str, name: s
     assert inputs(tmp_path) == INPUTS and not (tmp_path / OUTPUTS[option]).exists()
 
 
-def test_each_file_of_memory_is_compared(tmp_path: pathlib.Path) -> None:
+def test_every_memory_file_is_compared(tmp_path: pathlib.Path) -> None:
     for name in ("one", "two", "three"):
         (tmp_path / name).write_bytes(bytes(4))
         words = ["--memory", "0:r:one", "--memory", "1000:r:two", "--memory", "2000:r:three", "--counts", name]

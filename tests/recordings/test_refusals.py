@@ -34,7 +34,7 @@ def refused(folder: pathlib.Path, *words: object) -> tuple[int, str]:
         (["--memory", "0:r:file", "--memory", ":r:file"], "--memory needs ADDR:PERMS:FILE, not :r:file"),
     ],
 )
-def test_words(tmp_path: pathlib.Path, words: list[str], message: str) -> None:
+def test_bad_arguments_are_refused(tmp_path: pathlib.Path, words: list[str], message: str) -> None:
     assert refused(tmp_path, *words, "there is no such image") == (2, message)
 
 
@@ -44,7 +44,7 @@ def test_usage_errors_of_clap_are_refused(tmp_path: pathlib.Path, words: list[st
     assert status == 2 and message.startswith("error: ") and message.endswith("For more information, try '--help'.")
 
 
-def test_help(tmp_path: pathlib.Path) -> None:
+def test_help_shows_usage(tmp_path: pathlib.Path) -> None:
     ran = record(tmp_path, "--help")
     assert ran.status == 0 and not ran.stderr and not ran.counts
     for word in ("--policy", "--ticks", "--memory", "--registers", "--counts", "IMAGE"):
@@ -60,7 +60,7 @@ def test_help(tmp_path: pathlib.Path) -> None:
         pytest.param(bytes(4_194_305), "image: too many bytes", id="long"),
     ],
 )
-def test_images(tmp_path: pathlib.Path, data: bytes, message: str) -> None:
+def test_bad_image_is_refused(tmp_path: pathlib.Path, data: bytes, message: str) -> None:
     (tmp_path / "image").write_bytes(data)
     assert refused(tmp_path, "image") == (4, message)
 
@@ -80,12 +80,12 @@ def test_missing_files_are_refused(tmp_path: pathlib.Path) -> None:
         ("1001", 256 * 4096, "bytes take too many pages"),
     ],
 )
-def test_memory(tmp_path: pathlib.Path, place: str, size: int, message: str) -> None:
+def test_bad_memory_is_refused(tmp_path: pathlib.Path, place: str, size: int, message: str) -> None:
     (tmp_path / "file").write_bytes(bytes(size))
     assert refused(tmp_path, "--memory", f"{place}:rw:file") == (4, f"file: {message}")
 
 
-def test_the_most_memory(tmp_path: pathlib.Path) -> None:
+def test_memory_limit_is_enforced(tmp_path: pathlib.Path) -> None:
     """All 256 pages of a user; the last one ends at the highest address."""
     (tmp_path / "file").write_bytes(bytes(255 * 4096))
     (tmp_path / "page").write_bytes(bytes(4096))
@@ -114,7 +114,7 @@ def test_the_most_memory(tmp_path: pathlib.Path) -> None:
         pytest.param("x1 1\n" * 14000, "too many bytes", id="long"),
     ],
 )
-def test_registers(tmp_path: pathlib.Path, text: str, message: str) -> None:
+def test_bad_registers_are_refused(tmp_path: pathlib.Path, text: str, message: str) -> None:
     (tmp_path / "file").write_text(text, "ascii")
     assert refused(tmp_path, "--registers", "file") == (4, f"file: {message}")
 
@@ -135,7 +135,7 @@ def test_unwritable_output_is_refused(tmp_path: pathlib.Path) -> None:
     assert (ran.returncode, ran.stderr.decode()) == (5, "vecmon-record: cannot write output\n")
 
 
-def test_there_is_no_memory(tmp_path: pathlib.Path) -> None:
+def test_memory_failure_is_reported(tmp_path: pathlib.Path) -> None:
     """With 8 MB of addresses there is no room for the rows."""
     command = f"ulimit -v 8000; exec {built_recorder()} --counts counts {GOOD}"
     ran = subprocess.run(["sh", "-c", command], cwd=tmp_path, capture_output=True, check=False)

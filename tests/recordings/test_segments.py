@@ -10,7 +10,7 @@ SEGMENT_STORE = (0xC0017057, 0x5E03B257, 0x5E04B2D7, 0x22058227, 0x00100073)
 """vsetivli x0, 2, e8, m1, tu, mu; vmv.v.i v4, 7; vmv.v.i v5, 9; vsseg2e8.v v4, (x11); ebreak."""
 
 
-def test_all_fields_of_a_segment_are_in_a_line(tmp_path: pathlib.Path) -> None:
+def test_segment_fields_are_in_one_line(tmp_path: pathlib.Path) -> None:
     ran = record_log(tmp_path, "--to", 5, *write_inputs(tmp_path, SEGMENT_STORE))
     lines, _ = read_log(ran.log)
     assert dict(bytes_stored(lines[3])) == {0x2000: 7, 0x2001: 9, 0x2002: 7, 0x2003: 9}

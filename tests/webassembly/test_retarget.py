@@ -38,11 +38,11 @@ def retargeted(*lines: str) -> list[str]:
         ("@a = constant i64 ptrtoint (ptr @b to i64)", ["@a = constant i64 ptrtoint (ptr @b to i64)"]),
     ],
 )
-def test_line(line: str, expected: list[str]) -> None:
+def test_line_is_retargeted(line: str, expected: list[str]) -> None:
     assert [it.strip() for it in retargeted(line)] == [it.strip() for it in expected]
 
 
-def test_pair() -> None:
+def test_pointer_pair_is_retargeted() -> None:
     """The second value of a pair is 8 bytes after the first one."""
     lines = retargeted("  %a = load { ptr, i64 }, ptr %b, align 8")
     assert "  %pair.0.second = getelementptr i8, ptr %b, i64 8" in lines
@@ -62,12 +62,12 @@ def test_pair() -> None:
         '@"a b" = constant [2 x ptr] [ptr @c, ptr @d]',
     ],
 )
-def test_another_size_of_pointers_is_refused(line: str) -> None:
+def test_other_pointer_size_is_refused(line: str) -> None:
     with pytest.raises(RETARGET.Unsupported, match="tools/retarget.py doesn't support pointers in: "):
         retargeted(line)
 
 
-def test_functions_that_readers_call_are_never_inlined() -> None:
+def test_functions_called_by_readers_are_never_inlined() -> None:
     """`run` reaches `read` by `fill`; `step` doesn't, and `run` calls it."""
     lines = retargeted(
         "define void @run() #1 {", "  call void @fill()", "  call void @step()", "}",

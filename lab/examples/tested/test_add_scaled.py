@@ -27,13 +27,15 @@ def kernel() -> Iterator[Kernel]:
 
 @settings(deadline=None)
 @given(st.lists(st.tuples(INT32, INT32)), INT32, st.sampled_from([None, 0, 1, 4092]))
-def test_as_in_python(kernel: Kernel, pairs: list[tuple[int, int]], factor: int, offset: int | None) -> None:
+def test_add_scaled_equals_python(
+    kernel: Kernel, pairs: list[tuple[int, int]], factor: int, offset: int | None
+) -> None:
     before, added = array("i", [one for one, _ in pairs]), array("i", [other for _, other in pairs])
     to = Placed(before, offset)  # with None both arrays end where a page ends, so that an overrun faults
     result = kernel.call("add_scaled", len(pairs), factor, added, to, policy="both")
     assert result.arrays == [added, array("i", [wrapped(one + factor * other) for one, other in pairs])]
 
 
-def test_an_array_that_is_too_short(kernel: Kernel) -> None:
+def test_short_array_faults(kernel: Kernel) -> None:
     with pytest.raises(CallStopped, match="may not read from 0x[0-9a-f]*000 on: .* It stopped at element 15."):
         kernel.call("add_scaled", 16, 1, array("i", range(15)), array("i", range(16)))

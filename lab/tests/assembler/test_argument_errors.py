@@ -18,7 +18,7 @@ OTHERS += ["ab" * 32, "AB" * 32, "ab" * 33, "ab" * 256, "ab" * 257]
 PAST_THE_END = "the pages would end past 2^48"
 
 
-def test_what_is_told_is_what_the_machine_refuses(session: Session) -> None:
+def test_argument_errors_match_machine_refusals(session: Session) -> None:
     draws = random.Random(8)
     words = [*NUMBERS, *ADDRESSES, *REGISTERS, *OTHERS]
     lines = dict[str, str]()
@@ -64,7 +64,7 @@ def test_what_is_told_is_what_the_machine_refuses(session: Session) -> None:
         ("* run 9", "9 is no user, who are 1 to 8"),
     ],
 )
-def test_how_it_is_told(session: Session, line: str, expected: str) -> None:
+def test_argument_error_names_argument(session: Session, line: str, expected: str) -> None:
     session.do("1 enter")
     assert session.do(line)[0][2:] == "E04"
     name = line.split()[1] if line[0] != "*" else line[:5]

@@ -21,13 +21,13 @@ PAGES = {
 
 
 @pytest.mark.parametrize("name", PAGES)
-def test_the_pages_have_the_tables(name: str) -> None:
+def test_pages_contain_command_tables(name: str) -> None:
     page = (DOCS / name).read_text("utf-8")
     assert with_tables(page) == page
 
 
 @pytest.mark.parametrize("name, section", [(name, section) for name, sections in PAGES.items() for section in sections])
-def test_a_row_that_is_changed_is_made_again(name: str, section: str) -> None:
+def test_changed_row_is_rebuilt(name: str, section: str) -> None:
     page = (DOCS / name).read_text("utf-8")
     start = page.index(f"# {section}\n")
     row = re.compile(r"^\| (?:`|E\d\d).*\n", re.MULTILINE).search(page, start)
@@ -38,7 +38,7 @@ def test_a_row_that_is_changed_is_made_again(name: str, section: str) -> None:
     assert with_tables(without) == with_tables(changed) == page
 
 
-def test_the_machine_takes_what_is_named(session: Session, program: pathlib.Path) -> None:
+def test_machine_accepts_listed_commands(session: Session, program: pathlib.Path) -> None:
     help_text = subprocess.run([program, "--help"], stdout=subprocess.PIPE, check=True).stdout.decode("ascii")
     named = set(re.findall("[a-z]+", help_text))
     session.do("1 enter")
@@ -50,7 +50,7 @@ def test_the_machine_takes_what_is_named(session: Session, program: pathlib.Path
         assert session.do(f"1 {name}") == ["1 E03"]
 
 
-def test_each_refusal_has_a_meaning() -> None:
+def test_every_refusal_has_meaning() -> None:
     assert list(MEANINGS) == [f"E{number:02}" for number in range(1, 17)]
     assert {code for command in COMMANDS.values() for code in command.refusals} <= {*MEANINGS, "-"}
 
@@ -65,7 +65,7 @@ def test_each_refusal_has_a_meaning() -> None:
         ("dance", ["there is no command dance; help lists them"]),
     ],
 )
-def test_help(name: str, expected: list[str]) -> None:
+def test_help_shows_form_and_refusals(name: str, expected: list[str]) -> None:
     assert help_on(name) == expected
 
 
@@ -108,7 +108,7 @@ def test_help_lists_the_commands() -> None:
         ("1 asm 10000 jmp 8", ["jmp 8", "^", "E15: there is no instruction jmp; near it is jal"]),
     ],
 )
-def test_refusals_in_words(session: Session, line: str, expected: list[str]) -> None:
+def test_refusal_is_explained(session: Session, line: str, expected: list[str]) -> None:
     for before in ("1 enter", "1 map 10000 1 rwx"):
         session.do(before)
     answer = read(session.do(line))

@@ -38,7 +38,7 @@ def records(name: str, kind: str) -> Iterator[tuple[str, str]]:
 
 
 @pytest.mark.parametrize("name", SOURCES)
-def test_bytes_and_symbols_are_those_of_a_stock_assembler(session: Session, name: str) -> None:
+def test_bytes_and_symbols_equal_stock_assembler(session: Session, name: str) -> None:
     program = assemble(source(name))
     load(session, program)
     for address, content in records(name, "bytes"):
@@ -47,23 +47,23 @@ def test_bytes_and_symbols_are_those_of_a_stock_assembler(session: Session, name
     assert program.entry == program.labels.get("_start", 0x10000)
 
 
-def test_the_sources_have_every_instruction() -> None:
+def test_sources_cover_every_instruction() -> None:
     known = set(re.findall(r"^\| `([^ `]+)[^`]*` \| `[01 -]+`", INSTRUCTIONS.read_text(), re.MULTILINE))
     assert len(known) >= 598
     assert known <= {statement.text.split()[0] for statement in assemble(source("instructions")).statements}
 
 
-def test_each_statement_names_its_line() -> None:
+def test_statement_has_line_number() -> None:
     statements = assemble("\n nop\nlabel: li a0, 0x12345678 # two\n").statements
     assert [(item.address, item.line) for item in statements] == [(0x10000, 2), (0x10004, 3), (0x10008, 3)]
 
 
-def test_call_is_one_jump() -> None:
+def test_call_assembles_to_one_jump() -> None:
     program = assemble("f: nop\n call f\n call g\ng: ret")
     assert [item.text for item in program.statements] == ["addi x0, x0, 0", "jal x1, -4", "jal x1, 4", "jalr x0, 0(x1)"]
 
 
-def test_a_program_begins_at_start() -> None:
+def test_program_starts_at_start_label() -> None:
     assert assemble(" nop\n_start: nop").entry == 0x10004
     assert assemble(" nop\nstart: nop", 0x3000).entry == 0x3000
     for origin in (0x10004, -0x1000, (1 << 48) - 0x1000):
@@ -71,20 +71,20 @@ def test_a_program_begins_at_start() -> None:
             assemble("", origin)
 
 
-def test_sections_have_pages_and_rights_of_their_own() -> None:
+def test_sections_have_separate_pages_and_permissions() -> None:
     program = assemble(".data\n.byte 1\n.bss\n.zero 4097\n.text\n.zero 4096\n", 0x400000)
     assert program.lines == ["map 400000 1 rx", "map 401000 1 rw", "map 402000 2 rw", "poke 401000 01"]
     assert assemble("").lines == []
 
 
-def test_long_data_is_written_in_pieces() -> None:
+def test_long_data_is_split() -> None:
     lines = assemble(".data\n" + ".dword -1\n" * 65 + '.zero 300\n.string "' + "." * 400 + '"').lines
     assert lines[:2] == ["map 10000 1 rw", f"poke 10000 {'ff' * 256}"]
     assert lines[2:4] == [f"poke 10100 {'ff' * 256}", "poke 10200 ffffffffffffffff"]
     assert lines[4:] == [f"poke 10334 {'2e' * 256}", f"poke 10434 {'2e' * 144}00"]
 
 
-def test_a_branch_reaches_its_edges() -> None:
+def test_branch_reaches_range_limits() -> None:
     assert assemble("a: .zero 4096\n beqz a0, a").statements[0].text == "beq x10, x0, -4096"
     assert assemble(" blt a0, a1, a\n .zero 4088\na: nop").statements[0].text == "blt x10, x11, 4092"
     assert assemble(" j a\n .zero 0xffff8\na: .byte 1").statements[0].text == "jal x0, 1048572"
@@ -101,18 +101,18 @@ def run(session: Session, name: str) -> tuple[Program, str]:
     raise AssertionError(f"{name} doesn't stop")
 
 
-def test_strlen_counts(session: Session) -> None:
+def test_strlen_returns_length(session: Session) -> None:
     text = "".join(re.findall(r'\.(?:ascii|string)\s+"(.*)"', source("strlen")))
     assert run(session, "strlen")[1].startswith(f"1 exit {len(text)} ")
 
 
-def test_memcpy_copies(session: Session) -> None:
+def test_memcpy_copies_bytes(session: Session) -> None:
     text = "".join(re.findall(r'\.ascii\s+"(.*)"', source("memcpy"))).replace("\\n", "\n")
     assert run(session, "memcpy")[1].startswith("1 exit 0 ")
     assert session.do("1 out") == [f"1 out {len(text)} {text.encode().hex()}"]
 
 
-def test_axpy_adds(session: Session) -> None:
+def test_axpy_adds_scaled_elements(session: Session) -> None:
     x = [*range(1, 21), *range(-1, -9, -1), 0x7FFFFFFF, 0x80000000, *range(21, 28)]
     y = [0, *range(100, 1900, 100), *range(10, 100, 10), 0xFFFFFFFF, *range(110, 190, 10)]
     program, stop = run(session, "axpy")
@@ -215,14 +215,14 @@ ERRORS = [
 
 
 @pytest.mark.parametrize(("text", "line", "column", "message"), ERRORS)
-def test_errors_name_line_and_column(text: str, line: int, column: int, message: str) -> None:
+def test_error_has_line_and_column(text: str, line: int, column: int, message: str) -> None:
     with pytest.raises(SourceError) as caught:
         assemble(text)
     assert (caught.value.line, caught.value.column) == (line, column)
     assert message in caught.value.message
 
 
-def test_all_mistakes_are_told_in_order(program: pathlib.Path) -> None:
+def test_mistakes_are_reported_in_order(program: pathlib.Path) -> None:
     """Of form, and of the machine, where it takes what is right; a line has one, and right lines have none."""
     text = """here: jmp here
         addi a0, a0, 4096
@@ -239,7 +239,7 @@ def test_all_mistakes_are_told_in_order(program: pathlib.Path) -> None:
     assert expected == [*zip([1, 2, 3, 4, 5, 6, 7, 9], words)]
 
 
-def test_the_first_hundred_mistakes_are_told() -> None:
+def test_first_hundred_mistakes_are_reported() -> None:
     mistakes = read_source("j later\n" + "jmp x\n" * 4999 + "later: nop").mistakes
     assert [each.line for each in mistakes] == [*range(2, 102)]
     mistakes = read_source("j nowhere\n" * 5000 + "jmp x").mistakes
@@ -276,9 +276,7 @@ REFUSED = [
 
 
 @pytest.mark.parametrize(("text", "column", "message"), REFUSED)
-def test_a_refusal_of_the_machine_names_the_place_in_the_source(
-    session: Session, text: str, column: int, message: str
-) -> None:
+def test_machine_refusal_has_source_location(session: Session, text: str, column: int, message: str) -> None:
     program = assemble(text)
     session.do("1 enter")
     session.do("1 map 10000 1 rx")
@@ -316,7 +314,7 @@ SHIFTED = st.tuples(st.integers(-99, 99), st.integers(0, 56)).map(lambda pair: p
 
 @PURE
 @given(st.integers(-(1 << 63), (1 << 64) - 1) | SHIFTED)
-def test_li_reaches_its_constant(value: int) -> None:
+def test_li_loads_constant(value: int) -> None:
     program = assemble(f"li a0, {value}")
     assert reached(program) == value % (1 << 64)
     assert assemble(f"li a0, {'-' if value < 0 else ''}{abs(value):#x}").lines == program.lines
@@ -325,7 +323,7 @@ def test_li_reaches_its_constant(value: int) -> None:
 
 @PURE
 @given(st.sampled_from([1, 2, 4, 8]), st.integers(-(1 << 64), 1 << 65), st.booleans(), st.integers(0, 99))
-def test_numbers_of_data(width: int, value: int, hexadecimal: bool, more: int) -> None:
+def test_data_directive_accepts_numbers(width: int, value: int, hexadecimal: bool, more: int) -> None:
     directive = {1: ".byte", 2: ".half", 4: ".word", 8: ".dword"}[width]
     digits = hex(abs(value)) if hexadecimal else str(abs(value))
     text = f".data\n{directive} {'-' if value < 0 else ''}{digits}, {more} - {more} + 7\n"
@@ -346,7 +344,7 @@ SOURCE = st.lists(st.lists(WORDS, max_size=9).map(" ".join) | st.text(max_size=2
 
 @settings(PURE, max_examples=200)
 @given(SOURCE)
-def test_any_text_is_assembled_or_has_an_error_in_it(text: str) -> None:
+def test_random_text_assembles_or_has_located_error(text: str) -> None:
     lines = text.split("\n")
     try:
         program = assemble(text)
@@ -358,7 +356,7 @@ def test_any_text_is_assembled_or_has_an_error_in_it(text: str) -> None:
         assert all(1 <= item.line <= len(lines) for item in program.statements)
 
 
-def test_lines_beside_words() -> None:
+def test_source_lines_match_instruction_words() -> None:
     """The first word of a source line has the line next to it, with its comment, or the comment of the line above."""
     text = "# Counts.\nloop: one: addi t0, t0, 1 # up\n// Two words.\n\tli a0, 0x12345\n\n# none\n.data\n.word 1\n.text\nnop\r\n ret\n"
     assert read_source(text).source_lines(text) == {
@@ -369,7 +367,7 @@ def test_lines_beside_words() -> None:
     }
 
 
-def test_directives_are_known() -> None:
+def test_directives_are_accepted() -> None:
     for name in DIRECTIVES:
         reply = str(read_source(f"{name} 1, 2").mistakes)
         assert "there is no directive" not in reply, name

@@ -53,11 +53,11 @@ def trial(program: pathlib.Path, seed: int) -> Checkpoint:
 
 
 @pytest.mark.parametrize("seed", range(40))
-def test_drawn_scripts(program: pathlib.Path, seed: int) -> None:
+def test_checkpoint_restores_random_scripts(program: pathlib.Path, seed: int) -> None:
     trial(program, seed)
 
 
-def test_the_state_that_cannot_be_had(program: pathlib.Path) -> None:
+def test_unreproducible_state_is_refused(program: pathlib.Path) -> None:
     """A slice whose last tick leaves a program at a breakpoint: the next one stops it there, and `go` passes that."""
 
     def opening() -> Session:
@@ -74,7 +74,7 @@ def test_the_state_that_cannot_be_had(program: pathlib.Path) -> None:
         checkpoint(opening, b"", {})
 
 
-def test_a_checkpoint_of_a_checkpoint_is_the_same(program: pathlib.Path) -> None:
+def test_checkpoint_of_checkpoint_is_identical(program: pathlib.Path) -> None:
     def opening() -> Session:
         return Session(program, IMAGES)
 

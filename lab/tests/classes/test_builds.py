@@ -46,7 +46,7 @@ async def run(tab: Tab) -> tuple[str, str]:
     return tab.view["stop"], "".join(tab.view["state"].get("outputs", {}).values())
 
 
-async def test_a_kernel(tmp_path: pathlib.Path, builds: Builds) -> None:
+async def test_c_source_builds_and_class_restores_it_without_compiler(tmp_path: pathlib.Path, builds: Builds) -> None:
     """The listing has its lines; the script has it whole, and a class restores it without a compiler."""
     async with served(tmp_path / "class", builds=builds) as room:
         tab, teacher = await room.sit("A3"), await room.sit("teacher")
@@ -89,7 +89,7 @@ async def test_a_kernel(tmp_path: pathlib.Path, builds: Builds) -> None:
 MACRO = "        .macro twice of\n        add \\of, \\of, \\of\n        .endm\n        li a0, 3\n        twice a0\n        ebreak\n"
 
 
-async def test_a_stock_assembler(tmp_path: pathlib.Path, builds: Builds) -> None:
+async def test_stock_assembler_source_builds(tmp_path: pathlib.Path, builds: Builds) -> None:
     """It takes what the lab's own doesn't, which is the first choice all the same, and reads no files."""
     async with served(tmp_path / "class", builds=builds) as room:
         tab = await room.sit("A1")
@@ -129,7 +129,7 @@ int main(void)
 """
 
 
-async def test_a_step_of_a_line(tmp_path: pathlib.Path, builds: Builds) -> None:
+async def test_line_step_stops_at_next_line(tmp_path: pathlib.Path, builds: Builds) -> None:
     """It ends where another line begins, in a function that is called too, at a breakpoint, and on a long line in time."""
     [plain] = [number for number, language in enumerate(LANGUAGES) if language.name == "C, O0"]
 
@@ -155,7 +155,7 @@ async def test_a_step_of_a_line(tmp_path: pathlib.Path, builds: Builds) -> None:
         await room.check_replay()
 
 
-async def test_breakpoints_of_an_inlined_function(tmp_path: pathlib.Path, builds: Builds) -> None:
+async def test_breakpoint_covers_inlined_copies(tmp_path: pathlib.Path, builds: Builds) -> None:
     """They stop in the copy that runs; the function isn't static, so it has another one, which comes first."""
     text = (DATA / "images" / "prefix_sums.c").read_text("ascii")
     async with served(tmp_path / "class", builds=builds) as room:
@@ -171,7 +171,7 @@ async def test_breakpoints_of_an_inlined_function(tmp_path: pathlib.Path, builds
         assert (await room.sit("A1")).view["state"]["stops"]["10"] == [first, last]
 
 
-async def test_messages(tmp_path: pathlib.Path, builds: Builds) -> None:
+async def test_compiler_messages_have_lines(tmp_path: pathlib.Path, builds: Builds) -> None:
     """They have their lines; a source with mistakes begins no machine."""
     async with served(tmp_path / "class", builds=builds) as room:
         tab = await room.sit("A1")
@@ -185,7 +185,7 @@ async def test_messages(tmp_path: pathlib.Path, builds: Builds) -> None:
         assert tab.view["state"]["run"] == "stopped"
 
 
-async def test_files_of_the_system_are_not_there(tmp_path: pathlib.Path, builds: Builds) -> None:
+async def test_sandbox_hides_system_files(tmp_path: pathlib.Path, builds: Builds) -> None:
     """Neither a seat's messages nor the script have it, nor any path of the server's."""
     async with served(tmp_path / "class", builds=builds) as room:
         tab = await room.sit("A1")
@@ -197,7 +197,7 @@ async def test_files_of_the_system_are_not_there(tmp_path: pathlib.Path, builds:
         assert b"root:".hex().encode() not in script and not script
 
 
-async def test_an_endless_compile_costs_others_nothing(
+async def test_endless_compile_delays_no_other_seat(
     tmp_path: pathlib.Path, builds: Builds, monkeypatch: pytest.MonkeyPatch
 ) -> None:
     """Another seat's steps are answered meanwhile, and the seat's own; it has one at a time, which ends."""
@@ -219,7 +219,7 @@ async def test_an_endless_compile_costs_others_nothing(
         assert "error" not in await hostile.ask("source", text=EMPTY, language=C)
 
 
-async def test_what_is_too_large(tmp_path: pathlib.Path, clang: Compiler, builds: Builds) -> None:
+async def test_oversized_program_is_refused(tmp_path: pathlib.Path, clang: Compiler, builds: Builds) -> None:
     """An image has a limit, which the teacher sets, and a seat its share; the refusal has the remaining bytes."""
     async with served(tmp_path / "class", builds=Builds(clang, most=200)) as room:
         tab = await room.sit("A1")
@@ -248,12 +248,12 @@ async def test_what_is_too_large(tmp_path: pathlib.Path, clang: Compiler, builds
         b'{"messages": [], "image": {"entry": 0, "segments": [], "symbols": {}, "rows": [["0", 5, 5]]}}',
     ],
 )
-async def test_what_comes_from_the_sandbox_may_be_crafted(expected: bytes) -> None:
+async def test_crafted_sandbox_reply_is_refused(expected: bytes) -> None:
     with pytest.raises(LabError):
         read_compiled_program(expected)
 
 
-async def test_no_c_as_root(clang: Compiler, monkeypatch: pytest.MonkeyPatch) -> None:
+async def test_c_is_unavailable_as_root(clang: Compiler, monkeypatch: pytest.MonkeyPatch) -> None:
     monkeypatch.setattr(shutil, "which", lambda name, path=None: f"/usr/bin/{name}")
     monkeypatch.setattr("os.geteuid", lambda: 0)
     with pytest.raises(LabError, match="as root"):

@@ -61,7 +61,9 @@ async def check_not_counted(room: Served, shown: Any, cause: str) -> None:
     assert cause in failure["cause"]
 
 
-async def test_the_limit_counts_from_the_place(tmp_path: pathlib.Path, monkeypatch: pytest.MonkeyPatch) -> None:
+async def test_check_time_limit_starts_when_process_starts(
+    tmp_path: pathlib.Path, monkeypatch: pytest.MonkeyPatch
+) -> None:
     """A right answer that waits behind a full queue for longer than a check may take passes."""
     monkeypatch.setattr("vecmon_lab.classes.checks.PLACES", 1)
     monkeypatch.setattr("vecmon_lab.classes.checks.SECONDS", 0.5)
@@ -77,7 +79,7 @@ async def test_the_limit_counts_from_the_place(tmp_path: pathlib.Path, monkeypat
     assert (shown["told"]["cases"], shown["tries"], shown["passed"]) == ([True] * 5, 1, True)
 
 
-async def test_a_checker_that_is_killed_once(tmp_path: pathlib.Path, monkeypatch: pytest.MonkeyPatch) -> None:
+async def test_check_repeats_after_killed_checker(tmp_path: pathlib.Path, monkeypatch: pytest.MonkeyPatch) -> None:
     """The check runs once more."""
     monkeypatch.setattr("vecmon_lab.classes.checks.SECONDS", SECONDS)
     async with served(tmp_path / "class", exercises=DOUBLES) as room:
@@ -88,7 +90,7 @@ async def test_a_checker_that_is_killed_once(tmp_path: pathlib.Path, monkeypatch
         assert teacher.view["failures"] == []
 
 
-async def test_a_checker_that_is_killed_each_time(tmp_path: pathlib.Path, monkeypatch: pytest.MonkeyPatch) -> None:
+async def test_check_fails_after_two_killed_checkers(tmp_path: pathlib.Path, monkeypatch: pytest.MonkeyPatch) -> None:
     monkeypatch.setattr("vecmon_lab.classes.checks.SECONDS", SECONDS)
     async with served(tmp_path / "class", exercises=DOUBLES) as room:
         tab = await room.sit("A1")
@@ -99,13 +101,13 @@ async def test_a_checker_that_is_killed_each_time(tmp_path: pathlib.Path, monkey
         assert (await room.sit("A1")).view["exercises"]["doubles"]["tries"] == 1
 
 
-async def test_a_checker_that_takes_too_long(tmp_path: pathlib.Path, monkeypatch: pytest.MonkeyPatch) -> None:
+async def test_check_fails_after_time_limit(tmp_path: pathlib.Path, monkeypatch: pytest.MonkeyPatch) -> None:
     monkeypatch.setattr("vecmon_lab.classes.checks.SECONDS", 0.01)
     async with served(tmp_path / "class", exercises=DOUBLES) as room:
         await check_not_counted(room, await check(await room.sit("A1")), "took more than 0.01 s")
 
 
-async def test_programs_that_cannot_start(tmp_path: pathlib.Path, monkeypatch: pytest.MonkeyPatch) -> None:
+async def test_check_fails_if_programs_cannot_start(tmp_path: pathlib.Path, monkeypatch: pytest.MonkeyPatch) -> None:
     """Neither Python's nor the machine's program is there: the teacher is shown which."""
     monkeypatch.setattr("vecmon_lab.classes.checks.SECONDS", SECONDS)
     for kind in ("python", "vecmon"):

@@ -20,7 +20,7 @@ pytestmark = pytest.mark.asyncio
 SUM_LINES = ["enter", "load sum", "step 3", "policy ones", "break 11190"]
 
 
-async def test_a_killed_process_is_replaced_from_a_checkpoint(tmp_path: pathlib.Path) -> None:
+async def test_killed_process_restarts_from_checkpoint(tmp_path: pathlib.Path) -> None:
     async with served(tmp_path / "class", {"sum": SUM}) as room:
         assert room.members
         machine = room.members.rooms["A"]
@@ -69,7 +69,7 @@ async def begin_script(room: Served) -> bytes:
     return first
 
 
-async def test_a_class_goes_on_in_another_script(tmp_path: pathlib.Path) -> None:
+async def test_class_continues_in_next_script(tmp_path: pathlib.Path) -> None:
     async with served(tmp_path / "class", {"sum": SUM}) as room:
         first = await begin_script(room)
         _, transcript = await room.check_replay()
@@ -90,7 +90,7 @@ async def test_a_class_goes_on_in_another_script(tmp_path: pathlib.Path) -> None
         assert [line for line in solo(store, "A1") if not is_servers(line)] == own
 
 
-async def test_a_class_is_begun_again_with_another_script(tmp_path: pathlib.Path) -> None:
+async def test_class_restarts_from_next_script(tmp_path: pathlib.Path) -> None:
     async with served(tmp_path / "class", {"sum": SUM}) as room:
         await begin_script(room)
         registers = await (await room.sit("A2")).do("regs")

@@ -78,7 +78,7 @@ async def check(tab: Tab, name: str, text: str, language: int = 0) -> Any:
     return tab.view["exercises"][name]["told"]
 
 
-async def test_a_seat_tries_until_it_passes(room: Served) -> None:
+async def test_seat_retries_until_answer_passes(room: Served) -> None:
     """Hints come one by one; nothing of it is in the script."""
     tab, other = await room.sit("A1"), await room.sit("A2")
     own = tab.view["exercises"]["square"]
@@ -108,7 +108,9 @@ async def test_a_seat_tries_until_it_passes(room: Served) -> None:
         ("# " + "long " * 1700, [(1, 1, "the source has more than 8,192 bytes")]),
     ],
 )
-async def test_mistakes_of_form_are_no_try(room: Served, text: str, mistakes: list[tuple[int, int, str]]) -> None:
+async def test_syntax_mistakes_do_not_count_as_try(
+    room: Served, text: str, mistakes: list[tuple[int, int, str]]
+) -> None:
     """No try is counted or kept, no hint is due, and earlier messages to a seat stay."""
     tab = await room.sit("A1")
     reply = (await check(tab, "doubles", text))["mistakes"]
@@ -123,7 +125,7 @@ async def test_mistakes_of_form_are_no_try(room: Served, text: str, mistakes: li
     assert (own["tries"], own["hints"], own["passed"]) == (1, [], True)
 
 
-async def test_rows_are_cut_at_the_same_place(room: Served) -> None:
+async def test_result_rows_are_truncated_alike(room: Served) -> None:
     """Of long rows, some numbers are shown, expected and found next to each other; and how many more there are."""
     tab = await room.sit("A1")
     reply = await check(tab, "strip_mined_copy", (OURS / "strip_mined_copy" / "wrong" / "one_round.s").read_text())
@@ -137,7 +139,7 @@ async def test_rows_are_cut_at_the_same_place(room: Served) -> None:
     assert [(it["first"], len(it["numbers"]), it["more"]) for it in rows] == [(0, 48, 225), *[(0, 48, 213)] * 2]
 
 
-async def test_of_a_hidden_case_nothing_is_told(room: Served) -> None:
+async def test_hidden_case_is_not_shown(room: Served) -> None:
     """Whatever comes to the tab has no number of it, and nothing of the exercise's files; not even a hint before its time."""
     tab = await room.sit("A1")
     messages: list[Any] = [tab.view]
@@ -151,7 +153,7 @@ async def test_of_a_hidden_case_nothing_is_told(room: Served) -> None:
         assert (await room.get(path, "A1"))[0] == 404
 
 
-async def test_what_a_good_answer_takes_is_told(room: Served) -> None:
+async def test_cost_of_good_answer_is_shown(room: Served) -> None:
     tab = await room.sit("A1")
     reply = await check(tab, "doubles", (OURS / "doubles" / "good.s").read_text())
     assert reply["taken"] == reply["good"] == {"instructions": 10, "work": 69}  # 8 and 3 of 8 elements
@@ -159,7 +161,7 @@ async def test_what_a_good_answer_takes_is_told(room: Served) -> None:
     assert long["cases"] == [False, True, True, False, True] and "takes more than 30 instructions" in long["reason"]
 
 
-async def test_what_else_is_given_is_told(room: Served) -> None:
+async def test_given_inputs_are_shown(room: Served) -> None:
     """That other registers hold anything, and what agnostic elements become."""
     tab = await room.sit("A1")
     assert (await check(tab, "square", "ret"))["notes"] == []
@@ -171,7 +173,7 @@ async def test_what_else_is_given_is_told(room: Served) -> None:
     ]  # fmt: skip
 
 
-async def test_a_lesson_of_the_case_that_fails(room: Served) -> None:
+async def test_failed_case_has_lesson(room: Served) -> None:
     tab = await room.sit("A1")
     await check(tab, "square", "addi a0, a1, 1\nret")
     place = tab.view["exercises"]["square"]["lesson"]
@@ -189,7 +191,7 @@ async def test_a_lesson_of_the_case_that_fails(room: Served) -> None:
     assert (await room.get(place))[0] == 404
 
 
-async def test_the_lesson_before_an_exercise(room: Served) -> None:
+async def test_exercise_has_introductory_lesson(room: Served) -> None:
     """It is made once, for all who open it; an exercise without one has no link."""
     tab = await room.sit("A1")
     assert [tab.view["exercises"][name]["before"] for name in ("square", "doubles")] == ["", "lesson/doubles"]
@@ -198,7 +200,7 @@ async def test_the_lesson_before_an_exercise(room: Served) -> None:
     assert (await room.get("lesson/square"))[0] == 404
 
 
-async def test_the_case_that_fails_can_be_had_at_the_desk(room: Served) -> None:
+async def test_failed_case_loads_at_desk(room: Served) -> None:
     """A new machine has the source, and what the case gives; nothing is begun for a source with mistakes, or without a case."""
     tab = await room.sit("A1")
     assert "no case" in (await tab.ask("case", exercise="doubles", text="ret"))["error"]
@@ -218,7 +220,7 @@ async def test_the_case_that_fails_can_be_had_at_the_desk(room: Served) -> None:
     assert (await room.check_replay())[0].startswith(b"1 enter\n")
 
 
-async def test_one_check_at_a_time(room: Served) -> None:
+async def test_second_check_waits_for_first(room: Served) -> None:
     tab = await room.sit("A1")
     assert "error" not in await tab.ask("check", exercise="square", text=RIGHT)
     assert (await tab.ask("check", exercise="doubles", text=RIGHT))["error"] == "a check of this seat is under way"
@@ -229,7 +231,7 @@ async def test_one_check_at_a_time(room: Served) -> None:
     await tab.until(lambda view: view["exercises"]["square"]["tries"] == 1)
 
 
-async def test_the_teacher_has_a_table_and_all_answers(room: Served) -> None:
+async def test_teacher_gets_table_and_answers(room: Served) -> None:
     tab, teacher = await room.sit("A3"), await room.sit("teacher")
     await tab.ask("name", name="Ada")
     for text in (WRONG, RIGHT, WRONG):
@@ -256,7 +258,7 @@ HOSTILE = [
 ]
 
 
-async def test_answers_are_taken_home(room: Served) -> None:
+async def test_archive_contains_answers(room: Served) -> None:
     """Of each exercise the last one that passed, else the last one; also where the seat has no machine, and nobody else's."""
     tab, other = await room.sit("A1"), await room.sit("A2")
     shorter = "mul a0, a1, a1\nebreak"
@@ -281,7 +283,7 @@ async def home(room: Served, seat: str) -> dict[str, str]:
         return {name: packed.read(name).decode() for name in names}
 
 
-async def test_bad_answers_cost_the_others_nothing(room: Served) -> None:
+async def test_bad_answers_delay_no_other_seat(room: Served) -> None:
     """While seven seats check endless, huge and hostile answers again and again, the eighth one's steps go on."""
     tab, others = await room.sit("A8"), [await room.sit(f"A{number}") for number in range(1, 8)]
     await tab.do("enter", "map 10000 1 rwx", "asm 10000 jal x0, 0", "setpc 10000")
@@ -296,7 +298,7 @@ async def test_bad_answers_cost_the_others_nothing(room: Served) -> None:
     assert not any([passes for expected in await asyncio.gather(*checks) for passes in expected["cases"]])
 
 
-async def test_a_class_goes_on_with_its_exercises(tmp_path: pathlib.Path, square: pathlib.Path) -> None:
+async def test_restarted_class_preserves_exercises(tmp_path: pathlib.Path, square: pathlib.Path) -> None:
     folder = tmp_path / "own"
     async with process(folder, "--exercise", str(square), "--exercise", "strlen") as room:
         await check(await room.sit("A1"), "square", WRONG)
@@ -310,7 +312,7 @@ async def test_a_class_goes_on_with_its_exercises(tmp_path: pathlib.Path, square
         assert (await teacher.ask("answer", seat="A1", exercise="square", number=1))["text"] == WRONG
 
 
-async def test_bad_exercises_are_told(tmp_path: pathlib.Path, square: pathlib.Path) -> None:
+async def test_bad_exercise_is_reported(tmp_path: pathlib.Path, square: pathlib.Path) -> None:
     def start(*folders: pathlib.Path) -> str:
         with pytest.raises(LabError) as raised:
             Class(Store(tmp_path / "class", find_program()), 5.0, exercises=folders)
@@ -326,7 +328,7 @@ async def test_bad_exercises_are_told(tmp_path: pathlib.Path, square: pathlib.Pa
     assert start(square).endswith("100,000 ticks (an instruction takes at least one); it is at line 1")
 
 
-async def test_a_seat_answers_in_c(tmp_path: pathlib.Path, sandboxed_clang: Compiler, square: pathlib.Path) -> None:
+async def test_answer_in_c_is_checked(tmp_path: pathlib.Path, sandboxed_clang: Compiler, square: pathlib.Path) -> None:
     """Arguments and result are as in assembler; the script has nothing of it, and a class restores it."""
     async with served(tmp_path / "class", exercises=[square], builds=Builds(sandboxed_clang)) as room:
         tab, teacher = await room.sit("A1"), await room.sit("teacher")
@@ -351,7 +353,7 @@ async def test_a_seat_answers_in_c(tmp_path: pathlib.Path, sandboxed_clang: Comp
         assert await check(tab, "square", WRONG) == {"cases": [True, False]}
 
 
-async def test_a_start_in_c(tmp_path: pathlib.Path, square: pathlib.Path) -> None:
+async def test_exercise_offers_start_in_c(tmp_path: pathlib.Path, square: pathlib.Path) -> None:
     """It may be the only one, or one next to assembler; the exercise says which of them comes first."""
     (square / "start.c").write_text(RIGHT_IN_C)
     (square / "exercise.toml").write_text(SQUARE.replace("start.s", "start.c"))
@@ -375,7 +377,7 @@ async def test_a_start_in_c(tmp_path: pathlib.Path, square: pathlib.Path) -> Non
     ],
     ids=["a name", "no function", "no declaration", "no definition", "too much", "a file", "its bytes", "the server's"],
 )
-async def test_mistakes_in_c_are_no_try(
+async def test_compile_errors_do_not_count_as_try(
     tmp_path: pathlib.Path, sandboxed_clang: Compiler, square: pathlib.Path, text: str, line: int, message: str
 ) -> None:
     """They have their lines, and no path of the server's; files of the system aren't there."""
@@ -390,7 +392,7 @@ async def test_mistakes_in_c_are_no_try(
         assert (own["tries"], own["hints"], own["passed"]) == (0, [], False) and not [*room.folder.glob("answers/*")]
 
 
-async def test_the_limits_of_an_exercise_hold_in_c(tmp_path: pathlib.Path, sandboxed_clang: Compiler) -> None:
+async def test_exercise_limits_apply_to_c(tmp_path: pathlib.Path, sandboxed_clang: Compiler) -> None:
     """Loops get vectors where the source asks for them alone, so a plain one takes too long; so does one without end."""
     folder = OURS / "saturating_sum"
     async with served(tmp_path / "class", exercises=[folder], builds=Builds(sandboxed_clang)) as room:
@@ -407,7 +409,7 @@ async def test_the_limits_of_an_exercise_hold_in_c(tmp_path: pathlib.Path, sandb
         assert "more than 8,192 bytes" in str(await check(tab, "saturating_sum", RIGHT_IN_C + "/" * 8192, C))
 
 
-async def test_a_case_in_c_can_be_had_at_the_desk(
+async def test_failed_case_in_c_loads_at_desk(
     tmp_path: pathlib.Path, sandboxed_clang: Compiler, square: pathlib.Path
 ) -> None:
     """A new machine begins at the function, with what the case gives."""

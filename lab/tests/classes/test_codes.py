@@ -3,7 +3,7 @@
 from vecmon_lab.classes.codes import CODE_LETTERS, Codes, new_code
 
 
-def test_codes() -> None:
+def test_renewed_code_replaces_old_code() -> None:
     codes = Codes("AB", {"A1": "kept", "C1": "gone"})
     assert list(codes.codes) == ["teacher", "wall", *(f"{letter}{digit}" for letter in "AB" for digit in "12345678")]
     assert codes.owner("kept") == "A1" and codes.owner(codes.codes["teacher"]) == "teacher"

@@ -49,18 +49,18 @@ def imported(*modules: str) -> str:
     return done.stderr if done.returncode else ""
 
 
-def test_the_core_is_imported_without_them() -> None:
+def test_core_imports_without_server_libraries() -> None:
     assert "classes.student" in MODULES and imported(*MODULES, *OTHERS) == ""
 
 
 @pytest.mark.parametrize(
     "module, needed", [("classes.room", "asyncio"), ("classes.store", "fcntl"), ("machine.pipe", "select")]
 )
-def test_what_is_no_part_of_it_is_found(module: str, needed: str) -> None:
+def test_server_module_outside_core_is_detected(module: str, needed: str) -> None:
     assert f"import of {needed} halted" in imported(module)
 
 
-def test_the_core_answers_without_them(program: pathlib.Path) -> None:
+def test_core_answers_without_server_libraries(program: pathlib.Path) -> None:
     """A machine is spawned by other means, and answers as one behind pipes."""
     requests = [json.dumps(dict(request, id=number)) for number, request in enumerate(REQUESTS)]
     command = [sys.executable, "-c", BLOCK + ANSWER.format(str(program), requests)]

@@ -77,14 +77,14 @@ def differences(sent: Sent, others: Sent) -> list[int]:
     return found
 
 
-def test_all_sources_of_the_repository(tmp_path: pathlib.Path) -> None:
+def test_desk_equals_server_for_repository_sources(tmp_path: pathlib.Path) -> None:
     requests = source_requests()
     server, desk = answered(tmp_path / "class", requests, ["doubles"], has_clock=True)
     assert [(number, requests[number - 1]) for number in differences(server, desk)] == []
     assert len(desk) > 900 and (b"hallo" * 9).hex() in json.dumps(desk)
 
 
-def test_all_answers_of_the_exercises(tmp_path: pathlib.Path, monkeypatch: pytest.MonkeyPatch) -> None:
+def test_desk_equals_server_for_exercise_answers(tmp_path: pathlib.Path, monkeypatch: pytest.MonkeyPatch) -> None:
     monkeypatch.setattr("vecmon_lab.classes.checks.SECONDS", SECONDS)  # as other tests may take all cores
     requests = exercise_requests()
     names = sorted(path.name for path in OURS.iterdir() if path.is_dir())
@@ -93,7 +93,7 @@ def test_all_answers_of_the_exercises(tmp_path: pathlib.Path, monkeypatch: pytes
     assert len(desk) > 250 and json.dumps(desk).count('"cases"') > 80
 
 
-def test_drawn_requests(tmp_path: pathlib.Path) -> None:
+def test_desk_equals_server_for_random_requests(tmp_path: pathlib.Path) -> None:
     """Also a test of the comparison: one digit of one register, or of one answer, is found."""
     requests = list(drawn_requests(random.Random(1), 1300))
     server, desk = answered(tmp_path / "class", requests, ["doubles"], has_clock=False)

@@ -65,7 +65,7 @@ def recorded(monkeypatch: pytest.MonkeyPatch) -> Iterator[Recorded]:
     yield recorded
 
 
-def test_the_order_of_a_batch(tmp_path: pathlib.Path, recorded: Recorded) -> None:
+def test_batch_is_flushed_in_order(tmp_path: pathlib.Path, recorded: Recorded) -> None:
     (tmp_path / "old.s").touch()
     flusher = Flusher(tmp_path)
     flusher.remove("old.s")
@@ -87,7 +87,7 @@ def test_the_order_of_a_batch(tmp_path: pathlib.Path, recorded: Recorded) -> Non
     assert recorded.calls[7:] == [folder, "fsync A1.s.new", "rename A1.s.new A1.s", "fsync sources"]
 
 
-def test_notes_wait_for_the_script(tmp_path: pathlib.Path, recorded: Recorded) -> None:
+def test_notes_are_written_after_script(tmp_path: pathlib.Path, recorded: Recorded) -> None:
     flusher, script = Flusher(tmp_path), Appended(recorded.calls)
     script.fails = True
     flusher.replace("A.json", b"counts the lines")
@@ -99,7 +99,7 @@ def test_notes_wait_for_the_script(tmp_path: pathlib.Path, recorded: Recorded) -
     assert recorded.calls[0] == "fsync A.script" and (tmp_path / "A.json").exists()
 
 
-def test_a_thread_flushes(tmp_path: pathlib.Path) -> None:
+def test_thread_flushes_files(tmp_path: pathlib.Path) -> None:
     flusher, end = Flusher(tmp_path), time.monotonic() + SECONDS
     assert durable.FLUSH_SECONDS < 0.5
     flusher.replace("folder", b"")

@@ -56,7 +56,7 @@ async def ask_all(tab: Tab, name: str) -> None:
         assert "error" in await tab.ask("open", exercise=asked)
 
 
-async def test_a_seat_gets_no_secret_of_an_exercise(tmp_path: pathlib.Path) -> None:
+async def test_seat_receives_no_exercise_secret(tmp_path: pathlib.Path) -> None:
     async with served(tmp_path / "class", exercises=map(pathlib.Path, NAMES)) as room:
         for seat, name in zip(("A1", "A2", "A3"), NAMES):
             tab = RecordingTab((await room.open(room.codes[seat])).socket)

@@ -35,7 +35,7 @@ async def texts(tab: Tab, name: str) -> list[str]:
     return [(await tab.ask("version", number=number))["text"] for number in numbers]
 
 
-async def test_a_source_that_waits_for_the_disk(tmp_path: pathlib.Path, monkeypatch: pytest.MonkeyPatch) -> None:
+async def test_source_waits_for_disk(tmp_path: pathlib.Path, monkeypatch: pytest.MonkeyPatch) -> None:
     """It is there when its exercise is opened again, in the language that it had last."""
     monkeypatch.setattr(durable, "FLUSH_SECONDS", 1e6)
     async with served(tmp_path / "class", exercises=TWO) as room:
@@ -53,7 +53,7 @@ async def test_a_source_that_waits_for_the_disk(tmp_path: pathlib.Path, monkeypa
         assert [path.name for path in (room.folder / "drafts").glob("A1.doubles.*")] == ["A1.doubles.s"]
 
 
-async def test_each_exercise_has_its_source(tmp_path: pathlib.Path) -> None:
+async def test_exercises_have_separate_sources(tmp_path: pathlib.Path) -> None:
     """In all tabs, in a new one, and behind a restart, also where the open exercise was another one."""
     folder = tmp_path / "class"
     async with served(folder, exercises=TWO) as room:
@@ -84,7 +84,7 @@ async def test_each_exercise_has_its_source(tmp_path: pathlib.Path) -> None:
             assert (tab.view["source"]["exercise"], tab.view["source"]["text"]) == wanted
 
 
-async def test_a_late_draft_is_a_version_of_its_exercise(tmp_path: pathlib.Path) -> None:
+async def test_late_draft_is_version_of_its_exercise(tmp_path: pathlib.Path) -> None:
     """Of two tabs one opens another exercise, while the other one types at the first."""
     async with served(tmp_path / "class", exercises=TWO) as room:
         tab, other = await room.sit("A1"), await room.sit("A1")
@@ -102,7 +102,7 @@ async def test_a_late_draft_is_a_version_of_its_exercise(tmp_path: pathlib.Path)
         assert await texts(tab, "doubles") == ["# typed at doubles"]
 
 
-async def test_what_is_replaced_is_a_version(tmp_path: pathlib.Path) -> None:
+async def test_replaced_source_is_version(tmp_path: pathlib.Path) -> None:
     """By an earlier answer or a version, by another tab's write, and by the teacher."""
     async with served(tmp_path / "class", exercises=TWO) as room:
         tab, other, teacher = await room.sit("A1"), await room.sit("A1"), await room.sit("teacher")
@@ -118,7 +118,7 @@ async def test_what_is_replaced_is_a_version(tmp_path: pathlib.Path) -> None:
         assert await texts(other, "byte_sum") == []
 
 
-async def test_earlier_answers_are_the_seats(tmp_path: pathlib.Path) -> None:
+async def test_earlier_answers_are_offered_to_their_seat(tmp_path: pathlib.Path) -> None:
     """A seat reads its own, whatever seat it names."""
     async with served(tmp_path / "class", exercises=TWO) as room:
         tab, other = await room.sit("A1"), await room.sit("A2")
@@ -131,7 +131,7 @@ async def test_earlier_answers_are_the_seats(tmp_path: pathlib.Path) -> None:
             assert "error" in await tab.ask("answer", exercise=name, number=number)
 
 
-async def test_a_source_of_an_earlier_server(tmp_path: pathlib.Path) -> None:
+async def test_source_of_earlier_server_is_restored(tmp_path: pathlib.Path) -> None:
     """One that was saved without an exercise becomes the first one's, and isn't lost where another one is opened."""
     folder = tmp_path / "class"
     async with served(folder) as room:
@@ -147,7 +147,7 @@ async def test_a_source_of_an_earlier_server(tmp_path: pathlib.Path) -> None:
         assert (await open_exercise(tab, "doubles"))["text"] == "# of before"
 
 
-async def test_files_are_text(tmp_path: pathlib.Path) -> None:
+async def test_stored_sources_are_text_files(tmp_path: pathlib.Path) -> None:
     """A damaged name of the open exercise is none."""
     from vecmon_lab.classes.sources import kept_exercise
     from vecmon_lab.classes.store import Store

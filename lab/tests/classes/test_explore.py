@@ -26,7 +26,7 @@ GREY = EXAMPLES / "kernels" / "grey.c"
 
 @pytest.mark.asyncio
 @pytest.mark.by_command("explore")
-async def test_the_command(clang: Compiler, tmp_path: pathlib.Path) -> None:
+async def test_explore_serves_file_to_one_seat(clang: Compiler, tmp_path: pathlib.Path) -> None:
     """The file is the source of its one seat; another site gets nothing; and nothing is left of it."""
     if shutil.which("bwrap") is None:
         leave_out(NO_SANDBOX)
@@ -96,7 +96,9 @@ def _with_program(environment: dict[str, str]) -> dict[str, str]:
     return environment | {"VECMON": str(find_program()), "PYTHONPATH": str(TOP / "lab")}
 
 
-def test_what_it_refuses(lab: Lab, clang: Compiler, tmp_path: pathlib.Path, monkeypatch: pytest.MonkeyPatch) -> None:
+def test_explore_refuses_unsuitable_file(
+    lab: Lab, clang: Compiler, tmp_path: pathlib.Path, monkeypatch: pytest.MonkeyPatch
+) -> None:
     status, _, errors = lab("explore", tmp_path / "kernel.txt")
     assert status == 2 and errors.endswith("kernel.txt: the name of a source ends in .c or .s\n")
     assert lab("explore", GREY, "--cc", "@file")[0] == 2

@@ -28,7 +28,7 @@ from vecmon_lab.machine.program import find_program
 pytestmark = pytest.mark.asyncio
 
 
-async def test_a_program_that_is_killed_or_hangs(tmp_path: pathlib.Path) -> None:
+async def test_killed_or_hanging_program_is_replaced(tmp_path: pathlib.Path) -> None:
     async with process(tmp_path / "class", "--patience", "1") as room:
         tab, other, teacher = await room.sit("A1"), await room.sit("A2"), await room.sit("teacher")
         await tab.do(*LOOP, "step 7")
@@ -45,7 +45,7 @@ async def test_a_program_that_is_killed_or_hangs(tmp_path: pathlib.Path) -> None
         assert await room.end() == 0
 
 
-async def test_pages_are_told_of_a_machine_that_is_rebuilt(tmp_path: pathlib.Path) -> None:
+async def test_pages_show_machine_rebuild(tmp_path: pathlib.Path) -> None:
     async with process(tmp_path / "class", makes_checkpoints=False) as room:
         tab, other, teacher = await room.sit("A1"), await room.sit("A2"), await room.sit("teacher")
         await tab.do(*LOOP, "go")
@@ -70,7 +70,7 @@ async def test_pages_are_told_of_a_machine_that_is_rebuilt(tmp_path: pathlib.Pat
 
 
 @pytest.mark.parametrize("sign", [signal.SIGINT, signal.SIGTERM])
-async def test_a_server_that_is_told_to_end(tmp_path: pathlib.Path, sign: signal.Signals) -> None:
+async def test_signalled_server_ends_cleanly(tmp_path: pathlib.Path, sign: signal.Signals) -> None:
     async with process(tmp_path / "class", "--patience", "1000") as room:
         tab, unresponsive = await room.sit("A1"), await room.sit("teacher")
         await tab.do(*LOOP)
@@ -88,7 +88,7 @@ async def test_a_server_that_is_told_to_end(tmp_path: pathlib.Path, sign: signal
         assert script.splitlines() == [f"1 {line}" for line in LOOP]
 
 
-async def test_a_program_that_is_replaced(tmp_path: pathlib.Path) -> None:
+async def test_replaced_program_file_is_reported(tmp_path: pathlib.Path) -> None:
     program, old, new = (tmp_path / name for name in ("vecmon", "old", "new"))
     shutil.copy(find_program(), program)
     new.write_bytes(program.read_bytes() + b"\0")
@@ -113,7 +113,7 @@ async def test_a_program_that_is_replaced(tmp_path: pathlib.Path) -> None:
         assert await room.end() == 0
 
 
-async def test_a_program_that_is_taken_away(tmp_path: pathlib.Path) -> None:
+async def test_missing_program_file_is_reported(tmp_path: pathlib.Path) -> None:
     program = tmp_path / "vecmon"
     shutil.copy(find_program(), program)
     environment = os.environ | {"VECMON": str(program)}
@@ -128,7 +128,7 @@ async def test_a_program_that_is_taken_away(tmp_path: pathlib.Path) -> None:
     assert (tmp_path / "class" / "A.script").read_text().count("step") == 1
 
 
-async def test_a_server_that_is_killed_and_begun_again(tmp_path: pathlib.Path) -> None:
+async def test_killed_server_restarts_with_same_state(tmp_path: pathlib.Path) -> None:
     folder = tmp_path / "class"
     async with process(folder) as room:
         tab, other, teacher = await room.sit("A1"), await room.sit("A2"), await room.sit("teacher")
@@ -159,7 +159,7 @@ async def test_a_server_that_is_killed_and_begun_again(tmp_path: pathlib.Path) -
         await room.check_replay()
 
 
-async def test_a_script_that_is_answered_otherwise(tmp_path: pathlib.Path, program: pathlib.Path) -> None:
+async def test_changed_script_answers_are_refused(tmp_path: pathlib.Path, program: pathlib.Path) -> None:
     folder = tmp_path / "class"
     async with served(folder) as room:
         await (await room.sit("A1")).do(*LOOP, "step 1")
@@ -194,7 +194,7 @@ async def test_a_script_that_is_answered_otherwise(tmp_path: pathlib.Path, progr
         members.end()
 
 
-async def test_a_replay_that_differs_stops_the_class(tmp_path: pathlib.Path) -> None:
+async def test_differing_replay_stops_class(tmp_path: pathlib.Path) -> None:
     program, word = tmp_path / "vecmon", tmp_path / "word"
     program.write_text(f"#!/bin/sh\n{find_program()} | sed -u s/00128293/$(cat {word})/\n")
     program.chmod(0o755)
@@ -215,7 +215,7 @@ async def test_a_replay_that_differs_stops_the_class(tmp_path: pathlib.Path) -> 
     assert (tmp_path / "class" / "A.script").read_text().count("\n") == len(LOOP)
 
 
-async def test_a_program_that_cannot_be_had_for_a_while(tmp_path: pathlib.Path) -> None:
+async def test_temporarily_missing_program_is_retried(tmp_path: pathlib.Path) -> None:
     program = tmp_path / "vecmon"
     shutil.copy(find_program(), program)
     members = Class(Store(tmp_path / "class", program), 5.0)
@@ -236,7 +236,7 @@ async def test_a_program_that_cannot_be_had_for_a_while(tmp_path: pathlib.Path) 
     assert (tmp_path / "class" / "A.script").read_bytes() == room.session.script
 
 
-async def test_what_is_kept_at_the_end_is_of_one_moment(tmp_path: pathlib.Path) -> None:
+async def test_files_at_end_are_consistent(tmp_path: pathlib.Path) -> None:
     """A server that ends while its clock grants slices keeps no number of lines with a digest of others."""
     members, notes = Class(Store(tmp_path / "class", find_program()), 5.0), tmp_path / "class" / "A.json"
     room = members.rooms["A"]
@@ -269,7 +269,7 @@ def fill_the_disk() -> None:
     resource.setrlimit(resource.RLIMIT_FSIZE, (2000, resource.RLIM_INFINITY))
 
 
-async def test_a_full_disk(tmp_path: pathlib.Path) -> None:
+async def test_full_disk_is_reported(tmp_path: pathlib.Path) -> None:
     folder = tmp_path / "class"
     async with process(folder, preexec_fn=fill_the_disk) as room:
         tab, teacher = await room.sit("A1"), await room.sit("teacher")
@@ -290,7 +290,7 @@ async def test_a_full_disk(tmp_path: pathlib.Path) -> None:
         assert await room.end() == 0
 
 
-async def test_a_new_code_while_the_disk_is_full(tmp_path: pathlib.Path) -> None:
+async def test_code_renewal_on_full_disk_is_refused(tmp_path: pathlib.Path) -> None:
     folder = tmp_path / "class"
     async with process(folder) as room:
         tab, teacher = await room.sit("A1"), await room.sit("teacher")
@@ -311,7 +311,7 @@ async def test_a_new_code_while_the_disk_is_full(tmp_path: pathlib.Path) -> None
             await (await again.open(room.codes["A2"])).receive()
 
 
-async def test_a_server_that_is_killed_while_the_disk_is_full(tmp_path: pathlib.Path) -> None:
+async def test_server_killed_on_full_disk_restarts(tmp_path: pathlib.Path) -> None:
     folder = tmp_path / "class"
     async with process(folder, preexec_fn=fill_the_disk) as room:
         tab, teacher = await room.sit("A1"), await room.sit("teacher")
@@ -324,7 +324,7 @@ async def test_a_server_that_is_killed_while_the_disk_is_full(tmp_path: pathlib.
         await room.check_replay()
 
 
-async def test_a_flood(tmp_path: pathlib.Path) -> None:
+async def test_flooding_seats_delay_no_other_machine(tmp_path: pathlib.Path) -> None:
     async with process(tmp_path / "class", "--machines", "2") as room:
         tabs = [await room.sit(f"A{digit}") for digit in "12345678"]
         other, teacher = await room.sit("B1"), await room.sit("teacher")
@@ -351,7 +351,7 @@ async def test_a_flood(tmp_path: pathlib.Path) -> None:
         assert await room.end() == 0
 
 
-async def test_more_is_fed_than_a_program_takes(tmp_path: pathlib.Path, monkeypatch: pytest.MonkeyPatch) -> None:
+async def test_full_script_is_refused(tmp_path: pathlib.Path, monkeypatch: pytest.MonkeyPatch) -> None:
     monkeypatch.setattr(
         machine.Session.__init__, "__kwdefaults__", machine.Session.__init__.__kwdefaults__ | {"script_bytes": 2000}
     )
@@ -369,7 +369,7 @@ async def test_more_is_fed_than_a_program_takes(tmp_path: pathlib.Path, monkeypa
         assert len((await room.check_replay())[0]) <= 2000
 
 
-async def test_a_clock_without_room_for_its_lines(tmp_path: pathlib.Path, monkeypatch: pytest.MonkeyPatch) -> None:
+async def test_clock_stops_when_script_is_full(tmp_path: pathlib.Path, monkeypatch: pytest.MonkeyPatch) -> None:
     monkeypatch.setattr(
         machine.Session.__init__, "__kwdefaults__", machine.Session.__init__.__kwdefaults__ | {"script_bytes": 300}
     )
@@ -383,7 +383,7 @@ async def test_a_clock_without_room_for_its_lines(tmp_path: pathlib.Path, monkey
         await room.check_replay()
 
 
-async def test_a_taken_port_is_told_before_the_class_is_carried_out_again(tmp_path: pathlib.Path) -> None:
+async def test_busy_port_is_reported_before_replay(tmp_path: pathlib.Path) -> None:
     async with process(tmp_path / "class") as room:
         await (await room.sit("A1")).do("enter")
         assert await room.end() == 0
@@ -401,7 +401,7 @@ async def test_a_taken_port_is_told_before_the_class_is_carried_out_again(tmp_pa
         (["--host", "256.1.1.1"], ": 256.1.1.1, port 8765: Name or service not known\n"),
     ],
 )
-async def test_an_address_that_cannot_be_had(tmp_path: pathlib.Path, words: list[str], expected: str) -> None:
+async def test_unavailable_address_is_refused(tmp_path: pathlib.Path, words: list[str], expected: str) -> None:
     assert refused(tmp_path / "class", *words) == f"vecmon-lab{expected}"
 
 
@@ -413,7 +413,7 @@ def refused(folder: pathlib.Path, *words: object) -> str:
     return done.stderr
 
 
-async def test_a_torn_connection(tmp_path: pathlib.Path) -> None:
+async def test_torn_connection_preserves_seat(tmp_path: pathlib.Path) -> None:
     """A tab's last request before it went away is executed once, or not at all."""
     async with served(tmp_path / "class") as room:
         for _ in range(7):

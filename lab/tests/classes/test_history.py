@@ -24,7 +24,7 @@ def seats_after(session: Session, blocks: Sequence[Sequence[str]], set_up: int =
 
 
 @pytest.mark.parametrize("size", [1, 7, 5000])
-def test_what_seats_know_by_lines_in_blocks(session: Session, size: int) -> None:
+def test_history_restores_seats_from_blocks(session: Session, size: int) -> None:
     """Of one seat the last steps, and of a silent one all, however the lines come."""
     lines = SCRIPT + ["1 step 1"] * STEPS + ["1 out "]
     seats = seats_after(session, [lines[at : at + size] for at in range(0, len(lines), size)])
@@ -38,7 +38,7 @@ def test_what_seats_know_by_lines_in_blocks(session: Session, size: int) -> None
     assert two.used == sum(len(line) + 1 for line in lines if line[0] == "2") + len("* run 2\n")
 
 
-def test_lines_that_set_a_machine_up(session: Session) -> None:
+def test_history_hides_set_up_lines(session: Session) -> None:
     """Nobody receives them, and no share is charged for them; seats know by them what is watched."""
     seats = seats_after(session, [SCRIPT], set_up=len(SCRIPT) - 3)
     two = seats.users["2"]

@@ -54,7 +54,7 @@ async def written(room: Served, source: str) -> Tab:
     return tab
 
 
-async def test_output_comes_at_stops(tmp_path: pathlib.Path) -> None:
+async def test_output_is_sent_at_stops(tmp_path: pathlib.Path) -> None:
     async with served(tmp_path / "class") as room:
         tab, teacher = await written(room, HELLO), await room.sit("teacher")
         used = tab.view["share"]["used"]
@@ -83,7 +83,7 @@ async def test_output_comes_at_stops(tmp_path: pathlib.Path) -> None:
         assert output(again.view) == b""
 
 
-async def test_more_output_than_a_buffer_or_a_page_has(tmp_path: pathlib.Path) -> None:
+async def test_output_beyond_buffer_and_page_is_truncated(tmp_path: pathlib.Path) -> None:
     async with served(tmp_path / "class") as room:
         tab, teacher = await written(room, WRITES.format(times=9_000)), await room.sit("teacher")
         await teacher.ask("clock", machine="A", on=True, slices=1000, ms=10)
@@ -127,7 +127,7 @@ async def test_running_program_is_shown(tmp_path: pathlib.Path, monkeypatch: pyt
         assert len((await room.check_replay())[0].splitlines()) == lines
 
 
-async def test_a_breakpoint_is_never_missed(tmp_path: pathlib.Path, monkeypatch: pytest.MonkeyPatch) -> None:
+async def test_breakpoint_always_stops(tmp_path: pathlib.Path, monkeypatch: pytest.MonkeyPatch) -> None:
     monkeypatch.setattr(class_room, "WATCH_SECONDS", 0.01)
     async with served(tmp_path / "class", quantum=1) as room:  # so that slices end at the breakpoint, too
         tab, teacher = await written(room, WRITES.format(times=200)), await room.sit("teacher")
@@ -188,7 +188,7 @@ numbers: .zero 1200
 """
 
 
-async def test_a_class_begins_with_its_clock(tmp_path: pathlib.Path) -> None:
+async def test_class_starts_with_clock(tmp_path: pathlib.Path) -> None:
     async with served(tmp_path / "class", clock=True) as room:
         tabs = [await room.sit(f"A{digit}") for digit in "12345678"]
         for tab in tabs:
@@ -201,7 +201,7 @@ async def test_a_class_begins_with_its_clock(tmp_path: pathlib.Path) -> None:
         assert (await room.check_replay())[0].count(b"* slices 1000\n") < 60  # 100,000 ticks each
 
 
-async def test_go_while_the_clock_is_off(tmp_path: pathlib.Path) -> None:
+async def test_go_waits_while_clock_is_off(tmp_path: pathlib.Path) -> None:
     async with served(tmp_path / "class") as room:
         tab, teacher = await room.sit("A1"), await room.sit("teacher")
         await tab.do(*LOOP, "go")
@@ -219,7 +219,7 @@ async def test_go_while_the_clock_is_off(tmp_path: pathlib.Path) -> None:
         assert not [entry for entry in tab.logs["A1"][before:] if entry[0] == "!"]
 
 
-async def test_a_program_that_runs_for_long(tmp_path: pathlib.Path, monkeypatch: pytest.MonkeyPatch) -> None:
+async def test_long_running_program_is_stopped(tmp_path: pathlib.Path, monkeypatch: pytest.MonkeyPatch) -> None:
     monkeypatch.setattr(class_room, "WATCH_SECONDS", 0.02)
     async with served(tmp_path / "class") as room:
         tab, other, teacher = await room.sit("A1"), await room.sit("A2"), await room.sit("teacher")
@@ -240,7 +240,7 @@ async def test_a_program_that_runs_for_long(tmp_path: pathlib.Path, monkeypatch:
         await room.check_replay()
 
 
-async def test_a_program_that_nobody_looks_at(tmp_path: pathlib.Path, monkeypatch: pytest.MonkeyPatch) -> None:
+async def test_unwatched_program_is_stopped(tmp_path: pathlib.Path, monkeypatch: pytest.MonkeyPatch) -> None:
     monkeypatch.setattr(class_room, "WATCH_SECONDS", 0.02)
     monkeypatch.setattr(class_room, "UNSEEN_SECONDS", 0.3)
     async with served(tmp_path / "class") as room:

@@ -12,7 +12,7 @@ pytestmark = pytest.mark.asyncio
 TAKEN = "!The teacher has taken this machine away. Your source is kept."
 
 
-async def test_a_teacher_writes_to_one_seat_or_all(tmp_path: pathlib.Path) -> None:
+async def test_teacher_message_reaches_one_or_all_seats(tmp_path: pathlib.Path) -> None:
     async with served(tmp_path / "class", machines=2) as room:
         tabs = {seat: await room.sit(seat) for seat in ("A1", "A2", "B8")}
         teacher = await room.sit("teacher")
@@ -33,7 +33,7 @@ async def test_a_teacher_writes_to_one_seat_or_all(tmp_path: pathlib.Path) -> No
         assert (await room.check_replay())[0] == b""
 
 
-async def test_a_seat_is_reset(tmp_path: pathlib.Path, monkeypatch: pytest.MonkeyPatch) -> None:
+async def test_teacher_resets_seat(tmp_path: pathlib.Path, monkeypatch: pytest.MonkeyPatch) -> None:
     """Whether its program is stopped or runs, or there is none; and when its share is used up."""
     async with served(tmp_path / "class") as room:
         tab, other, teacher = [await room.sit(role) for role in ("A1", "A2", "teacher")]

@@ -32,11 +32,11 @@ NAME = "Zoë O'Brien-Šarić Jr. 2"
         ("a" * 40, "a" * 40),
     ],
 )
-def test_names(typed: str, name: str) -> None:
+def test_name_is_normalized(typed: str, name: str) -> None:
     assert checked_name(typed) == name
 
 
-def test_no_cell_is_a_formula() -> None:
+def test_csv_cell_is_never_formula() -> None:
     rows = [["=HYPERLINK(1)", "+1", "-1", "@x", -1], ["A1", "", "Ada", "1=1", 0]]
     assert as_csv(rows).decode("utf-8-sig") == "'=HYPERLINK(1),'+1,'-1,'@x,-1\r\nA1,,Ada,1=1,0\r\n"
 
@@ -59,13 +59,13 @@ def test_no_cell_is_a_formula() -> None:
         "A+",
     ],
 )
-def test_what_is_no_name(typed: str) -> None:
+def test_invalid_name_is_refused(typed: str) -> None:
     with pytest.raises(BadRequest, match="a name begins with a letter"):
         checked_name(typed)
 
 
 @pytest.mark.asyncio
-async def test_names_reach_seat_and_teacher_only(tmp_path: pathlib.Path) -> None:
+async def test_name_is_sent_to_seat_and_teacher_only(tmp_path: pathlib.Path) -> None:
     """The seat and the teacher, the table and what is taken home; no machine, no other seat, no wall, no file's name."""
     folder = tmp_path / "class"
     async with served(folder, machines=2) as room:
@@ -110,7 +110,7 @@ async def test_names_reach_seat_and_teacher_only(tmp_path: pathlib.Path) -> None
 
 
 @pytest.mark.asyncio
-async def test_a_class_forgets_names(tmp_path: pathlib.Path) -> None:
+async def test_class_deletes_names(tmp_path: pathlib.Path) -> None:
     """Also what a full disk has left half done; the rest of the folder stays."""
     folder = tmp_path / "class"
     with pytest.raises(BadFolder, match="has no class"):

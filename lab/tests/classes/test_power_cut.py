@@ -159,7 +159,7 @@ def check(cut: Cut, folder: pathlib.Path, program: pathlib.Path) -> None:
 
 
 @pytest.mark.asyncio
-async def test_a_class_opens_after_each_cut(
+async def test_class_opens_after_every_power_cut(
     tmp_path: pathlib.Path, program: pathlib.Path, monkeypatch: pytest.MonkeyPatch
 ) -> None:
     cuts = await cuts_of(tmp_path / "class", program, monkeypatch, flushes=True)
@@ -170,7 +170,7 @@ async def test_a_class_opens_after_each_cut(
 
 
 @pytest.mark.asyncio
-async def test_a_disk_that_flushes_nothing_is_found(
+async def test_missing_flush_is_detected(
     tmp_path: pathlib.Path, program: pathlib.Path, monkeypatch: pytest.MonkeyPatch
 ) -> None:
     """The test before can fail: without `fsync` acknowledged work is missing."""

@@ -64,7 +64,7 @@ def check(image: pathlib.Path, program: pathlib.Path, known: list[int]) -> list[
 
 
 @pytest.mark.asyncio
-async def test_each_copy_opens(tmp_path: pathlib.Path, program: pathlib.Path) -> None:
+async def test_every_copy_opens(tmp_path: pathlib.Path, program: pathlib.Path) -> None:
     image = tmp_path / "disk"
     with image.open("wb") as file:
         file.truncate(DISK_BYTES)

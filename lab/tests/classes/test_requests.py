@@ -45,7 +45,7 @@ SHARED: list[tuple[dict[str, object], bool, Request]] = [
 
 
 @pytest.mark.parametrize("message, is_teacher, request_", SHARED)
-def test_requests(message: dict[str, object], is_teacher: bool, request_: Request) -> None:
+def test_request_is_parsed(message: dict[str, object], is_teacher: bool, request_: Request) -> None:
     assert read_request(message, is_teacher) == request_
 
 
@@ -77,6 +77,6 @@ def test_requests(message: dict[str, object], is_teacher: bool, request_: Reques
         ({"ask": "clock", "machine": "A", "on": "yes"}, True, "on of the clock is 0 to 1"),
     ],
 )
-def test_what_is_no_request(message: dict[str, object], is_teacher: bool, expected: str) -> None:
+def test_invalid_request_is_refused(message: dict[str, object], is_teacher: bool, expected: str) -> None:
     with pytest.raises(LabError, match=expected):
         read_request(message, is_teacher)

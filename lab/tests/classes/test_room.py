@@ -68,7 +68,7 @@ class Machine:
         return "".join(self.session.order)
 
 
-async def test_a_seat_with_many_requests_has_one_turn(tmp_path: pathlib.Path) -> None:
+async def test_seat_with_many_requests_gets_one_turn(tmp_path: pathlib.Path) -> None:
     machine = Machine(tmp_path)
     seats = machine.room.seats.users
     greedy = [machine.ask(seats["1"], "step 1") for _ in range(20)]
@@ -77,13 +77,13 @@ async def test_a_seat_with_many_requests_has_one_turn(tmp_path: pathlib.Path) ->
     assert (await machine.order(27, *greedy, *others)) == "12345678" + "1" * 19
 
 
-async def test_turns_go_round(tmp_path: pathlib.Path) -> None:
+async def test_turns_rotate_among_seats(tmp_path: pathlib.Path) -> None:
     machine = Machine(tmp_path)
     tasks = [machine.ask(machine.room.seats.users[digit], "step 1", "step 1") for digit in "312" for _ in range(3)]
     assert await machine.order(9, *tasks) == "312" * 3
 
 
-async def test_the_clock_has_its_turn(tmp_path: pathlib.Path) -> None:
+async def test_clock_gets_turn(tmp_path: pathlib.Path) -> None:
     machine = Machine(tmp_path)
     machine.room.seats.users["8"].state = {"run": "running", "pc": "0"}
     machine.room.set_clock({"on": True, "ms": 10})
@@ -100,7 +100,7 @@ async def test_the_clock_has_its_turn(tmp_path: pathlib.Path) -> None:
     assert machine.session.order.index("*") <= 4
 
 
-async def test_slices_wait_where_checkpoints_fall_behind(tmp_path: pathlib.Path) -> None:
+async def test_slices_wait_for_late_checkpoint(tmp_path: pathlib.Path) -> None:
     """A student who presses on gets a message; the clock skips; students' lines go on; a checkpoint ends the wait."""
     machine = Machine(tmp_path)
     room, session = machine.room, machine.session
@@ -128,7 +128,7 @@ async def test_slices_wait_where_checkpoints_fall_behind(tmp_path: pathlib.Path)
     assert await machine.order(9, machine.ask(room.seats.users["1"], "step 1")) == "*1"
 
 
-async def test_overviews_do_not_wait_for_the_machine(tmp_path: pathlib.Path) -> None:
+async def test_overview_does_not_wait_for_machine(tmp_path: pathlib.Path) -> None:
     machine = Machine(tmp_path)
     task = machine.ask(machine.room.seats.users["1"], "step 1")
     await asyncio.sleep(0.05)

@@ -25,7 +25,7 @@ def seat(teacher: Tab, digit: str) -> Message:
     return reply
 
 
-async def test_how_seats_stand(tmp_path: pathlib.Path) -> None:
+async def test_seat_status_follows_program(tmp_path: pathlib.Path) -> None:
     started = int(time.time())
     async with served(tmp_path / "class") as room:
         tab, teacher = await room.sit("A1"), await room.sit("teacher")
@@ -56,7 +56,7 @@ async def test_how_seats_stand(tmp_path: pathlib.Path) -> None:
         await until("", False)
 
 
-async def test_a_program_that_ran_in_vain_stands_so(tmp_path: pathlib.Path, monkeypatch: pytest.MonkeyPatch) -> None:
+async def test_long_run_without_stop_is_shown(tmp_path: pathlib.Path, monkeypatch: pytest.MonkeyPatch) -> None:
     monkeypatch.setattr(class_room, "WATCH_SECONDS", 0.02)
     async with served(tmp_path / "class") as room:
         tab, teacher = await room.sit("A1"), await room.sit("teacher")

@@ -29,7 +29,7 @@ async def room(tmp_path: pathlib.Path) -> AsyncIterator[Served]:
 
 
 @pytest.mark.by_command("class")
-async def test_a_step(room: Served) -> None:
+async def test_step_updates_state(room: Served) -> None:
     tab = await room.sit("A3")
     assert tab.view["state"] == {"run": "absent", "labels": {}, "lines": {}}
     assert (tab.view["seat"], tab.view["images"], tab.view["quantum"]) == ("A3", ["sum"], 100)
@@ -48,7 +48,7 @@ async def test_a_step(room: Served) -> None:
     assert (await room.check_replay())[0].splitlines()[-1] == b"3 step 1"
 
 
-async def test_looks_are_not_recorded_and_change_nothing(room: Served) -> None:
+async def test_looks_are_unrecorded_and_change_nothing(room: Served) -> None:
     tab = await room.sit("A1")
     looks = ["regs", "vcsr", "vreg v1 8", "dis 10000 2", "peek 10000 4", "state", "breaks", "trace"]
     reply = await tab.ask("lines", do=[*LOOP, "step 5", "peek 10000 16"], look=looks)
@@ -60,7 +60,7 @@ async def test_looks_are_not_recorded_and_change_nothing(room: Served) -> None:
     assert script.decode().splitlines() == [f"1 {line}" for line in [*LOOP, "step 5"]] and b"peek" not in transcript
 
 
-async def test_what_refusals_mean(room: Served) -> None:
+async def test_refusal_is_explained(room: Served) -> None:
     tab, teacher = await room.sit("A2"), await room.sit("teacher")
     reply = await tab.ask("lines", do=["enter", "map 10000 1 rwx", "asm 10000 add x1, x2, 4", "step 300"])
     mark = "`add x1, x2, 4\n            ^`\nE15: 4 doesn't fit here, as the machine reads it: add x1, x2, 4"
@@ -73,7 +73,7 @@ async def test_what_refusals_mean(room: Served) -> None:
 
 
 @pytest.mark.parametrize("look", ["step 1", "out", "set x1 1", "", "list", "regsx", "Regs"])
-async def test_looks_that_are_none(room: Served, look: str) -> None:
+async def test_changing_line_is_refused_as_look(room: Served, look: str) -> None:
     tab = await room.sit("A1")
     reply = await tab.ask("lines", do=["enter"], look=[look])
     assert "isn't a line that only looks" in reply["error"] and reply["done"] == []
@@ -97,7 +97,7 @@ HOSTILE = [
 ]
 
 
-async def test_lines_that_could_be_another_seats(room: Served) -> None:
+async def test_line_with_user_digit_is_refused(room: Served) -> None:
     tab, teacher = await room.sit("A1"), await room.sit("teacher")
     for line in HOSTILE:
         assert "error" in await tab.ask("lines", do=["enter", line]), line
@@ -105,7 +105,7 @@ async def test_lines_that_could_be_another_seats(room: Served) -> None:
     assert (await room.check_replay())[0] == b""
 
 
-async def test_a_line_is_its_own_seats(room: Served) -> None:
+async def test_line_affects_own_seat_only(room: Served) -> None:
     tab = await room.sit("A3")
     answers = await tab.do("enter", "2 enter", "* list", "x" * 1022, " ", "")
     assert answers == [["entered"], *[["E03"]] * 5]
@@ -135,7 +135,7 @@ REQUESTS = [
 ]
 
 
-async def test_requests_of_bad_form(room: Served) -> None:
+async def test_malformed_request_is_refused(room: Served) -> None:
     for role in ("A1", "teacher"):
         tab = await room.sit(role)
         for request in REQUESTS:
@@ -146,7 +146,7 @@ async def test_requests_of_bad_form(room: Served) -> None:
     assert (await room.check_replay())[0] == b""
 
 
-async def test_messages_that_are_too_large_or_no_text(room: Served) -> None:
+async def test_oversized_or_binary_message_closes_connection(room: Served) -> None:
     for message in ("x" * 500_000, ""):
         tab = await room.sit("A1")
         await (tab.socket.send_str(message) if message else tab.socket.send_bytes(b"{}"))
@@ -155,7 +155,7 @@ async def test_messages_that_are_too_large_or_no_text(room: Served) -> None:
 
 
 @pytest.mark.parametrize("ask", ["clock", "rights", "renew", "shoulder", "wall", "codes"])
-async def test_what_the_teacher_alone_may_ask(room: Served, ask: str) -> None:
+async def test_teacher_request_from_seat_is_refused(room: Served, ask: str) -> None:
     tab, teacher = await room.sit("A1"), await room.sit("teacher")
     before = room.codes["A2"]
     words = {"machine": "A", "on": True, "own_slices": False, "seat": "A2"}
@@ -168,7 +168,7 @@ async def test_what_the_teacher_alone_may_ask(room: Served, ask: str) -> None:
     assert (await tab.ask("lines", machine="A", do=["slices 1"]))["do"] == [["E03"]]  # as user 1
 
 
-async def test_wrong_codes(room: Served) -> None:
+async def test_wrong_code_is_refused(room: Served) -> None:
     right = room.codes["A1"]
     codes = ["", "A1", "1", right[:-1], right + "x", right.upper(), "é", "\ud800", "x" * 10_000, 5, None, [right]]
     tabs = await asyncio.gather(*(room.open(code) for code in codes))
@@ -182,7 +182,7 @@ async def test_wrong_codes(room: Served) -> None:
             await Tab(connection).receive()
 
 
-async def test_a_new_code_ends_the_old_one(room: Served) -> None:
+async def test_new_code_ends_old_connections(room: Served) -> None:
     tab, other, teacher = await room.sit("A1"), await room.sit("A2"), await room.sit("teacher")
     renewed = (await teacher.ask("renew", seat="A1"))["codes"]["A1"]
     with pytest.raises(EOFError, match="4403"):
@@ -213,7 +213,7 @@ async def test_a_new_code_ends_the_old_one(room: Served) -> None:
         {"Host": ""},
     ],
 )
-async def test_other_sites(room: Served, headers: dict[str, str]) -> None:
+async def test_request_from_other_site_is_refused(room: Served, headers: dict[str, str]) -> None:
     with pytest.raises(aiohttp.WSServerHandshakeError) as refused:
         await room.open(room.codes["A1"], **headers)
     assert refused.value.status == 403
@@ -221,7 +221,7 @@ async def test_other_sites(room: Served, headers: dict[str, str]) -> None:
         assert answer.status == 403
 
 
-async def test_this_site(room: Served) -> None:
+async def test_request_from_same_site_is_accepted(room: Served) -> None:
     for host in (f"127.0.0.1:{room.port}", f"localhost:{room.port}", "192.168.1.7", "[fe80::1]:80"):
         for scheme in ("http", "https"):
             tab = await room.open(room.codes["A1"], Host=host, Origin=f"{scheme}://{host}")
@@ -229,13 +229,13 @@ async def test_this_site(room: Served) -> None:
             await tab.socket.close()
 
 
-async def test_another_name(tmp_path: pathlib.Path) -> None:
+async def test_configured_host_name_is_accepted(tmp_path: pathlib.Path) -> None:
     async with served(tmp_path / "class", name="class.school.example") as room:
         tab = await room.open(room.codes["A1"], Host="class.school.example", Origin="https://class.school.example")
         assert (await tab.receive())["who"] == "A1"
 
 
-async def test_what_is_served(room: Served) -> None:
+async def test_page_has_security_headers(room: Served) -> None:
     async with room.session.get(room.url) as answer:
         page, policy = await answer.text(), answer.headers["Content-Security-Policy"]
         assert answer.headers["X-Content-Type-Options"] == "nosniff"
@@ -258,7 +258,7 @@ async def test_what_is_served(room: Served) -> None:
         assert answer.status == 405
 
 
-async def test_a_stop_comes_by_itself(room: Served) -> None:
+async def test_stop_is_sent_without_request(room: Served) -> None:
     tab, other, teacher = await room.sit("A2"), await room.sit("A3"), await room.sit("teacher")
     await tab.do(*LOOP, "break 10004", "go")
     await other.do(*LOOP, "go")
@@ -281,7 +281,7 @@ async def test_a_stop_comes_by_itself(room: Served) -> None:
     assert b"* slices 4\n" in (await room.check_replay())[0]
 
 
-async def test_own_slices(room: Served) -> None:
+async def test_student_slices_need_permission(room: Served) -> None:
     tab, teacher = await room.sit("A4"), await room.sit("teacher")
     await tab.do(*LOOP, "go", slices=3)
     assert (tab.view["state"]["run"], tab.view["stop"]) == ("running", "")
@@ -314,7 +314,7 @@ numbers: .word 1, 2
 """
 
 
-async def test_a_source(room: Served) -> None:
+async def test_source_is_assembled_and_loaded(room: Served) -> None:
     tab = await room.sit("A5")
     for _ in range(2):  # also where there is a machine, and a program that runs
         assert (await tab.ask("source", text=SOURCE))["mistakes"] == []
@@ -341,7 +341,7 @@ async def test_a_source(room: Served) -> None:
     await room.check_replay()
 
 
-async def test_others_have_turns_while_a_source_is_written(room: Served) -> None:
+async def test_other_seats_get_turns_during_source_load(room: Served) -> None:
     tab, other = await room.sit("A5"), await room.sit("A6")
     lines = ["nop"] * 900
     for wrong in (9, 499, 899):
@@ -363,7 +363,7 @@ async def test_others_have_turns_while_a_source_is_written(room: Served) -> None
     assert own[0] < others[0] < own[1] < own[2] < others[1] < own[3]
 
 
-async def test_over_the_shoulder(room: Served) -> None:
+async def test_teacher_watches_seat(room: Served) -> None:
     tab, teacher = await room.sit("A6"), await room.sit("teacher")
     await tab.do(*LOOP, "step 1")
     await teacher.ask("shoulder", seat="A6")
@@ -381,7 +381,7 @@ async def test_over_the_shoulder(room: Served) -> None:
     assert "no such seat" in (await teacher.ask("shoulder", seat="A9"))["error"]
 
 
-async def test_a_reload_keeps_the_seat(room: Served) -> None:
+async def test_reload_preserves_seat(room: Served) -> None:
     tab = await room.sit("A7")
     await tab.do(*LOOP, "step 1", "peek 10000 16")
     await tab.ask("source", text="l: j l")
@@ -399,7 +399,7 @@ async def test_a_reload_keeps_the_seat(room: Served) -> None:
     )
 
 
-async def test_two_tabs_of_a_seat(room: Served) -> None:
+async def test_two_tabs_show_same_seat(room: Served) -> None:
     one, two = await room.sit("A8"), await room.sit("A8")
     await one.do(*LOOP)
     await two.until(lambda view: view["state"].get("pc") == "10000")
@@ -408,7 +408,7 @@ async def test_two_tabs_of_a_seat(room: Served) -> None:
     assert one.logs == two.logs and one.view == two.view
 
 
-async def test_too_many_tabs_of_a_seat(room: Served) -> None:
+async def test_excess_tabs_of_seat_are_refused(room: Served) -> None:
     tabs = [await room.sit("A1") for _ in range(8)]
     with pytest.raises(EOFError, match="4429"):
         await (await room.open(room.codes["A1"])).receive()
@@ -419,7 +419,7 @@ async def test_too_many_tabs_of_a_seat(room: Served) -> None:
     await room.sit("A1")
 
 
-async def test_a_seats_share_of_the_script(room: Served) -> None:
+async def test_seat_share_of_script_is_limited(room: Served) -> None:
     tab, other = await room.sit("A1"), await room.sit("A2")
     line = "x" * 1000
     while tab.view["share"]["used"] + 250 * 1003 <= tab.view["share"]["of"]:
@@ -432,7 +432,7 @@ async def test_a_seats_share_of_the_script(room: Served) -> None:
     await room.check_replay()
 
 
-async def test_machines_apart(tmp_path: pathlib.Path) -> None:
+async def test_machines_are_independent(tmp_path: pathlib.Path) -> None:
     async with served(tmp_path / "class", machines=2) as room:
         assert len(room.codes) == 18 and len(set(room.codes.values())) == 18
         one, two, teacher = await room.sit("A1"), await room.sit("B1"), await room.sit("teacher")
@@ -455,7 +455,7 @@ async def test_machines_apart(tmp_path: pathlib.Path) -> None:
         await room.check_replay("A")
 
 
-async def test_connections_that_say_nothing(tmp_path: pathlib.Path, monkeypatch: pytest.MonkeyPatch) -> None:
+async def test_silent_connections_are_closed(tmp_path: pathlib.Path, monkeypatch: pytest.MonkeyPatch) -> None:
     monkeypatch.setattr(class_server, "PATIENCE", 0.6)
     monkeypatch.setattr(class_server, "UNKNOWN", 3)
     async with served(tmp_path / "class") as room:
@@ -475,7 +475,7 @@ async def test_connections_that_say_nothing(tmp_path: pathlib.Path, monkeypatch:
         await room.sit("A1")
 
 
-async def test_requests_in_bad_form(tmp_path: pathlib.Path) -> None:
+async def test_malformed_http_request_is_refused(tmp_path: pathlib.Path) -> None:
     long, twice = b"GET / HTTP/1.1\r\nX: %b\r\n\r\n" % (b"a" * 20_000), b"GET / HTTP/1.1\r\nHost: a\r\nHost: b\r\n\r\n"
     async with process(tmp_path / "class", stderr=subprocess.PIPE) as room:
         for request in (b"\x16\x03\x01\x02\x00\x01\x00\x01\xfc\x03\x03", b"one line\r\n\r\n", long, twice):
@@ -488,7 +488,7 @@ async def test_requests_in_bad_form(tmp_path: pathlib.Path) -> None:
         assert await room.server.stderr.read() == b""
 
 
-async def test_clients_that_do_not_read(room: Served) -> None:
+async def test_unread_connections_are_closed(room: Served) -> None:
     tab = await room.sit("A1")
     await tab.do(*LOOP)
     unresponsive = [await room.sit("A2") for _ in range(4)]
@@ -510,7 +510,7 @@ async def test_clients_that_do_not_read(room: Served) -> None:
     await room.check_replay()
 
 
-async def test_a_tab_whose_request_waits_long(tmp_path: pathlib.Path, monkeypatch: pytest.MonkeyPatch) -> None:
+async def test_waiting_tab_stays_connected(tmp_path: pathlib.Path, monkeypatch: pytest.MonkeyPatch) -> None:
     monkeypatch.setattr(class_server, "READ_SECONDS", 1.0)  # between pings; each needs an answer in half of it
     async with served(tmp_path / "class") as room:
         tab = await room.sit("A1")
@@ -523,7 +523,7 @@ async def test_a_tab_whose_request_waits_long(tmp_path: pathlib.Path, monkeypatc
         assert len(await waits) == 4 and not room.members.rooms["A"].session.losses
 
 
-async def test_more_requests_than_may_wait(room: Served) -> None:
+async def test_excess_waiting_requests_are_refused(room: Served) -> None:
     tab = await room.sit("A1")
     assert room.members and (machine := room.members.rooms["A"].session.process)
     os.kill(machine, signal.SIGSTOP)
@@ -541,7 +541,7 @@ async def test_more_requests_than_may_wait(room: Served) -> None:
     assert (await room.check_replay())[0] == b"1 enter\n" + b"".join(b"1 set x5 %x\n" % each for each in range(1, 65))
 
 
-async def test_what_waits_when_a_code_ends(room: Served) -> None:
+async def test_waiting_requests_end_with_code(room: Served) -> None:
     tab, teacher = await room.sit("A1"), await room.sit("teacher")
     assert room.members and (machine := room.members.rooms["A"].session.process)
     os.kill(machine, signal.SIGSTOP)
@@ -554,7 +554,7 @@ async def test_what_waits_when_a_code_ends(room: Served) -> None:
     assert (await room.check_replay())[0] == b"1 enter\n"  # which was under way
 
 
-async def test_a_client_that_resets(room: Served, caplog: pytest.LogCaptureFixture) -> None:
+async def test_reset_connection_is_cleaned_up(room: Served, caplog: pytest.LogCaptureFixture) -> None:
     tab, other = await room.sit("A1"), await room.sit("A1")
     await tab.do(*LOOP)
     connection = other.socket._response.connection

@@ -53,7 +53,7 @@ def random_class(draws: random.Random) -> list[str]:
 
 
 @pytest.mark.parametrize("seed", range(12))
-def test_random_classes(program: pathlib.Path, seed: int) -> None:
+def test_solo_script_repeats_random_classes(program: pathlib.Path, seed: int) -> None:
     lines = [line for line in random_class(random.Random(seed)) if not is_look(line)]
     script = "".join(f"{line}\n" for line in lines).encode()
     whole = subprocess.run([program, "/dev/stdin", f"sum={SUM}"], input=script, stdout=subprocess.PIPE, check=True)
@@ -70,7 +70,7 @@ def test_random_classes(program: pathlib.Path, seed: int) -> None:
 
 
 @pytest.mark.parametrize("digit", "123")
-def test_the_tours_class_of_three(program: pathlib.Path, digit: str) -> None:
+def test_solo_script_repeats_tour_class(program: pathlib.Path, digit: str) -> None:
     lines = [line for line in CLASS_OF_THREE.read_text().splitlines() if line and not is_look(line)]
     part = OwnScript(digit)
     with Session(program) as session, Session(program) as single:
@@ -81,7 +81,7 @@ def test_the_tours_class_of_three(program: pathlib.Path, digit: str) -> None:
 
 @pytest.mark.asyncio
 @pytest.mark.by_command("solo")
-async def test_the_command(tmp_path: pathlib.Path) -> None:
+async def test_solo_command_writes_script(tmp_path: pathlib.Path) -> None:
     folder = tmp_path / "class"
     async with served(folder, {"sum": SUM}, machines=2) as room:
         tab, other, teacher = await room.sit("B3"), await room.sit("B5"), await room.sit("teacher")

@@ -19,7 +19,7 @@ async def room(tmp_path: pathlib.Path) -> AsyncIterator[Served]:
         yield room
 
 
-async def test_again(room: Served) -> None:
+async def test_restart_reloads_source_and_breakpoints(room: Served) -> None:
     """A new machine has the source of this one, and its breakpoints; a machine without a source has none again."""
     tab = await room.sit("A3")
     assert "no loaded source" in (await tab.ask("again"))["error"] and not tab.view["again"]
@@ -43,7 +43,7 @@ async def test_again(room: Served) -> None:
     assert not tab.view["again"]
 
 
-async def test_what_is_typed_is_the_seats(room: Served) -> None:
+async def test_draft_is_stored_for_seat(room: Served) -> None:
     """A draft is in other tabs and in a new one, and before the teacher who looks; others see nothing of it."""
     tab, other, teacher = await room.sit("A3"), await room.sit("A3"), await room.sit("teacher")
     outsider = await room.sit("A4")
@@ -72,7 +72,7 @@ async def test_what_is_typed_is_the_seats(room: Served) -> None:
     assert tab.view["source"]["text"] == "?"
 
 
-async def test_a_draft_that_comes_late_is_a_version(room: Served) -> None:
+async def test_late_draft_is_version(room: Served) -> None:
     """Of two tabs that type at once the first one's text stays; the other's isn't lost."""
     tab, other = await room.sit("A1"), await room.sit("A1")
     await tab.ask("draft", text="first", number=0)
@@ -84,7 +84,7 @@ async def test_a_draft_that_comes_late_is_a_version(room: Served) -> None:
         assert "error" in await other.ask("version", number=number)
 
 
-async def test_a_source_that_is_given(room: Served) -> None:
+async def test_given_source_reaches_seats(room: Served) -> None:
     """The teacher gives a source to one seat or to all; the student's previous text is a version of the seat."""
     tab, other, teacher = await room.sit("A1"), await room.sit("A2"), await room.sit("teacher")
     await tab.ask("draft", text="mine", number=0)
@@ -107,7 +107,7 @@ def keep(members: Class) -> None:
     members.store.flush()
 
 
-async def test_a_source_that_is_taken_back(room: Served) -> None:
+async def test_given_source_is_withdrawn(room: Served) -> None:
     """A blank source is refused. Where a student has changed the given source, taking it back changes nothing."""
     tab, other, teacher = await room.sit("A1"), await room.sit("A2"), await room.sit("teacher")
     await tab.ask("draft", text="mine", number=0)
@@ -128,7 +128,7 @@ async def test_a_source_that_is_taken_back(room: Served) -> None:
     assert "no such request" in (await tab.ask("take-back", seat=""))["error"]
 
 
-async def test_messages_stay_until_closed(tmp_path: pathlib.Path) -> None:
+async def test_message_stays_until_closed(tmp_path: pathlib.Path) -> None:
     """They survive a restart of the server; a seat closes its own alone."""
     folder = tmp_path / "class"
     async with served(folder) as room:
@@ -150,7 +150,7 @@ async def test_messages_stay_until_closed(tmp_path: pathlib.Path) -> None:
         assert tab.view["notices"] == [] and len(other.view["notices"]) == 1
 
 
-async def test_versions_are_kept(room: Served, monkeypatch: pytest.MonkeyPatch) -> None:
+async def test_versions_are_stored(room: Served, monkeypatch: pytest.MonkeyPatch) -> None:
     """Writes are versions, and each half minute of typing; the folder has the last 50 of a seat."""
     tab, members = await room.sit("A1"), room.members
     assert members
@@ -178,7 +178,7 @@ async def test_versions_are_kept(room: Served, monkeypatch: pytest.MonkeyPatch) 
     assert "error" in await tab.ask("version", number=13)
 
 
-async def test_a_class_that_goes_on_has_its_sources(tmp_path: pathlib.Path) -> None:
+async def test_restarted_class_preserves_sources(tmp_path: pathlib.Path) -> None:
     """After a restart a seat has its text and versions, and of its machine's source labels, lines and *Again*."""
     for number in range(2):
         async with served(tmp_path / "class") as room:
@@ -200,7 +200,7 @@ async def test_a_class_that_goes_on_has_its_sources(tmp_path: pathlib.Path) -> N
         assert not (await room.sit("A3")).view["again"]
 
 
-async def test_a_full_disk(room: Served, monkeypatch: pytest.MonkeyPatch) -> None:
+async def test_full_disk_keeps_source_in_memory(room: Served, monkeypatch: pytest.MonkeyPatch) -> None:
     """The class reports data that the disk refuses, keeps it, and saves it as soon as there is room."""
     tab, teacher, members = await room.sit("A1"), await room.sit("teacher"), room.members
     assert members

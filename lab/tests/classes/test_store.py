@@ -30,7 +30,7 @@ def store(tmp_path: pathlib.Path, program: pathlib.Path) -> Iterator[Store]:
     yield store
 
 
-def test_what_is_kept(store: Store, program: pathlib.Path) -> None:
+def test_store_preserves_codes_and_facts(store: Store, program: pathlib.Path) -> None:
     folder = store.folder
     assert stat.S_IMODE(folder.stat().st_mode) == 0o700
     codes = store.codes.codes
@@ -47,7 +47,7 @@ def test_what_is_kept(store: Store, program: pathlib.Path) -> None:
     larger.close()
 
 
-def test_another_program_or_image(store: Store, program: pathlib.Path, tmp_path: pathlib.Path) -> None:
+def test_changed_program_or_image_is_refused(store: Store, program: pathlib.Path, tmp_path: pathlib.Path) -> None:
     store.close()
     other = tmp_path / "other"
     other.write_bytes(program.read_bytes() + b"\0")
@@ -62,14 +62,14 @@ def test_another_program_or_image(store: Store, program: pathlib.Path, tmp_path:
     Store(tmp_path / "copy", other).close()
 
 
-def test_a_second_server(store: Store, program: pathlib.Path) -> None:
+def test_second_server_is_refused(store: Store, program: pathlib.Path) -> None:
     with pytest.raises(BadFolder, match="served by another server"):
         Store(store.folder, program)
     store.close()
     Store(store.folder, program).close()
 
 
-def test_folders_that_are_no_class(tmp_path: pathlib.Path, program: pathlib.Path) -> None:
+def test_folder_without_class_is_refused(tmp_path: pathlib.Path, program: pathlib.Path) -> None:
     (tmp_path / "mine").write_text("thesis")
     with pytest.raises(BadFolder, match="has no class, but other files, mine among them"):
         Store(tmp_path, program)
@@ -90,7 +90,7 @@ def test_folders_that_are_no_class(tmp_path: pathlib.Path, program: pathlib.Path
 
 
 @pytest.mark.parametrize("name", ["..", "a/b", "", "x" * 33, "é"])
-def test_names_of_images(tmp_path: pathlib.Path, program: pathlib.Path, name: str) -> None:
+def test_image_names_are_checked(tmp_path: pathlib.Path, program: pathlib.Path, name: str) -> None:
     if name == "..":
         Store(tmp_path / "class", program, {name: SUM}).close()  # the program takes it
         assert (tmp_path / "class" / "images" / "...elf").is_file()
@@ -99,13 +99,13 @@ def test_names_of_images(tmp_path: pathlib.Path, program: pathlib.Path, name: st
         Store(tmp_path / "class", program, {name: SUM})
 
 
-def test_a_start_that_fails_leaves_an_empty_class(tmp_path: pathlib.Path, program: pathlib.Path) -> None:
+def test_failed_start_leaves_empty_class(tmp_path: pathlib.Path, program: pathlib.Path) -> None:
     with pytest.raises(ProgramGone, match="--quantum"):
         Store(tmp_path / "class", program, quantum=0)
     Store(tmp_path / "class", program).close()
 
 
-def test_a_script_file(tmp_path: pathlib.Path) -> None:
+def test_script_file_is_appended(tmp_path: pathlib.Path) -> None:
     path = tmp_path / "A.script"
     path.write_bytes(b"1 enter\n1 step 1\n1 st")
     file = ScriptFile(tmp_path, "A")
@@ -132,7 +132,7 @@ JUNK = [b"", b"{}", b"null", b"\xff\0\x80junk", b'{"lines": "5"}', b"[" * 100_00
 
 @pytest.mark.parametrize("junk", JUNK, ids=range(len(JUNK)))
 @pytest.mark.asyncio
-async def test_a_damaged_file_of_each_kind(tmp_path: pathlib.Path, program: pathlib.Path, junk: bytes) -> None:
+async def test_damaged_file_is_set_aside(tmp_path: pathlib.Path, program: pathlib.Path, junk: bytes) -> None:
     """A class opens with what it can read, sets the damaged file aside, and says which; to check it changes nothing."""
     whole = tmp_path / "whole"
     async with served(whole, {"sum": SUM}) as room:
@@ -162,7 +162,7 @@ async def test_a_damaged_file_of_each_kind(tmp_path: pathlib.Path, program: path
         assert not is_damaged or (folder / f"{name}.damaged").read_bytes() == junk
 
 
-def test_a_damaged_script(tmp_path: pathlib.Path, program: pathlib.Path) -> None:
+def test_damaged_script_is_truncated(tmp_path: pathlib.Path, program: pathlib.Path) -> None:
     """The machine goes on at the last good line, and the script as it was found is kept."""
     folder = tmp_path / "class"
     Store(folder, program).close()
@@ -185,7 +185,7 @@ def test_a_damaged_script(tmp_path: pathlib.Path, program: pathlib.Path) -> None
     assert (folder / "A.script.damaged").read_bytes() == b"1 enter\n1 step\0\n1 go\n"
 
 
-def test_what_cannot_be_opened(tmp_path: pathlib.Path, program: pathlib.Path) -> None:
+def test_unreadable_file_is_refused(tmp_path: pathlib.Path, program: pathlib.Path) -> None:
     folder = tmp_path / "class"
     Store(folder, program).close()
     for name in ("class.json", "codes.json"):
@@ -201,7 +201,7 @@ def test_what_cannot_be_opened(tmp_path: pathlib.Path, program: pathlib.Path) ->
     members.end()
 
 
-def test_a_lost_answer_leaves_the_others_their_numbers(tmp_path: pathlib.Path, program: pathlib.Path) -> None:
+def test_lost_answer_preserves_other_numbers(tmp_path: pathlib.Path, program: pathlib.Path) -> None:
     answers = tmp_path / "class" / "answers"
     Store(tmp_path / "class", program).close()
     answers.mkdir()
@@ -216,7 +216,7 @@ def test_a_lost_answer_leaves_the_others_their_numbers(tmp_path: pathlib.Path, p
 
 
 @pytest.mark.asyncio
-async def test_an_image_that_is_damaged(tmp_path: pathlib.Path, program: pathlib.Path) -> None:
+async def test_damaged_image_is_refused(tmp_path: pathlib.Path, program: pathlib.Path) -> None:
     """The class opens without it, and loads it again once it is named; to check changes nothing."""
     folder = tmp_path / "class"
     path = folder / "images" / "sum.elf"
@@ -243,7 +243,7 @@ async def test_an_image_that_is_damaged(tmp_path: pathlib.Path, program: pathlib
 
 
 @pytest.mark.asyncio
-async def test_a_damaged_program_of_a_seat(tmp_path: pathlib.Path, program: pathlib.Path) -> None:
+async def test_damaged_seat_program_is_dropped(tmp_path: pathlib.Path, program: pathlib.Path) -> None:
     """The compiled source in a seat's machine: the seat has no listing of it, which is reported."""
     folder = tmp_path / "class"
     Store(folder, program).close()
@@ -258,7 +258,7 @@ async def test_a_damaged_program_of_a_seat(tmp_path: pathlib.Path, program: path
         members.end()
 
 
-def test_what_the_command_refuses(
+def test_class_command_refuses_bad_arguments(
     tmp_path: pathlib.Path, program: pathlib.Path, monkeypatch: pytest.MonkeyPatch, capsys: pytest.CaptureFixture[str]
 ) -> None:
     def failed(*words: str) -> str:

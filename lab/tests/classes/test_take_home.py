@@ -21,7 +21,7 @@ SOURCE = (
 
 
 @pytest.mark.asyncio
-async def test_an_archive(tmp_path: pathlib.Path) -> None:
+async def test_archive_contains_seat_files(tmp_path: pathlib.Path) -> None:
     folder = tmp_path / "class"
     async with served(folder, {"sum": SUM}) as room:
         tab, other, _ = await room.sit("A3"), await room.sit("A4"), await room.sit("teacher")
@@ -57,7 +57,7 @@ async def test_an_archive(tmp_path: pathlib.Path) -> None:
         }  # fmt: skip
 
 
-def test_a_lesson_has_so_many_frames_at_most() -> None:
+def test_lesson_frames_are_limited() -> None:
     lines = ["3 enter", *["3 step 1"] * 400, "3 go", *["* slices 1000"] * 900, "3 out ", "3 stop", *["3 step 99"] * 2]
     steps = steps_of(lines)
     assert [line for step in steps for line in step.lines] == lines

@@ -55,7 +55,7 @@ async def served(folder: pathlib.Path, pair: Pair) -> AsyncIterator[tuple[int, a
         yield port, session
 
 
-async def test_a_seat_by_https(tmp_path: pathlib.Path, pair: Pair) -> None:
+async def test_seat_connects_over_https(tmp_path: pathlib.Path, pair: Pair) -> None:
     """Page and socket; a client that doesn't trust the certificate has neither, nor has one without TLS."""
     async with served(tmp_path / "class", pair) as (port, session):
         async with session.get(f"https://127.0.0.1:{port}/") as page:
@@ -98,7 +98,7 @@ def openssl(folder: pathlib.Path, words: str) -> None:
     subprocess.run(["openssl", *words.split()], cwd=folder, check=True, capture_output=True)
 
 
-async def test_bad_certificates_and_keys(tmp_path: pathlib.Path, pair: Pair) -> None:
+async def test_bad_certificate_or_key_is_refused(tmp_path: pathlib.Path, pair: Pair) -> None:
     """Each is refused with one sentence that names the file."""
     certificate, key = pair
     openssl(tmp_path, f"x509 -in {certificate} -signkey {key} -days -1 -out old.pem")
@@ -122,7 +122,7 @@ async def test_bad_certificates_and_keys(tmp_path: pathlib.Path, pair: Pair) -> 
         assert "\n" not in str(reply.value)
 
 
-async def test_a_refused_certificate_serves_nothing(tmp_path: pathlib.Path, pair: Pair) -> None:
+async def test_refused_certificate_starts_no_server(tmp_path: pathlib.Path, pair: Pair) -> None:
     """One line and status 2, before the folder is made; also of an address without TLS, which links would have."""
     openssl(tmp_path, f"x509 -in {pair[0]} -signkey {pair[1]} -days -1 -out old.pem")
     old = ["--tls", f"{tmp_path / 'old.pem'}", f"{pair[1]}"]
@@ -143,7 +143,7 @@ async def test_a_refused_certificate_serves_nothing(tmp_path: pathlib.Path, pair
         (["--host", "127.0.0.2"], False),
     ],
 )
-async def test_codes_that_travel_unencrypted(
+async def test_unencrypted_codes_are_warned_about(
     tmp_path: pathlib.Path, pair: Pair, words: list[str], is_warned: bool
 ) -> None:
     """The terminal and the teacher's page say so, where other computers can reach the class and there is no TLS."""
@@ -168,7 +168,7 @@ async def test_codes_that_travel_unencrypted(
     assert process.returncode == 0 and errors.count(b"\n") == is_warned
 
 
-async def test_a_new_code_for_the_teacher(tmp_path: pathlib.Path) -> None:
+async def test_teacher_code_is_renewed(tmp_path: pathlib.Path) -> None:
     """Seats and the wall keep theirs; the class is there, isn't served, and has its codes."""
     folder = tmp_path / "class"
     with pytest.raises(BadFolder, match="has no class"):

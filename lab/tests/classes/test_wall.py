@@ -28,7 +28,7 @@ def codes(room: Served) -> dict[str, str]:
     return kept
 
 
-async def test_a_wall_shows_a_seat(room: Served) -> None:
+async def test_wall_shows_seat(room: Served) -> None:
     wall, teacher = await room.sit("wall"), await room.sit("teacher")
     assert wall.view == {"seat": "", "state": {}, "stop": "", "trouble": ""} and teacher.view["wall"] == ""
     for seat in ("A1", "B8"):
@@ -47,7 +47,7 @@ async def test_a_wall_shows_a_seat(room: Served) -> None:
         assert (await teacher.ask("wall", seat=other))["error"] == "there is no such seat"
 
 
-async def test_no_frame_of_the_wall_has_another_code(room: Served) -> None:
+async def test_wall_frame_contains_no_code(room: Served) -> None:
     """Whatever teacher and students do meanwhile, and whatever the wall asks."""
     frames, before = list[str](), codes(room)
     wall = await room.open(before["wall"])
@@ -89,7 +89,7 @@ async def test_no_frame_of_the_wall_has_another_code(room: Served) -> None:
     assert not [code for code in others for frame in frames if code in frame]
 
 
-async def test_codes_are_told_on_demand(room: Served) -> None:
+async def test_codes_are_sent_on_request(room: Served) -> None:
     """The teacher's view has none; a student receives none; a new code for the wall ends its tabs."""
     teacher, tab, wall = await room.sit("teacher"), await room.sit("A1"), await room.sit("wall")
     assert not [code for code in codes(room).values() if code in json.dumps(teacher.view)]
@@ -105,7 +105,7 @@ async def test_codes_are_told_on_demand(room: Served) -> None:
     assert closed.value.args == (4403,)
 
 
-async def test_pictures_for_a_sheet(room: Served) -> None:
+async def test_sheet_has_qr_codes(room: Served) -> None:
     """Each is of another address. A server without an address makes none."""
     teacher = await room.sit("teacher")
     assert (await teacher.ask("codes", seat="", pictures=True))["pictures"] == {}
@@ -117,7 +117,7 @@ async def test_pictures_for_a_sheet(room: Served) -> None:
     assert (await teacher.ask("codes", seat="A1"))["pictures"] == {}
 
 
-async def test_addresses_that_students_reach() -> None:
+async def test_class_address_is_normalized() -> None:
     for host in ("192.168.1.20:8765", "class.school.example", "[fe80::1]:80"):
         for scheme in ("http://", "https://"):
             for slash in ("", "/"):
@@ -139,7 +139,7 @@ async def test_addresses_that_students_reach() -> None:
     assert arguments_of(["class", "monday"]).address is None
 
 
-async def test_a_program_on_the_wall_is_seen_to_run(room: Served, monkeypatch: pytest.MonkeyPatch) -> None:
+async def test_running_program_is_shown_on_wall(room: Served, monkeypatch: pytest.MonkeyPatch) -> None:
     """Though nobody else looks at it."""
     monkeypatch.setattr(class_room, "WATCH_SECONDS", 0.02)
     teacher, tab = await room.sit("teacher"), await room.sit("A1")

@@ -15,7 +15,7 @@ def asked(desk: Desk, **request: object) -> Mapping[str, Any]:
     return desk.answer(json.dumps({"id": 1, **request}))
 
 
-def test_why(program: pathlib.Path) -> None:
+def test_why_explains_element(program: pathlib.Path) -> None:
     desk = Desk(program, {}, 100_000)
     asked(desk, ask="source", text=SOURCE)
     assert "step first" in asked(desk, ask="why", name="v8[1]")["error"]

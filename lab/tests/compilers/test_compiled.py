@@ -50,26 +50,26 @@ def run(session: Session, clang: Compiler, text: str, choice: int = 0) -> tuple[
 
 
 @pytest.mark.parametrize("name", OUTPUTS)
-def test_a_kernel(session: Session, clang: Compiler, name: str) -> None:
+def test_compiled_kernel_prints_expected_output(session: Session, clang: Compiler, name: str) -> None:
     assert run(session, clang, (KERNELS / f"{name}.c").read_text("ascii")) == (OUTPUTS[name], 0)
 
 
 @pytest.mark.parametrize("choice", [at for at, each in enumerate(CHOICES) if each.source == "source.c"])
-def test_all_options_give_the_same(session: Session, clang: Compiler, choice: int) -> None:
+def test_all_options_give_equal_output(session: Session, clang: Compiler, choice: int) -> None:
     assert run(session, clang, (KERNELS / "plain_sum.c").read_text("ascii"), choice) == (OUTPUTS["plain_sum"], 0)
 
 
-def test_all_kernels_are_tried() -> None:
+def test_every_kernel_has_expected_output() -> None:
     assert sorted(path.stem for path in KERNELS.glob("*.c")) == sorted(OUTPUTS)
 
 
-def test_a_kernel_is_a_short_script(clang: Compiler) -> None:
+def test_compiled_kernel_is_short_script(clang: Compiler) -> None:
     for path in (KERNELS / f"{name}.c" for name in OUTPUTS):
         program = compile_c(path.read_text("ascii"), clang, 0, KERNELS)
         assert sum(len(line) + 3 for line in program.lines) <= 12_000, path
 
 
-def test_lines_of_the_source_stand_at_their_instructions(clang: Compiler) -> None:
+def test_instructions_have_source_lines(clang: Compiler) -> None:
     text = "int twice(int x)\n{\n    return 2 * x;\n}\n\nint main(void)\n{\n    return twice(4);\n}\n"
     program = compile_c(text, clang, 1, KERNELS)  # -O0
     said = program.source_lines(text)
@@ -78,7 +78,7 @@ def test_lines_of_the_source_stand_at_their_instructions(clang: Compiler) -> Non
     assert program.labels["twice"] <= first[3] < program.labels["main"] <= first[8]
 
 
-def test_where_lines_begin() -> None:
+def test_line_starts_are_marked() -> None:
     rows = [
         (0x10, "source.c:3", ""),
         (0x10, "source.c:4", ""),
@@ -95,7 +95,7 @@ def test_where_lines_begin() -> None:
     assert (program.line_stops(), program.entries) == ({"3": ["10", "28"]}, {"f": [0x28]})
 
 
-def test_where_breakpoints_of_lines_are(clang: Compiler) -> None:
+def test_line_breakpoints_have_addresses(clang: Compiler) -> None:
     """A line that is inlined has an address in each copy, and a function's name too."""
     text = (DATA / "images" / "prefix_sums.c").read_text("ascii")
     program = compile_c(text, clang, 0, KERNELS)
@@ -111,14 +111,14 @@ def test_where_breakpoints_of_lines_are(clang: Compiler) -> None:
     assert [bisect_right(ranges, at) for at in program.entries["prefix_bad"]] == [1, 4]
 
 
-def test_a_function_that_was_inlined_is_named(clang: Compiler) -> None:
+def test_inlined_function_is_named(clang: Compiler) -> None:
     text = (KERNELS / "saxpy.c").read_text("ascii")
     said = compile_c(text, clang, 0, KERNELS).source_lines(text)
     number = text[: text.index("sum = __riscv_vmacc")].count("\n") + 1
     assert any(line.startswith(f"{number}  ") and line.endswith("(saxpy, inlined)") for line in said.values())
 
 
-def test_mistakes(clang: Compiler) -> None:
+def test_compile_errors_have_locations(clang: Compiler) -> None:
     program = compile_c(
         "int main(void)\n{ return missing; }\nint unused(void) { int y; return 0; }\n", clang, 0, KERNELS
     )
@@ -127,12 +127,12 @@ def test_mistakes(clang: Compiler) -> None:
     assert "undeclared" in program.mistakes[0].message
 
 
-def test_what_the_linker_misses(clang: Compiler) -> None:
+def test_undefined_symbol_is_located(clang: Compiler) -> None:
     (mistake,) = compile_c("long other(void);\nint main(void) { return other(); }\n", clang, 0, KERNELS).mistakes
     assert mistake.line == 0 and mistake.message == "undefined symbol: other"
 
 
-def test_messages() -> None:
+def test_compiler_messages_are_parsed() -> None:
     expected = [
         "source.c:3:12: error: use of undeclared identifier 'x'",
         "source.c:3:12: note: it is here",
@@ -178,7 +178,7 @@ def test_segments_become_pages_and_bytes() -> None:
     assert (program.entry, program.names()) == (0x11010, {"11010": ["_start"]})
 
 
-def test_zeros_are_not_written() -> None:
+def test_zero_bytes_are_not_written() -> None:
     data = b"\1" + bytes(100) + b"\2" * 300 + bytes(8)
     lines = program_of(
         {"entry": 0, "segments": [[0, "rw", 4096, data.hex()]], "symbols": {}, "rows": [], "variables": []}
@@ -186,7 +186,7 @@ def test_zeros_are_not_written() -> None:
     assert lines[1:4] == ["poke 0 01", f"poke 65 {'02' * 256}", f"poke 165 {'02' * 44}"]
 
 
-def test_an_image_that_is_too_large() -> None:
+def test_oversized_image_is_refused() -> None:
     for size, data in ((4096 * 201, b"\1"), (1 << 17, b"\1" * 65_537)):
         with pytest.raises(LabError, match="are the most"):
             program_of(
@@ -194,7 +194,7 @@ def test_an_image_that_is_too_large() -> None:
             )
 
 
-def test_words_are_a_closed_list() -> None:
+def test_compiler_arguments_are_closed_list() -> None:
     clang, gcc = Compiler("clang-19"), Compiler("riscv64-linux-gnu-gcc-14")
     for each in (clang, gcc):
         for choice in range(len(CHOICES)):
@@ -238,7 +238,7 @@ numbers: .zero 8 * 4
 """
 
 
-def test_a_source_for_a_stock_assembler(session: Session, clang: Compiler) -> None:
+def test_stock_assembler_source_builds(session: Session, clang: Compiler) -> None:
     """Its lines are at its instructions, a macro's too; it begins at `_start`, or with its first instruction."""
     stock, expected = choice_of("stock"), struct.pack("<8i", *range(0, 64, 8))
     assert run(session, clang, DOUBLES, stock) == (expected, 5)
@@ -253,14 +253,14 @@ def test_a_source_for_a_stock_assembler(session: Session, clang: Compiler) -> No
     assert run(session, clang, again, stock) == (expected, 5)
 
 
-def test_mistakes_for_a_stock_assembler(clang: Compiler) -> None:
+def test_stock_assembler_mistakes_have_locations(clang: Compiler) -> None:
     program = compile_c("nop\n vadd.vv v1, v2\n fadd.s f1, f2, f3\n", clang, choice_of("stock"), KERNELS)
     assert not program.lines and [mistake.line for mistake in program.mistakes] == [2, 3]
     (mistake,) = compile_c("call missing\n", clang, choice_of("stock"), KERNELS).mistakes
     assert mistake.line == 0 and mistake.message == "undefined symbol: missing"
 
 
-def test_options_fit_a_file() -> None:
+def test_options_match_file_suffix() -> None:
     kernel, source = pathlib.Path("kernel.c"), pathlib.Path("kernel.s")
     assert choice_for(kernel, "O0") == choice_of("O0") and choice_for(source, "stock") == choice_of("stock")
     assert choice_for(source, "O0") is None and choice_for(pathlib.Path("script"), "O0") is None
@@ -270,13 +270,13 @@ def test_options_fit_a_file() -> None:
 
 
 @pytest.mark.parametrize("name", ["/bin/sh", "@file", "", "clang-19 -fplugin=x"])
-def test_a_compiler_that_is_none(name: str) -> None:
+def test_unknown_compiler_is_refused(name: str) -> None:
     with pytest.raises(LabError, match="no compiler"):
         find_compiler(name)
 
 
 @pytest.mark.parametrize("is_root", [True, False])
-def test_a_command_installs_the_compilers(
+def test_command_installs_compilers(
     lab: Lab, monkeypatch: pytest.MonkeyPatch, tmp_path: pathlib.Path, is_root: bool
 ) -> None:
     log, installer, sudo = tmp_path / "log", tmp_path / "debian_packages", tmp_path / "sudo"
@@ -302,7 +302,7 @@ def test_a_command_installs_the_compilers(
     assert log.read_text() == ("compilers\n" if is_root else "")
 
 
-def test_a_lesson_of_a_source_in_c(clang: Compiler, tmp_path: pathlib.Path) -> None:
+def test_c_source_makes_lesson(clang: Compiler, tmp_path: pathlib.Path) -> None:
     page = tmp_path / "page.html"
     words = ["lesson", str(KERNELS / "grey.c"), "-o", str(page), "--cc", clang.name, "--options", "O3"]
     subprocess.run([sys.executable, "-m", "vecmon_lab", *words], check=True)
@@ -312,7 +312,7 @@ def test_a_lesson_of_a_source_in_c(clang: Compiler, tmp_path: pathlib.Path) -> N
     assert "upper eight stay." in text and "vecmon.h" not in text
 
 
-def test_a_lesson_of_a_source_with_mistakes(clang: Compiler, tmp_path: pathlib.Path) -> None:
+def test_c_source_with_mistakes_makes_no_lesson(clang: Compiler, tmp_path: pathlib.Path) -> None:
     source = tmp_path / "wrong.c"
     source.write_text("int main(void)\n{\n    return 1 +;\n}\n", "ascii")
     words = ["lesson", str(source), "--cc", clang.name]
@@ -320,7 +320,7 @@ def test_a_lesson_of_a_source_with_mistakes(clang: Compiler, tmp_path: pathlib.P
     assert (done.returncode, done.stderr) == (2, "vecmon-lab: wrong.c:3:15: expected expression\n")
 
 
-def test_a_lesson_of_a_source_for_a_stock_assembler(clang: Compiler, tmp_path: pathlib.Path) -> None:
+def test_stock_assembler_source_makes_lesson(clang: Compiler, tmp_path: pathlib.Path) -> None:
     """Which the lab's own assembler doesn't take; sentences and set-up are as they are there."""
     source, page = tmp_path / "doubles.s", tmp_path / "page.html"
     source.write_text(DOUBLES, "ascii")

@@ -47,9 +47,7 @@ def no_namespaces(tmp_path: pathlib.Path, monkeypatch: pytest.MonkeyPatch, sandb
 
 
 @pytest.mark.parametrize("report", ["--csv", "--junit", "--gradescope"])
-def test_nothing_is_graded_where_the_sandbox_does_not_start(
-    no_namespaces: Compiler, lab: Lab, tmp_path: pathlib.Path, report: str
-) -> None:
+def test_grade_refuses_without_sandbox(no_namespaces: Compiler, lab: Lab, tmp_path: pathlib.Path, report: str) -> None:
     """`grade` ends with 2 and bwrap's own words, prints no mark and writes no report."""
     words: list[object] = [report] if report == "--csv" else [report, tmp_path / "report"]
     status, output, errors = lab("grade", "doubles", GOOD, *words)
@@ -57,15 +55,13 @@ def test_nothing_is_graded_where_the_sandbox_does_not_start(
     assert errors.startswith(f"vecmon-lab: the sandbox of compilers doesn't start: {WORDS}")
 
 
-def test_no_exercise_is_tried_where_the_sandbox_does_not_start(
-    no_namespaces: Compiler, lab: Lab, tmp_path: pathlib.Path
-) -> None:
+def test_exercise_try_refuses_without_sandbox(no_namespaces: Compiler, lab: Lab, tmp_path: pathlib.Path) -> None:
     lab("exercise", "new", tmp_path / "mine")
     status, output, errors = lab("exercise", "try", tmp_path / "mine")
     assert (status, output) == (2, b"") and WORDS in errors
 
 
-def test_explore_and_check_tell_that_the_sandbox_does_not_start(no_namespaces: Compiler, lab: Lab) -> None:
+def test_explore_and_check_report_missing_sandbox(no_namespaces: Compiler, lab: Lab) -> None:
     """So does what a class is served with: before anything is compiled."""
     status, _, errors = lab("explore", EXAMPLES / "kernels" / "saxpy.c")
     assert status == 2 and errors.count(WORDS) == errors.count("\n") == 1
@@ -77,16 +73,14 @@ def test_explore_and_check_tell_that_the_sandbox_does_not_start(no_namespaces: C
     )
 
 
-def test_a_class_tells_that_the_sandbox_does_not_start(
-    no_namespaces: Compiler, capsys: pytest.CaptureFixture[str]
-) -> None:
+def test_class_reports_missing_sandbox(no_namespaces: Compiler, capsys: pytest.CaptureFixture[str]) -> None:
     builds = builds_by(None)
     assert builds.compiler is None and WORDS in builds.no_c and WORDS in capsys.readouterr().err
     with pytest.raises(ToolError, match="namespace"):
         builds_by(no_namespaces.name)
 
 
-def test_the_sandbox_starts(sandboxed_clang: Compiler, capsys: pytest.CaptureFixture[str]) -> None:
+def test_sandbox_starts(sandboxed_clang: Compiler, capsys: pytest.CaptureFixture[str]) -> None:
     check_start(sandboxed_clang)
     if os.geteuid():
         print_compilers()
@@ -114,7 +108,7 @@ def test_the_sandbox_starts(sandboxed_clang: Compiler, capsys: pytest.CaptureFix
         ),
     ],
 )
-def test_each_end_of_the_sandbox_has_a_sentence(
+def test_sandbox_exit_is_explained(
     sandboxed_clang: Compiler, monkeypatch: pytest.MonkeyPatch, status: int, said: str, sentence: str
 ) -> None:
     """By its status and its standard error, which isn't thrown away."""
@@ -144,12 +138,12 @@ def test_each_end_of_the_sandbox_has_a_sentence(
         (1, "source.c:1:1: error: expected expression", 1, ""),
     ],
 )
-def test_each_end_of_a_compiler_has_a_sentence(status: int, said: str, seconds: float, sentence: str) -> None:
+def test_compiler_exit_is_explained(status: int, said: str, seconds: float, sentence: str) -> None:
     ending = ending_of(status, said, seconds)
     assert sentence in ending if sentence else not ending
 
 
-def test_a_compiler_that_is_killed_says_nothing_about_the_source() -> None:
+def test_killed_compiler_does_not_blame_source() -> None:
     with pytest.raises(Failure, match="killed from outside"):
         ending_of(-signal.SIGKILL, "", 1.0)
     with pytest.raises(ToolError, match="killed from outside"):
@@ -175,7 +169,7 @@ sandbox_main.main()
         ("instead(command)", "the image can't be read: its debug data nests too deeply"),
     ],
 )
-def test_each_limit_of_the_image_has_a_sentence(
+def test_image_limit_is_explained(
     sandboxed_clang: Compiler, monkeypatch: pytest.MonkeyPatch, code: str, sentence: str
 ) -> None:
     """Of time, of memory and of depth, as where debug data is crafted."""
@@ -185,7 +179,7 @@ def test_each_limit_of_the_image_has_a_sentence(
     }  # fmt: skip
 
 
-def test_an_endless_compile_has_its_sentence(sandboxed_clang: Compiler, monkeypatch: pytest.MonkeyPatch) -> None:
+def test_endless_compile_is_explained(sandboxed_clang: Compiler, monkeypatch: pytest.MonkeyPatch) -> None:
     """With a limit of a second of processor time, which a signal to the compiler ends."""
     limit = "sandbox_main.CPU_SECONDS, sandbox_main.LIMITS[sandbox_main.resource.RLIMIT_CPU] = 1, (1, 2)"
     monkeypatch.setattr(
@@ -195,14 +189,14 @@ def test_an_endless_compile_has_its_sentence(sandboxed_clang: Compiler, monkeypa
     assert reply["messages"][0] == [0, 0, True, "the compiler was stopped: it took more than 1 s of processor time"]
 
 
-def test_a_crash_has_its_sentence(sandboxed_clang: Compiler) -> None:
+def test_compiler_crash_is_explained(sandboxed_clang: Compiler) -> None:
     """And what the compiler prints about itself isn't repeated."""
     text = f"#pragma clang __debug crash\n{MAIN}"
     [[line, _, is_error, message]] = json.loads(answer_sandboxed([sandboxed_clang.name, "0"], text))["messages"]
     assert (line, is_error) == (0, True) and message.startswith("the compiler crashed (")
 
 
-def test_a_sandbox_that_is_killed(sandboxed_clang: Compiler) -> None:
+def test_killed_sandbox_is_reported(sandboxed_clang: Compiler) -> None:
     """By something else: that isn't the source's fault, as a limit of memory is."""
 
     async def kill() -> bytes:
@@ -217,15 +211,13 @@ def test_a_sandbox_that_is_killed(sandboxed_clang: Compiler) -> None:
         asyncio.run(kill())
 
 
-def test_a_computer_that_is_busy_is_no_fault_of_a_source(
-    sandboxed_clang: Compiler, monkeypatch: pytest.MonkeyPatch
-) -> None:
+def test_busy_computer_does_not_blame_source(sandboxed_clang: Compiler, monkeypatch: pytest.MonkeyPatch) -> None:
     monkeypatch.setattr(sandbox, "SECONDS", 0.01)
     with pytest.raises(ToolError, match="took more than 0.01 s by the clock"):
         compile_c(MAIN, sandboxed_clang, 0)
 
 
-def test_a_missing_package_has_its_sentence(clang: Compiler, tmp_path: pathlib.Path) -> None:
+def test_missing_package_is_explained(clang: Compiler, tmp_path: pathlib.Path) -> None:
     """`profile x.c` without pyelftools names the package."""
     (tmp_path / "x.c").write_text(MAIN)
     code = "import sys; sys.modules['elftools'] = None; import vecmon_lab.__main__ as lab; sys.exit(lab.main())"

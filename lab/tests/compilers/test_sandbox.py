@@ -57,7 +57,7 @@ def answer(clang: Compiler) -> Ask:
     return ask
 
 
-def test_a_program(answer: Ask) -> None:
+def test_sandbox_compiles_program(answer: Ask) -> None:
     reply = answer(MAIN)
     assert reply["messages"] == [] and reply["image"]
 
@@ -74,7 +74,7 @@ def test_a_program(answer: Ask) -> None:
         f'#include "{pathlib.Path(__file__).resolve()}"',
     ],
 )
-def test_files_of_the_system_are_not_there(answer: Ask, line: str) -> None:
+def test_system_files_are_hidden(answer: Ask, line: str) -> None:
     reply = answer(f"{line}\n{MAIN}")
     text = json.dumps(reply)
     assert reply["image"] is None and reply["messages"]
@@ -82,7 +82,7 @@ def test_files_of_the_system_are_not_there(answer: Ask, line: str) -> None:
 
 
 @pytest.mark.parametrize("line", ['.incbin "/etc/passwd"', '.include "/etc/passwd"', '.incbin "/proc/self/environ"'])
-def test_a_stock_assembler_reads_no_files(answer: Ask, line: str) -> None:
+def test_stock_assembler_reads_no_files(answer: Ask, line: str) -> None:
     reply = answer(f"_start: nop\n {line}\n", "stock")
     assert reply["image"] is None and [message[0] for message in reply["messages"]] == [2]
     assert SECRET not in json.dumps(reply) and SECRET.encode().hex() not in json.dumps(reply)
@@ -90,7 +90,7 @@ def test_a_stock_assembler_reads_no_files(answer: Ask, line: str) -> None:
 
 
 @pytest.mark.parametrize("text", [".rept 100000000\n.dword 1\n.endr\n", '.incbin "/dev/zero"\n', ".fill 1 << 40\n"])
-def test_what_takes_a_stock_assembler_too_much_ends(answer: Ask, text: str) -> None:
+def test_stock_assembler_is_limited(answer: Ask, text: str) -> None:
     started = time.monotonic()
     try:
         reply = answer(text, "stock")
@@ -100,7 +100,7 @@ def test_what_takes_a_stock_assembler_too_much_ends(answer: Ask, text: str) -> N
     assert time.monotonic() - started < SECONDS + 5
 
 
-def test_processes_without_end(answer: Ask, monkeypatch: pytest.MonkeyPatch) -> None:
+def test_fork_bomb_ends(answer: Ask, monkeypatch: pytest.MonkeyPatch) -> None:
     """Of 500 that are begun few are: root's count too, which otherwise nothing bounds."""
     monkeypatch.setattr(sandbox, "MODULE", ("-c", FORKS))
     [(made, *_)] = answer(MAIN)["messages"]
@@ -130,7 +130,7 @@ def test_processes_without_end(answer: Ask, monkeypatch: pytest.MonkeyPatch) -> 
         "signs",
     ],
 )
-def test_what_takes_too_much_ends(answer: Ask, text: str, sentence: str) -> None:
+def test_compiler_resources_are_limited(answer: Ask, text: str, sentence: str) -> None:
     started = time.monotonic()
     try:
         reply = answer(text)
@@ -140,7 +140,7 @@ def test_what_takes_too_much_ends(answer: Ask, text: str, sentence: str) -> None
     assert time.monotonic() - started < SECONDS + 5
 
 
-def test_a_macro_without_end(answer: Ask) -> None:
+def test_endless_macro_ends(answer: Ask) -> None:
     doubled = "".join(f"#define A{i + 1} A{i} A{i} A{i} A{i}\n" for i in range(30))
     started = time.monotonic()
     try:
@@ -151,18 +151,18 @@ def test_a_macro_without_end(answer: Ask) -> None:
     assert time.monotonic() - started < SECONDS + 5
 
 
-def test_libraries_that_a_source_names(answer: Ask) -> None:
+def test_named_library_is_not_linked(answer: Ask) -> None:
     reply = answer(f'#pragma comment(lib, "/etc/passwd")\n#pragma comment(lib, "c")\n{MAIN}')
     assert SECRET not in json.dumps(reply)
 
 
-def test_names_that_are_long(answer: Ask) -> None:
+def test_long_name_is_truncated(answer: Ask) -> None:
     name = "f" * 60_000
     reply = answer(f"int {name}(void) {{ return 1; }}\nint main(void) {{ return {name}(); }}\n")
     assert max(map(len, reply["image"]["symbols"])) <= 100
 
 
-def test_debug_data_that_is_crafted(answer: Ask) -> None:
+def test_crafted_debug_data_is_ignored(answer: Ask) -> None:
     sections = [".debug_line", ".debug_info", ".debug_abbrev", ".debug_ranges", ".debug_str", ".debug_loc"]
     junk = "".join(f'__asm__(".section {each}\\n.fill 2000, 4, 0xffffff7f\\n.text");\n' for each in sections)
     reply = answer(junk + MAIN)
@@ -197,7 +197,7 @@ def nested(depth: int) -> bytes:
     return expression
 
 
-def test_variables_that_are_crafted(answer: Ask) -> None:
+def test_crafted_variables_are_bounded(answer: Ask) -> None:
     hostile = [
         b"\xff\xff",
         b"\x96" * 40,
@@ -218,7 +218,7 @@ def test_variables_that_are_crafted(answer: Ask) -> None:
     assert [each[6][0][2] for each in others] == ["untold"] * len(hostile)
 
 
-def test_more_variables_than_are_told(answer: Ask) -> None:
+def test_excess_variables_are_omitted(answer: Ask) -> None:
     reply = answer(crafted([("x" * 200, b"\x50")] * 1000, type_at=1 << 31))
     assert len(reply["image"]["variables"]) <= 300
 
@@ -233,14 +233,14 @@ def elf(headers: list[bytes]) -> bytes:
     return head + b"".join(headers)
 
 
-def test_more_headers_than_may_be(tmp_path: pathlib.Path) -> None:
+def test_excess_headers_are_refused(tmp_path: pathlib.Path) -> None:
     path = tmp_path / "image"
     path.write_bytes(elf([struct.pack("<IIQQQQQQ", 1, 4, 0, 0, 0, 1, 1, 1)] * 10_000))
     with pytest.raises(ValueError, match="more than 64 segments"):
         image_of(path)
 
 
-def test_segments_that_are_too_large(tmp_path: pathlib.Path) -> None:
+def test_oversized_segments_are_refused(tmp_path: pathlib.Path) -> None:
     path = tmp_path / "image"
     for size, memory in ((1, 1 << 60), (1 << 60, 1)):
         path.write_bytes(elf([struct.pack("<IIQQQQQQ", 1, 4, 0, 0, 0, size, memory, 1)]))
@@ -248,7 +248,7 @@ def test_segments_that_are_too_large(tmp_path: pathlib.Path) -> None:
             image_of(path)
 
 
-def test_root_has_no_sandbox(monkeypatch: pytest.MonkeyPatch) -> None:
+def test_sandbox_refuses_root(monkeypatch: pytest.MonkeyPatch) -> None:
     monkeypatch.setattr(shutil, "which", lambda name: f"/usr/bin/{name}")
     monkeypatch.setattr(os, "geteuid", lambda: 0)
     with pytest.raises(LabError, match="as root"):

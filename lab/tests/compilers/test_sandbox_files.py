@@ -79,7 +79,7 @@ def messages(reply: bytes) -> list[Any]:
     return [text for _, _, _, text in json.loads(reply)["messages"]]
 
 
-def test_the_list_has_what_the_modules_import() -> None:
+def test_list_covers_imports() -> None:
     """In a new interpreter `sandbox_main` loads the modules of the list, and no other of the lab."""
     code = "import sys, vecmon_lab.compilers.sandbox_main; print(*(m.__file__ for n, m in sys.modules.items() if 'vecmon' in n))"
     done = subprocess.run([sys.executable, "-c", code], capture_output=True, text=True, check=True)
@@ -87,7 +87,7 @@ def test_the_list_has_what_the_modules_import() -> None:
     assert loaded == {module for module in MODULES if module.endswith(".py")}
 
 
-def test_files_of_the_list_alone_are_there(inside: Inside) -> None:
+def test_only_listed_files_exist_in_sandbox(inside: Inside) -> None:
     """Of the lab there are the modules of the list, and elsewhere programs, libraries, headers and Python alone."""
     found = inside(WALK, [])
     of_lab = {path for path in found if path.startswith(f"{PLACE}/") and not path.startswith(f"{PLACE}/elftools/")}
@@ -97,7 +97,7 @@ def test_files_of_the_list_alone_are_there(inside: Inside) -> None:
     assert len(others) < 60 and not any("/share/" in path or "/include/" in path for path in others)
 
 
-def test_no_file_of_the_lab_is_there(inside: Inside, tmp_path: pathlib.Path) -> None:
+def test_lab_files_are_hidden(inside: Inside, tmp_path: pathlib.Path) -> None:
     """Neither below the lab's folder, where an installed lab has its own, nor an exercise in a folder of the user's."""
     (tmp_path / "exercise.toml").write_text("title = 'mine'\n")
     installed = ["/usr/share/vecmon", *(f"/usr/share/vecmon/{path.relative_to(TOP)}" for path in EXERCISES)]
@@ -107,7 +107,7 @@ def test_no_file_of_the_lab_is_there(inside: Inside, tmp_path: pathlib.Path) -> 
     assert inside(EXISTING, [f"{PLACE}/vecmon_lab/compilers/runtime/vecmon.h"]) != []
 
 
-def test_no_file_of_the_lab_is_found_from_c(sandboxed_clang: Compiler) -> None:
+def test_lab_files_are_hidden_from_c(sandboxed_clang: Compiler) -> None:
     """By `__has_include` and `__has_embed`, which would name it in a message; the header for students is found."""
     paths = [*names(TOP / "lab"), *(f"/proc/self/fd/{number}" for number in range(20)), "/proc/self/root", "/dev/fd/0"]
     test = '#if __has_include("{0}") || __has_embed("{0}")\n#error there is {0}\n#endif\n'
@@ -116,7 +116,7 @@ def test_no_file_of_the_lab_is_found_from_c(sandboxed_clang: Compiler) -> None:
 
 
 @pytest.mark.parametrize("options", ["O2", "stock"])
-def test_no_exercise_is_included_as_bytes(sandboxed_clang: Compiler, options: str) -> None:
+def test_exercise_cannot_be_included_as_bytes(sandboxed_clang: Compiler, options: str) -> None:
     """`.incbin` finds no file of an exercise, in C and in assembler; of twenty errors each compiler ends."""
     files = [path for path in EXERCISES if path.name in ("good.c", "exercise.toml")]
     files = files[:9] + files[-9:]
@@ -128,7 +128,7 @@ def test_no_exercise_is_included_as_bytes(sandboxed_clang: Compiler, options: st
     assert len(reply) <= len(files) and not any("title" in each or str(OURS) in each for each in reply)
 
 
-def test_no_option_of_the_compiler_reaches_an_exercise(inside: Inside) -> None:
+def test_compiler_option_cannot_reach_exercise(inside: Inside) -> None:
     """As `-x` and `-include`, which no source can set, and which would find nothing either."""
     paths = [
         OURS / "doubles" / "exercise.toml",
@@ -139,7 +139,7 @@ def test_no_option_of_the_compiler_reaches_an_exercise(inside: Inside) -> None:
 
 
 @pytest.mark.parametrize("name", ["doubles", "prefix_sums"])
-def test_an_exercise_is_not_passed_by_its_own_answer(
+def test_reference_answer_is_not_reachable(
     lab: Lab, tmp_path: pathlib.Path, monkeypatch: pytest.MonkeyPatch, sandboxed_clang: Compiler, name: str
 ) -> None:
     """A source that includes the good answer from where the sandbox had the lab, or from where the lab is, is a mistake."""

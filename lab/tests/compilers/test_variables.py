@@ -37,19 +37,19 @@ def compiled(clang: Compiler, text: str, choice: int = O2) -> CompiledProgram:
     return program
 
 
-def test_types_in_the_words_of_c(clang: Compiler) -> None:
+def test_types_are_written_in_c(clang: Compiler) -> None:
     text = "#include <stdint.h>\n" + "".join(f"{each};\n" for each in DECLARED) + "int main(void) { return 0; }\n"
     expected = {words: (element, counts) for _, words, element, counts, *_ in compiled(clang, text, O0).variables}
     assert expected == {re.sub(r" {.*}", "", words): form for words, form in DECLARED.items()}
 
 
-def test_a_global_lies_at_its_symbol(clang: Compiler) -> None:
+def test_global_is_at_its_symbol(clang: Compiler) -> None:
     program = compiled(clang, (KERNELS / "saxpy.c").read_text("ascii"))
     (found,) = (each for each in program.variables if each[1] == "int32_t y[37]")
     assert found[4:6] == ("", []) and found[6] == [Location(0, CODE_END, "memory", 0, f"{program.labels['y']:x}")]
 
 
-def test_arguments_come_in_registers(clang: Compiler) -> None:
+def test_arguments_are_in_registers(clang: Compiler) -> None:
     text = "__attribute__((noinline)) long sum(long one, long other) { return one + other; }\n"
     program = compiled(clang, text + "int main(void) { return (int)sum(3, 4); }\n")
     places = {
@@ -61,7 +61,7 @@ def test_arguments_come_in_registers(clang: Compiler) -> None:
         assert scopes[0][0] == program.labels["sum"] and place[0] <= scopes[0][0]
 
 
-def test_locals_lie_in_their_frame(clang: Compiler) -> None:
+def test_locals_are_in_their_frame(clang: Compiler) -> None:
     text = "int main(void)\n{\n    int first = 1;\n    long second = 2;\n    return first + (int)second;\n}\n"
     variables = compiled(clang, text, O0).variables
     assert {name for name, *_ in variables} == {"first", "second"}
@@ -69,7 +69,7 @@ def test_locals_lie_in_their_frame(clang: Compiler) -> None:
         assert function == "main" and place[2:4] == ("memory", 8) and int(place[4], 16) >= (1 << 64) - 64
 
 
-def test_what_was_optimized_out_has_no_place(clang: Compiler) -> None:
+def test_optimized_out_variable_has_no_location(clang: Compiler) -> None:
     """A vector is in no register that clang describes, and 3 is a part of an instruction."""
     found = {each[0]: each for each in compiled(clang, (KERNELS / "saxpy.c").read_text("ascii")).variables}
     for name, declared in (("sum", "vint32m2_t sum"), ("factor", "int32_t factor")):
@@ -77,7 +77,7 @@ def test_what_was_optimized_out_has_no_place(clang: Compiler) -> None:
         assert (words, function, places) == (declared, "saxpy", []) and scopes == found["length"][5]
 
 
-def test_the_runtime_has_no_variables_here(clang: Compiler) -> None:
+def test_runtime_variables_are_omitted(clang: Compiler) -> None:
     assert compiled(clang, "int main(void) { return 0; }\n").variables == []
 
 
@@ -107,12 +107,12 @@ PLUS, MINUS, TIMES = operation("plus", 0x22), operation("minus", 0x1C), operatio
         ([operation("const1u", 0x08, 7), operation("consts", 0x11, -9), PLUS, VALUE], "value", 0, -2),
     ],
 )
-def test_locations(operations: list[Operation], kind: str, register: int, offset: int) -> None:
+def test_location_expression_is_decoded(operations: list[Operation], kind: str, register: int, offset: int) -> None:
     reply = location(4, 8, operations, (8, 16))
     assert reply == Location(4, 8, kind, register, f"{offset % (1 << 64):x}")
 
 
-def test_a_frame_without_a_known_base_tells_nothing() -> None:
+def test_frame_without_base_has_no_locations() -> None:
     """As those of gcc, whose base is the frame's address as the unwinder has it (DW_OP_call_frame_cfa)."""
     with pytest.raises(ValueError, match="isn't known here"):
         location(0, 8, [operation("fbreg", 0x91, -20)], None)
@@ -133,7 +133,7 @@ def test_a_frame_without_a_known_base_tells_nothing() -> None:
         [operation("regval_type", 0xA5, 10, 8)],
     ],
 )
-def test_what_isnt_known_is_not_told(operations: list[Operation]) -> None:
+def test_unknown_location_is_omitted(operations: list[Operation]) -> None:
     with pytest.raises((ValueError, IndexError)):
         location(0, 8, operations, (8, 0))
 
@@ -151,7 +151,7 @@ def test_what_isnt_known_is_not_told(operations: list[Operation]) -> None:
         (6, 7),
     ],
 )
-def test_variables_in_bad_form(place: int, part: object) -> None:
+def test_malformed_variables_are_refused(place: int, part: object) -> None:
     reply: list[object] = ["a", "int a", "i32", [], "", [[0, 8]], [[0, 8, "memory", 34, "12480"]]]
     (read,) = read_variables([reply])
     assert read == Variable("a", "int a", "i32", [], "", [(0, 8)], [Location(0, 8, "memory", 2, "12480")])

@@ -12,7 +12,7 @@ STOPPED = "Stopped at the breakpoint at 0x{}; its instruction is the next one."
 
 
 @pytest.mark.parametrize("image", PREFIX_SUMS, ids=str)
-def test_an_inlined_function_stops(image: pathlib.Path) -> None:
+def test_inlined_function_stops(image: pathlib.Path) -> None:
     """`prefix_bad` isn't static, and main has a copy of it: the symbol is that of the copy that nothing calls."""
     output = shown(["break prefix_bad", "breaks", "run"], image)
     assert output[1:5] == [
@@ -25,7 +25,7 @@ def test_an_inlined_function_stops(image: pathlib.Path) -> None:
     assert output[3:] == ["ok: at 11190 prefix_bad, 11354 main+0xd0", "11284 main  (prefix_sums.c:51)", "ok"]
 
 
-def test_a_line_stops_in_all_copies() -> None:
+def test_line_stops_in_all_copies() -> None:
     lines = [
         "break prefix_sums.c:10",
         "run",
@@ -64,33 +64,31 @@ TAKEN = [
 ]
 
 
-def test_how_a_word_is_taken() -> None:
+def test_place_argument_is_resolved() -> None:
     lines, reply = zip(*TAKEN)
     assert shown([*lines], PREFIX_SUMS[0])[1:] == [*reply]
 
 
-def test_a_number_without_source_lines_is_an_address() -> None:
-    help_text = shown(["break 28", "breaks", "break sum.c:28", "help unbreak"], SUM)
-    assert help_text[1:4] == ["ok", "28", "no source lines are known: compile the image with -g"]
-    assert (
-        help_text[4].startswith("unbreak ADDR: ") and help_text[-1] == "  ADDR may be a function or a line, as sum.c:12"
-    )
+def test_number_without_source_lines_is_address() -> None:
+    output = shown(["break 28", "breaks", "break sum.c:28", "help unbreak"], SUM)
+    assert output[1:4] == ["ok", "28", "no source lines are known: compile the image with -g"]
+    assert output[4].startswith("unbreak ADDR: ") and output[-1] == "  ADDR may be a function or a line, as sum.c:12"
 
 
-def test_lines_of_an_assembler_source() -> None:
+def test_assembler_source_line_stops() -> None:
     output = shown(["break 29", "break strip_mined.s:28", "run", "run"], STRIP_MINED)
     assert output[1].startswith("ok: 29 is taken as the line strip_mined.s:29, at 100")
     assert output[2] == "ok: at 10040 next+0x28" and STOPPED.format("10040") in output
 
 
-def test_an_ambiguous_name_lists_its_places() -> None:
+def test_ambiguous_name_lists_places() -> None:
     places = "scaled names 2 places: 111d0 (namesake.c:8), 111e0 (namesake_other.c:3); name one as FILE:LINE or by its address"
     lines = ["break scaled", "peek scaled", "until scaled", "break namesake_other.c:3", "run"]
     output = shown(lines, NAMESAKES)
     assert output[1:6] == [places] * 3 + ["ok: at 111e0 scaled", STOPPED.format("111e0")]
 
 
-def test_a_condition_holds_at_each_address() -> None:
+def test_condition_applies_at_every_address() -> None:
     output = shown(["break prefix_sums.c:14 if vl < 10", "run", "breaks"], PREFIX_SUMS[1])
     assert output[1:3] == ["ok: at 111d8 prefix_bad+0x48, 1136c main+0xe8", STOPPED.format("1136c")]
     assert any("vl=2" in line for line in output)  # 50 is 3 times 16 and 2
@@ -100,7 +98,7 @@ def test_a_condition_holds_at_each_address() -> None:
     ]
 
 
-def test_a_line_with_more_addresses_than_breakpoints_are_left() -> None:
+def test_line_needing_too_many_breakpoints_is_refused() -> None:
     lines = [*(f"break {4 * place:#x}" for place in range(100, 112)), "break prefix_sums.c:9", "until prefix_sums.c:9"]
     output = shown([*lines, *(f"break 0x{4 * place:x}" for place in range(5)), "breaks"], PREFIX_SUMS[1])
     assert output[1:13] == ["ok"] * 12
@@ -115,7 +113,7 @@ def test_a_line_with_more_addresses_than_breakpoints_are_left() -> None:
     assert output[15:20] == ["ok"] * 4 + ["E12: the user already has sixteen breakpoints"] and len(output[20:]) == 16
 
 
-def test_load_keeps_breakpoints_of_the_same_image() -> None:
+def test_load_preserves_breakpoints_of_same_image() -> None:
     lines = ["break prefix_sums.c:13 if vl < 10", "break main", "run", "load", "breaks", "run"]
     output = shown(lines, PREFIX_SUMS[0])
     again = output[output.index("loaded pc=0000000000011528 pages=7") :]

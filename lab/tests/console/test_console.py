@@ -46,7 +46,7 @@ def terminal(tmp_path: pathlib.Path, *words: object, **environment: str) -> Term
     return Terminal([*CONSOLE, *map(str, words)], {"XDG_STATE_HOME": str(tmp_path / "state"), **environment})
 
 
-def test_an_image_runs_to_its_end() -> None:
+def test_image_runs_to_exit() -> None:
     lines = shown(["run", "vreg v8", "step"], SUM)  # its output and end, as in docs/COMPILING.md
     assert lines[:3] == [
         "=> 11190 _start  addi x2, x2, -16",
@@ -59,7 +59,7 @@ def test_an_image_runs_to_its_end() -> None:
     assert lines[-2:] == ["The program has ended with status 0, at 0x112dc.", "=> 112dc _start+0x14c  ecall"]
 
 
-def test_a_fault_and_how_to_go_on() -> None:
+def test_fault_is_explained_and_resumed() -> None:
     lines = ["run", "dis", "vcsr", "peek 11ff8 8", "load", "poke 11000 e803", "run"]  # docs/COMPILING.md
     output = shown(lines, SQUARES)
     reason = "The store at 0x10198 may not write from 0x12000 on: a page isn't mapped, or has no permission w."
@@ -72,18 +72,18 @@ def test_a_fault_and_how_to_go_on() -> None:
     assert "The program has ended with status 0, at 0x10180." in output
 
 
-def test_arguments_of_an_image(program: pathlib.Path, tmp_path: pathlib.Path) -> None:
+def test_image_receives_arguments(program: pathlib.Path, tmp_path: pathlib.Path) -> None:
     make_image(program, tmp_path / "image", ARGUMENTS)
-    help_text = shown(["run", "2 enter", "2 load image", "load", "step", "run"], tmp_path / "image", "x" * 40, "--help")
-    assert help_text[1:4] == ["image", "x" * 40, "--help"] and help_text.count("--help") == 2
-    assert sum(line.startswith("The program has ended with status 3, ") for line in help_text) == 2
-    step = help_text.index("   10000  ld x8, 0(x2)")
-    assert help_text[step + 1 : step + 3] == ["      x8/s0=3", "=> 10004  addi x9, x2, 8"]
+    output = shown(["run", "2 enter", "2 load image", "load", "step", "run"], tmp_path / "image", "x" * 40, "--help")
+    assert output[1:4] == ["image", "x" * 40, "--help"] and output.count("--help") == 2
+    assert sum(line.startswith("The program has ended with status 3, ") for line in output) == 2
+    step = output.index("   10000  ld x8, 0(x2)")
+    assert output[step + 1 : step + 3] == ["      x8/s0=3", "=> 10004  addi x9, x2, 8"]
     run = run_console([], STRIP_MINED, "one")
     assert (run.returncode, run.stderr) == (2, b"vecmon-lab: words and an input are for an image alone\n")
 
 
-def test_what_each_step_changes() -> None:
+def test_step_prints_changes() -> None:
     output = shown(["break next", "run", "step 6", "vreg v9", "peek y", "vreg v8 8"], STRIP_MINED)
     assert output[0] == "=> 10000  addi x10, x0, 13"
     assert output[2] == "Stopped at the breakpoint at 0x10018; its instruction is the next one."
@@ -110,7 +110,7 @@ def test_what_each_step_changes() -> None:
 
 
 @pytest.mark.by_command("console")
-def test_the_session_of_the_manual() -> None:
+def test_manual_session_is_reproduced() -> None:
     page = (TOP / "docs" / "DEBUGGING.md").read_text("utf-8")
     session = page[
         page.index("$ vecmon-lab console ") : page.index("\n```\n\nA line is a [monitor command]")
@@ -120,33 +120,33 @@ def test_the_session_of_the_manual() -> None:
     assert shown(typed, STRIP_MINED) == [line for line in session[1:] if not line.startswith("vecmon> ")]
 
 
-def test_what_lines_change_is_no_change_of_a_step() -> None:
+def test_command_changes_are_not_step_changes() -> None:
     output = shown(
         ["map 10000 1 rwx", "asm 10000 addi x6, x0, 1", "setpc 10000", "set x5 7", f"vset v1 {'01' * 32}", "step"]
     )
     assert output[-3:] == ["   10000  addi x6, x0, 1", "      x6/t1=1", "=> 10004  .word 0x00000000"]
 
 
-def test_output_without_a_newline(tmp_path: pathlib.Path) -> None:
+def test_output_without_newline_is_shown(tmp_path: pathlib.Path) -> None:
     source = FOREVER.replace("j loop", "ebreak").replace("ready\\n", "ready!")
     (tmp_path / "ends.s").write_text(source)
     assert shown(["run"], tmp_path / "ends.s")[1:3] == ["ready!", "Stopped at the ebreak at 0x1001c."]
 
 
-def test_steps_stop_at_a_breakpoint_as_those_of_the_machine() -> None:
+def test_steps_stop_at_breakpoint_like_machine() -> None:
     output = shown(["break next+4", "step 40", "step 40", "1 regs"], STRIP_MINED)
     stops = [place for place, line in enumerate(output) if line.startswith("Stopped at the breakpoint at 0x1001c")]
     assert len(stops) == 2 and output[-9] == "1 pc 000000000001001c"
 
 
-def test_names_of_registers_and_addresses() -> None:
+def test_register_names_and_symbols_are_accepted() -> None:
     output = shown(["set a0 y", "set fp y+0x4", "set x5 0xff", "set t1 next+10", "setpc next", "regs"], STRIP_MINED)
     registers = " ".join(output[-11:])
     for name, value in {"x10/a0": 0x11040, "x8/s0": 0x11044, "x5/t0": 0xFF, "x6/t1": 0x10028, "pc": 0x10018}.items():
         assert f"{name:8} {value:016x}" in registers
 
 
-def test_a_source_in_place_of_an_image_and_back() -> None:
+def test_source_replaces_image_and_back() -> None:
     lines = [f"source {STRIP_MINED}", "break next", "run", "load", "breaks", "break next", "peek _start 4", "run"]
     output = shown(lines, SUM)
     assert (
@@ -159,18 +159,18 @@ def test_a_source_in_place_of_an_image_and_back() -> None:
     assert again[3].split()[:5] == ["11190", *"13 01 01 ff".split()] and again[4] == "328350"
 
 
-def test_a_symbol_with_something_behind_it() -> None:
+def test_symbol_with_offset_is_resolved() -> None:
     expected = "E04: _start+zz is no value, which has hexadecimal digits alone; the form is set xN VALUE"
     assert shown(["set a0 _start+zz", "set a0 _start+0x8"], SUM)[1:] == [expected, "ok"]
 
 
-def test_the_last_words_of_a_page() -> None:
+def test_last_words_of_page_are_listed() -> None:
     lines = ["map 10000 1 rwx", "asm 10ff8 ebreak", "setpc 10ff8", "dis", "setpc 10000", "dis"]
     output = shown(lines)
     assert output[4:7] == ["=> 10ff8  ebreak", "10ff8  ebreak", "10ffc  .word 0x00000000"] and len(output) == 7 + 2 + 8
 
 
-def test_lines_of_the_monitor_are_taken_as_they_stand(program: pathlib.Path) -> None:
+def test_monitor_lines_are_sent_unchanged(program: pathlib.Path) -> None:
     script = (TOURS / "assembling").read_bytes()
     own = [line for line in script.decode("ascii").splitlines() if line.startswith("1 ") and line != "1 enter"]
     lines = b"# a sentence\n\n" + "".join(f"{line}\r\n" for line in own).encode() + b"* list\n2 enter\n2 state\n"
@@ -182,7 +182,7 @@ def test_lines_of_the_monitor_are_taken_as_they_stand(program: pathlib.Path) -> 
     assert output[-2:] == ["2 entered", "2 state stopped pc=0000000000000000"]
 
 
-def test_a_user_who_is_absent_or_runs() -> None:
+def test_absent_or_running_user_is_reported() -> None:
     output = shown(["leave", "run", "step", "regs", "bar", f"source {STRIP_MINED}"])
     assert output[1:5] == ["left", *["E05: the user has not entered"] * 3]
     assert output[-1] == "=> 10000  addi x10, x0, 13"
@@ -202,7 +202,7 @@ def test_a_user_who_is_absent_or_runs() -> None:
     assert output[8:] == ["Stopped at the ebreak at 0x10000.", "=> 10000  ebreak"] * 2
 
 
-def test_a_breakpoint_where_the_ticks_of_a_round_end(tmp_path: pathlib.Path) -> None:
+def test_breakpoint_at_end_of_round_stops(tmp_path: pathlib.Path) -> None:
     (tmp_path / "ticks.s").write_text("li t0, 499999\nloop: addi t0, t0, -1\nbnez t0, loop\nhere: nop\nebreak\n")
     for lines in (["break here", "run"], ["break here", "go", "run"]):
         assert shown(lines, tmp_path / "ticks.s")[-2].startswith("Stopped at the breakpoint at 0x10010")
@@ -228,14 +228,14 @@ def test_a_breakpoint_where_the_ticks_of_a_round_end(tmp_path: pathlib.Path) -> 
         ("a" * 1023, "a line has at most 1,022 characters after its user, and this one has 1,023"),
     ],
 )
-def test_lines_that_are_refused(line: str, expected: str) -> None:
+def test_refused_line_is_explained(line: str, expected: str) -> None:
     assert shown([line, "vcsr", "quit", "regs"])[1:] == [
         expected,
         "vl=0 vtype=8000000000000000 (vill) vstart=0 vxrm=0 (rnu) vxsat=0 policy=keep",
     ]
 
 
-def test_bytes_that_are_no_text() -> None:
+def test_non_text_input_is_refused() -> None:
     output = shown(b"regs\xff\n1 state\0\nstate")
     assert output[1:] == [
         r"character 5 of a line, '\ufffd', isn't printable ASCII",
@@ -255,7 +255,7 @@ def test_bytes_that_are_no_text() -> None:
         ("  j nowhere\n", "1:5: nowhere is no register that fits here, and no label or constant known here"),
     ],
 )
-def test_a_source_that_does_not_assemble(tmp_path: pathlib.Path, source: str, expected: str) -> None:
+def test_source_errors_are_reported(tmp_path: pathlib.Path, source: str, expected: str) -> None:
     path = tmp_path / "bad.s"
     path.write_text(source)
     lines = shown(["break y", f"source {path}", "breaks", "* list"], STRIP_MINED)
@@ -276,19 +276,19 @@ def bad_images(folder: pathlib.Path) -> Iterator[tuple[pathlib.Path, str]]:
     yield folder / "large", "4,194,304"
 
 
-def test_images_that_are_refused(tmp_path: pathlib.Path) -> None:
+def test_unsuitable_image_is_refused(tmp_path: pathlib.Path) -> None:
     for path, reason in bad_images(tmp_path):
         run = run_console(["regs"], path)
         assert (run.returncode, run.stdout, run.stderr.count(b"\n")) == (2, b"", 1)
         assert run.stderr.decode().startswith(f"vecmon-lab: {path}") and reason in run.stderr.decode()
 
 
-def test_source_lines_where_the_image_tells_them() -> None:
+def test_source_lines_come_from_debug_data() -> None:
     assert shown(["step"], SUM_DWARF4)[0] == "=> 11190 _start  addi x2, x2, -16  (sum.c:30)"
     assert shown([], SUM_DWARF5) == ["=> 11190 _start  addi x2, x2, -16  (sum.c:30)"]
 
 
-def test_until_a_register_changes_or_an_address_comes() -> None:
+def test_until_stops_at_register_change_or_address() -> None:
     """In the first round eight elements are loaded into v9; a0 is 5 behind the subtraction at next+0x18."""
     output = shown(["until v9", "until a0", "until 0x1002c", "breaks", "until t6", "until vl"], STRIP_MINED)
     assert output[1:3] == ["   10020 next+0x8  vle32.v v9, (x12)", f"      v9.e32[0..7]={','.join(['00000064'] * 8)}"]
@@ -313,7 +313,7 @@ def test_until_a_register_changes_or_an_address_comes() -> None:
     assert output[-1].split()[:3] == ["1", "breaks", f"{0x10000:016x}"]
 
 
-def test_back_by_instructions_and_to_a_write() -> None:
+def test_back_returns_to_instruction_or_write() -> None:
     """The first eight sums are stored at y in the first round, when a0 is still thirteen."""
     output = shown(
         ["run", "back", "back to write y", "peek y", "back to write y", "set x9 5", "step", "back 100"], STRIP_MINED
@@ -332,7 +332,7 @@ def test_back_by_instructions_and_to_a_write() -> None:
     assert shown(["back", "leave", "back"], STRIP_MINED)[-1] == "This is the start: there is nothing before."
 
 
-def test_breakpoints_with_conditions() -> None:
+def test_breakpoint_condition_is_evaluated() -> None:
     lines = [
         "break next+0x14 if x10 < 6",
         "break next if vl == 8",
@@ -375,11 +375,11 @@ def test_breakpoints_with_conditions() -> None:
         ("changes", "nothing has changed"),
     ],
 )
-def test_new_lines_that_are_refused(line: str, expected: str) -> None:
+def test_bad_console_command_is_refused(line: str, expected: str) -> None:
     assert shown([line, "breaks", "1 state"], STRIP_MINED)[1:] == [expected, "1 state stopped pc=0000000000010000"]
 
 
-def test_the_source_around_a_line(tmp_path: pathlib.Path) -> None:
+def test_list_shows_source_around_line(tmp_path: pathlib.Path) -> None:
     text = STRIP_MINED.read_text().splitlines()
     output = shown(["break next", "run", "list", "list 10000"], STRIP_MINED)
     at = text.index(next(line for line in text if line.startswith("next:")))
@@ -394,7 +394,7 @@ def test_the_source_around_a_line(tmp_path: pathlib.Path) -> None:
     assert output[4] == "=>   30  {" and [int(row[2:7]) for row in output] == [*range(26, 36)]
 
 
-def test_a_run_s_changes_take_six_rows(tmp_path: pathlib.Path) -> None:
+def test_run_changes_take_six_rows(tmp_path: pathlib.Path) -> None:
     """Of e8, m8: 256 elements in eight registers, of 32 numbers with a comma each, in two rows a register."""
     source = "vsetvli t0, x0, e8, m8, ta, ma\nvid.v v8\nebreak\n"
     (tmp_path / "wide.s").write_text(source)
@@ -409,7 +409,7 @@ def test_a_run_s_changes_take_six_rows(tmp_path: pathlib.Path) -> None:
 
 @pytest.mark.parametrize("width", [38, 60, 96])
 @pytest.mark.parametrize("digits", [2, 8, 16])
-def test_no_number_is_broken(width: int, digits: int) -> None:
+def test_number_is_not_wrapped(width: int, digits: int) -> None:
     numbers = [f"{7 * number:0{digits}x}" for number in range(32)]
     texts = ["x10/a0=7fffefc0", "vtype=e8,m8,ta,ma", f"v16.e8[0..31]={','.join(numbers)}", "vl=5"]
     rows = [*change_rows(texts, width)]
@@ -426,7 +426,7 @@ def test_no_number_is_broken(width: int, digits: int) -> None:
 
 
 @pytest.mark.parametrize("columns, rooms", [(12, (2, 1, 1, 1)), (38, (8, 4, 2, 2)), (120, (16, 8, 8, 4))])
-def test_elements_in_a_row(monkeypatch: pytest.MonkeyPatch, columns: int, rooms: tuple[int, ...]) -> None:
+def test_elements_fit_row(monkeypatch: pytest.MonkeyPatch, columns: int, rooms: tuple[int, ...]) -> None:
     """The name and four columns are before elements of this width, which have a digit for four bits and a space."""
     monkeypatch.setattr(Screen, "columns", columns)
     for width, room in zip((8, 16, 32, 64), rooms):
@@ -434,9 +434,7 @@ def test_elements_in_a_row(monkeypatch: pytest.MonkeyPatch, columns: int, rooms:
         assert {len(row.removeprefix("v8").split()) for row in rows} == {min(room, 256 // width)}
 
 
-def test_rows_that_a_terminal_has_no_room_for(
-    monkeypatch: pytest.MonkeyPatch, capsys: pytest.CaptureFixture[str]
-) -> None:
+def test_rows_wrap_in_narrow_terminal(monkeypatch: pytest.MonkeyPatch, capsys: pytest.CaptureFixture[str]) -> None:
     monkeypatch.setattr(Screen, "columns", 38)
     rows = [
         "   10040 next+0x28  bne x10, x0, -40  (strip_mined.s:31)",
@@ -449,7 +447,7 @@ def test_rows_that_a_terminal_has_no_room_for(
     assert output == ["   10040 next+0x28  bne x10, x0, -40", "        (strip_mined.s:31)", *rows[1:], ""]
 
 
-def test_from_a_pipe_the_library_is_not_imported() -> None:
+def test_piped_input_imports_no_prompt_library() -> None:
     code = "import sys, vecmon_lab.__main__ as it; it.main(); sys.exit('prompt_toolkit' in sys.modules)"
     run = subprocess.run([sys.executable, "-c", code, "console"], cwd=TOP, input=b"vcsr\n", capture_output=True)
     assert (
@@ -457,7 +455,7 @@ def test_from_a_pipe_the_library_is_not_imported() -> None:
     )
 
 
-def test_a_dumb_terminal(tmp_path: pathlib.Path, forever: pathlib.Path) -> None:
+def test_dumb_terminal_works(tmp_path: pathlib.Path, forever: pathlib.Path) -> None:
     with terminal(tmp_path, forever, TERM="dumb") as console:
         console.expect("vecmon> ")
         console.type("run\n")
@@ -477,7 +475,7 @@ def test_a_dumb_terminal(tmp_path: pathlib.Path, forever: pathlib.Path) -> None:
     assert not (tmp_path / "state").exists()
 
 
-def test_ctrl_c_stops_the_program_and_not_the_machine(tmp_path: pathlib.Path, forever: pathlib.Path) -> None:
+def test_ctrl_c_stops_program_not_machine(tmp_path: pathlib.Path, forever: pathlib.Path) -> None:
     with terminal(tmp_path, forever) as console:
         console.expect("vecmon> ")
         console.type("\x1b[200~run\nregs\x1b[201~\r")  # the lines after it in the entry aren't executed
@@ -495,7 +493,7 @@ def test_ctrl_c_stops_the_program_and_not_the_machine(tmp_path: pathlib.Path, fo
 
 
 @pytest.mark.parametrize("lines", [["until s1"], ["until 0x0"], ["break loop if a7 == 0", "run"]])
-def test_ctrl_c_where_nothing_else_ends_it(tmp_path: pathlib.Path, forever: pathlib.Path, lines: list[str]) -> None:
+def test_ctrl_c_ends_endless_program(tmp_path: pathlib.Path, forever: pathlib.Path, lines: list[str]) -> None:
     with terminal(tmp_path, forever, TERM="dumb") as console:
         for line in lines:
             console.expect("vecmon> ")
@@ -507,7 +505,7 @@ def test_ctrl_c_where_nothing_else_ends_it(tmp_path: pathlib.Path, forever: path
         assert console.end()[0] == 0
 
 
-def test_completion_pasted_lines_and_the_bar(tmp_path: pathlib.Path) -> None:
+def test_prompt_completes_pastes_and_shows_bar(tmp_path: pathlib.Path) -> None:
     with terminal(tmp_path, STRIP_MINED) as console:
         console.expect("vecmon> ")
         console.expect("pc 10000   vtype vill   vl 0   policy keep")
@@ -525,7 +523,7 @@ def test_completion_pasted_lines_and_the_bar(tmp_path: pathlib.Path) -> None:
         assert console.end()[0] == 0
 
 
-def test_what_was_typed_is_kept_for_the_next_time(tmp_path: pathlib.Path) -> None:
+def test_history_is_saved(tmp_path: pathlib.Path) -> None:
     with terminal(tmp_path) as console:
         console.expect("vecmon> ")
         console.type("set x9 1234\r")
@@ -546,7 +544,7 @@ def test_what_was_typed_is_kept_for_the_next_time(tmp_path: pathlib.Path) -> Non
 
 
 @pytest.mark.parametrize("more, has_colours", [({}, True), ({"NO_COLOR": "1"}, False)])
-def test_colours(tmp_path: pathlib.Path, more: dict[str, str], has_colours: bool) -> None:
+def test_elements_are_coloured(tmp_path: pathlib.Path, more: dict[str, str], has_colours: bool) -> None:
     lines = ["break next+0x14", "run", "vreg v9", "step 9", "run", "vreg v8"]  # the second time there are five elements
     tail, masked, changed = "\x1b[2m", "\x1b[35m", "\x1b[33m"
     expected = {}
@@ -577,7 +575,9 @@ def test_colours(tmp_path: pathlib.Path, more: dict[str, str], has_colours: bool
         ("v3", 16, {"vl": 0, "vtype": 1 << 63}, 0, "a" * 16),  # vill
     ],
 )
-def test_how_elements_lie(register: str, width: int, control: dict[str, int], mask: int | None, placement: str) -> None:
+def test_element_has_status(
+    register: str, width: int, control: dict[str, int], mask: int | None, placement: str
+) -> None:
     shown = read([" ".join(["1", register, *(f"{number:0{width // 4}x}" for number in range(256 // width))])])
     assert isinstance(shown, VectorRegister)
     rows = "\n".join(Screen(True).element_rows(shown, ControlRegisters(**control, vstart=0, vxrm=0, vxsat=0), mask))
@@ -587,7 +587,7 @@ def test_how_elements_lie(register: str, width: int, control: dict[str, int], ma
     assert all(len(re.sub(r"\x1b\[\d+m", "", row)) <= 80 for row in rows.split("\n"))
 
 
-def test_elements_that_a_mask_has_off(tmp_path: pathlib.Path) -> None:
+def test_masked_off_elements_are_marked(tmp_path: pathlib.Path) -> None:
     with terminal(tmp_path, STRIP_MINED) as console:
         for line in ["break next+0x10", "run", "step", "vreg v9"]:
             console.expect(WHERE, is_raw=True)

@@ -25,12 +25,12 @@ IN_C = [path for name in COURSE for path in (OURS / name / "reference.c", OURS /
 DRAWN = 250  # inputs of each exercise
 
 
-def test_the_course_has_all_exercises_of_the_lab() -> None:
+def test_course_lists_all_exercises() -> None:
     assert sorted(COURSE) == sorted(path.parent.name for path in OURS.glob("*/exercise.toml"))
     assert COURSE == list(DRAWS)
 
 
-def test_the_manual_lists_the_course() -> None:
+def test_manual_lists_course() -> None:
     rows = re.findall(r"^\| `(\w+)` \| .* \| (.*) \| (\d+) \|$", (DOCS / "COURSE.md").read_text("utf-8"), re.MULTILINE)
     assert [[name, minutes] for name, _, minutes in rows] == read_table("course")
     titles = [(OURS / name / "lesson.s").read_text("utf-8").split("\n")[0].lower() for name in COURSE]
@@ -38,7 +38,7 @@ def test_the_manual_lists_the_course() -> None:
 
 
 @pytest.mark.parametrize("name", COURSE)
-def test_an_exercise_is_whole(program: pathlib.Path, name: str) -> None:
+def test_exercise_is_complete(program: pathlib.Path, name: str) -> None:
     """It has a text, hints, a lesson, cases, some of them hidden; a start and three or more wrong answers fail."""
     exercise = settled(program, read_exercise(pathlib.Path(name)))
     assert exercise.text and len(exercise.hints) >= 3 and set(exercise.files) == set(FILES)
@@ -57,7 +57,7 @@ def test_an_exercise_is_whole(program: pathlib.Path, name: str) -> None:
 
 
 @pytest.mark.parametrize("name", COURSE)
-def test_an_exercise_is_answered_in_c(
+def test_exercise_is_solvable_in_c(
     program: pathlib.Path, clang: Compiler, monkeypatch: pytest.MonkeyPatch, name: str
 ) -> None:
     """The start has no mistake, and nothing to be warned of; it fails, the good answer passes, and wrong ones fail."""
@@ -87,13 +87,13 @@ def leave(guest: Guest, drawn: Drawn, start: int) -> Results:
 
 @pytest.mark.parametrize("answer", ["reference", "good"])
 @pytest.mark.parametrize("name", COURSE)
-def test_answers_do_what_the_text_says(program: pathlib.Path, name: str, answer: str) -> None:
+def test_answers_match_exercise_text(program: pathlib.Path, name: str, answer: str) -> None:
     """For inputs made by chance, with and without vectors: as Python says."""
     check_by_chance(program, name, read_answer(read_exercise(pathlib.Path(name)).files[answer]))
 
 
 @pytest.mark.parametrize("path", IN_C, ids=lambda path: f"{path.parent.name}/{path.name}")
-def test_answers_in_c_do_the_same(program: pathlib.Path, clang: Compiler, path: pathlib.Path) -> None:
+def test_answers_in_c_match_exercise_text(program: pathlib.Path, clang: Compiler, path: pathlib.Path) -> None:
     """For the same inputs; two exercises have a reference in C as well."""
     assert sum(each.name == "reference.c" for each in IN_C) == 2
     check_by_chance(program, path.parent.name, read_answer(path, is_own=True))
@@ -111,7 +111,7 @@ def check_by_chance(program: pathlib.Path, name: str, answer: Answer) -> None:
 
 
 @pytest.mark.by_command("course")
-def test_a_course_is_written(lab: Lab, tmp_path: pathlib.Path) -> None:
+def test_course_is_written(lab: Lab, tmp_path: pathlib.Path) -> None:
     status, output, _ = lab("course", tmp_path / "course")
     names = [*COURSE, "index"]
     assert status == 0 and [line.split(":")[0] for line in output.decode().splitlines()] == [
@@ -130,7 +130,7 @@ def test_a_course_is_written(lab: Lab, tmp_path: pathlib.Path) -> None:
 
 
 @pytest.mark.by_command("exercise")
-def test_a_new_exercise_passes_its_try(lab: Lab, tmp_path: pathlib.Path) -> None:
+def test_new_exercise_passes_try(lab: Lab, tmp_path: pathlib.Path) -> None:
     folder = tmp_path / "own"
     assert lab("exercise", "new", folder)[0] == 0
     status, output, _ = lab("exercise", "try", folder)

@@ -101,7 +101,9 @@ def run_grade(*words: object, folder: pathlib.Path | None = None) -> "subprocess
     ],
 )
 @pytest.mark.by_command("grade")
-def test_the_exercises_of_the_lab(program: pathlib.Path, exercise: str, right: list[str], wrong: str) -> None:
+def test_right_answers_pass_and_wrong_answers_fail(
+    program: pathlib.Path, exercise: str, right: list[str], wrong: str
+) -> None:
     settled_exercise = settled(program, read_exercise(pathlib.Path(exercise)))
     for name in right:
         assert not any(grade(program, settled_exercise, answer(name)))
@@ -125,7 +127,7 @@ def test_the_exercises_of_the_lab(program: pathlib.Path, exercise: str, right: l
         ),
     ],
 )
-def test_one_round_in_the_largest_group_is_not_enough(
+def test_single_round_answer_fails(
     program: pathlib.Path, tmp_path: pathlib.Path, exercise: str, source: list[str], fails: str
 ) -> None:
     answer = tmp_path / "answer.s"
@@ -136,11 +138,11 @@ def test_one_round_in_the_largest_group_is_not_enough(
 
 
 @pytest.mark.parametrize("end", ["ret", "ebreak", "li a7, 93\necall"])
-def test_a_source_is_right_however_it_ends(echo: Echo, end: str) -> None:
+def test_answer_passes_with_any_ending(echo: Echo, end: str) -> None:
     assert echo(ECHOES + end, "answer.s") == ""
 
 
-def test_a_script_and_an_image_are_right(echo: Echo, program: pathlib.Path, tmp_path: pathlib.Path) -> None:
+def test_script_and_image_answers_pass(echo: Echo, program: pathlib.Path, tmp_path: pathlib.Path) -> None:
     make_image(program, tmp_path / "made", ECHOES + "ret")
     assert echo((tmp_path / "made").read_bytes(), "image") == ""
     assert echo(BY_HAND, "script") == ""
@@ -178,7 +180,7 @@ def test_a_script_and_an_image_are_right(echo: Echo, program: pathlib.Path, tmp_
         ),
     ],
 )
-def test_the_first_wrong_place_is_told(echo: Echo, change: tuple[str, str], reason: str) -> None:
+def test_first_difference_is_reported(echo: Echo, change: tuple[str, str], reason: str) -> None:
     assert echo(ECHOES.replace(*change) + "ret", "answer.s") == reason
 
 
@@ -241,11 +243,11 @@ def test_the_first_wrong_place_is_told(echo: Echo, change: tuple[str, str], reas
         (b"\0\0\0", "answer.s", "answer.s:1:1: \0 isn't an instruction, a directive or a label"),
     ],
 )
-def test_every_answer_has_a_row(echo: Echo, content: str | bytes, name: str, reason: str) -> None:
+def test_unusable_answer_fails_with_reason(echo: Echo, content: str | bytes, name: str, reason: str) -> None:
     assert echo(content, name) == reason
 
 
-def test_unreadable_answer_has_a_row(tmp_path: pathlib.Path) -> None:
+def test_unreadable_answer_has_row(tmp_path: pathlib.Path) -> None:
     done = run_grade("strlen", "--csv", tmp_path / "none", tmp_path, SUM, answer("typo.s"))
     header, *rows = csv.reader(done.stdout.splitlines())
     assert header[:4] == ["answer", "passed", "of", "short"] and header[-2:] == ["empty", "reason"]
@@ -258,7 +260,7 @@ def test_unreadable_answer_has_a_row(tmp_path: pathlib.Path) -> None:
     assert (done.returncode, done.stderr) == (1, "")
 
 
-def test_the_table_of_the_manual(monkeypatch: pytest.MonkeyPatch) -> None:
+def test_manual_table_is_reproduced(monkeypatch: pytest.MonkeyPatch) -> None:
     """It shows nothing of hidden cases except that they fail."""
     command = "$ vecmon-lab grade saturating_sum answers/*; echo $?\n"
     shown = (DOCS / "GRADING.md").read_text("utf-8").partition(command)[2].partition("```")[0]
@@ -267,12 +269,12 @@ def test_the_table_of_the_manual(monkeypatch: pytest.MonkeyPatch) -> None:
     assert f"{done.stdout}{done.stderr}{done.returncode}\n" == shown
 
 
-def test_an_answer_that_writes_too_much() -> None:
+def test_excess_output_fails() -> None:
     done = run_grade("saturating_sum", answer("talks.s"))
     assert done.stdout.endswith("talks.s: it writes more than 4,096 bytes\n") and done.returncode == 1
 
 
-def test_twenty_four_answers_have_the_rows_that_each_has_alone() -> None:
+def test_parallel_grading_equals_single_grading() -> None:
     names = ["copy.s", "by_registers.s", "copy.script", "forever.s"]
     done = run_grade("strip_mined_copy", "--rows", *(answer(name) for name in names * 6))
     alone = [run_grade("strip_mined_copy", "--rows", answer(name)) for name in names]
@@ -310,13 +312,13 @@ long answer(long a0, int32_t *places)
         (("vecmon.h", "exercise.toml"), "answer.c:1:10: 'exercise.toml' file not found"),
     ],
 )
-def test_an_answer_in_c(echo: Echo, sandboxed_clang: Compiler, change: tuple[str, str], reason: str) -> None:
+def test_c_answer_is_graded(echo: Echo, sandboxed_clang: Compiler, change: tuple[str, str], reason: str) -> None:
     """It is compiled in the sandbox, which has not even the files next to it."""
     reply = echo(IN_C.replace(*change), "answer.c")
     assert reply.startswith(reason) if reason else not reply
 
 
-def test_no_c_is_graded_without_a_compiler_and_a_sandbox(
+def test_c_needs_compiler_and_sandbox(
     lab: Lab, tmp_path: pathlib.Path, monkeypatch: pytest.MonkeyPatch, sandboxed_clang: Compiler
 ) -> None:
     """One line reports it, and no answer fails for it."""
@@ -332,7 +334,7 @@ def test_no_c_is_graded_without_a_compiler_and_a_sandbox(
     assert (status, output) == (2, b"") and "no compiler for C: apt-get install clang-19 lld-19 bubblewrap" in errors
 
 
-def test_an_exercise_may_be_in_c(program: pathlib.Path, tmp_path: pathlib.Path, clang: Compiler) -> None:
+def test_exercise_reference_may_be_in_c(program: pathlib.Path, tmp_path: pathlib.Path, clang: Compiler) -> None:
     """Its files are the author's own, and may have headers next to them."""
     (tmp_path / "exercise.toml").write_text(
         'reference = "reference.c"\n[[cases]]\nregisters = { a1 = 6 }\nexpected.registers = ["a0"]'
@@ -366,7 +368,7 @@ BY_ROUNDS = "li a0, 0\nli t0, 6\nnext: add a0, a0, a1\naddi t0, t0, -1\nbnez t0,
         ("# " + "as long as it may be " * 4 + "\nret", "it has more than 80 bytes"),
     ],
 )
-def test_answers_have_limits(program: pathlib.Path, tmp_path: pathlib.Path, source: str, reason: str) -> None:
+def test_answers_are_limited(program: pathlib.Path, tmp_path: pathlib.Path, source: str, reason: str) -> None:
     (tmp_path / "exercise.toml").write_text(LONG)
     (tmp_path / "answer.s").write_text(source)
     assert grade(program, settled(program, read_exercise(tmp_path)), tmp_path / "answer.s") == [reason]
@@ -381,7 +383,7 @@ def registers_before(program: pathlib.Path, folder: pathlib.Path) -> tuple[Seque
         return guest.query("regs", ScalarRegisters).x, v, guest.query("vcsr", ControlRegisters).vxrm
 
 
-def test_other_registers_hold_anything_where_an_exercise_says_so(program: pathlib.Path, tmp_path: pathlib.Path) -> None:
+def test_junk_registers_are_randomized(program: pathlib.Path, tmp_path: pathlib.Path) -> None:
     """And else 0, as in exercises that don't know the key. It is the same each time, and what a case names stays."""
     file = tmp_path / "exercise.toml"
     case = "[[cases]]\nname = 'a'\nregisters = { a1 = 6 }\nexpected.registers = { a0 = 36 }"
@@ -396,7 +398,7 @@ def test_other_registers_hold_anything_where_an_exercise_says_so(program: pathli
     assert not {*registers_before(program, tmp_path)[0][12:]} & {*x}
 
 
-def test_non_files_are_not_read(tmp_path: pathlib.Path) -> None:
+def test_non_file_is_refused(tmp_path: pathlib.Path) -> None:
     """A pipe would never end, and a link would show the first line of another file."""
     os.mkfifo(tmp_path / "pipe.s")
     (tmp_path / "link.s").symlink_to("/etc/passwd")
@@ -407,7 +409,7 @@ def test_non_files_are_not_read(tmp_path: pathlib.Path) -> None:
     assert "root:" not in done.stdout and done.returncode == 1
 
 
-def test_reports_for_other_programs(tmp_path: pathlib.Path) -> None:
+def test_reports_have_documented_formats(tmp_path: pathlib.Path) -> None:
     """JUnit's XML has all answers, and Gradescope's JSON one; of hidden cases both show only that they fail."""
     odd = tmp_path / "=HYPERLINK(1)<&.s"
     odd.write_bytes(b"\0")
@@ -496,7 +498,7 @@ def in_memory(place: str) -> str:
         ),
     ],
 )
-def test_a_bad_exercise_is_told(program: pathlib.Path, tmp_path: pathlib.Path, text: str, message: str) -> None:
+def test_bad_exercise_is_refused(program: pathlib.Path, tmp_path: pathlib.Path, text: str, message: str) -> None:
     (tmp_path / "exercise.toml").write_text(text)
     with pytest.raises(LabError) as raised:
         settled(program, read_exercise(tmp_path))
@@ -504,14 +506,14 @@ def test_a_bad_exercise_is_told(program: pathlib.Path, tmp_path: pathlib.Path, t
     assert str(raised.value).startswith((f"{tmp_path}", f"{tmp_path.name}, case 1"))
 
 
-def test_a_bad_exercise_is_told_in_a_line(tmp_path: pathlib.Path) -> None:
+def test_bad_exercise_is_refused_in_one_line(tmp_path: pathlib.Path) -> None:
     (tmp_path / "exercise.toml").write_text("title =")
     done = run_grade(tmp_path, answer("copy.s"))
     assert (done.returncode, done.stdout) == (2, "")
     assert done.stderr == f"vecmon-lab: {tmp_path}/exercise.toml: Invalid value (at end of document)\n"
 
 
-def test_there_is_no_such_exercise(tmp_path: pathlib.Path) -> None:
+def test_unknown_exercise_is_refused(tmp_path: pathlib.Path) -> None:
     with pytest.raises(
         LabError, match="^exercise 'zzz' not found; name an exercise of the course, or a folder with ex"
     ):
@@ -521,13 +523,13 @@ def test_there_is_no_such_exercise(tmp_path: pathlib.Path) -> None:
 
 
 @pytest.mark.parametrize("name, near", [("double", "doubles"), ("strip_mine_copy", "strip_mined_copy")])
-def test_an_unknown_name_offers_the_nearest(name: str, near: str) -> None:
+def test_unknown_name_suggests_nearest(name: str, near: str) -> None:
     done = run_grade(name, answer("copy.s"))
     assert (done.returncode, done.stdout) == (2, "")
     assert done.stderr == f"vecmon-lab: exercise '{name}' not found; did you mean '{near}'?\n"
 
 
-def test_a_course_and_more(tmp_path: pathlib.Path, monkeypatch: pytest.MonkeyPatch) -> None:
+def test_course_and_folder_are_accepted(tmp_path: pathlib.Path, monkeypatch: pytest.MonkeyPatch) -> None:
     """A name of the course, or its folder, is there once; a folder of the same name elsewhere is another exercise."""
     folders = with_course([pathlib.Path("strlen"), OURS / "filter", tmp_path])
     assert len(folders) == 13 and folders[0] == OURS / "doubles" and folders[12] == tmp_path
@@ -536,7 +538,7 @@ def test_a_course_and_more(tmp_path: pathlib.Path, monkeypatch: pytest.MonkeyPat
     assert with_course([pathlib.Path("strlen")])[12:] == [pathlib.Path("strlen")]
 
 
-def test_counts() -> None:
+def test_counts_report_instructions_and_work() -> None:
     """In three cases that aren't hidden one round of eleven instructions and a return; 5, 6 and 40 elements of 128."""
     answers = [answer("vectors.s"), answer("wraps.s")]
     table = run_grade("saturating_sum", "--counts", *answers).stdout.splitlines()

@@ -51,13 +51,13 @@ def failing(folder: pathlib.Path, program: pathlib.Path, runs: int) -> pathlib.P
     return stub
 
 
-def test_a_machine_that_fails_once(tmp_path: pathlib.Path, program: pathlib.Path, doubles: Exercise) -> None:
+def test_case_repeats_after_machine_failure(tmp_path: pathlib.Path, program: pathlib.Path, doubles: Exercise) -> None:
     """The answer is graded again, and passes."""
     stub = failing(tmp_path, program, 1)
     assert graded_or_failure(stub, doubles, answer_sandboxed, GOOD, False) == ([""] * 5, None)
 
 
-def test_a_machine_that_fails_twice(tmp_path: pathlib.Path, program: pathlib.Path, doubles: Exercise) -> None:
+def test_second_machine_failure_is_reported(tmp_path: pathlib.Path, program: pathlib.Path, doubles: Exercise) -> None:
     """The answer has no outcome: not that of one that fails. A student reads that nothing was counted."""
     with pytest.raises(ToolError, match="status 7"):
         graded(failing(tmp_path, program, 1), doubles, answer_sandboxed, GOOD)
@@ -91,7 +91,7 @@ def test_hidden_cases_are_not_shown(lab: Lab, tmp_path: pathlib.Path, program: p
     assert "2147483647" in numbers and not [number for number in numbers if number in shown]
 
 
-def test_an_answer_that_is_not_graded(
+def test_ungraded_answer_is_reported(
     lab: Lab, tmp_path: pathlib.Path, monkeypatch: pytest.MonkeyPatch, sandboxed_clang: Compiler
 ) -> None:
     """Others have their rows and their reports; it has none, and the status is 2."""
@@ -129,7 +129,7 @@ def grade_in_container(folder: pathlib.Path, answer: str, *words: str) -> "subpr
     return subprocess.run(command, capture_output=True, text=True, cwd=folder)
 
 
-def test_root_of_a_container(shared: pathlib.Path, clang: Compiler) -> None:
+def test_container_root_uses_sandbox_user(shared: pathlib.Path, clang: Compiler) -> None:
     """Its message is about --no-sandbox, which then refuses an exercise that the compiler could read."""
     if os.geteuid():
         with pytest.raises(LabError, match="is for root of a container"):

@@ -136,7 +136,7 @@ def squares() -> Iterator[Packets]:
         yield packets
 
 
-def test_the_registers_are_described(squares: Packets) -> None:
+def test_registers_are_described(squares: Packets) -> None:
     supported = dict(part.partition("=")[::2] for part in squares.ask("qSupported:multiprocess+;swbreak+").split(";"))
     assert supported["qXfer:features:read+"] == ""
     xml, part, size = "", "m", int(supported["PacketSize"], 16) // 2
@@ -154,7 +154,7 @@ def test_the_registers_are_described(squares: Packets) -> None:
     assert [field.get("name") for field in target.iter("field")] == ["b", "s", "w", "l"]
 
 
-def test_a_fault_and_how_to_go_on(squares: Packets) -> None:
+def test_fault_is_reported_and_resumed(squares: Packets) -> None:
     assert squares.ask("?") == "S00"
     registers = squares.ask("g")
     assert registers == "".join(map(little, [0, 0, 0x7FFFEFC0, *[0] * 29, 0x10174]))
@@ -173,7 +173,7 @@ def test_a_fault_and_how_to_go_on(squares: Packets) -> None:
     assert is_end(squares, "C0b", 0)
 
 
-def test_breakpoints_steps_and_output() -> None:
+def test_breakpoints_steps_and_output_work() -> None:
     with Packets(SUM) as packets:
         assert packets.ask("Z0,112dc,4") == packets.ask("Z0,112dc,4") == packets.ask("Z1,11198,4") == "OK"
         assert (packets.ask("s"), packets.ask("p20")) == ("S05", little(0x11194))
@@ -185,7 +185,7 @@ def test_breakpoints_steps_and_output() -> None:
         assert packets.ask("p2e")[:8] == little(328350, 4) and is_end(packets, "c", 0)  # the sum is in v8
 
 
-def test_back_from_the_end(tmp_path: pathlib.Path, program: pathlib.Path) -> None:
+def test_reverse_continue_from_exit(tmp_path: pathlib.Path, program: pathlib.Path) -> None:
     """Where the program exits gdb stops once; from there it goes back, or writes what makes another end of it."""
     make_image(program, tmp_path / "image", "li a7, 93\nli a0, 3\necall")
     with Packets(tmp_path / "image") as packets:
@@ -200,7 +200,7 @@ def test_back_from_the_end(tmp_path: pathlib.Path, program: pathlib.Path) -> Non
         assert is_end(packets, "c", 5)
 
 
-def test_watched_forth_and_back(tmp_path: pathlib.Path, program: pathlib.Path) -> None:
+def test_watchpoints_stop_forwards_and_backwards(tmp_path: pathlib.Path, program: pathlib.Path) -> None:
     """As in gdb for RISC-V, a watched place is reported before the instruction executes, or is undone."""
     make_image(program, tmp_path / "image", COUNTDOWN)
     with Packets(tmp_path / "image") as packets:
@@ -221,7 +221,7 @@ def test_watched_forth_and_back(tmp_path: pathlib.Path, program: pathlib.Path) -
         assert [packets.ask("c"), packets.ask("p5"), packets.ask("p20")] == ["S05", little(3), behind]
 
 
-def test_what_is_written_is_read_again(squares: Packets) -> None:
+def test_written_values_are_read_back(squares: Packets) -> None:
     pattern = bytes(range(100, 132)).hex()
     assert (squares.ask(f"P26={pattern}"), squares.ask("p26")) == ("OK", pattern)
     assert (squares.ask("P1f=8877665544332211"), squares.ask("p1f")) == ("OK", "8877665544332211")
@@ -268,17 +268,17 @@ def test_what_is_written_is_read_again(squares: Packets) -> None:
         ("", ""),
     ],
 )
-def test_odd_packets(squares: Packets, packet: str, answer: str) -> None:
+def test_unusual_packet_is_answered(squares: Packets, packet: str, answer: str) -> None:
     assert squares.ask(packet) == answer
     assert squares.ask("p20") == little(0x10174)
 
 
-def test_too_many_breakpoints(squares: Packets) -> None:
+def test_excess_breakpoint_is_refused(squares: Packets) -> None:
     assert {squares.ask(f"Z0,{4 * number:x},4") for number in range(16)} == {"OK"}
     assert squares.ask("Z0,100,4") == "E12"
 
 
-def test_sums_and_acknowledgements(squares: Packets) -> None:
+def test_checksums_and_acknowledgements_are_handled(squares: Packets) -> None:
     squares.write(b"+\x03junk$p20#00")
     assert squares.read(1) == b"-"
     assert squares.ask("p20") == little(0x10174)
@@ -288,7 +288,7 @@ def test_sums_and_acknowledgements(squares: Packets) -> None:
         assert squares.packet() == little(0x10174)
 
 
-def test_arguments(tmp_path: pathlib.Path, program: pathlib.Path) -> None:
+def test_program_receives_arguments(tmp_path: pathlib.Path, program: pathlib.Path) -> None:
     make_image(program, tmp_path / "image", ARGUMENTS)
     with Packets(tmp_path / "image", "--help", "two") as packets:
         packets.send("c")
@@ -296,7 +296,7 @@ def test_arguments(tmp_path: pathlib.Path, program: pathlib.Path) -> None:
         assert "with status 3;" in text(packets.packet()) and packets.packet() == "T05replaylog:end;"
 
 
-def test_an_interrupt(tmp_path: pathlib.Path, program: pathlib.Path) -> None:
+def test_interrupt_stops_program(tmp_path: pathlib.Path, program: pathlib.Path) -> None:
     labels = make_image(program, tmp_path / "image", WRITES_AND_GOES_ON)
     with Packets(tmp_path / "image") as packets:
         packets.send("c")
@@ -311,7 +311,7 @@ def test_an_interrupt(tmp_path: pathlib.Path, program: pathlib.Path) -> None:
         assert packets.ended() == (0, b"+", b"")
 
 
-def test_what_a_step_puts_out(tmp_path: pathlib.Path, program: pathlib.Path) -> None:
+def test_step_output_is_sent(tmp_path: pathlib.Path, program: pathlib.Path) -> None:
     make_image(program, tmp_path / "image", WRITES_AND_GOES_ON)
     with Packets(tmp_path / "image") as packets:
         assert [packets.ask("s") for _ in range(5)] == ["S05"] * 5  # la is two instructions
@@ -319,7 +319,7 @@ def test_what_a_step_puts_out(tmp_path: pathlib.Path, program: pathlib.Path) -> 
         assert packets.read(1) == b"+" and text(packets.packet()) == "ready\n" and packets.packet() == "S05"
 
 
-def test_the_signals_of_stops(tmp_path: pathlib.Path, program: pathlib.Path) -> None:
+def test_stops_have_signals(tmp_path: pathlib.Path, program: pathlib.Path) -> None:
     labels = make_image(program, tmp_path / "image", STOPS)
     with Packets(tmp_path / "image") as packets:
         for label, signal, reason in [
@@ -344,21 +344,21 @@ def test_the_signals_of_stops(tmp_path: pathlib.Path, program: pathlib.Path) -> 
         ("policy none", "E04: none is no policy, which are keep and ones; the form is policy P\n"),
     ],
 )
-def test_monitor_lines(squares: Packets, line: str, expected: str) -> None:
+def test_monitor_command_is_executed(squares: Packets, line: str, expected: str) -> None:
     assert bytes.fromhex(squares.ask(f"qRcmd,{line.encode().hex()}")).decode() == expected
     refused = bytes.fromhex(squares.ask(f"qRcmd,{'go'.encode().hex()}")).decode()
     assert refused.startswith("monitor takes ") and refused.count("\n") == 1
 
 
 @pytest.mark.parametrize("packet, more", [("D", b"+$OK#9a"), ("k", b"+"), (None, b"")])
-def test_how_it_ends(squares: Packets, packet: str | None, more: bytes) -> None:
+def test_server_ends_with_status(squares: Packets, packet: str | None, more: bytes) -> None:
     if packet:
         squares.send(packet)
     assert squares.ended() == (0, more, b"")
 
 
 @pytest.mark.parametrize("path, reason", [(STOCK / "short", "E09 Short"), (STOCK / "none", "No such file")])
-def test_images_that_are_refused(path: pathlib.Path, reason: str) -> None:
+def test_unsuitable_image_is_refused(path: pathlib.Path, reason: str) -> None:
     with Packets(path) as packets:
         status, out, err = packets.ended()
     assert (status, out, err.count(b"\n")) == (2, b"", 1)
@@ -387,14 +387,14 @@ def gdb() -> Callable[..., str]:
     return said
 
 
-def test_gdb_stops_in_an_inlined_function(gdb: Callable[..., str]) -> None:
+def test_gdb_stops_in_inlined_function(gdb: Callable[..., str]) -> None:
     """gdb itself sets a breakpoint in each copy."""
     output = gdb(PREFIX_SUMS[1], "break prefix_bad", "break prefix_sums.c:10", "continue", "print/x $pc", "continue")
     assert output.count(" (2 locations)") == 2 and "$1 = 0x11354" in output and "Breakpoint 1.2, prefix_bad (" in output
 
 
 @pytest.mark.parametrize("image", [SUM_DWARF4, SUM_DWARF5])
-def test_gdb_with_source_lines(gdb: Callable[..., str], image: pathlib.Path) -> None:
+def test_gdb_shows_source_lines(gdb: Callable[..., str], image: pathlib.Path) -> None:
     commands = ["break 22", "continue", "next", "print $v10.w", "print $vl", "print/x $vtype", "delete"]
     output = gdb(image, *commands, "continue", "continue")
     assert "Breakpoint 1, sum (" in output and "sum.c:22" in output
@@ -405,7 +405,7 @@ def test_gdb_with_source_lines(gdb: Callable[..., str], image: pathlib.Path) -> 
 
 
 @pytest.mark.by_command("gdb")
-def test_the_session_of_the_manual(gdb: Callable[..., str]) -> None:
+def test_manual_session_is_reproduced(gdb: Callable[..., str]) -> None:
     page = (TOP / "docs" / "DEBUGGING.md").read_text("utf-8")
     start = page.index("(gdb) target remote | vecmon-lab gdb sum")
     session = page[start : page.index("(gdb) quit", start)].splitlines()
@@ -417,13 +417,13 @@ def test_the_session_of_the_manual(gdb: Callable[..., str]) -> None:
         rest = rest[rest.index(line) :]
 
 
-def test_gdb_with_a_source_in_c(gdb: Callable[..., str], clang: Compiler) -> None:
+def test_gdb_debugs_c_source(gdb: Callable[..., str], clang: Compiler) -> None:
     """gdb reads symbols and lines of the image that is compiled of it. The grey of red 0, green 255 and blue 0 is 149."""
     output = gdb(EXAMPLES / "kernels" / "grey.c", "break grey.c:32", "continue", "print greys[0]")
     assert "grey.c:32\n32\t    put(greys, sizeof greys);\n$1 = 149 " in output
 
 
-def test_a_bug_found_backwards(gdb: Callable[..., str], clang: Compiler, tmp_path: pathlib.Path) -> None:
+def test_gdb_finds_bug_backwards(gdb: Callable[..., str], clang: Compiler, tmp_path: pathlib.Path) -> None:
     page = (TOP / "docs" / "DEBUGGING.md").read_text("utf-8")
     profile = (TOP / "docs" / "RUNNING.md").read_text("utf-8")
     (command,) = re.findall(r"^\$ (clang-19 (?:.*\\\n)*.* -o above above\.c)$", profile, re.MULTILINE)
@@ -455,14 +455,14 @@ def test_gdb_steps_back(gdb: Callable[..., str], program: pathlib.Path, tmp_path
     assert "No more reverse-execution history." in output and "SIGTRAP" in output.partition("$3")[2]
 
 
-def test_gdb_begins_anew(gdb: Callable[..., str]) -> None:
+def test_gdb_restarts_program(gdb: Callable[..., str]) -> None:
     again = f"target remote | exec {sys.executable} -m vecmon_lab gdb {SUM}"
     output = gdb(SUM, "stepi", "stepi", again, "print $pc", "continue", "continue")
     assert "$1 = (void (*)()) 0x11190 <_start>" in output and "328350\nvecmon: it exits here with status 0; " in output
     assert output.endswith("[Inferior 1 (Remote target) exited normally]\n")
 
 
-def test_gdb_begins_anew_after_a_signal(gdb: Callable[..., str]) -> None:
+def test_gdb_restarts_after_signal(gdb: Callable[..., str]) -> None:
     again = f"target remote | exec {sys.executable} -m vecmon_lab gdb {SQUARES}"
     output = gdb(SQUARES, "continue", again, "print $pc")
     assert output.count("SIG") == 1 and "SIGTRAP" not in output and output.endswith("$1 = (void (*)()) 0x10174\n")
@@ -476,7 +476,7 @@ def test_gdb_shows_vcsr(gdb: Callable[..., str], tmp_path: pathlib.Path, program
     assert shown[-3:] == ["vcsr 0x5 5", "vxrm 0x2 2", "$1 = 0"]
 
 
-def test_gdb_with_a_fault(gdb: Callable[..., str]) -> None:
+def test_gdb_reports_fault(gdb: Callable[..., str]) -> None:
     commands = ["continue", "print $vstart", "print $v8.w[0]", "set var *(int *) 0x11000 = 1000", "set $pc = 0x10174"]
     output = gdb(
         SQUARES, *commands, "set $sp = 0x7fffefc0", "set $v31.l[1] = 77", "print $v31.l", "stepi", *["continue"] * 2
@@ -486,5 +486,5 @@ def test_gdb_with_a_fault(gdb: Callable[..., str]) -> None:
     assert output.endswith("exited normally]\n")
 
 
-def test_gdb_says_why_an_image_is_refused(gdb: Callable[..., str]) -> None:
+def test_gdb_reports_refused_image(gdb: Callable[..., str]) -> None:
     assert "E09 Short" in gdb(STOCK / "short")

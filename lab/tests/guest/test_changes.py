@@ -15,7 +15,7 @@ from vecmon_lab.guest.guest import Guest, started
 from vecmon_lab.machine.session import Session
 
 
-def test_rows(program: pathlib.Path, tmp_path: pathlib.Path) -> None:
+def test_step_changes_equal_expected_rows(program: pathlib.Path, tmp_path: pathlib.Path) -> None:
     make_image(program, tmp_path / "rows", re.sub(r"\|.*", "", CHANGES))
     whole = "v8.e8[37]=00  v8.e8[40..41]=00,00  v8.e8[44..45]=00,00"
     expected = [row.partition("|")[2].replace("WHOLE", whole) for row in CHANGES.splitlines() if "|" in row]
@@ -96,7 +96,7 @@ def _random_register(draws: random.Random) -> bytes:
     return draws.choice((draws.randbytes(32), b"".join(values)))
 
 
-def test_random_instructions(program: pathlib.Path) -> None:
+def test_step_changes_of_random_instructions_equal_state_differences(program: pathlib.Path) -> None:
     """Undone, the changes lead back to the whole earlier state; so none is missing, and none is false."""
     draws, kinds = random.Random(7), set[str]()
     with Session(program) as session:
@@ -124,7 +124,7 @@ def _kind(change: Change) -> str:
     return f"e{change.width}" if isinstance(change, ElementsChange) else re.sub("x[0-9]+", "x", change.name)
 
 
-def test_what_the_user_changes_is_found_by_a_look(session: Session) -> None:
+def test_look_detects_user_changes(session: Session) -> None:
     session.do_all(["1 enter", "1 map 10000 1 rwx"])
     stepper = Stepper(Guest(session))
     lines = ["1 set x5 1f", f"1 vset v3 {'00' * 30}0102", "1 asm 10000 addi x6, x5, 1", "1 setpc 10000"]
@@ -139,7 +139,7 @@ def test_what_the_user_changes_is_found_by_a_look(session: Session) -> None:
     assert list(map(str, stepper.look())) == ["v3.e16[1..2]=0000,0001", *singles, "v3.e16[14..15]=0001,0000"]
 
 
-def test_a_program_that_writes_its_own_words(program: pathlib.Path, session: Session) -> None:
+def test_self_modifying_program_is_decoded_anew(program: pathlib.Path, session: Session) -> None:
     lines = ["sw x6, 8(x5)", "sw x7, 0(x5)", "nop", "jal x0, -12"]
     session.do_all(["1 enter", "1 map 10000 1 rwx", "1 set x5 10000", "1 set x6 00128293", "1 setpc 10000"])
     session.do_all([f"1 asm {0x10000 + 4 * place:x} {line}" for place, line in enumerate(lines) if line != "nop"])
@@ -154,7 +154,7 @@ def test_a_program_that_writes_its_own_words(program: pathlib.Path, session: Ses
     ]
 
 
-def test_where_nothing_can_be_fetched(session: Session) -> None:
+def test_step_without_fetchable_word_faults(session: Session) -> None:
     session.do_all(["1 enter", "1 setpc 10000"])
     stepper = Stepper(Guest(session))
     retired = stepper.step()
@@ -165,11 +165,11 @@ def test_where_nothing_can_be_fetched(session: Session) -> None:
     "vtype, text",
     [(1 << 63, "vill"), (0xD1, "e32,m2,ta,ma"), (0, "e8,m1,tu,mu"), (0x47, "e8,mf2,ta,mu"), (0x9B, "e64,m8,tu,ma")],
 )
-def test_vector_types(vtype: int, text: str) -> None:
+def test_vtype_is_written_in_assembler(vtype: int, text: str) -> None:
     assert vtype_text(vtype) == text
 
 
-def test_a_fault_shows_what_was_stored_before() -> None:
+def test_fault_shows_completed_stores() -> None:
     with started(SQUARES) as guest:
         stepper = Stepper(guest)
         while (retired := stepper.step()).stop is None:

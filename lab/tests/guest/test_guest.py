@@ -15,14 +15,14 @@ from vecmon_lab.machine.session import Session
 from vecmon_lab.tables.table import read_table
 
 
-def test_a_program_to_its_end() -> None:
+def test_program_runs_to_exit() -> None:
     """The output and the status are those of QEMU 7.2; the instructions and elements were counted by hand."""
     with started(SUM, quantum=100) as guest:
         assert guest.go() == Stop("exit", 0x112DC)
         assert (guest.output(), guest.output(), guest.ticks, guest.pc) == (b"328350\n", b"", 800, 0x112DC)
 
 
-def test_a_fault_in_words() -> None:
+def test_fault_is_described() -> None:
     with started(SQUARES) as guest:
         stop = guest.go()
         assert stop is not None and (stop.kind, stop.pc, stop.cause, stop.value) == ("fault", 0x10198, 7, 0x12000)
@@ -32,7 +32,7 @@ def test_a_fault_in_words() -> None:
         )
 
 
-def test_ticks_run_out_and_go_on() -> None:
+def test_program_continues_after_ticks_run_out() -> None:
     with started(SUM, quantum=100) as guest:
         assert guest.go(0) is None and guest.ticks == 0
         assert guest.go(101) is None and guest.ticks == 200
@@ -41,7 +41,7 @@ def test_ticks_run_out_and_go_on() -> None:
         assert stop is not None and stop.kind == "exit" and guest.ticks == 800
 
 
-def test_a_program_that_runs_for_ever_is_interrupted(program: pathlib.Path, tmp_path: pathlib.Path) -> None:
+def test_endless_program_is_interrupted(program: pathlib.Path, tmp_path: pathlib.Path) -> None:
     make_image(program, tmp_path / "forever", FOREVER)
     with started(tmp_path / "forever") as guest:
         assert guest.go(is_interrupted=lambda: guest.ticks >= 3_000_000) is None
@@ -49,7 +49,7 @@ def test_a_program_that_runs_for_ever_is_interrupted(program: pathlib.Path, tmp_
         assert guest.ask("state") == [Position("state stopped", 0x10000)]
 
 
-def test_full_buffers_are_emptied(program: pathlib.Path, tmp_path: pathlib.Path) -> None:
+def test_full_output_buffer_is_emptied(program: pathlib.Path, tmp_path: pathlib.Path) -> None:
     make_image(program, tmp_path / "writes", WRITES)
     parts: list[bytes] = []
     with started(tmp_path / "writes", write=parts.append) as guest:
@@ -62,7 +62,7 @@ def test_full_buffers_are_emptied(program: pathlib.Path, tmp_path: pathlib.Path)
 
 
 @pytest.mark.parametrize("arguments", [["name"], ["name", "", "b" * 200, "\u00fc"], ["x" * 15], ["x" * 16], list("ab")])
-def test_arguments(program: pathlib.Path, tmp_path: pathlib.Path, arguments: list[str]) -> None:
+def test_program_receives_arguments(program: pathlib.Path, tmp_path: pathlib.Path, arguments: list[str]) -> None:
     make_image(program, tmp_path / "arguments", ARGUMENTS)
     with started(tmp_path / "arguments", arguments=arguments) as guest:
         stop = guest.go(1_000_000)
@@ -71,18 +71,18 @@ def test_arguments(program: pathlib.Path, tmp_path: pathlib.Path, arguments: lis
 
 
 @pytest.mark.parametrize("name, pointer", [("", 0x7FFFEFC0), ("x" * 15, 0x7FFFEFC0), ("x" * 16, 0x7FFFEFB0)])
-def test_a_short_name_leaves_the_stack_where_it_was(name: str, pointer: int) -> None:
+def test_short_name_preserves_stack_address(name: str, pointer: int) -> None:
     with started(SUM, arguments=[name][: len(name)]) as guest:
         assert f" x2 {pointer:016x} " in guest.session.look("1 regs")[1]
 
 
-def test_too_many_arguments() -> None:
+def test_excess_arguments_are_refused() -> None:
     with pytest.raises(LabError, match="8,192 bytes of the stack"), started(SUM, arguments=["x" * 8192]):
         pass
 
 
 @pytest.mark.parametrize("at_once", [1, 3, 1000])
-def test_breakpoints_stop_wherever_a_slice_ends(at_once: int) -> None:
+def test_breakpoint_stops_at_any_slice_boundary(at_once: int) -> None:
     """The loop takes 25 ticks, so that each fifth slice ends before its store, which is cut by the three behind it."""
     with started(SQUARES, quantum=5) as guest:
         guest.session.do("1 break 10198")
@@ -95,7 +95,7 @@ def test_breakpoints_stop_wherever_a_slice_ends(at_once: int) -> None:
         assert last is not None and last.kind == "fault"
 
 
-def test_it_starts_again_with_a_policy(program: pathlib.Path) -> None:
+def test_guest_restarts_with_policy(program: pathlib.Path) -> None:
     with Session(program, {"sum": SUM}) as session:
         guest = Guest(session, 3)
         for policy in ("ones", "keep"):
@@ -105,14 +105,14 @@ def test_it_starts_again_with_a_policy(program: pathlib.Path) -> None:
             assert stop is not None and stop.kind == "exit" and guest.output() == b"328350\n"
 
 
-def test_the_words_for_refused_images_are_those_of_the_documents() -> None:
+def test_image_faults_match_documents() -> None:
     rows = re.findall(r"^\| \d+ \| (\w+) \| (.+?) \|", (TOP / "docs" / "IMAGES.md").read_text(), re.MULTILINE)
     shown = dict(read_table("image_faults"))
     assert len(rows) == 13 and set(shown) == {f"E09 {name}" for name, _ in rows} | {"E08", "E10"}
     assert all(shown[f"E09 {name}"].startswith(reason) for name, reason in rows)
 
 
-def test_images_that_are_refused(tmp_path: pathlib.Path) -> None:
+def test_unsuitable_image_is_refused(tmp_path: pathlib.Path) -> None:
     with pytest.raises(LabError, match=r"short: the machine refuses image \(E09 Short\): the file has less than 64 "):
         with started(STOCK / "short"):
             pass

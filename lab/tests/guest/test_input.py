@@ -32,7 +32,7 @@ def made(clang: Compiler, tmp_path: pathlib.Path, request: pytest.FixtureRequest
 
 @pytest.mark.parametrize("made", [ECHO], indirect=True)
 @pytest.mark.parametrize("data", [b"", b"a line\n", bytes(range(256)) + b"\xff" * 44])
-def test_a_program_finds_the_file(lab: Lab, made: pathlib.Path, data: bytes) -> None:
+def test_program_reads_input_file(lab: Lab, made: pathlib.Path, data: bytes) -> None:
     (made.parent / "file").write_bytes(data)
     assert lab("run", "--in", made.parent / "file", made, "word") == (7, data, "")
     assert (
@@ -54,7 +54,7 @@ def test_a_program_finds_the_file(lab: Lab, made: pathlib.Path, data: bytes) -> 
     ],
     indirect=["made"],
 )
-def test_no_room(lab: Lab, made: pathlib.Path, size: int | None, expected: str) -> None:
+def test_oversized_input_is_refused(lab: Lab, made: pathlib.Path, size: int | None, expected: str) -> None:
     file = made.parent / "file"
     if size is not None:
         file.write_bytes(bytes(size))
@@ -62,5 +62,5 @@ def test_no_room(lab: Lab, made: pathlib.Path, size: int | None, expected: str) 
     assert (status, output, errors.count("\n")) == (2, b"", 1) and expected.format(file=file) in errors
 
 
-def test_an_image_without_such_symbols(lab: Lab) -> None:
+def test_image_without_input_symbols_is_refused(lab: Lab) -> None:
     assert lab("run", "--in", SUM, SUM)[2].endswith("and it has no input\n")

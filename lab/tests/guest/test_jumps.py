@@ -15,7 +15,7 @@ def code_of(path: pathlib.Path) -> Code:
         return Code(ELFFile(file))
 
 
-def test_a_loop_that_is_turned() -> None:
+def test_rotated_loop_has_one_entry() -> None:
     """11330 jumps over the end of the loop to its begin, 11354; 11370 and 11374 jump within it, and 11350 out of it."""
     code, main = code_of(PREFIX_SUMS[1]), [(0x11284, 0x113F8)]
     assert code.word(0x11330) == 0x0240006F and code.word(0x113F8 + 0x10000) == 0
@@ -24,7 +24,7 @@ def test_a_loop_that_is_turned() -> None:
     assert code.entries([(0x11284, 0x11290)], main) == [0x11284], "with the function"
 
 
-def test_what_follows_a_gap_is_no_entry() -> None:
+def test_gap_is_no_entry() -> None:
     code, main = code_of(TOTAL[1]), [(0x10120, 0x101DC)]
     assert code.entries([(0x1018C, 0x10194), (0x10198, 0x101A0)], main) == [0x1018C]
     assert code.entries([(0x10190, 0x10194)], main) == [0x10190], "also from 1019c, backwards"
@@ -33,7 +33,7 @@ def test_what_follows_a_gap_is_no_entry() -> None:
 
 
 @pytest.mark.parametrize("version", [0, 1])
-def test_branches(version: int) -> None:
+def test_branch_targets_are_entries(version: int) -> None:
     """bltu at 1135c goes back to 11334, bgeu at 11370 to 11364, beqz at 11350 on to 11378."""
     code, main = code_of(PREFIX_SUMS[version]), [(0x11284, 0x113F8)]
     assert code.entries([(0x11334, 0x11338)], main) == [0x11334]

@@ -27,7 +27,7 @@ def digits(addresses: Mapping[str, Sequence[int]], names: Sequence[str]) -> dict
 
 @pytest.mark.parametrize("images, name, lines", [(PREFIX_SUMS, "prefix_sums.c", BY_CLANG), (TOTAL, "total.c", BY_GCC)])
 @pytest.mark.parametrize("version", [4, 5])
-def test_lines_have_addresses_in_all_copies(
+def test_line_has_address_in_every_copy(
     images: Sequence[pathlib.Path], name: str, lines: Mapping[int, str], version: int
 ) -> None:
     source = SourceLines(images[version - 4])
@@ -35,14 +35,14 @@ def test_lines_have_addresses_in_all_copies(
     assert digits(source.stops, list(expected)) == expected and source.warning == ""
 
 
-def test_both_versions_of_debug_data_tell_the_same() -> None:
+def test_dwarf_versions_give_equal_lines() -> None:
     for four, five in (PREFIX_SUMS, TOTAL, (SUM_DWARF4, SUM_DWARF5)):
         old, new = SourceLines(four), SourceLines(five)
         assert old.stops == new.stops and old.functions == new.functions and len(new.stops) > 5
         assert new.at(0x11194) == old.at(0x11194)
 
 
-def test_functions_and_their_inlined_copies() -> None:
+def test_functions_include_inlined_copies() -> None:
     functions = SourceLines(PREFIX_SUMS[1]).functions
     assert functions["prefix_bad"] == {"prefix_sums.c:6": [0x11190, 0x11354]}
     assert functions["prefix_good"] == {"prefix_sums.c:22": [0x111E8]}
@@ -51,7 +51,7 @@ def test_functions_and_their_inlined_copies() -> None:
     assert SourceLines(NAMESAKES).functions["scaled"] == {"namesake.c:6": [0x111D0], "namesake_other.c:1": [0x111E0]}
 
 
-def test_files_without_debug_data(tmp_path: pathlib.Path) -> None:
+def test_file_without_debug_data_has_no_lines(tmp_path: pathlib.Path) -> None:
     assert not SourceLines().stops and not SourceLines(SUM).stops and not SourceLines(SUM).warning
     damaged, header = bytearray(SUM_DWARF4.read_bytes()), b"\x01\x01\x01\xfb\x0e\x0d"  # of a line table: DWARF 4, 6.2.4
     damaged[
@@ -72,13 +72,13 @@ ROWS = [
 ]
 
 
-def test_a_run_of_a_line_has_one_address() -> None:
+def test_consecutive_rows_of_line_have_one_address() -> None:
     """The first one that is recommended, or else the first; a row without a line interrupts no run, another line does."""
     rows = [SourceRow(*row) for row in [*ROWS, (24, "a.c:2", False), (28, "a.c:2", True)]]
     assert line_addresses(rows, []) == {"a.c:1": [0], "a.c:2": [8, 28], "a.c:3": [20]}
 
 
-def test_what_is_inlined_belongs_to_the_line_that_calls_it() -> None:
+def test_inlined_code_belongs_to_calling_line() -> None:
     """So a line that goes on behind it stops once, and each copy has an address of its own."""
     whole = Copy(0, 0, 32, 1, -1, "f", "a.c:1", "", (0,))
     inner = [Copy(1, at, at + 8, number, 1, "g", "a.c:9", "a.c:2", (at + 4,)) for at, number in ((8, 2), (16, 3))]

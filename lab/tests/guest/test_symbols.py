@@ -6,7 +6,7 @@ from support.places import SQUARES, SQUARES_DWARF5, STOCK, SUM, SUM_DWARF4, SUM_
 from vecmon_lab.guest.symbols import Symbols
 
 
-def test_names_and_places() -> None:
+def test_symbols_name_addresses() -> None:
     symbols = Symbols.read(SUM)
     assert sorted(symbols.addresses) == ["_start", "_start.squares"]
     assert symbols.addresses["_start"] == 0x11190 and symbols.addresses["_start.squares"] == 0x122E8
@@ -17,7 +17,7 @@ def test_names_and_places() -> None:
     assert symbols.place(0x122E8 + 399) == "_start.squares+0x18f" and symbols.place(0x122E8 + 400) == ""
 
 
-def test_which_of_several_symbols_names_an_address() -> None:
+def test_best_symbol_names_address() -> None:
     """At 11008 are the object `table` and the untyped `_edata` and `__bss_start`, and before it `count`."""
     symbols = Symbols.read(SQUARES_DWARF5)
     assert symbols.place(0x11008) == "table" and symbols.place(0x11000) == "count"
@@ -31,7 +31,7 @@ def test_which_of_several_symbols_names_an_address() -> None:
     assert symbols.addresses["__global_pointer$"] == 0x11800
 
 
-def test_files_without_symbols(tmp_path: pathlib.Path) -> None:
+def test_file_without_symbols_has_none(tmp_path: pathlib.Path) -> None:
     damaged = tmp_path / "damaged"
     for data in (b"", b"\x7fELF", SUM.read_bytes()[:100], SUM.read_bytes()[:1500]):
         damaged.write_bytes(data)
@@ -46,7 +46,7 @@ def test_files_without_symbols(tmp_path: pathlib.Path) -> None:
         assert not Symbols.read(file).addresses and Symbols.read(file).place(0x10174) == ""
 
 
-def test_source_lines() -> None:
+def test_source_lines_are_read() -> None:
     symbols = Symbols.read(SUM_DWARF4)
     assert symbols.warning == ""
     lines = [symbols.line(address) for address in (0x11190, 0x11194, 0x111B4, 0x112DC, 0x112E8, 0)]
@@ -57,7 +57,7 @@ def test_source_lines() -> None:
     assert (Symbols.read(SUM).line(0x11190), Symbols.read(SUM).warning) == ("", "")
 
 
-def test_what_cannot_be_read_is_told_in_a_line() -> None:
+def test_unreadable_debug_data_gives_one_warning() -> None:
     """pyelftools 0.29 doesn't know a form that clang's DWARF 5 has; a later one may."""
     symbols = Symbols.read(SUM_DWARF5)
     assert symbols.place(0x11194) == "_start+0x4"

@@ -13,7 +13,7 @@ from vecmon_lab.harness.environments import digest, signature_text
 CODE = bytes.fromhex("13051000 9308d005 73000000")  # addi x10, x0, 1; addi x17, x0, 93; ecall
 
 
-def test_another_reader_finds_the_same() -> None:
+def test_pyelftools_reads_same_segments() -> None:
     parts = [Segment(0x10000, CODE, 4096, READ | EXECUTE), Segment(0x80020000, b"abc", 8192, READ | WRITE)]
     file = ELFFile(io.BytesIO(elf(0x10000, parts, {"_start": 0x10000, "tohost": 0x80020040})))
     segments = [(it["p_vaddr"], it.data(), it["p_memsz"], it["p_flags"]) for it in file.iter_segments("PT_LOAD")]
@@ -27,7 +27,7 @@ def test_another_reader_finds_the_same() -> None:
     assert [it.name for it in file.iter_sections()] == ["", ".symtab", ".strtab", ".shstrtab"]
 
 
-def test_the_machine_loads_it(program: pathlib.Path, tmp_path: pathlib.Path) -> None:
+def test_machine_loads_image(program: pathlib.Path, tmp_path: pathlib.Path) -> None:
     path = tmp_path / "image"
     path.write_bytes(elf(0x10000, [Segment(0x10000, CODE, 4096, READ | EXECUTE)], {"_start": 0x10000}))
     with started(path) as guest:
@@ -36,7 +36,7 @@ def test_the_machine_loads_it(program: pathlib.Path, tmp_path: pathlib.Path) -> 
     assert Symbols.read(path).addresses == {"_start": 0x10000}
 
 
-def test_a_digest_and_a_signature_by_hand() -> None:
+def test_digest_and_signature_equal_hand_worked_values() -> None:
     assert digest((2).to_bytes(8, "little") + (5).to_bytes(8, "little")) == 67
     assert digest(b"\xff" * 16) == (1 << 64) - 32
     assert signature_text([0x0123456789ABCDEF, 1]) == "89abcdef\n01234567\n00000001\n00000000\n"

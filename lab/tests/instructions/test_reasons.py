@@ -26,7 +26,7 @@ def view(sew: int, lmul: str, vstart: int = 0) -> ControlRegisters:
     )
 
 
-def test_a_reason_is_given_exactly_where_the_machine_says_cause_2(program: pathlib.Path) -> None:
+def test_reason_is_given_exactly_for_cause_2(program: pathlib.Path) -> None:
     draws = random.Random(30000)
     cases = [random_case(draws) for _ in range(30000)]
     answers = machine_says(program, cases)
@@ -40,7 +40,7 @@ def test_a_reason_is_given_exactly_where_the_machine_says_cause_2(program: pathl
     assert 10000 < illegal < 20000
 
 
-def test_each_fence_and_each_read_of_a_control_register_is_an_instruction() -> None:
+def test_fences_and_control_register_reads_are_legal() -> None:
     assert all(illegal_reasons(0x0000000F | bits << 15, VILL) == [] for bits in (0, 1, 0x1FFFF))
     assert all(illegal_reasons(0x000022F3 | number << 20, VILL) == [] for number in CONTROL_REGISTERS)
 
@@ -291,7 +291,7 @@ REASONS: list[tuple[str, ControlRegisters, list[str]]] = [
 ]
 
 
-def test_reasons(program: pathlib.Path) -> None:
+def test_illegal_reasons_equal_hand_worked_reasons(program: pathlib.Path) -> None:
     """Each reason by hand from the manual's rules; the words are the machine's own for the text."""
     lines = ["1 enter", "1 map 10000 1 rwx", *(f"1 asm 10000 {text}" for text, _, _ in REASONS)]
     done = subprocess.run([program], input="\n".join(lines).encode(), stdout=subprocess.PIPE, check=True)
@@ -342,11 +342,11 @@ def position_of(line: str) -> Position | Stop:
 
 
 @pytest.mark.parametrize("line, sentence", STOPS)
-def test_stop_lines(line: str, sentence: str) -> None:
+def test_stop_line_is_described(line: str, sentence: str) -> None:
     assert describe_stop(position_of(line)) == sentence
 
 
-def test_an_illegal_instruction_is_named_with_its_reasons() -> None:
+def test_illegal_instruction_is_named_with_reasons() -> None:
     stop = position_of("1 fault cause=2 pc=0000000000010008 value=00000000022200d7")
     assert (
         describe_stop(stop, 0x022200D7, view(32, "m2"), "vadd.vv v1, v2, v4")
@@ -355,7 +355,7 @@ def test_an_illegal_instruction_is_named_with_its_reasons() -> None:
     assert describe_stop(stop, view=VILL) == f"Illegal instruction at 0x10008: 0x022200d7. {NO_TYPE}"
 
 
-def test_a_vector_access_says_its_element() -> None:
+def test_vector_access_fault_names_element() -> None:
     stop = position_of("1 fault cause=5 pc=0000000000010008 value=0000000000020000")
     assert describe_stop(stop, 0x02056407, view(32, "m2", 5)).endswith("no permission r. It stopped at element 5.")
     assert describe_stop(stop, 0x00053283, view(32, "m2", 5)).endswith("no permission r.")
@@ -378,24 +378,24 @@ def test_a_vector_access_says_its_element() -> None:
         ("fault cause=7", None, "", "fault at 0x10008"),
     ],
 )
-def test_brief_stops(stop: str, word: int | None, text: str, words: str) -> None:
+def test_stop_is_described_briefly(stop: str, word: int | None, text: str, words: str) -> None:
     value = " value=0000000000020000" if stop.startswith("fault") else ""
     assert brief_stop(position_of(f"1 {stop} pc=0000000000010008{value}"), word, view(32, "m2", 5), text) == words
 
 
 @pytest.mark.parametrize("line", ["", "1 ok", "1 E07", "1 out 0", "1 fault cause=3 pc=0000000000010008", "* granted 1"])
-def test_other_lines_are_refused(line: str) -> None:
+def test_other_line_is_refused(line: str) -> None:
     with pytest.raises(ValueError):
         position_of(line)
 
 
-def test_every_stop_line_of_the_manuals_has_a_sentence() -> None:
+def test_every_documented_stop_is_described() -> None:
     pages = "\n".join(page.read_text() for page in DOCS.glob("*.md"))
     lines = re.findall(r"^[1-8] .* pc=[0-9a-f]{16}(?: value=[0-9a-f]{16})?$", pages, re.MULTILINE)
     stops = [line for line in lines if not line.startswith(("1 loaded", "2 loaded"))]
     assert len(stops) > 40 and all(describe_stop(position_of(line)) for line in stops)
 
 
-def test_a_view_is_read_from_vcsr() -> None:
+def test_control_registers_are_read_from_vcsr() -> None:
     assert view_of("1 vl=3 vtype=00000000000000c8 vstart=2 vxrm=0 vxsat=0") == ControlRegisters(0, 0xC8, 2)
     assert view_of("vl=0 vtype=8000000000000000 vstart=0 vxrm=0 vxsat=0") == VILL

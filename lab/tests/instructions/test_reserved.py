@@ -85,14 +85,16 @@ CASES = [[cell.strip() for cell in line.split("|")] for line in ENCODINGS.splitl
 
 
 @pytest.mark.parametrize("vtype, word, text, registers, refusals", CASES, ids=[case[2] for case in CASES])
-def test_registers_of_two_widths(vtype: str, word: str, text: str, registers: str, refusals: str) -> None:
+def test_registers_read_with_two_widths_are_reserved(
+    vtype: str, word: str, text: str, registers: str, refusals: str
+) -> None:
     view = ControlRegisters(vtype=TYPES[vtype])
     instruction = decode(int(word, 16), view.sew, view.lmul)
     assert instruction is not None
     assert registers_of_two_widths(instruction) == [int(number) for number in registers.split()]
 
 
-def test_qemu_refuses_reserved_encodings_alone() -> None:
+def test_qemu_refuses_only_reserved_encodings() -> None:
     refused = [registers for _, _, _, registers, refusals in CASES if refusals]
     assert len(refused) == 33 and all(refused)
 
@@ -129,7 +131,7 @@ def assert_one_width(row: Row, word: int, vtype: int) -> None:
     assert len({number for number, _ in read}) == len(read), (row.name, f"{word:08x}", f"{vtype:x}")
 
 
-def test_vectors_draw_none() -> None:
+def test_vectors_contain_no_reserved_encoding() -> None:
     rows = instruction_table()
     names = [
         "vwmacc.vv",
@@ -151,7 +153,7 @@ def test_vectors_draw_none() -> None:
     assert tried > 200
 
 
-def test_programs_draw_none() -> None:
+def test_programs_contain_no_reserved_encoding() -> None:
     """Vector types are followed by the words: those of vset, and the constants that `vsetvl` reads."""
     rows = [(row, int(row.bits.replace("-", "0"), 2), int(row.bits.replace("0", "1").replace("-", "0"), 2))
             for row in instruction_table().values()]  # fmt: skip

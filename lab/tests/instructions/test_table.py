@@ -5,13 +5,13 @@ from support.places import DOCS
 from vecmon_lab.instructions.table import instruction_table
 
 
-def test_the_table_is_that_of_the_page() -> None:
+def test_table_equals_page() -> None:
     page = (DOCS / "INSTRUCTIONS.md").read_text("ascii")
     path = DOCS.parent / "lab" / "vecmon_lab" / "tables" / "instructions.txt"
     assert with_instructions(path.read_text("ascii"), page) == path.read_text("ascii")
 
 
-def test_its_rows() -> None:
+def test_table_rows_have_operands_and_fields() -> None:
     rows = instruction_table()
     assert len(rows) >= 597
     assert rows["ecall"].operands == "" and rows["ecall"].word(0) == 0x73

@@ -12,7 +12,7 @@ MISC_MEM = 0x0F
 READS_VSTART = 0x008 << 20
 
 
-def test_the_tables_have_each_instruction() -> None:
+def test_tables_cover_every_instruction() -> None:
     draws = random.Random(597)
     assert len(encodings()) >= 597
     assert list(dict.fromkeys(fault for name, bits in encodings() * 10 for fault in _faults(name, bits, draws))) == []
@@ -34,12 +34,12 @@ def _faults(name: str, bits: str, draws: random.Random) -> Iterator[str]:
             yield f"operations.txt has {instruction.name if instruction else 'nothing'} where {name} is"
 
 
-def test_each_shape_is_that_of_an_instruction() -> None:
+def test_every_shape_belongs_to_instruction() -> None:
     named = {shape for *_, shape, _ in read_table("operations")} | {kind for _, kind, _ in read_table("words")}
     assert {name for name, *_ in read_table("shapes")} - named == set()
 
 
-def test_a_word_is_an_instruction_exactly_where_an_encoding_fits() -> None:
+def test_word_is_instruction_exactly_if_encoding_matches() -> None:
     """Except accesses of control registers, which only some numbers have, and fences, with only one encoding."""
     by_place: dict[int, list[tuple[int, int]]] = {}
     for _, bits in encodings():

@@ -85,7 +85,7 @@ def kernel(tmp_path_factory: pytest.TempPathFactory) -> Iterator[Kernel]:
 
 
 @pytest.mark.parametrize("number", [0, 7, -1, -(1 << 63), (1 << 64) - 1])
-def test_numbers(kernel: Kernel, number: int) -> None:
+def test_call_passes_and_returns_numbers(kernel: Kernel, number: int) -> None:
     result = kernel.call("fifth", 1, 2, 3, 4, number)
     assert result.value == number % (1 << 64) and result.signed == number - (1 << 64 if number > 1 << 63 else 0)
 
@@ -105,7 +105,7 @@ def test_numbers(kernel: Kernel, number: int) -> None:
     ids=["bytes", "bytearray", "array", "memoryview", "rows", "ctypes", "empty", "two pages"],
 )
 @pytest.mark.parametrize("offset", [None, 0, 1, 4095])
-def test_arrays(kernel: Kernel, given: Any, left: Any, offset: int | None) -> None:
+def test_call_passes_and_returns_arrays(kernel: Kernel, given: Any, left: Any, offset: int | None) -> None:
     """A word that is turned round is -1 minus it."""
     size, before = memoryview(given).nbytes, bytes(memoryview(given).cast("B")) if len(given) else b""
     result = kernel.call("turned", Placed(given, offset), size)
@@ -114,7 +114,7 @@ def test_arrays(kernel: Kernel, given: Any, left: Any, offset: int | None) -> No
     assert bytes(memoryview(given).cast("B") if len(given) else b"") == before
 
 
-def test_no_page_is_before_an_array_or_behind_it(kernel: Kernel) -> None:
+def test_array_pages_have_unmapped_neighbours(kernel: Kernel) -> None:
     assert kernel.call("least", Placed(b"ab", 1)).value == kernel.call("first", Placed(b"\0", 4095)).value == 0
     with pytest.raises(
         CallStopped, match=r"least.*may not read from 0xffffffff on: .* Array 1 is from 0x100000000 to "
@@ -127,7 +127,7 @@ def test_no_page_is_before_an_array_or_behind_it(kernel: Kernel) -> None:
         kernel.call("turned", Placed(b"a", permissions="r"), 1)
 
 
-def test_agnostic_elements(kernel: Kernel) -> None:
+def test_agnostic_elements_are_reported(kernel: Kernel) -> None:
     """Elements 2 and 3 keep their 9 under `keep`; under `ones` they are all ones, which is -1."""
     before, kept = array.array("i", [0] * 4), array.array("i", [1, 1, 9, 9])
     result = kernel.call("tail", before)
@@ -141,7 +141,7 @@ def test_agnostic_elements(kernel: Kernel) -> None:
     assert kernel.call("fifth", 0, 0, 0, 0, 5, policy="both").value == 5
 
 
-def test_each_call_begins_anew(kernel: Kernel, monkeypatch: pytest.MonkeyPatch) -> None:
+def test_calls_are_independent(kernel: Kernel, monkeypatch: pytest.MonkeyPatch) -> None:
     processes = set()
     monkeypatch.setattr(kernels, "RENEWED_BYTES", 3000)
     for _ in range(20):
@@ -150,7 +150,7 @@ def test_each_call_begins_anew(kernel: Kernel, monkeypatch: pytest.MonkeyPatch) 
     assert 1 < len(processes) < 20
 
 
-def test_an_interrupt(kernel: Kernel) -> None:
+def test_interrupt_raises_keyboard_interrupt(kernel: Kernel) -> None:
     with pytest.MonkeyPatch.context() as patch:
         patch.setattr(Runner, "_grant", lambda *_: signal.raise_signal(signal.SIGINT))
         with pytest.raises(KeyboardInterrupt):
@@ -158,7 +158,7 @@ def test_an_interrupt(kernel: Kernel) -> None:
     assert kernel.call("counts").value == 0x31
 
 
-def test_output(kernel: Kernel) -> None:
+def test_call_returns_output(kernel: Kernel) -> None:
     """A write of 128 bytes, nine times: more than the machine holds at once."""
     output = kernel.call("says", 0, 128, 0, 0, 9).output
     assert len(output) == 9 * 128 and output[:8] == bytes([0x30, *[0] * 7])
@@ -173,7 +173,7 @@ def test_output(kernel: Kernel) -> None:
         ("stays", "stays: the ticks ran out at "),
     ],
 )
-def test_calls_that_do_not_return(kernel: Kernel, symbol: str, expected: str) -> None:
+def test_call_without_return_is_reported(kernel: Kernel, symbol: str, expected: str) -> None:
     with pytest.raises(CallStopped, match=re.escape(expected)):
         kernel.call(symbol, 7, ticks=2000)
     assert kernel.call("counts").value == 0x31
@@ -193,13 +193,13 @@ def test_calls_that_do_not_return(kernel: Kernel, symbol: str, expected: str) ->
         ([], {"policy": "none"}, "fifth: policy none: E04: none is no policy"),
     ],
 )
-def test_what_cannot_be_called(kernel: Kernel, arguments: Any, options: Any, expected: str) -> None:
+def test_uncallable_symbol_is_refused(kernel: Kernel, arguments: Any, options: Any, expected: str) -> None:
     with pytest.raises(LabError, match=f"^{re.escape(expected)}"):
         kernel.call("fifth", *arguments, **options)
     assert kernel.call("fifth", 0, 0, 0, 0, 5).value == 5
 
 
-def test_programs_that_are_refused(kernel: Kernel, tmp_path: pathlib.Path) -> None:
+def test_unsuitable_program_is_refused(kernel: Kernel, tmp_path: pathlib.Path) -> None:
     with pytest.raises(LabError, match="has no symbol none$"):
         kernel.call("none")
     (tmp_path / "bad.s").write_text("add t0, t1 t2")
@@ -215,7 +215,7 @@ def test_programs_that_are_refused(kernel: Kernel, tmp_path: pathlib.Path) -> No
         getattr(vecmon_lab, "Karnel")
 
 
-def test_an_image() -> None:
+def test_kernel_calls_image_function() -> None:
     """`fill` stores squares: 37 of them are three groups of sixteen, the last one in part."""
     with Kernel(SQUARES_DWARF5) as kernel:
         result = kernel.call("fill", array.array("I", [0] * 37), 37, policy="both")
@@ -224,7 +224,7 @@ def test_an_image() -> None:
             kernel.call("fill", array.array("I", [0] * 36), 37)
 
 
-def test_counts() -> None:
+def test_call_counts_instructions() -> None:
     """By fill.S: one instruction, ten in each of three rounds, four of them with groups of sixteen elements, and `ret`."""
     with Kernel(SQUARES_DWARF5) as kernel:
         zeros = array.array("I", [0] * 37)
@@ -236,7 +236,7 @@ def test_counts() -> None:
             kernel.call("fill", zeros, 38, counted=True)
 
 
-def test_a_source_in_c(clang: Compiler, tmp_path: pathlib.Path) -> None:
+def test_kernel_calls_c_function(clang: Compiler, tmp_path: pathlib.Path) -> None:
     (tmp_path / "double.c").write_text("long twice(int n) { return 2L * n; }\n")
     with Kernel(tmp_path / "double.c", options="O0", compiler=clang.name) as kernel:
         assert kernel.call("twice", -21).signed == -42
@@ -253,7 +253,7 @@ def test_a_source_in_c(clang: Compiler, tmp_path: pathlib.Path) -> None:
         Kernel(tmp_path / "double.c", options="O9")
 
 
-def test_the_example(clang: Compiler, tmp_path: pathlib.Path) -> None:
+def test_documented_example_passes(clang: Compiler, tmp_path: pathlib.Path) -> None:
     folder = EXAMPLES / "tested"
     command = [sys.executable, "-B", "-m", "pytest", "-q", "-p", "no:cacheprovider", "-c", "/dev/null", str(folder)]
     run = subprocess.run(command, cwd=tmp_path, capture_output=True, text=True, check=False)

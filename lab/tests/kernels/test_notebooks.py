@@ -45,7 +45,7 @@ class _Rows(HTMLParser):
             self.rows[-1][-1] += data
 
 
-def test_a_machine_and_a_frame(program: pathlib.Path) -> None:
+def test_machine_and_frame_have_html(program: pathlib.Path) -> None:
     script = "".join(f"{line}\n" for line in LINES)
     with Session(program) as session:
         machine = _Rows(machine_after(session, script.encode(), {}))
@@ -56,7 +56,7 @@ def test_a_machine_and_a_frame(program: pathlib.Path) -> None:
     assert "<p>Counts &amp; &lt;more&gt;.</p>" in _Rows(frames[0]).text
 
 
-def test_a_kernel_and_its_counts() -> None:
+def test_kernel_and_counts_have_html() -> None:
     """By fill.S: `vsetvli` with e32 and m2, ten instructions in a round of 16, and two more."""
     with Kernel(SQUARES_DWARF5) as kernel:
         assert "fill" in [row[0] for row in _Rows(kernel).rows if row]
@@ -65,6 +65,6 @@ def test_a_kernel_and_its_counts() -> None:
         assert any(row[:3] == ["v8", "00000000", "00000001"] for row in _Rows(kernel).rows)
 
 
-def test_a_part_of_a_profile() -> None:
+def test_profile_table_has_html() -> None:
     table = Table("Loops", ("loop", "ticks"), 1, [("main<0>", 7)])
     assert _Rows(table).rows == [["loop", "ticks"], ["main<0>", "7"]]

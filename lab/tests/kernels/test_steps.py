@@ -16,7 +16,7 @@ scaled: vsetvli t0, a1, e32, m1, tu, mu
 """
 
 
-def test_steps(tmp_path: pathlib.Path) -> None:
+def test_steps_yield_instructions_with_changes(tmp_path: pathlib.Path) -> None:
     path = tmp_path / "source.s"
     path.write_text(SOURCE)
     numbers = array.array("i", [5, -6, 7])

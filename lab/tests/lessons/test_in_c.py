@@ -33,14 +33,14 @@ int main(void)
 """
 
 
-def test_how_often_a_line_is_carried_out(clang: Compiler, program: pathlib.Path) -> None:
+def test_line_execution_counts_are_shown(clang: Compiler, program: pathlib.Path) -> None:
     listing = listing_of(compile_c(LOOP, clang, choice_of("O1"), KERNELS), "one", program)
     assert {row[4] for row in listing.rows if row[1] == 6} == {7}
     assert {row[2] for row in listing.rows} == {""} and {row[1] for row in listing.rows} <= {3, *range(4, 9)}
     assert listing.summary[-1].endswith("status 0")
 
 
-def test_elements_of_a_line(clang: Compiler, program: pathlib.Path) -> None:
+def test_line_element_counts_are_shown(clang: Compiler, program: pathlib.Path) -> None:
     """37 elements in groups of 16 leave 5, and 11 in the last tail."""
     text = (KERNELS / "saxpy.c").read_text("ascii")
     listing = listing_of(compile_c(text, clang, 0, KERNELS), "one", program)
@@ -49,13 +49,13 @@ def test_elements_of_a_line(clang: Compiler, program: pathlib.Path) -> None:
     assert re.fullmatch(r"vse32\.v .*", str(store[3])) and list(store[4:]) == [3, 37, 0, 11] and store[2] == "saxpy"
 
 
-def test_a_program_without_an_end(clang: Compiler, program: pathlib.Path) -> None:
+def test_endless_program_has_no_counts(clang: Compiler, program: pathlib.Path) -> None:
     text = "int main(void)\n{\n    for (volatile int i = 0;; i++)\n        ;\n}\n"
     listing = listing_of(compile_c(text, clang, 0, KERNELS), "one", program)
     assert "the ticks ran out" in listing.summary[0]
 
 
-def test_a_breakpoint_of_an_inlined_function(clang: Compiler, session: Session) -> None:
+def test_breakpoint_covers_inlined_function(clang: Compiler, session: Session) -> None:
     """It stops in main's copy, not only in the one that nothing calls."""
     text = f"{(DATA / 'images' / 'prefix_sums.c').read_text('ascii')}//> break prefix_bad\n//> go\n//> * slices 30\n"
     program = compile_c(text, clang, 0, KERNELS)
@@ -68,7 +68,7 @@ def test_a_breakpoint_of_an_inlined_function(clang: Compiler, session: Session) 
     ]
 
 
-def test_listings_side_by_side(lab: Lab, clang: Compiler, tmp_path: pathlib.Path) -> None:
+def test_listings_are_shown_side_by_side(lab: Lab, clang: Compiler, tmp_path: pathlib.Path) -> None:
     page, source = tmp_path / "page.html", KERNELS / "plain_sum.c"
     words = ["lesson", str(source), "--cc", clang.name, "--against", "O2-scalar", "-o", str(page)]
     assert lab(*words)[0] == 0
@@ -94,7 +94,7 @@ def test_unavailable_comparison_is_refused(lab: Lab, clang: Compiler, words: lis
     assert status == 2 and expected in errors
 
 
-def test_against_is_for_c(lab: Lab) -> None:
+def test_against_requires_c_source(lab: Lab) -> None:
     assert "is for a source in C" in lab("lesson", str(EXAMPLES / "strip_mined.s"), "--against", "O2")[2]
 
 
@@ -107,7 +107,7 @@ def test_compiler_titles_report_missing_intrinsics() -> None:
         choice_of("@file")
 
 
-def test_memory_shows_where_variables_lie(clang: Compiler, program: pathlib.Path) -> None:
+def test_memory_rows_show_variables(clang: Compiler, program: pathlib.Path) -> None:
     text = (KERNELS / "saxpy.c").read_text("ascii")
     compiled = compile_c(text, clang, 0, KERNELS)
     memory = make_frames(read_compiled(text, "x", compiled, True), program)[-1].states["1"]["memory"]
@@ -117,7 +117,7 @@ def test_memory_shows_where_variables_lie(clang: Compiler, program: pathlib.Path
     assert bytes.fromhex("".join(memory[row] for row in sorted(rows)))[first % 16 :][: len(expected)] == expected
 
 
-def test_rows_of_variables() -> None:
+def test_variable_rows_are_listed() -> None:
     places = [[0, 9, "memory", 0, "1008"]]
     variables: list[list[Any]] = [
         ["a", "", "i32", [3], "", [], places],
@@ -128,14 +128,14 @@ def test_rows_of_variables() -> None:
     assert variable_rows(variables) == [0x1000, 0x1010, *range(0x2000, 0x3000, 16)]
 
 
-def test_the_tours_kernel_is_what_the_compiler_makes(clang: Compiler) -> None:
+def test_tour_kernel_equals_compiler_output(clang: Compiler) -> None:
     """Made again by `python3 -m support.tour_kernel`, in lab/."""
     if clang == COMPILER:
         script, reply = made()
         assert (TOURS / KERNEL).read_text("ascii") == script and (TOURS / f"{KERNEL}.json").read_text("ascii") == reply
 
 
-def test_the_tour_ends_with_a_kernel() -> None:
+def test_tour_ends_with_kernel() -> None:
     script = tours()[KERNEL]
     assert list(tours())[-1] == KERNEL and script.labels["112a0"] == ["_start"]
     assert script.said["111e8"].endswith("length = __riscv_vsetvl_e32m1(count);  (saxpy, inlined)")

@@ -54,7 +54,7 @@ def check_first_frame(frame: Frame, has_program: bool = True) -> None:
 
 @pytest.mark.parametrize("name", list(tours()))
 @pytest.mark.by_command("tour")
-def test_a_tours_log_is_the_plain_transcript(program: pathlib.Path, name: str) -> None:
+def test_tour_log_equals_transcript(program: pathlib.Path, name: str) -> None:
     script = (TOURS / name).read_text("ascii")
     made = make_frames(tours()[name], program)
     assert logged(made, ">") == script.splitlines()
@@ -63,13 +63,13 @@ def test_a_tours_log_is_the_plain_transcript(program: pathlib.Path, name: str) -
 
 
 @pytest.mark.parametrize("name", [name for name, _ in read_table("course")])
-def test_the_first_frame_of_a_course_lesson(program: pathlib.Path, name: str) -> None:
+def test_course_lesson_has_expected_first_frame(program: pathlib.Path, name: str) -> None:
     script = script_before(read_exercise(OURS / name))
     check_first_frame(make_frames(replace(script, steps=script.steps[:1]), program)[0])
 
 
 @pytest.mark.parametrize("name", list(tours()))
-def test_the_last_frame_shows_what_the_machine_shows(session: Session, program: pathlib.Path, name: str) -> None:
+def test_last_frame_equals_machine_state(session: Session, program: pathlib.Path, name: str) -> None:
     for line in (TOURS / name).read_text("ascii").splitlines():
         session.do(line)
     for user, state in make_frames(tours()[name], program)[-1].states.items():
@@ -94,7 +94,7 @@ def test_the_last_frame_shows_what_the_machine_shows(session: Session, program: 
             assert session.look(f"{user} dis {address} 1")[0][19:] == line
 
 
-def test_comments_never_reach_the_machine(program: pathlib.Path, monkeypatch: pytest.MonkeyPatch) -> None:
+def test_comments_are_not_sent_to_machine(program: pathlib.Path, monkeypatch: pytest.MonkeyPatch) -> None:
     sent: list[str] = []
 
     class RecordingSession(Session):
@@ -110,7 +110,7 @@ def test_comments_never_reach_the_machine(program: pathlib.Path, monkeypatch: py
     assert [frame.note for frame in made] == ["one two", "1 dance", "end"]
 
 
-def test_each_instruction_of_a_step_is_a_frame_up_to_a_breakpoint(program: pathlib.Path) -> None:
+def test_step_has_frame_per_instruction_up_to_breakpoint(program: pathlib.Path) -> None:
     script = (
         "1 enter\n1 map 10000 1 rwx\n1 asm 10000 addi x5, x5, 1\n1 asm 10004 addi x5, x5, 1\n1 asm 10008 ebreak\n"
         "1 setpc 10000\n1 break 10004\n1 step 5\n1 step 5\n1 step 1\n"
@@ -129,7 +129,7 @@ def test_each_instruction_of_a_step_is_a_frame_up_to_a_breakpoint(program: pathl
     assert ["stop" in frame.states["1"] for frame in stepped] == [True, False, True, True]
 
 
-def test_lines_that_look_or_write_instructions_join_a_frame(program: pathlib.Path) -> None:
+def test_read_only_lines_join_preceding_frame(program: pathlib.Path) -> None:
     script = "1 enter\n1 regs\n1 map 0 1 rwx\n1 asm 0 ecall\n1 asm 4 ebreak\n# here\n1 asm 8 ecall\n2 asm 8 ecall\n"
     made = make_frames(read_script(script), program)
     assert [(frame.line, frame.more) for frame in made] == [
@@ -141,7 +141,7 @@ def test_lines_that_look_or_write_instructions_join_a_frame(program: pathlib.Pat
     ]
 
 
-def test_a_script_with_errors_shows_the_refusals(program: pathlib.Path) -> None:
+def test_refusals_are_shown(program: pathlib.Path) -> None:
     script = "1 dance\n1 enter\n1 enter\n1 asm 0 nop\n* run 9\n1 step 1\n2 regs\n"
     made = make_frames(read_script(script + "9 enter\n1 \tregs\n1 poke 0 é\n"), program)
     assert logged(made, "<") == transcript(program, script)
@@ -157,7 +157,7 @@ def test_a_script_with_errors_shows_the_refusals(program: pathlib.Path) -> None:
     assert made[-1].user == "1"
 
 
-def test_rows_of_memory_that_tell_most(program: pathlib.Path) -> None:
+def test_changed_memory_rows_are_preferred(program: pathlib.Path) -> None:
     lines = ["1 enter", "1 map 10000 1 rwx", "1 asm 10000 sd x2, 0(x1)", "1 map 20000 1 rw", "1 set x1 20100"]
     lines += [
         "1 poke 20010 " + "ff" * 256,
@@ -173,7 +173,7 @@ def test_rows_of_memory_that_tell_most(program: pathlib.Path) -> None:
     assert made[-1].states["1"]["memory"]["20100"] == "01" + "00" * 7 + "ff" * 8
 
 
-def test_a_source(program: pathlib.Path) -> None:
+def test_assembler_source_makes_lesson(program: pathlib.Path) -> None:
     path = EXAMPLES / "strip_mined.s"
     script = read_assembled(path.read_text("utf-8"), path.name)
     made = make_frames(script, program)
@@ -190,7 +190,7 @@ def test_a_source(program: pathlib.Path) -> None:
     ]
 
 
-def test_a_source_without_lines_runs_to_its_end(program: pathlib.Path) -> None:
+def test_source_without_lines_runs_to_end(program: pathlib.Path) -> None:
     source = (
         '.data\ns: .ascii "hi\\n"\n.text\nli a0, 1\nla a1, s\nli a2, 3\nli a7, 64\necall\nli a0, 0\nli a7, 93\necall\n'
     )
@@ -199,14 +199,14 @@ def test_a_source_without_lines_runs_to_its_end(program: pathlib.Path) -> None:
     assert "status 0" in made[-2].states["1"]["stop"]
 
 
-def test_set_up_of_a_source_names_labels(program: pathlib.Path) -> None:
+def test_source_set_up_names_labels(program: pathlib.Path) -> None:
     source = "#> break end\n#> go\n#> * run 1\n nop\nend: nop\n"
     made = make_frames(read_assembled(source, "x.s"), program)
     assert logged(made, "<")[-2:] == ["1 break pc=0000000000010004", "* granted 1"]
     assert made[-1].states["1"]["instruction"] == "10000"
 
 
-def test_the_example_of_the_manual(program: pathlib.Path) -> None:
+def test_manual_example_is_reproduced(program: pathlib.Path) -> None:
     text = (DOCS / "LESSONS.md").read_text("utf-8")
     section = text.partition("## Scripts with comments\n")[2]
     script = read_script(section.partition("```text\n")[2].partition("```")[0])
@@ -215,7 +215,7 @@ def test_the_example_of_the_manual(program: pathlib.Path) -> None:
     assert logged(made, "<")[-1].startswith("1 v2 00000000 00000002 00000004 ")
 
 
-def test_sixty_frames_are_a_small_page(program: pathlib.Path) -> None:
+def test_sixty_frames_make_small_page(program: pathlib.Path) -> None:
     source = (EXAMPLES / "strip_mined.s").read_text("utf-8").replace("li a0, 13", "li a0, 45")
     made = make_frames(read_assembled(source, "x.s"), program)
     assert len(made) >= 60
@@ -231,11 +231,11 @@ OBJECTS = st.recursive(
 
 @settings(derandomize=True, database=None, deadline=None, max_examples=200)
 @given(st.dictionaries(st.text("abc", max_size=1), OBJECTS), st.dictionaries(st.text("abc", max_size=1), OBJECTS))
-def test_merge_patches(old: dict[str, Any], new: dict[str, Any]) -> None:
+def test_merge_patch_restores_new_state(old: dict[str, Any], new: dict[str, Any]) -> None:
     assert patched(old, merge_patch(old, new)) == new
 
 
-def test_the_files_of_the_page_stay_within_their_elements() -> None:
+def test_page_files_do_not_close_their_elements() -> None:
     paths = list(FILES.glob("*.js"))
     assert FILES / "lesson.js" in paths
     for path in paths:
@@ -256,7 +256,7 @@ def test_the_files_of_the_page_stay_within_their_elements() -> None:
         (["tour", "{tmp}/good"], "{tmp}/good: File exists"),
     ],
 )
-def test_bad_input_is_told_in_one_line(tmp_path: pathlib.Path, words: list[str], mistake: str) -> None:
+def test_bad_input_is_refused_in_one_line(tmp_path: pathlib.Path, words: list[str], mistake: str) -> None:
     (tmp_path / "good").write_text("1 enter\n")
     (tmp_path / "empty").write_text("## A title\n\n")
     (tmp_path / "label.s").write_text("nop\nj  nowhere\n")
@@ -267,14 +267,14 @@ def test_bad_input_is_told_in_one_line(tmp_path: pathlib.Path, words: list[str],
     assert done.stderr.count("\n") == 1
 
 
-def test_no_program(tmp_path: pathlib.Path) -> None:
+def test_missing_program_is_refused(tmp_path: pathlib.Path) -> None:
     (tmp_path / "good").write_text("1 enter\n")
     done = lab("lesson", str(tmp_path / "good"), VECMON="/nowhere/vecmon")
     assert done.returncode == 2 and done.stderr.count("\n") == 1 and "/nowhere/vecmon" in done.stderr
 
 
 @pytest.mark.by_command("lesson")
-def test_pages_are_written(tmp_path: pathlib.Path) -> None:
+def test_lesson_page_is_written(tmp_path: pathlib.Path) -> None:
     (tmp_path / "script").write_text("# <first>\n1 enter\n1 load sum\n")
     done = lab("lesson", str(tmp_path / "script"), f"sum={SUM}", "-o", str(tmp_path / "page.html"))
     assert (done.returncode, done.stdout, done.stderr) == (0, "", "")
@@ -307,7 +307,7 @@ def test_pages_are_written(tmp_path: pathlib.Path) -> None:
     assert {*named} == {*list(tours())[1:]} and '"links":[]' in page
 
 
-def test_a_tour_is_whole_although_nobody_reads_what_it_prints(tmp_path: pathlib.Path) -> None:
+def test_tour_is_complete_without_reader(tmp_path: pathlib.Path) -> None:
     """As `tour DIR | head -0`: all files are written before the first line is printed."""
     source, end = os.pipe()
     os.close(source)
@@ -317,9 +317,7 @@ def test_a_tour_is_whole_although_nobody_reads_what_it_prints(tmp_path: pathlib.
     assert {path.stem for path in tmp_path.iterdir()} == {"index", *tours()}
 
 
-def test_steps_that_end_otherwise_one_by_one_are_an_error(
-    program: pathlib.Path, monkeypatch: pytest.MonkeyPatch
-) -> None:
+def test_differing_single_steps_are_refused(program: pathlib.Path, monkeypatch: pytest.MonkeyPatch) -> None:
     class Meddling(Session):
         def do(self, line: str) -> list[str]:
             answer = super().do(line)

@@ -22,7 +22,7 @@ def stored_answers() -> Iterator[list[str]]:
             yield from (found[0].splitlines() for found in PATTERN.finditer(path.read_text("latin-1")))
 
 
-def test_stored_answers_are_printed_as_they_were() -> None:
+def test_parsed_answers_print_unchanged() -> None:
     kinds = Counter[str]()
     for answer in stored_answers():
         said = read(answer)
@@ -31,7 +31,7 @@ def test_stored_answers_are_printed_as_they_were() -> None:
     assert kinds.total() > 100_000 and len(kinds) == 16
 
 
-def test_stops_of_slices_are_told_to_their_users() -> None:
+def test_slice_stops_belong_to_their_users() -> None:
     answer = ["2 ebreak pc=0000000000010000", "1 exit 3 pc=0000000000020000", "* granted 5"]
     stops = (("2", Stop("ebreak", 0x10000)), ("1", Stop("exit", 0x20000, 3)))
     assert read(answer) == Granted(5, stops) and answers_by_user(answer) == [*stops, ("*", Granted(5, stops))]
@@ -40,6 +40,6 @@ def test_stops_of_slices_are_told_to_their_users() -> None:
 @pytest.mark.parametrize(
     "line", ["", "1", "1 ", "1 dance", "1 loaded", "1 state pc=0", "1 x0 0", "* granted", "1 fault"]
 )
-def test_lines_that_are_no_answers(line: str) -> None:
+def test_other_line_is_no_answer(line: str) -> None:
     with pytest.raises(ValueError):
         read([line])

@@ -97,7 +97,7 @@ def check_lines(program: pathlib.Path, lines: Sequence[str]) -> list[list[str]]:
     return answers
 
 
-def test_stored_scripts(program: pathlib.Path, session: Session) -> None:
+def test_stored_scripts_are_classified(program: pathlib.Path, session: Session) -> None:
     lines_of_all = 0
     for script in stored_scripts():
         lines = [line for line in script.read_text("latin-1").split("\n") if line]
@@ -208,7 +208,7 @@ def test_forbidden_lines_are_never_sent(session: Session, line: str) -> None:
     assert session.do("1 enter") == ["1 entered"]
 
 
-def test_the_longest_line(session: Session) -> None:
+def test_longest_line_is_accepted(session: Session) -> None:
     assert session.do("1 " + "x" * 1022) == ["1 E03"]
     assert session.do("1 ") == ["1 E03"]
 

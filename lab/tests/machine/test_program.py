@@ -23,7 +23,7 @@ def executable(file: pathlib.Path) -> pathlib.Path:
     return file
 
 
-def test_the_order_of_places(monkeypatch: pytest.MonkeyPatch, tmp_path: pathlib.Path) -> None:
+def test_program_places_are_searched_in_order(monkeypatch: pytest.MonkeyPatch, tmp_path: pathlib.Path) -> None:
     folders = ("named", "built", "unproved", "found")
     named, built, unproved, found = (executable(tmp_path / folder / "vecmon") for folder in folders)
     monkeypatch.setattr(places, "BUILT", built)
@@ -60,7 +60,7 @@ def test_build_folders_are_searched_for_program() -> None:
     assert (TOP / "crates" / "vecmon" / "stdin").is_file() and (TOP / "tools" / "run").is_file()
 
 
-def test_the_recorder_that_tools_run_built(monkeypatch: pytest.MonkeyPatch, tmp_path: pathlib.Path) -> None:
+def test_recorder_built_by_tools_run_is_found(monkeypatch: pytest.MonkeyPatch, tmp_path: pathlib.Path) -> None:
     recorder = executable(tmp_path / "unproved" / "vecmon-record")
     (tmp_path / "current").write_text("unproved\n")
     monkeypatch.setattr(places, "UNPROVED", tmp_path)
@@ -70,7 +70,7 @@ def test_the_recorder_that_tools_run_built(monkeypatch: pytest.MonkeyPatch, tmp_
     assert find_recorder() == recorder
 
 
-def test_each_command_is_tried_with_the_proved_program() -> None:
+def test_every_command_is_tested_with_proved_program() -> None:
     files = (TOP / "lab" / "tests").rglob("test_*.py")
     marked = [
         name for file in files for name in re.findall(r'^@pytest.mark.by_command\("(\w+)"\)', file.read_text(), re.M)
@@ -79,7 +79,7 @@ def test_each_command_is_tried_with_the_proved_program() -> None:
 
 
 @pytest.mark.parametrize("words", [[], ["dance"], ["--dance"], ["help", "dance"]])
-def test_wrong_words(words: list[str]) -> None:
+def test_bad_arguments_are_refused(words: list[str]) -> None:
     run = subprocess.run([sys.executable, "-m", "vecmon_lab", *words], cwd=TOP, capture_output=True, text=True)
     assert (run.returncode, run.stdout, run.stderr.count("\n")) == (2, "", 1)
     assert run.stderr.startswith("vecmon-lab: ")
@@ -96,7 +96,7 @@ def test_wrong_words(words: list[str]) -> None:
         (["vectors", "vadd.vv", "--cases", "3", "vsub.vv"], {"names": ["vadd.vv", "vsub.vv"], "cases": 3}),
     ],
 )
-def test_options_stand_anywhere(words: list[str], expected: dict[str, object]) -> None:
+def test_options_are_accepted_anywhere(words: list[str], expected: dict[str, object]) -> None:
     arguments = vars(start.arguments_of(words))
     assert {name: arguments[name] for name in expected} == expected
 
@@ -110,7 +110,7 @@ def test_options_stand_anywhere(words: list[str], expected: dict[str, object]) -
         (["-o", "--", "--t", "--in=x", "-1", ""], ["-o", "--", "--t", "--in=x", "-1", ""]),
     ],
 )
-def test_words_behind_an_image_are_the_program_s(command: str, words: list[str], given: list[str]) -> None:
+def test_arguments_after_image_belong_to_program(command: str, words: list[str], given: list[str]) -> None:
     """As qemu-riscv64 has them."""
     befores: list[list[str]] = [[], ["--in", "file"], ["--in", "file", "--"]]
     for before in befores:
@@ -120,7 +120,7 @@ def test_words_behind_an_image_are_the_program_s(command: str, words: list[str],
 
 
 @pytest.mark.parametrize("word", ["--against", "--in=file", "-o"])
-def test_an_option_behind_an_image_is_told(capsys: pytest.CaptureFixture[str], word: str) -> None:
+def test_option_after_image_is_refused(capsys: pytest.CaptureFixture[str], word: str) -> None:
     start.arguments_of(["profile", "image", "--tick", word, "--against-it"])
     expected = f"vecmon-lab: {word} after image is an argument of the program; "
     assert capsys.readouterr() == ("", f"{expected}options of vecmon-lab profile go before image\n")
@@ -129,7 +129,7 @@ def test_an_option_behind_an_image_is_told(capsys: pytest.CaptureFixture[str], w
 
 
 @pytest.mark.parametrize("words", [["run", "--trace"], ["lesson", "-o"], ["profile", "-o"]])
-def test_an_output_that_is_an_input(
+def test_output_equal_to_input_is_refused(
     monkeypatch: pytest.MonkeyPatch, capsys: pytest.CaptureFixture[str], tmp_path: pathlib.Path, words: list[str]
 ) -> None:
     (tmp_path / "sum.csv").write_bytes(SUM.read_bytes())
@@ -141,7 +141,7 @@ def test_an_output_that_is_an_input(
     assert (tmp_path / "sum.csv").read_bytes() == SUM.read_bytes()
 
 
-def test_the_other_output_of_a_profile(monkeypatch: pytest.MonkeyPatch, tmp_path: pathlib.Path) -> None:
+def test_profile_csv_equal_to_input_is_refused(monkeypatch: pytest.MonkeyPatch, tmp_path: pathlib.Path) -> None:
     (tmp_path / "sum.csv").write_bytes(SUM.read_bytes())
     arguments = start.arguments_of(["profile", "-o", str(tmp_path / "sum.html"), str(tmp_path / "sum.csv")])
     with pytest.raises(LabError, match="sum.csv would be overwritten"):
@@ -157,7 +157,7 @@ def test_the_other_output_of_a_profile(monkeypatch: pytest.MonkeyPatch, tmp_path
         (["run", "--help"], "usage: vecmon-lab run [-h]", "--trace FILE"),
     ],
 )
-def test_help(capsys: pytest.CaptureFixture[str], words: list[str], first: str, has: str) -> None:
+def test_help_lists_arguments(capsys: pytest.CaptureFixture[str], words: list[str], first: str, has: str) -> None:
     with pytest.raises(SystemExit, match="0"):
         start.arguments_of(words)
     output = capsys.readouterr().out
@@ -171,7 +171,7 @@ def test_help(capsys: pytest.CaptureFixture[str], words: list[str], first: str, 
         ("elftools.elf", ["run", str(SUM)], "pyelftools"),
     ],
 )
-def test_a_library_that_is_missing(program: pathlib.Path, module: str, words: list[str], library: str) -> None:
+def test_missing_library_is_reported(program: pathlib.Path, module: str, words: list[str], library: str) -> None:
     code = f"import sys; sys.modules[{module!r}] = None; sys.argv[1:] = {words}; from vecmon_lab.__main__ import main; sys.exit(main())"
     run = subprocess.run([sys.executable, "-c", code], cwd=TOP, capture_output=True, text=True)
     assert (run.returncode, run.stdout) == (2, "")
@@ -206,7 +206,7 @@ def test_main_imports_no_command_modules() -> None:
         (KeyboardInterrupt(), 130, ""),
     ],
 )
-def test_how_a_command_ends(
+def test_command_error_has_exit_status(
     monkeypatch: pytest.MonkeyPatch,
     capsys: pytest.CaptureFixture[str],
     mistake: BaseException,

@@ -48,13 +48,13 @@ def test_replay_restores_the_machine(counting: Session, program: pathlib.Path) -
         assert (again.script, again.digest, again.policy) == (counting.script, counting.digest, counting.policy)
 
 
-def test_lines_that_look_are_left_out_of_a_script(program: pathlib.Path) -> None:
+def test_read_only_lines_are_not_recorded(program: pathlib.Path) -> None:
     with Session(program) as session:
         session.do_all(["1 enter", "1 regs", "1 step 1"])
         assert session.script == b"1 enter\n1 step 1\n"
 
 
-def test_images_and_quantum(program: pathlib.Path) -> None:
+def test_session_passes_images_and_quantum(program: pathlib.Path) -> None:
     with Session(program, {"sum": SUM, "short": SHORT}, quantum=7) as session:
         session.do("1 enter")
         assert session.do("1 load sum")[0].startswith("1 loaded pc=")
@@ -68,7 +68,7 @@ def test_images_and_quantum(program: pathlib.Path) -> None:
 
 
 @pytest.mark.parametrize("ending", [signal.SIGKILL, signal.SIGTERM, signal.SIGSEGV])
-def test_a_process_that_ended_is_replaced(counting: Session, ending: signal.Signals) -> None:
+def test_ended_process_is_replaced(counting: Session, ending: signal.Signals) -> None:
     counting.do("1 step 9")
     first = counting.process
     assert first
@@ -88,7 +88,7 @@ def spare_of(session: Session) -> int:
     return session._spare.process.number if session._spare else 0
 
 
-def test_a_spare_takes_the_place_of_a_process_that_ended(counting: Session) -> None:
+def test_spare_process_replaces_ended_process(counting: Session) -> None:
     counting.do("1 step 9")
     spare = spare_of(counting)
     counting.do("1 step 3")
@@ -115,7 +115,7 @@ def test_a_spare_takes_the_place_of_a_process_that_ended(counting: Session) -> N
         os.kill(spare, 0)
 
 
-def test_a_process_that_hangs_is_replaced(program: pathlib.Path) -> None:
+def test_hanging_process_is_replaced(program: pathlib.Path) -> None:
     with Session(program, patience=2.0) as session:
         session.do_all(COUNTING)
         first = session.process
@@ -129,7 +129,7 @@ def test_a_process_that_hangs_is_replaced(program: pathlib.Path) -> None:
 
 
 @pytest.mark.parametrize("place", ["vecmon_lab.machine.pipe.is_whole", "vecmon_lab.machine.session.Session._record"])
-def test_an_interrupt_between_a_line_and_its_record(
+def test_interrupt_between_line_and_record_is_recovered(
     counting: Session, monkeypatch: pytest.MonkeyPatch, place: str
 ) -> None:
     def interrupted(*words: object) -> bool:
@@ -143,12 +143,12 @@ def test_an_interrupt_between_a_line_and_its_record(
     assert counting.script.decode("ascii").splitlines() == [*COUNTING, "1 step 2"]
 
 
-def test_a_process_is_out_of_reach_of_ctrl_c(session: Session) -> None:
+def test_process_ignores_ctrl_c(session: Session) -> None:
     assert session.process
     assert os.getsid(session.process) == session.process != os.getsid(0)
 
 
-def test_a_script_that_is_full(program: pathlib.Path) -> None:
+def test_full_script_is_refused(program: pathlib.Path) -> None:
     script = "".join(f"{line}\n" for line in COUNTING)
     room = len(script) + 3 * len("1 step 2\n")
     with Session(program, script_bytes=room) as session:
@@ -172,7 +172,7 @@ def test_a_script_that_is_full(program: pathlib.Path) -> None:
         assert session.do("1 stop") == ["1 E14"]
 
 
-def test_looks_are_not_fed_again(program: pathlib.Path) -> None:
+def test_read_only_lines_are_not_replayed(program: pathlib.Path) -> None:
     with Session(program, script_bytes=400) as session:
         session.do_all(COUNTING)
         first = session.process
@@ -183,7 +183,7 @@ def test_looks_are_not_fed_again(program: pathlib.Path) -> None:
         assert count_of(session) == 2
 
 
-def test_a_replay_that_differs_is_refused(program: pathlib.Path, tmp_path: pathlib.Path) -> None:
+def test_differing_replay_is_refused(program: pathlib.Path, tmp_path: pathlib.Path) -> None:
     image = tmp_path / "image"
     shutil.copy(SUM, image)
     with Session(program, {"it": image}) as session:
@@ -219,7 +219,7 @@ TURNS = """1 enter
 """.encode()
 
 
-def test_a_recorded_script_in_bulk(program: pathlib.Path) -> None:
+def test_recorded_script_is_replayed_in_bulk(program: pathlib.Path) -> None:
     steps = b"1 step 1\n" * 30_000  # more than fits into pipes, and so are the answers
     plain = subprocess.run([program], input=TURNS + steps, stdout=subprocess.PIPE, check=True).stdout
     progress = list[int]()
@@ -247,12 +247,12 @@ def test_unrecorded_scripts_are_refused(session: Session, script: bytes) -> None
         list(session.do_script(script))
 
 
-def test_answers_that_are_none_to_a_recorded_script(session: Session) -> None:
+def test_missing_answers_to_recorded_script_are_refused(session: Session) -> None:
     with pytest.raises(OutOfStep):
         list(session.do_script(b"1 enter\n1 regs\n"))  # which only looks, with nine lines
 
 
-def test_a_program_that_ends_again_and_again(program: pathlib.Path, tmp_path: pathlib.Path) -> None:
+def test_repeatedly_ending_program_is_reported(program: pathlib.Path, tmp_path: pathlib.Path) -> None:
     """After the first line's answer, its process is gone: a line is tried twice, and then the failure is reported."""
     once = stand_in(tmp_path, f'head -n 1 | "{program}"')
     with Session(once) as session:
@@ -266,7 +266,7 @@ def test_a_program_that_ends_again_and_again(program: pathlib.Path, tmp_path: pa
 @pytest.mark.parametrize(
     "says", ["'1 entered' '1 entered'", "'2 entered'", "'* E01'", "'1 ok'", "'1 entered' 1", "'* granted 0'", "''"]
 )
-def test_a_program_that_says_something_else(tmp_path: pathlib.Path, says: str) -> None:
+def test_program_with_other_answers_is_refused(tmp_path: pathlib.Path, says: str) -> None:
     new = "* list 1:- 2:- 3:- 4:- 5:- 6:- 7:- 8:-"
     program = stand_in(tmp_path, f"read -r it; echo '{new}'; while read -r it; do printf '%s\\n' {says}; done")
     with Session(program) as session:
@@ -276,7 +276,7 @@ def test_a_program_that_says_something_else(tmp_path: pathlib.Path, says: str) -
         assert session.script == b""
 
 
-def test_a_program_that_speaks_unasked(tmp_path: pathlib.Path) -> None:
+def test_unrequested_output_is_refused(tmp_path: pathlib.Path) -> None:
     answer = "printf '* list 1:- 2:- 3:- 4:- 5:- 6:- 7:- 8:-\\n'"
     unasked, reply = tmp_path / "unasked", tmp_path / "told"
     for fifo in (unasked, reply):
@@ -292,12 +292,12 @@ def test_a_program_that_speaks_unasked(tmp_path: pathlib.Path) -> None:
 
 
 @pytest.mark.parametrize("program", ["/bin/cat", "/bin/true"])
-def test_another_program(program: str) -> None:
+def test_other_program_is_refused(program: str) -> None:
     with pytest.raises(NoProgram, match=f"^{program} is no vecmon; VECMON=PATH names one$"):
         Session(pathlib.Path(program))
 
 
-def test_why_a_program_ended_is_told(program: pathlib.Path, tmp_path: pathlib.Path) -> None:
+def test_cause_of_program_end_is_reported(program: pathlib.Path, tmp_path: pathlib.Path) -> None:
     with pytest.raises(ProgramGone, match="status 4: vecmon: cannot read image it$"):
         Session(program, {"it": tmp_path / "nowhere"})
     with pytest.raises(ProgramGone, match="status 2: error: invalid value '0' for '--quantum <N>'"):
@@ -317,7 +317,7 @@ def policy_of(session: Session, user: int) -> str:
     return {"00": "keep", "ff": "ones"}[session.look(f"{user} vreg v31 8")[0].split()[3]]
 
 
-def test_the_policy_is_remembered(program: pathlib.Path) -> None:
+def test_policy_is_preserved(program: pathlib.Path) -> None:
     steps = [
         ("1 enter", {1: "keep"}),
         ("1 policy ones", {1: "ones"}),
@@ -340,7 +340,7 @@ def test_the_policy_is_remembered(program: pathlib.Path) -> None:
             assert {user: policy_of(session, user) for user in policy} == policy, line
 
 
-def test_a_running_program_keeps_its_policy(counting: Session) -> None:
+def test_running_program_preserves_policy(counting: Session) -> None:
     counting.do("1 policy ones")
     counting.do("1 go")
     assert counting.do("1 policy keep") == ["1 E07"]

@@ -25,7 +25,7 @@ BY_HAND = {"divuw": 0x023150BB, "srliw": 0x0001509B}  # divuw x1, x2, x3 and srl
 WITHOUT = {"fence", "ecall", "ebreak"}  # instructions without a formula
 
 
-def test_results_are_those_of_qemu() -> None:
+def test_formulas_equal_qemu_results() -> None:
     wrong, counts = list[str](), Counter[str]()
     for policy, vector in golden_vectors():
         if has_formula(vector):
@@ -68,7 +68,7 @@ def by_name() -> dict[str, list[tuple[str, Vector]]]:
     return found
 
 
-def test_drawn_states(program: pathlib.Path) -> None:
+def test_formulas_equal_machine_on_random_states(program: pathlib.Path) -> None:
     wrong, count = list[str](), 0
     for record in instruction_records():
         name = record.members[-1]
@@ -96,7 +96,7 @@ def _drawn_differences(drawn: Vector, formula: Formula | None = None) -> Iterato
     return differences(drawn_as_vector(drawn), before, execute(before, formula), old)
 
 
-def test_an_error_in_a_formula_is_found(by_name: dict[str, list[tuple[str, Vector]]], program: pathlib.Path) -> None:
+def test_wrong_formula_is_detected(by_name: dict[str, list[tuple[str, Vector]]], program: pathlib.Path) -> None:
     missed, count = list[str](), 0
     for record in instruction_records():
         if record.name in WITHOUT:
@@ -120,7 +120,7 @@ def _result(name: str, formula: Formula | None = None) -> int:
     return execute(Before(0, BY_HAND[name], x, ControlRegisters(), bytes(1024), False), formula).x[1]
 
 
-def test_signs_of_32_bits() -> None:
+def test_word_results_are_sign_extended() -> None:
     assert {_result(name) for name in BY_HAND} == {NEGATIVE}
 
 
@@ -147,11 +147,11 @@ def _finds(formula: Formula, policy: str, vector: Vector) -> bool:
         ("vs2[i] = 1", "'vs2[i]' is no target"),
     ],
 )
-def test_what_is_no_formula(text: str, problem: str) -> None:
+def test_bad_formula_is_refused(text: str, problem: str) -> None:
     with pytest.raises(LabError) as error:
         Formula(text)
     assert problem in str(error.value) and "\n" not in str(error.value)
 
 
-def test_an_instruction_without_a_formula() -> None:
+def test_fence_has_no_formula() -> None:
     assert record_of("fence").formula_of("fence") is None

@@ -20,7 +20,7 @@ LAYOUTS = {"by element", "gather", "slide", "reduce", "compress", "scan"}
 WORDS = 25  # of a sentence, at most
 
 
-def test_each_mnemonic_has_one_record() -> None:
+def test_every_mnemonic_has_one_record() -> None:
     every = [it for it in records().values() if it.kind == "instruction"]
     for name in instruction_table():
         assert [it.name for it in every if re.fullmatch(it.names, name)] == [record_of(name).name], name
@@ -39,7 +39,7 @@ def test_other_names_have_records() -> None:
     assert {*expansions()} == pseudo - {"li"}
 
 
-def test_what_records_say() -> None:
+def test_records_describe_instructions() -> None:
     for name, record in records().items():
         assert len(record.does.split("; ")[0].split()) <= WORDS and record.does.endswith("."), name
         assert all(
@@ -52,11 +52,11 @@ def test_what_records_say() -> None:
 COMMANDS_SEEN = {"break"}
 
 
-def test_examples_are_those_of_the_machine(program: pathlib.Path) -> None:
+def test_examples_equal_machine_results(program: pathlib.Path) -> None:
     assert EXAMPLES.read_text("ascii") == made(program)
 
 
-def test_examples_that_were_worked_by_hand() -> None:
+def test_examples_equal_hand_worked_results() -> None:
     rows = {name: cells for name, *cells in read_table("instruction_examples")}
     assert rows["vadd"][0] == "vadd.vv v8, v4, v6" and rows["vadd"][2] == "v8: 3 -2 8 -1 12 -5 13 -4"
     assert rows["vredmax"][2] == "v8: 7 101 102 103 104 105 106 107"
@@ -64,7 +64,7 @@ def test_examples_that_were_worked_by_hand() -> None:
     assert rows["vcpop"][2] == "x5: 4"
 
 
-def test_each_intrinsic_compiles(tmp_path: pathlib.Path, clang: Compiler) -> None:
+def test_every_intrinsic_compiles(tmp_path: pathlib.Path, clang: Compiler) -> None:
     parts, names = ["#include <riscv_vector.h>"], dict[str, str]()
     for record in instruction_records():
         if record.intrinsic:
@@ -106,12 +106,12 @@ def test_each_intrinsic_compiles(tmp_path: pathlib.Path, clang: Compiler) -> Non
         ("end of a string", "vfirst", set()),
     ],
 )
-def test_searches(words: str, first: str, others: set[str]) -> None:
+def test_search_finds_records(words: str, first: str, others: set[str]) -> None:
     names = [record.name for record in found(words)]
     assert first in names and others <= {*names}
 
 
-def test_names_of_other_extensions() -> None:
+def test_other_extension_name_is_explained() -> None:
     for name, reason in {
         "vfadd.vv": "Floating point isn't supported",
         "vfmacc.vf": "Floating point isn't supported",
@@ -131,17 +131,15 @@ def test_names_of_other_extensions() -> None:
     )
 
 
-def test_help() -> None:
+def test_help_describes_instruction() -> None:
     (row, formula, *more) = help_lines("vmacc.vx")
     assert row.startswith("vmacc.vx vd, rs1, vs2[, v0.t]: Multiplies elements")
     assert formula == "  vd[i] = vs2[i] * vs1[i] + vd[i], where vs1[i] is x[rs1]"
     assert "  101101 | vm:1 | vs2:5 | rs1:5 | 110 | vd:5 | 1010111" in more
     assert help_lines("vcsr")[0].startswith("vcsr: prints") and len(help_lines("vcsr")) > 1
     assert help_lines("nonsense") == ["nothing is called nonsense; help lists the commands"]
-    help_text = shown(["help vadd.vv", "help vfadd.vv", "help E03", "help add with carry"])
-    assert help_text[1].startswith("vadd.vv vd, vs2, vs1[, v0.t]: Adds the elements") and help_text[-1].startswith(
-        "vadc: "
-    )
+    output = shown(["help vadd.vv", "help vfadd.vv", "help E03", "help add with carry"])
+    assert output[1].startswith("vadd.vv vd, vs2, vs1[, v0.t]: Adds the elements") and output[-1].startswith("vadc: ")
 
 
 def test_encodings_have_32_bits() -> None:

@@ -84,11 +84,11 @@ def explained(word: int, name: str, element: int | None, **other: int | bool) ->
         (0x00B50533, "a1", None, {}, "x11 kept its value 3: add doesn't write it"),
     ],
 )
-def test_sentences(word: int, name: str, element: int | None, other: dict[str, int], sentence: str) -> None:
+def test_why_explains_element(word: int, name: str, element: int | None, other: dict[str, int], sentence: str) -> None:
     assert explained(word, name, element, **other) == sentence
 
 
-def test_a_mask() -> None:
+def test_why_names_mask_bit() -> None:
     shown = explained(0x00410457, "v8", 5, vl=8)
     assert shown == "v8[5] kept its value 105: masked off by v0[5] = 0"
 
@@ -104,7 +104,7 @@ def test_a_mask() -> None:
         ("a0", 1, "a0 is a scalar register, and has no elements"),
     ],
 )
-def test_names_that_are_none(name: str, element: int | None, problem: str) -> None:
+def test_unknown_name_is_refused(name: str, element: int | None, problem: str) -> None:
     with pytest.raises(LabError) as error:
         explained(0x02410457, name, element)
     assert str(error.value) == problem
@@ -135,7 +135,7 @@ def unexplained(before: Registers, stepper: Stepper, retired: Retired) -> Iterat
             yield f"{retired.text}: {explanation.why(f'x{number}').text}"
 
 
-def test_each_element_of_the_tour_and_the_course(program: pathlib.Path) -> None:
+def test_every_element_of_tour_and_course_is_explained(program: pathlib.Path) -> None:
     counts, wrong = Counter[str](), list[str]()
     for name, script in scripts():
         with Session(program) as session:
@@ -159,7 +159,7 @@ def test_each_element_of_the_tour_and_the_course(program: pathlib.Path) -> None:
     assert wrong == [] and all(counts[name] >= least for name, least in STEPS.items()), counts
 
 
-def test_the_console(tmp_path: pathlib.Path) -> None:
+def test_console_explains_element(tmp_path: pathlib.Path) -> None:
     source = tmp_path / "source.s"
     source.write_text(
         "vsetivli x0, 4, e32, m1, tu, mu\nvid.v v8\nli a1, 3\nvmacc.vx v8, a1, v8\nvcpop.m a0, v8\nebreak\n"
@@ -191,7 +191,7 @@ def test_the_console(tmp_path: pathlib.Path) -> None:
     assert output.count("step first") == 2
 
 
-def test_an_illegal_instruction() -> None:
+def test_illegal_instruction_explains_unchanged_element() -> None:
     with pytest.raises(LabError) as error:
         explained(0x02410457, "v8", 0, vtype=1 << 63)
     expected = "The vector type is vill: no vset instruction has set one that is supported."

@@ -7,7 +7,7 @@ from support.skips import NO_BROWSER, leave_out
 from support.processes import alive, descendants
 
 
-def test_all_processes_of_a_browser_end() -> None:
+def test_browser_processes_end() -> None:
     commands = [each for each in WINDOWS if shutil.which(each)]
     if not commands or not shutil.which("chromedriver"):
         leave_out(NO_BROWSER)

@@ -40,7 +40,7 @@ def put_in(tab: Tab, text: str, language: str = "C, O2") -> None:
     tab.choose("#language", language)
 
 
-def test_a_kernel_in_c(tabs: "Chrome", with_c: Served) -> None:
+def test_c_kernel_is_built_and_shown(tabs: "Chrome", with_c: Served) -> None:
     """It is compiled, stepped with its lines next to the instructions, and given to others with its language."""
     from selenium.webdriver.common.keys import Keys
 
@@ -70,7 +70,7 @@ def test_a_kernel_in_c(tabs: "Chrome", with_c: Served) -> None:
     assert tab.run("id('language').selectedOptions[0].text") == "C, O2"
 
 
-def test_lines_are_stepped(tabs: "Chrome", with_c: Served) -> None:
+def test_line_step_shows_next_line(tabs: "Chrome", with_c: Served) -> None:
     """The current line is marked in the source and its number, at which a click sets a breakpoint."""
     from selenium.webdriver.common.keys import Keys
 
@@ -108,7 +108,7 @@ def click_number(tab: Tab, line: int) -> None:
     )
 
 
-def test_a_line_of_an_inlined_function_stops(tabs: "Chrome", with_c: Served) -> None:
+def test_inlined_line_breakpoint_stops(tabs: "Chrome", with_c: Served) -> None:
     """A click sets a breakpoint in each copy, and another one removes them; where they are too many, the page says so."""
     tab = Tab(tabs, with_c, "A1")
     put_in(tab, (DATA / "images" / "prefix_sums.c").read_text("ascii"))
@@ -137,7 +137,7 @@ def test_a_line_of_an_inlined_function_stops(tabs: "Chrome", with_c: Served) -> 
     )
 
 
-def test_messages_stand_at_their_lines(tabs: "Chrome", with_c: Served) -> None:
+def test_messages_are_shown_at_their_lines(tabs: "Chrome", with_c: Served) -> None:
     """In the editor, until it changes; and below it, from where a click leads to the place. A linker's have none."""
     tab = Tab(tabs, with_c, "A1")
     put_in(tab, "int main(void)\n{\n    /* one\n two */ return missing;\n}\n")
@@ -155,7 +155,7 @@ def test_messages_stand_at_their_lines(tabs: "Chrome", with_c: Served) -> None:
     tab.wait("id('mistakes').textContent === 'undefined symbol: other'")
 
 
-def test_a_class_without_c_says_so(tabs: "Chrome", program: pathlib.Path, tmp_path: pathlib.Path) -> None:
+def test_class_without_c_explains_why(tabs: "Chrome", program: pathlib.Path, tmp_path: pathlib.Path) -> None:
     served = Served(tmp_path / "class", program)
     tab, teacher = Tab(tabs, served, "A1"), Tab(tabs, served, "teacher")
     why = teacher.text("#no-c")
@@ -166,7 +166,7 @@ def test_a_class_without_c_says_so(tabs: "Chrome", program: pathlib.Path, tmp_pa
     served.end()
 
 
-def test_a_source_is_handed_on(tabs: "Chrome", with_c: Served, tmp_path: pathlib.Path) -> None:
+def test_given_source_reaches_seats(tabs: "Chrome", with_c: Served, tmp_path: pathlib.Path) -> None:
     """A link fills the editor of the seat that opens it, with its language, and compiles nothing; so does a file."""
     tab = Tab(tabs, with_c, "A1")
     put_in(tab, "int main(void) { return 'é'; } // ÿ\n", "C, O3-scalar")
@@ -189,7 +189,7 @@ def test_a_source_is_handed_on(tabs: "Chrome", with_c: Served, tmp_path: pathlib
     other.wait(f"{TEXT} === arguments[0] && id('language').selectedOptions[0].text === 'C, O1'", SAXPY)
 
 
-def test_a_stock_assembler(tabs: "Chrome", with_c: Served, tmp_path: pathlib.Path) -> None:
+def test_stock_assembler_source_is_shown(tabs: "Chrome", with_c: Served, tmp_path: pathlib.Path) -> None:
     """Its source is compiled, and coloured as assembler; links and files have its name."""
     tab, text = Tab(tabs, with_c, "A3"), "        .rept 2\n        addi a0, a0, 4\n        .endr\n        ebreak\n"
     put_in(tab, text, "assembler, stock")
@@ -221,7 +221,9 @@ def test_a_stock_assembler(tabs: "Chrome", with_c: Served, tmp_path: pathlib.Pat
     assert other.run("id('against').hidden"), "only an own page puts listings side by side"
 
 
-def test_listings_side_by_side(tabs: "Chrome", clang: Compiler, program: pathlib.Path, tmp_path: pathlib.Path) -> None:
+def test_listings_are_shown_side_by_side(
+    tabs: "Chrome", clang: Compiler, program: pathlib.Path, tmp_path: pathlib.Path
+) -> None:
     """They open in a tab of their own, for the text in the editor, with both profiles."""
     if shutil.which("bwrap") is None:
         leave_out(NO_SANDBOX)

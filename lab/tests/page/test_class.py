@@ -20,7 +20,7 @@ if TYPE_CHECKING:
 COUNT_UP = ["addi x5, x5, 1", "jal x0, -4"]
 
 
-def test_eight_tabs_alone(tabs: "Chrome", own_class: Served) -> None:
+def test_eight_tabs_are_independent(tabs: "Chrome", own_class: Served) -> None:
     """Eight students step at once; each sees an own machine; a reload keeps seat, machine and log."""
     students = [Tab(tabs, own_class, f"A{number}") for number in range(1, 9)]
     for number, tab in enumerate(students, 1):
@@ -49,7 +49,7 @@ def test_eight_tabs_alone(tabs: "Chrome", own_class: Served) -> None:
     assert [line for line in script if "step" in line] == [f"{number} step 3" for number in range(1, 9)]
 
 
-def test_a_source_is_stepped(sit: Sit) -> None:
+def test_source_is_stepped(sit: Sit) -> None:
     """A source becomes a listing; a click sets a breakpoint, and elements are masked off and tail as vl and v0 say."""
     tab, teacher = sit("A1"), sit("teacher")
     source = (EXAMPLES / "strip_mined.s").read_text("utf-8")
@@ -79,7 +79,7 @@ def test_a_source_is_stepped(sit: Sit) -> None:
     tab.wait("id('clock').textContent === 'the clock is off'")
 
 
-def test_a_mistake_leads_to_its_place(sit: Sit) -> None:
+def test_mistake_links_to_source_location(sit: Sit) -> None:
     tab = sit("A2")
     tab.click("#show-source")
     tab.run("id('source').value = 'here: nop\\n  vadd.vv v1, v2\\n  j nowhere\\n'")
@@ -93,7 +93,7 @@ def test_a_mistake_leads_to_its_place(sit: Sit) -> None:
     assert tab.run("document.activeElement.id") == "source"
 
 
-def test_pastes(sit: Sit, served: Served) -> None:
+def test_pasted_text_is_taken_or_refused(sit: Sit, served: Served) -> None:
     """A source and lines are taken as they are, or refused in a sentence before anything is sent."""
     from selenium.webdriver.common.keys import Keys
 
@@ -143,7 +143,7 @@ def test_pastes(sit: Sit, served: Served) -> None:
     tab.wait("!id('listing').hidden && id('listing').textContent.includes('10000')")
 
 
-def test_first_sight_and_keys(sit: Sit) -> None:
+def test_first_view_and_keys_work(sit: Sit) -> None:
     """The source is open; keys alone write, step and change it; names have explanations."""
     from selenium.webdriver.common.keys import Keys
 
@@ -193,7 +193,7 @@ def test_first_sight_and_keys(sit: Sit) -> None:
     assert "help" not in tab.text("#log")
 
 
-def test_sizes(sit: Sit) -> None:
+def test_layout_follows_window_size(sit: Sit) -> None:
     """Type grows with the window, which is filled; with few pixels program and vectors, or the buttons, stay in sight."""
     tab = sit("A5")
     tab.begin("vsetvli x10, x11, e16, mf2, ta, mu", "vadd.vv v2, v1, v1")
@@ -236,7 +236,7 @@ def test_sizes(sit: Sit) -> None:
         tab.activate().execute_cdp_cmd("Emulation.clearDeviceMetricsOverride", {})
 
 
-def test_a_source_in_a_low_window(sit: Sit) -> None:
+def test_source_fits_low_window(sit: Sit) -> None:
     """Of a laptop's 768 pixels a browser leaves some 650 to a page: what is below a source is in sight there."""
     tab = sit("A4")
     size = {"width": 1366, "height": 650, "deviceScaleFactor": 1, "mobile": False}
@@ -249,7 +249,7 @@ def test_a_source_in_a_low_window(sit: Sit) -> None:
         tab.activate().execute_cdp_cmd("Emulation.clearDeviceMetricsOverride", {})
 
 
-def test_rows_out_of_sight_are_not_made(tabs: "Chrome", own_class: Served) -> None:
+def test_hidden_rows_are_not_created(tabs: "Chrome", own_class: Served) -> None:
     """A listing of 3,900 rows is as high as if it had all; the next instruction comes into sight, and what is scrolled to."""
     tab = Tab(tabs, own_class, "A1")
     source = "vid.v v1\n" + "addi a0, a0, 1\n" * 3898 + "last: ebreak\n"
@@ -274,7 +274,7 @@ def test_rows_out_of_sight_are_not_made(tabs: "Chrome", own_class: Served) -> No
     tab.wait(seen, "10000")
 
 
-def test_values_are_changed_by_clicks_and_keys(sit: Sit) -> None:
+def test_values_are_edited_by_clicks_and_keys(sit: Sit) -> None:
     from selenium.webdriver.common.keys import Keys
 
     tab = sit("A3")
@@ -313,7 +313,7 @@ def test_values_are_changed_by_clicks_and_keys(sit: Sit) -> None:
     assert "1ffffffff" not in tab.text("#log")
 
 
-def test_lines_of_before_and_refusals(sit: Sit) -> None:
+def test_earlier_lines_and_refusals_are_shown(sit: Sit) -> None:
     from selenium.webdriver.common.keys import Keys
 
     tab = sit("A4")
@@ -349,7 +349,7 @@ def test_lines_of_before_and_refusals(sit: Sit) -> None:
         assert tab.run(f"getComputedStyle(one('{box} code:last-of-type')).fontFamily").endswith("monospace")
 
 
-def test_the_teacher_sees_and_settles(sit: Sit, tmp_path: pathlib.Path, served: Served) -> None:
+def test_teacher_page_changes_settings(sit: Sit, tmp_path: pathlib.Path, served: Served) -> None:
     """The teacher's page has a student's stop; rights, operator's lines, a new code, downloads, files to take home."""
     tab, teacher = sit("A5"), sit("teacher")
     row = "tr[data-seat='A5']"
@@ -392,7 +392,7 @@ def test_the_teacher_sees_and_settles(sit: Sit, tmp_path: pathlib.Path, served: 
     served.check_replay(digest_of(teacher))
 
 
-def test_a_code_is_kept_for_the_tab_alone(sit: Sit, served: Served) -> None:
+def test_code_is_stored_for_tab_only(sit: Sit, served: Served) -> None:
     tab = sit("A6")
     code = served.codes["A6"]
     assert tab.run("sessionStorage.getItem('code')") == code
@@ -411,7 +411,7 @@ def test_a_code_is_kept_for_the_tab_alone(sit: Sit, served: Served) -> None:
     tab.wait("id('who').textContent === 'Seat A6' && location.hash === ''")
 
 
-def test_a_server_is_killed_and_begun_again(tabs: "Chrome", own_class: Served) -> None:
+def test_tab_reconnects_after_server_restart(tabs: "Chrome", own_class: Served) -> None:
     """Tabs go on without a reload; requests under way and unsent ones are reported and not sent again."""
     tab, teacher = Tab(tabs, own_class, "A1"), Tab(tabs, own_class, "teacher")
     tab.begin(*COUNT_UP)
@@ -447,7 +447,7 @@ def test_a_server_is_killed_and_begun_again(tabs: "Chrome", own_class: Served) -
     assert script.count("1 step 1") == steps and not any(line.startswith("1 set x7") for line in script)
 
 
-def test_two_machines(program: pathlib.Path, tmp_path: pathlib.Path, tabs: "Chrome") -> None:
+def test_teacher_controls_two_machines(program: pathlib.Path, tmp_path: pathlib.Path, tabs: "Chrome") -> None:
     """The teacher sees both, and says which one an operator's line is for."""
     served = Served(tmp_path / "class", program, "--machines", "2")
     tab, teacher = Tab(tabs, served, "B8"), Tab(tabs, served, "teacher")
@@ -461,7 +461,7 @@ def test_two_machines(program: pathlib.Path, tmp_path: pathlib.Path, tabs: "Chro
     served.end()
 
 
-def test_a_program_is_killed_and_hangs(program: pathlib.Path, tmp_path: pathlib.Path, tabs: "Chrome") -> None:
+def test_tab_shows_killed_and_hanging_program(program: pathlib.Path, tmp_path: pathlib.Path, tabs: "Chrome") -> None:
     """Students see a delay alone, and the replay is the same."""
     served = Served(tmp_path / "class", program, "--patience", "3")
     tab, teacher = Tab(tabs, served, "A1"), Tab(tabs, served, "teacher")
@@ -477,7 +477,7 @@ def test_a_program_is_killed_and_hangs(program: pathlib.Path, tmp_path: pathlib.
     served.end()
 
 
-def test_pages_are_legible_and_narrow(sit: Sit) -> None:
+def test_pages_have_contrast_and_fit_narrow_windows(sit: Sit) -> None:
     tab, teacher = sit("A8"), sit("teacher")
     tab.begin("vsetivli x0, 5, e16, mf2, tu, mu", "vadd.vi v2, v1, 1, v0.t", *COUNT_UP)
     tab.run("id('number').value = 2")
@@ -500,7 +500,7 @@ def test_pages_are_legible_and_narrow(sit: Sit) -> None:
     teacher.wait("id('desk').hidden")
 
 
-def test_focus_is_seen_and_controls_have_names(sit: Sit) -> None:
+def test_focus_is_visible_and_controls_have_names(sit: Sit) -> None:
     from selenium.webdriver.common.keys import Keys
 
     tab, teacher = sit("A7"), sit("teacher")

@@ -51,7 +51,7 @@ def choose(tab: Tab, name: str) -> None:
         tab.wait(is_open, name)
 
 
-def test_an_exercise_is_solved(tabs: "Chrome", course: Served) -> None:
+def test_exercise_is_solved(tabs: "Chrome", course: Served) -> None:
     """As one would who sees its text alone: with its source to begin with, a mistake, hints, a lesson and an answer."""
     tab = Tab(tabs, course, "A1")
     tab.wait("one('#exercise h2')")
@@ -93,7 +93,7 @@ def test_an_exercise_is_solved(tabs: "Chrome", course: Served) -> None:
     lesson.switch_to.window(tab.handle)
 
 
-def test_an_exercise_is_solved_in_c(tabs: "Chrome", course: Served, sandboxed_clang: Compiler) -> None:
+def test_exercise_is_solved_in_c(tabs: "Chrome", course: Served, sandboxed_clang: Compiler) -> None:
     """A choice of C gives another source to begin with; a mistake, a wrong answer at the desk, and a right one."""
     tab = Tab(tabs, course, "A6")
     tab.wait("one('#exercise h2')")
@@ -122,7 +122,7 @@ def test_an_exercise_is_solved_in_c(tabs: "Chrome", course: Served, sandboxed_cl
     assert "size_t answer(const uint8_t *text)" in tab.run("id('source').value")
 
 
-def test_what_passed_is_told(tabs: "Chrome", course: Served) -> None:
+def test_passed_cases_are_shown(tabs: "Chrome", course: Served) -> None:
     """At the seat, where each exercise has a source of its own, and to the teacher, with each try."""
     tab = Tab(tabs, course, "A3")
     tab.wait("one('#exercise h2')")
@@ -162,7 +162,7 @@ def test_all_exercises_are_solved(tabs: "Chrome", course: Served) -> None:
     assert tab.text("#exercise select").count("✓") == 12
 
 
-def test_an_endless_answer_holds_nobody_up(tabs: "Chrome", course: Served) -> None:
+def test_endless_answer_blocks_no_other_seat(tabs: "Chrome", course: Served) -> None:
     """Neither the others nor its own seat wait: its machine steps meanwhile; the seat gets the error."""
     tab, other = Tab(tabs, course, "A4"), Tab(tabs, course, "A5")
     for each in (tab, other):
@@ -178,7 +178,7 @@ def test_an_endless_answer_holds_nobody_up(tabs: "Chrome", course: Served) -> No
     )
 
 
-def test_the_panel_can_be_put_away(tabs: "Chrome", course: Served) -> None:
+def test_panel_can_be_closed(tabs: "Chrome", course: Served) -> None:
     """It has a place next to the machine; without it, the machine has all of the width."""
     tab = Tab(tabs, course, "A3")
     width = "id('machine').getBoundingClientRect().width"
@@ -188,7 +188,7 @@ def test_the_panel_can_be_put_away(tabs: "Chrome", course: Served) -> None:
     assert tab.run("id('exercise').hidden") and tab.run(width) > narrow + 200
 
 
-def test_a_class_without_exercises_shows_none(tabs: "Chrome", served: Served) -> None:
+def test_class_without_exercises_shows_none(tabs: "Chrome", served: Served) -> None:
     tab = Tab(tabs, served, "A1")
     assert tab.run("id('exercise').hidden") and not re.search("Exercise", tab.run("id('head').innerText"))
     teacher = Tab(tabs, served, "teacher")

@@ -45,7 +45,7 @@ def line_shown(browser: "Chrome") -> int:
     return int(text.split()[0])
 
 
-def test_from_line_to_line(kernel: "Chrome") -> None:
+def test_kernel_steps_by_line(kernel: "Chrome") -> None:
     """main begins, its loop sets ten numbers, and two rounds of the other one follow, of 8 and of 2 elements."""
     from selenium.webdriver.common.keys import Keys
 
@@ -67,7 +67,7 @@ def test_from_line_to_line(kernel: "Chrome") -> None:
     assert kernel.get_log("browser") == []
 
 
-def test_variables_where_the_program_stands(kernel: "Chrome") -> None:
+def test_variables_follow_current_line(kernel: "Chrome") -> None:
     """Before a round stores, by hand: 3 times x is added to y from 0 on, and from 8 on."""
     from selenium.webdriver.support.select import Select
 
@@ -92,7 +92,7 @@ def test_variables_where_the_program_stands(kernel: "Chrome") -> None:
 
 
 @pytest.mark.parametrize("scheme", ["light", "dark"])
-def test_contrast_and_width_of_a_kernel(kernel: "Chrome", scheme: str) -> None:
+def test_kernel_page_has_contrast_and_width(kernel: "Chrome", scheme: str) -> None:
     media(kernel, prefers_color_scheme=scheme, prefers_reduced_motion="reduce")
     for _ in range(3):
         kernel.find_element("id", "line-go").click()
@@ -105,7 +105,7 @@ def test_contrast_and_width_of_a_kernel(kernel: "Chrome", scheme: str) -> None:
     media(kernel)
 
 
-def test_listings_stand_side_by_side(browser: "Chrome", tmp_path: pathlib.Path) -> None:
+def test_listings_are_side_by_side(browser: "Chrome", tmp_path: pathlib.Path) -> None:
     one = CompiledListing(
         "one <b>",
         ["4 instructions in 4 ticks"],

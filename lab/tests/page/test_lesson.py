@@ -42,7 +42,7 @@ def text_of(browser: "Chrome", selector: str) -> str:
 
 
 @pytest.mark.parametrize("name", [*tours(), "strip_mined"])
-def test_forth_and_back(
+def test_lesson_steps_forwards_and_backwards(
     opened: Callable[[str], "Chrome"], session: Session, program: pathlib.Path, name: str, tmp_path: pathlib.Path
 ) -> None:
     from selenium.webdriver.common.keys import Keys
@@ -79,7 +79,7 @@ def test_forth_and_back(
     assert browser.get_log("browser") == []
 
 
-def test_ways_through_a_lesson(opened: Callable[[str], "Chrome"], program: pathlib.Path) -> None:
+def test_lesson_is_navigated_by_keys_and_clicks(opened: Callable[[str], "Chrome"], program: pathlib.Path) -> None:
     from selenium.webdriver.common.by import By
     from selenium.webdriver.common.keys import Keys
     from selenium.webdriver.support.select import Select
@@ -112,7 +112,7 @@ def test_ways_through_a_lesson(opened: Callable[[str], "Chrome"], program: pathl
     assert text_of(browser, "#count") == place and "vsetivli x0, 6" in text_of(browser, "#listing")
 
 
-def test_forms_of_elements(opened: Callable[[str], "Chrome"], program: pathlib.Path) -> None:
+def test_element_formats_can_be_chosen(opened: Callable[[str], "Chrome"], program: pathlib.Path) -> None:
     from selenium.webdriver.common.by import By
     from selenium.webdriver.common.keys import Keys
     from selenium.webdriver.support.select import Select
@@ -153,7 +153,7 @@ def test_forms_of_elements(opened: Callable[[str], "Chrome"], program: pathlib.P
     assert row(31, 0)[1:] == ["00000000"] * 8
 
 
-def test_users_have_tabs(opened: Callable[[str], "Chrome"], program: pathlib.Path) -> None:
+def test_every_user_has_tab(opened: Callable[[str], "Chrome"], program: pathlib.Path) -> None:
     from selenium.webdriver.common.by import By
     from selenium.webdriver.common.keys import Keys
 
@@ -167,7 +167,7 @@ def test_users_have_tabs(opened: Callable[[str], "Chrome"], program: pathlib.Pat
     assert "addi x5, x5, 1" in text_of(browser, "#listing")
 
 
-def test_texts_stay_texts(opened: Callable[[str], "Chrome"], program: pathlib.Path) -> None:
+def test_text_is_never_markup(opened: Callable[[str], "Chrome"], program: pathlib.Path) -> None:
     from selenium.webdriver.common.by import By
     from selenium.webdriver.common.keys import Keys
 
@@ -187,7 +187,7 @@ def test_texts_stay_texts(opened: Callable[[str], "Chrome"], program: pathlib.Pa
     assert browser.get_log("browser") == []
 
 
-def test_nothing_but_the_script_of_the_page_runs(opened: Callable[[str], "Chrome"], program: pathlib.Path) -> None:
+def test_only_page_script_runs(opened: Callable[[str], "Chrome"], program: pathlib.Path) -> None:
     browser = opened(lesson_page("x", make_frames(read_script("1 enter"), program)))
     script = """const script = document.createElement("script");
         script.textContent = "window.ran = 1";
@@ -199,7 +199,7 @@ def test_nothing_but_the_script_of_the_page_runs(opened: Callable[[str], "Chrome
     assert ["Content Security Policy" in entry["message"] for entry in browser.get_log("browser")] == [True, True]
 
 
-def test_stops_and_refusals_are_told(opened: Callable[[str], "Chrome"], program: pathlib.Path) -> None:
+def test_stops_and_refusals_are_explained(opened: Callable[[str], "Chrome"], program: pathlib.Path) -> None:
     from selenium.webdriver.common.keys import Keys
 
     browser = opened(
@@ -225,7 +225,9 @@ def test_stops_and_refusals_are_told(opened: Callable[[str], "Chrome"], program:
 
 
 @pytest.mark.parametrize("scheme", ["light", "dark"])
-def test_contrast_and_width(opened: Callable[[str], "Chrome"], program: pathlib.Path, scheme: str) -> None:
+def test_lesson_page_has_contrast_and_width(
+    opened: Callable[[str], "Chrome"], program: pathlib.Path, scheme: str
+) -> None:
     from selenium.webdriver.common.keys import Keys
 
     script = read_assembled((EXAMPLES / "strip_mined.s").read_text("utf-8"), "x")
@@ -248,7 +250,7 @@ def test_contrast_and_width(opened: Callable[[str], "Chrome"], program: pathlib.
     media(browser)
 
 
-def test_focus_is_seen_on_all_controls(opened: Callable[[str], "Chrome"], program: pathlib.Path) -> None:
+def test_focus_is_visible_on_all_controls(opened: Callable[[str], "Chrome"], program: pathlib.Path) -> None:
     from selenium.webdriver.common.keys import Keys
 
     browser = opened(lesson_page("x", make_frames(tours()["class_of_three"], program)))
@@ -277,7 +279,7 @@ def test_focus_is_seen_on_all_controls(opened: Callable[[str], "Chrome"], progra
     assert any(name.startswith("user 2") for name in seen)
 
 
-def test_the_tours_beginning(opened: Callable[[str], "Chrome"], tmp_path: pathlib.Path) -> None:
+def test_tour_starts_with_introduction(opened: Callable[[str], "Chrome"], tmp_path: pathlib.Path) -> None:
     """Its links lead to the lessons in its folder; each has a sentence and a picture, which a screen reader names."""
     strip = {"name": "v1", "text": "", "cells": [("0a", "active"), ("ff", "tail")]}
     lessons = [{"name": name, "sentence": "Uses `v1`.", "strip": strip} for name in ("one", "two")]
@@ -293,7 +295,7 @@ def test_the_tours_beginning(opened: Callable[[str], "Chrome"], tmp_path: pathli
     assert browser.title == "here"
 
 
-def test_ways_to_other_lessons(
+def test_lesson_links_to_other_lessons(
     opened: Callable[[str], "Chrome"], program: pathlib.Path, tmp_path: pathlib.Path
 ) -> None:
     """Links of a lesson of a tour, reached by Tab and pressed by Enter; a lesson of its own has none."""

@@ -60,7 +60,7 @@ class Elements(html.parser.HTMLParser):
             self.found[-1] = tag, attributes, text + data
 
 
-def test_modules_are_joined_in_the_order_of_their_imports() -> None:
+def test_modules_are_joined_in_import_order() -> None:
     assert join_modules("main", FILE.__getitem__) == JOINED
 
 
@@ -73,13 +73,13 @@ def test_modules_are_joined_in_the_order_of_their_imports() -> None:
         ("words.js", "export const say = 1;\n", "main.js imports what words.js doesn't export: Loud"),
     ],
 )
-def test_what_cannot_be_joined_is_refused(name: str, text: str, expected: str) -> None:
+def test_unjoinable_module_is_refused(name: str, text: str, expected: str) -> None:
     with pytest.raises(ValueError, match=re.escape(expected)):
         join_modules("main", (FILE | {name: text}).__getitem__)
 
 
 @pytest.mark.parametrize("name", PAGES)
-def test_a_page_has_each_module_once_behind_what_it_imports(name: str) -> None:
+def test_page_has_every_module_once_after_its_imports(name: str) -> None:
     script = join_modules(name, page_file)
     modules = re.findall(r"^const \$(\w+) = ", script, re.MULTILINE)
     assert not re.search(r"^\s*(import|export)\b", script, re.MULTILINE)  # of another form than those that are joined
@@ -89,14 +89,14 @@ def test_a_page_has_each_module_once_behind_what_it_imports(name: str) -> None:
         assert set(imported) <= set(modules[:place])
 
 
-def test_each_module_is_of_a_page() -> None:
+def test_every_module_is_used_by_page() -> None:
     assert {"class", "lesson", "profile"} <= set(PAGES)
     scripts = "".join(join_modules(name, page_file) for name in PAGES)
     assert {path.stem for path in FILES.glob("*.js")} == set(re.findall(r"^const \$(\w+) = ", scripts, re.MULTILINE))
 
 
 @pytest.mark.parametrize("name", PAGES)
-def test_the_content_policy_names_one_script(name: str) -> None:
+def test_content_policy_names_one_script(name: str) -> None:
     page = Page(name)
     texts = [page.text("x"), lone_page(name, "x", ["</script><script>alert(1)</script>"])]
     for text, policies in zip(texts, ([], [page.policy])):

@@ -50,13 +50,13 @@ WRITES, MASKED = {"is_written": True}, {"is_masked": True}
         (".word 0x00000000", []),
     ],
 )
-def test_operands(session: Session, text: str, operands: list[Shown]) -> None:
+def test_operands_of_word_are_listed(session: Session, text: str, operands: list[Shown]) -> None:
     session.do_all(["1 enter", "1 map 0 1 r"])
     word = int(session.do(f"1 asm 0 {text}")[0].split()[2], 16)
     assert list(shown_operands(word)) == operands
 
 
-def test_operands_are_those_of_the_words(browser: "Chrome", session: Session) -> None:
+def test_page_operands_equal_decoded_words(browser: "Chrome", session: Session) -> None:
     """The registers that instructions' texts name; and those of the page, compared with the fields of legal words."""
     draws = random.Random(1)
     names = [name for name, bits in encodings() if name.startswith("v") and not name.startswith("vset")]

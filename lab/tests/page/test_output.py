@@ -38,7 +38,7 @@ new MutationObserver(() => run.textContent === "stopped" && done(performance.now
 document.getElementById("halt").click();"""
 
 
-def test_a_program_that_prints_without_end_is_stopped(tabs: "Chrome", own_class: Served) -> None:
+def test_endlessly_printing_program_is_stopped(tabs: "Chrome", own_class: Served) -> None:
     """The panel has the end in sight, is changed once a frame at most, and Stop is answered while all of it comes."""
     teacher, tab = Tab(tabs, own_class, "teacher"), Tab(tabs, own_class, "A1", COUNTS)
     tab.run("id('source').value = arguments[0]", PRINTS)

@@ -7,7 +7,7 @@ from support.places import DOCS
 from vecmon_lab.page.reference import reference, reference_text
 
 
-def test_it_has_what_the_manuals_list() -> None:
+def test_reference_lists_manual_entries() -> None:
     reply = reference()
     instructions = re.findall(r"^\| `([^`]+)` \| `", (DOCS / "INSTRUCTIONS.md").read_text("utf-8"), re.MULTILINE)
     assert [form for _, form, _ in reply["Instructions"]] == [each for each in instructions if each[0] != "."]
@@ -19,7 +19,7 @@ def test_it_has_what_the_manuals_list() -> None:
     assert [code for code, *_ in reply["Refusals"]] == refusals
 
 
-def test_each_entry_begins_with_its_name() -> None:
+def test_entry_starts_with_its_name() -> None:
     for entries in reference().values():
         assert entries and all(form == name or form.startswith(f"{name} ") for name, form, _ in entries)
     pseudo = {form: does for _, form, does in reference()["Pseudo-instructions"]}
@@ -33,5 +33,5 @@ def test_each_entry_begins_with_its_name() -> None:
     assert all(expected.values())
 
 
-def test_a_page_may_have_it() -> None:
+def test_page_embeds_reference() -> None:
     assert "<" not in reference_text() and json.loads(reference_text()) == reference()

@@ -20,7 +20,7 @@ def served(program: pathlib.Path, tmp_path_factory: pytest.TempPathFactory) -> I
     served.end()
 
 
-def test_names_are_typed_and_shown(tabs: "Chrome", served: Served) -> None:
+def test_typed_name_is_shown(tabs: "Chrome", served: Served) -> None:
     """With the code, at the top of the page, and by the teacher; in the table, over the shoulder, and on the sheet."""
     tab, teacher = Tab(tabs, served, "A2"), Tab(tabs, served, "teacher")
     tab.click("#forget")
@@ -46,7 +46,7 @@ def test_names_are_typed_and_shown(tabs: "Chrome", served: Served) -> None:
     teacher.click("#close-sheet")
 
 
-def test_who_is_stuck_stands_above(tabs: "Chrome", served: Served) -> None:
+def test_stuck_students_are_listed_first(tabs: "Chrome", served: Served) -> None:
     """One table for 32 seats, with one clock; a line for a seat, which is reset."""
     tab, other, teacher = Tab(tabs, served, "D7"), Tab(tabs, served, "B1"), Tab(tabs, served, "teacher")
     seats = "all('#seats tr').map((row) => row.dataset.seat)"

@@ -38,7 +38,7 @@ def type_on(tab: Tab) -> None:
     assert tab.run(TEXT) == TYPED
 
 
-def test_names_are_offered_and_words_have_colours(sit: Sit) -> None:
+def test_editor_completes_and_highlights(sit: Sit) -> None:
     tab = sit("A1")
     begin_a_line(tab)
     offered = "all('#editor .choices li').map((item) => item.textContent)"
@@ -58,7 +58,7 @@ def test_names_are_offered_and_words_have_colours(sit: Sit) -> None:
     assert tab.run(styles, "#editor .colours") == tab.run(styles, "#source")
 
 
-def test_tab_indents_and_undo_goes_back_over_a_write(sit: Sit) -> None:
+def test_tab_indents_and_undo_survives_write(sit: Sit) -> None:
     from selenium.webdriver.common.keys import Keys
 
     tab = sit("A7")
@@ -83,7 +83,7 @@ def test_tab_indents_and_undo_goes_back_over_a_write(sit: Sit) -> None:
     assert tab.run(TEXT).startswith("# Doubles")
 
 
-def test_each_paste_is_undone_by_itself(sit: Sit) -> None:
+def test_every_paste_is_undone_separately(sit: Sit) -> None:
     from selenium.webdriver.common.keys import Keys
 
     tab = sit("A8")
@@ -96,7 +96,7 @@ def test_each_paste_is_undone_by_itself(sit: Sit) -> None:
     assert tab.run("document.activeElement.id") == "assemble"
 
 
-def test_a_long_source_has_colours_in_sight(sit: Sit) -> None:
+def test_visible_part_of_long_source_is_highlighted(sit: Sit) -> None:
     """Of 4,000 lines those in sight are painted, at the height of the field's own."""
     tab = sit("A5")
     tab.run(
@@ -114,7 +114,7 @@ def test_a_long_source_has_colours_in_sight(sit: Sit) -> None:
     tab.run("id('source').value = 'nop'")
 
 
-def test_a_source_is_the_seats(sit: Sit) -> None:
+def test_source_is_shared_by_tabs_of_seat(sit: Sit) -> None:
     """What is typed is in another tab of the seat, after a reload, and before the teacher; nobody else has it."""
     from selenium.webdriver.common.keys import Keys
 
@@ -144,7 +144,7 @@ def test_a_source_is_the_seats(sit: Sit) -> None:
     assert teacher.run(f"{TEXT}.endsWith('# mine')")
 
 
-def test_a_source_is_given(sit: Sit, tmp_path: pathlib.Path) -> None:
+def test_given_source_is_offered(sit: Sit, tmp_path: pathlib.Path) -> None:
     """The teacher copies, changes and gives a source; it opens at the seat, whose own is an undo and a version away."""
     from selenium.webdriver.common.keys import Keys
 
@@ -209,7 +209,7 @@ def _take_back(teacher: Tab, tab: Tab) -> None:
     teacher.wait("document.title === 'Teacher – vecmon' && id('given').value.includes('# all')")
 
 
-def test_the_listing_has_the_sources_lines(sit: Sit) -> None:
+def test_listing_shows_source_lines(sit: Sit) -> None:
     """A word has its source line next to it if that differs, or its comment; of one line's words, the first has it."""
     tab = sit("A6")
     tab.run("id('source').value = arguments[0]", COUNTS)
@@ -230,7 +230,7 @@ def test_the_listing_has_the_sources_lines(sit: Sit) -> None:
     assert tab.run(over, f"{place} .text, {place} .source") == [True, " " * 13 + "vid.v v1"]
 
 
-def test_a_source_outlives_the_server(tabs: "Chrome", own_class: Served) -> None:
+def test_source_survives_server_restart(tabs: "Chrome", own_class: Served) -> None:
     """What is typed while the server is gone, and what it hadn't kept yet, is there when it is back."""
     from selenium.webdriver.common.keys import Keys
 

@@ -7,7 +7,7 @@ V1 = "all(\"#elements [data-register='1'] td\").map((cell) => cell.firstChild.da
 DOUBLES = "vsetivli zero, 8, e32, m1, ta, ma\nvid.v v1\nvadd.vv v2, v1, v1\nli a0, 7\nebreak\n"
 
 
-def test_back_and_forth(sit: Sit) -> None:
+def test_steps_back_and_forth(sit: Sit) -> None:
     """An earlier state is shown, plainly as the past, where nothing can be done; Now returns, and so does a line."""
     from selenium.webdriver.common.keys import Keys
 
@@ -65,7 +65,7 @@ def test_back_and_forth(sit: Sit) -> None:
     teacher.wait("id('desk').hidden")
 
 
-def test_what_ran_is_gone_back_over(sit: Sit) -> None:
+def test_steps_back_over_run(sit: Sit) -> None:
     """Of a program that runs no moment is kept; before it lies the state in which it was let go."""
     tab, teacher = sit("A2"), sit("teacher")
     tab.begin("addi x5, x5, 1", "jal x0, -4")
@@ -80,7 +80,7 @@ def test_what_ran_is_gone_back_over(sit: Sit) -> None:
     tab.click("#now")
 
 
-def test_again_and_what_would_be_lost(sit: Sit) -> None:
+def test_restart_warns_about_lost_state(sit: Sit) -> None:
     """Again begins with the same source and breakpoints in one click; a new machine asks where this one has anything."""
     tab = sit("A3")
     assert tab.run("id('again').disabled")

@@ -30,7 +30,7 @@ def served(program: pathlib.Path, tmp_path_factory: pytest.TempPathFactory) -> I
     served.end()
 
 
-def test_codes_and_the_sheet(sit: Sit, served: Served) -> None:
+def test_codes_are_shown_and_printed(sit: Sit, served: Served) -> None:
     """The teacher's page shows codes on request: one, all, or on a sheet to print, with pictures."""
     teacher, codes = sit("teacher"), served.codes
     teacher_code = codes.pop("teacher")
@@ -66,7 +66,7 @@ def test_codes_and_the_sheet(sit: Sit, served: Served) -> None:
     assert teacher.run("Object.values({ ...sessionStorage, ...localStorage })") == [teacher_code]
 
 
-def test_the_wall(tabs: "Chrome", served: Served) -> None:
+def test_wall_shows_seat_without_codes(tabs: "Chrome", served: Served) -> None:
     """It fills the screen with vectors and six lines; no other code is in its page, state, frames or address."""
     codes = served.codes
     tab, teacher = Tab(tabs, served, "A7"), Tab(tabs, served, "teacher")
@@ -116,7 +116,7 @@ def test_the_wall(tabs: "Chrome", served: Served) -> None:
     teacher.click("#show-codes")
 
 
-def test_a_wall_behind_a_new_server(tabs: "Chrome", own_class: Served) -> None:
+def test_wall_reconnects_to_new_server(tabs: "Chrome", own_class: Served) -> None:
     """It goes on without a reload, since the teacher's page says again what it shows."""
     tab, teacher, wall = (Tab(tabs, own_class, role) for role in ("A1", "teacher", "wall"))
     tab.begin("vid.v v1")

@@ -64,12 +64,12 @@ def run_lockstep(lab: Lab, image: pathlib.Path, lines: list[str]) -> tuple[int, 
 
 
 @pytest.mark.by_command("lockstep")
-def test_a_log_of_spikes_form_agrees(lab: Lab, image: pathlib.Path) -> None:
+def test_spike_log_agrees(lab: Lab, image: pathlib.Path) -> None:
     end = "6 instructions agree; 10018: ebreak: Stopped at the ebreak at 0x10018."
     assert run_lockstep(lab, image, spike_log(image, WRITTEN)) == (0, [end])
 
 
-def test_planted_differences(lab: Lab, image: pathlib.Path) -> None:
+def test_planted_difference_is_reported(lab: Lab, image: pathlib.Path) -> None:
     wrong = run_lockstep(lab, image, spike_log(image, [*WRITTEN[:3], "v9 7:6:4", *WRITTEN[4:]]))
     before = "before: vl=3 vtype=e32,m1,ta,ma vstart=0 vxrm=0 v9=" + "00" * 32
     assert wrong[0] == 1 and wrong[1][0] == "instruction 4: 1000c: vadd.vx v9, v8, x10"
@@ -88,7 +88,7 @@ def test_planted_differences(lab: Lab, image: pathlib.Path) -> None:
     ]
 
 
-def test_where_a_log_goes_elsewhere(lab: Lab, image: pathlib.Path) -> None:
+def test_control_flow_difference_is_reported(lab: Lab, image: pathlib.Path) -> None:
     lines = spike_log(image, WRITTEN)
     status, printed = run_lockstep(lab, image, [*lines[:4], *lines[5:]])
     assert (
@@ -125,7 +125,7 @@ def qemu_log(image: pathlib.Path, *properties: str) -> pathlib.Path:
 
 
 @pytest.mark.usefixtures("qemu")
-def test_a_log_of_qemus(lab: Lab, tmp_path: pathlib.Path) -> None:
+def test_qemu_log_agrees(lab: Lab, tmp_path: pathlib.Path) -> None:
     image = tmp_path / "sum"
     shutil.copyfile(SUM, image)
     log = qemu_log(image)
@@ -165,7 +165,7 @@ TAIL = "allowed: these elements are tail, and agnostic: each stays or becomes on
          9, "x12: 1 here, ffffffffffffffff in the log", 5, f"perhaps {TAIL.replace(':', ': some of', 1)}"),
     ],
 )  # fmt: skip
-def test_earlier_open_difference_is_the_cause(
+def test_earlier_open_difference_is_reported_as_cause(
     lab: Lab,
     program: pathlib.Path,
     tmp_path: pathlib.Path,

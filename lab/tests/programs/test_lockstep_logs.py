@@ -57,11 +57,11 @@ def compared(lab: Lab, image: pathlib.Path, text: str) -> tuple[int, list[str], 
     return status, output.decode().splitlines(), error
 
 
-def test_accesses_and_control_registers_agree(lab: Lab, image: pathlib.Path) -> None:
+def test_accesses_and_control_registers_are_compared(lab: Lab, image: pathlib.Path) -> None:
     assert compared(lab, image, LOG) == (0, [ENDS], "")
 
 
-def test_lines_of_spikes_disassembly_are_left_out(lab: Lab, image: pathlib.Path) -> None:
+def test_spike_disassembly_is_ignored(lab: Lab, image: pathlib.Path) -> None:
     """With -l there is one before each instruction."""
     lines = LOG.splitlines(keepends=True)
     shown = [f"{line[: line.index(')') + 1].replace(': 3 ', ': ')} vse32.v v8, (a1)\n{line}" for line in lines]
@@ -88,7 +88,7 @@ def test_lines_of_spikes_disassembly_are_left_out(lab: Lab, image: pathlib.Path)
         (5, "x12", "c9_vxsat 0x0000000000000001 x12", ["vxsat: 0 here, 1 in the log"]),
     ],
 )  # fmt: skip
-def test_differences_beside_registers(
+def test_memory_and_control_differences_are_reported(
     lab: Lab, image: pathlib.Path, instruction: int, old: str, new: str, lines: list[str]
 ) -> None:
     log = LOG.splitlines(keepends=True)
@@ -103,9 +103,7 @@ def test_differences_beside_registers(
     ("kept", "agreed", "place"),
     [(LOG.splitlines(True)[:5], 4, "10010"), ([LOG[:-20]], 7, "1001c"), ([LOG[:-1]], 7, "1001c")],
 )
-def test_a_truncated_log_is_no_complete_one(
-    lab: Lab, image: pathlib.Path, kept: list[str], agreed: int, place: str
-) -> None:
+def test_truncated_log_is_reported(lab: Lab, image: pathlib.Path, kept: list[str], agreed: int, place: str) -> None:
     """It ends between two instructions, or inside one."""
     status, printed, error = compared(lab, image, "".join(kept))
     truncated = f"{agreed} instructions agree, and then the log is truncated: the program goes on at {place}"
@@ -113,7 +111,7 @@ def test_a_truncated_log_is_no_complete_one(
     assert (status, printed, error) == (2, [], expected)
 
 
-def test_the_recorders_logs_agree_and_say_how_they_end(lab: Lab, tmp_path: pathlib.Path) -> None:
+def test_recorder_logs_agree_and_report_end(lab: Lab, tmp_path: pathlib.Path) -> None:
     log = tmp_path / "log"
     subprocess.run([find_recorder(), "--log", log, "--ticks", "100000", SUM], stdout=subprocess.DEVNULL, check=True)
     status, output, error = lab("lockstep", SUM, log)
@@ -129,7 +127,7 @@ def test_the_recorders_logs_agree_and_say_how_they_end(lab: Lab, tmp_path: pathl
     assert status == 1 and output.splitlines()[2] == b"executed here, fault cause=5 in the log"
 
 
-def test_other_vector_registers_than_256_bits(lab: Lab, image: pathlib.Path) -> None:
+def test_other_vlen_is_refused(lab: Lab, image: pathlib.Path) -> None:
     width = "in the log vector registers have 128 bits, and here they have 256"
     error = f"vecmon-lab: {image.with_name('log')}: {width}: run the other device with a VLEN of 256 (QEMU: vlen=256)\n"
     assert compared(lab, image, LOG.replace("0x" + 32 * "0", "0x")) == (2, [], error)
@@ -163,7 +161,7 @@ def newer(request: pytest.FixtureRequest, program: pathlib.Path, tmp_path: pathl
     return image, gzip.decompress((DATA / "qemu" / f"qemu_{request.param}.log.gz").read_bytes()).decode("ascii")
 
 
-def test_newer_qemus_refuse_a_reserved_encoding(lab: Lab, newer: tuple[pathlib.Path, str]) -> None:
+def test_reserved_encoding_refused_by_new_qemu_is_explained(lab: Lab, newer: tuple[pathlib.Path, str]) -> None:
     """All before it agrees: registers, control registers, and what was stored, which a load reads."""
     status, printed, _ = compared(lab, *newer)
     assert status == 1 and printed[0] == "instruction 8: 1001c: vadd.vv v4, v0, v2, v0.t"
@@ -180,7 +178,7 @@ def test_newer_qemus_refuse_a_reserved_encoding(lab: Lab, newer: tuple[pathlib.P
         (8, "x12/a2", "03020100", "03020101", "x12: 3020100 here, 3020101 in the log"),
     ],
 )
-def test_differences_from_newer_qemus(
+def test_new_qemu_difference_is_located(
     lab: Lab, newer: tuple[pathlib.Path, str], state: int, name: str, old: str, new: str, line: str
 ) -> None:
     """In all states from one on, so that it is one instruction that differs: the one before."""
@@ -194,7 +192,7 @@ def test_differences_from_newer_qemus(
     assert status == 1 and printed[0].startswith(f"instruction {state - 1}: ") and printed[2] == line
 
 
-def test_qemus_logs_that_are_truncated(lab: Lab, newer: tuple[pathlib.Path, str]) -> None:
+def test_truncated_qemu_log_is_reported(lab: Lab, newer: tuple[pathlib.Path, str]) -> None:
     image, text = newer
     head, *states = text.split(" pc  ")
     goes_on = "3 instructions agree, and then the log is truncated: the program goes on at 1000c"
@@ -209,7 +207,7 @@ def test_qemus_logs_that_are_truncated(lab: Lab, newer: tuple[pathlib.Path, str]
 
 
 @pytest.mark.usefixtures("qemu")
-def test_a_log_of_qemu_72_with_calls(lab: Lab, program: pathlib.Path, tmp_path: pathlib.Path) -> None:
+def test_qemu_72_log_with_calls_agrees(lab: Lab, program: pathlib.Path, tmp_path: pathlib.Path) -> None:
     """The documented command: QEMU names a signal, and the exit."""
     image, log = tmp_path / "image", tmp_path / "log"
     make_image(program, image, SOURCE.replace("ebreak", "li a0, 0\nli a7, 93\necall"))

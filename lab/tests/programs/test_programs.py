@@ -14,7 +14,7 @@ from vecmon_lab.vectors.on_qemu import QEMU
 
 
 @pytest.mark.by_command("programs")
-def test_programs_run_on_vecmon(lab: Lab, tmp_path: pathlib.Path) -> None:
+def test_generated_programs_exit_normally_on_vecmon(lab: Lab, tmp_path: pathlib.Path) -> None:
     assert lab("programs", tmp_path, "--count", "2", "--length", "300")[0] == 0
     for number in range(2):
         reference = (tmp_path / f"program_{number}.reference").read_text("ascii")
@@ -41,7 +41,7 @@ def test_faults_on_qemu(lab: Lab, tmp_path: pathlib.Path) -> None:
     assert lab("programs", tmp_path, "--faults", "--environment", "bare") == (2, b"", odd)
 
 
-def test_a_seed_gives_the_same_bytes(lab: Lab, tmp_path: pathlib.Path) -> None:
+def test_equal_seeds_give_equal_programs(lab: Lab, tmp_path: pathlib.Path) -> None:
     folders = [tmp_path / name for name in ("one", "same", "choices")]
     words = ["--count", "2", "--length", "100", "--seed", "7"]
     for folder in folders:
@@ -50,13 +50,13 @@ def test_a_seed_gives_the_same_bytes(lab: Lab, tmp_path: pathlib.Path) -> None:
     assert one == same and len(one) == 6 and one[0] != one[3] and one[0] != choices[0]
 
 
-def test_programs_in_machine_mode_have_the_references_of_their_addresses(lab: Lab, tmp_path: pathlib.Path) -> None:
+def test_machine_mode_references_match_their_addresses(lab: Lab, tmp_path: pathlib.Path) -> None:
     assert lab("programs", tmp_path, "--length", "100", "--environment", "bare")[0] == 0
     state = json.loads((tmp_path / "program_0.state").read_text("ascii"))
     assert list(state["memory"]) == ["80020000"] and state["x"]["29"] == "80021000"
 
 
-def test_programs_meet_nearly_all(lab: Lab, tmp_path: pathlib.Path) -> None:
+def test_programs_cover_most_instructions(lab: Lab, tmp_path: pathlib.Path) -> None:
     drawn = [draw_program(f"{seed}", 1000, False) for seed in range(12)]
     coverage = sum((each.coverage for each in drawn), Counter[tuple[str, int, bool, str]]())
     names = {name for name, *_ in coverage}
@@ -67,7 +67,7 @@ def test_programs_meet_nearly_all(lab: Lab, tmp_path: pathlib.Path) -> None:
     assert head.decode().split() == ["instruction", "type", "mask", "tail", "times"]
 
 
-def test_each_result_is_read() -> None:
+def test_every_result_is_read() -> None:
     """No scalar register is written twice between two digests without being read, by a second reading of the words."""
     table = {
         row: (int(row.bits.replace("-", "0"), 2), int(row.bits.replace("0", "1").replace("-", "0"), 2))

@@ -22,7 +22,7 @@ SOURCE = """\
 """
 
 
-def test_no_instruction_takes_more_ticks_than_256(program: pathlib.Path, tmp_path: pathlib.Path) -> None:
+def test_instruction_takes_at_most_256_ticks(program: pathlib.Path, tmp_path: pathlib.Path) -> None:
     make_image(program, tmp_path / "image", SOURCE)
     counts = tmp_path / "counts"
     subprocess.run([find_recorder(), "--counts", counts, "--ticks", "10000", tmp_path / "image"], check=True)

@@ -87,7 +87,7 @@ def state(guest: Guest) -> tuple[int, int, int, int]:
     return guest.pc, registers.x[5], registers.x[6], int.from_bytes(guest.peek(0x11008, 4), "little")
 
 
-def test_back_by_instructions(start: Callable[[str], tuple[Timeline, Guest]]) -> None:
+def test_back_returns_by_instructions(start: Callable[[str], tuple[Timeline, Guest]]) -> None:
     timeline, guest = start(COUNTDOWN)
     assert timeline.go(never) == Stop("ebreak", 0x10018) and state(guest) == (0x10018, 0, 3, 1)
     assert timeline.back() and state(guest) == (0x10014, 0, 3, 1)
@@ -99,7 +99,7 @@ def test_back_by_instructions(start: Callable[[str], tuple[Timeline, Guest]]) ->
     assert not timeline.back(17) and state(guest) == (0x10000, 0, 0, 0)
 
 
-def test_changes_of_a_place(start: Callable[[str], tuple[Timeline, Guest]]) -> None:
+def test_back_finds_change_of_place(start: Callable[[str], tuple[Timeline, Guest]]) -> None:
     timeline, guest = start(COUNTDOWN)
     for number in (3, 2, 1):
         timeline.watches = [PLACE]
@@ -121,7 +121,7 @@ def test_changes_of_a_place(start: Callable[[str], tuple[Timeline, Guest]]) -> N
     assert timeline.back_to_halt((), never) is False and state(guest) == (0x10000, 0, 0, 0)
 
 
-def test_changes_and_breakpoints(start: Callable[[str], tuple[Timeline, Guest]]) -> None:
+def test_back_stops_at_changes_and_breakpoints(start: Callable[[str], tuple[Timeline, Guest]]) -> None:
     """The store of each round, and its branch two instructions on, each one by itself."""
     timeline, guest = start(COUNTDOWN)
     assert timeline.go(never) == Stop("ebreak", 0x10018)
@@ -137,7 +137,7 @@ def test_changes_and_breakpoints(start: Callable[[str], tuple[Timeline, Guest]])
     assert timeline.back_to_halt([0x10014], never) is False and guest.pc == 0x10000
 
 
-def test_changes_behind_what_was_written_by_hand(start: Callable[[str], tuple[Timeline, Guest]]) -> None:
+def test_back_finds_changes_after_manual_write(start: Callable[[str], tuple[Timeline, Guest]]) -> None:
     """Nine rounds in place of three; the first one stores the value that is there."""
     timeline, guest = start(COUNTDOWN)
     timeline.step()
@@ -153,7 +153,7 @@ def test_changes_behind_what_was_written_by_hand(start: Callable[[str], tuple[Ti
     assert timeline.back_to_halt((), never) is False and state(guest) == (0x10000, 0, 0, 0)
 
 
-def test_a_breakpoint_at_what_stops(start: Callable[[str], tuple[Timeline, Guest]]) -> None:
+def test_breakpoint_at_stopping_instruction_is_found(start: Callable[[str], tuple[Timeline, Guest]]) -> None:
     """The last of seventeen instructions, the EBREAK, has one."""
     timeline, guest = start(COUNTDOWN)
     guest.ask("break 10018")
@@ -163,7 +163,7 @@ def test_a_breakpoint_at_what_stops(start: Callable[[str], tuple[Timeline, Guest
     assert timeline.step() == Stop("ebreak", 0x10018) and timeline.back(5) and state(guest) == (0x10004, 1, 2, 2)
 
 
-def test_steps_that_stop_among_long_instructions(start: Callable[[str], tuple[Timeline, Guest]]) -> None:
+def test_back_steps_among_long_instructions(start: Callable[[str], tuple[Timeline, Guest]]) -> None:
     """Each of two stores takes 256 ticks, and one line steps over all to the EBREAK."""
     timeline, guest = start(
         "vsetvli x6, x0, e8, m8, ta, ma\nauipc x7, 1\nvse8.v v8, (x7)\nvse8.v v8, (x7)\naddi x5, x0, 7\nebreak\n"
@@ -174,14 +174,14 @@ def test_steps_that_stop_among_long_instructions(start: Callable[[str], tuple[Ti
     assert timeline.back(3) and state(guest)[:2] == (0x10004, 0)
 
 
-def test_back_at_the_begin_of_a_program_without_an_end(start: Callable[[str], tuple[Timeline, Guest]]) -> None:
+def test_back_works_in_endless_program(start: Callable[[str], tuple[Timeline, Guest]]) -> None:
     timeline, guest = start(ROUNDS)
     assert timeline.step() is None and timeline.back() and guest.pc == 0x10000
     timeline.watches = [Watch("watch", 0x11000, 1)]
     assert timeline.back_to_halt([0x10008], never) is False and guest.pc == 0x10000
 
 
-def test_a_place_without_memory(start: Callable[[str], tuple[Timeline, Guest]]) -> None:
+def test_back_refuses_unmapped_place(start: Callable[[str], tuple[Timeline, Guest]]) -> None:
     """The page of data ends at 12000."""
     timeline, _ = start(COUNTDOWN)
     timeline.watches = [Watch("watch", 0x11FFC, 8), Watch("watch", 0x12000, 8)]
@@ -189,7 +189,7 @@ def test_a_place_without_memory(start: Callable[[str], tuple[Timeline, Guest]]) 
     assert timeline.back_to_halt((), never) is False and timeline.hit is None
 
 
-def test_back_to_breakpoints(start: Callable[[str], tuple[Timeline, Guest]]) -> None:
+def test_back_returns_to_breakpoint(start: Callable[[str], tuple[Timeline, Guest]]) -> None:
     timeline, guest = start(COUNTDOWN)
     guest.ask("break 10010")
     for number in (3, 2, 1):
@@ -202,7 +202,7 @@ def test_back_to_breakpoints(start: Callable[[str], tuple[Timeline, Guest]]) -> 
     assert state(guest) == (0x10010, 3, 1, 3)
 
 
-def test_what_was_written_by_hand_is_written_again(start: Callable[[str], tuple[Timeline, Guest]]) -> None:
+def test_manual_writes_are_replayed(start: Callable[[str], tuple[Timeline, Guest]]) -> None:
     timeline, guest = start(COUNTDOWN)
     guest.ask("set x6 30", "break 10004")
     timeline.go(never)
@@ -216,7 +216,7 @@ def test_what_was_written_by_hand_is_written_again(start: Callable[[str], tuple[
     assert not timeline.back(17) and state(guest)[2] == 0x30
 
 
-def test_an_interrupt(start: Callable[[str], tuple[Timeline, Guest]]) -> None:
+def test_interrupt_stops_search(start: Callable[[str], tuple[Timeline, Guest]]) -> None:
     """A round takes 258 ticks, and so slices end within the store."""
     timeline, guest = start(ROUNDS)
     polls = itertools.count()
@@ -239,7 +239,9 @@ def test_an_interrupt(start: Callable[[str], tuple[Timeline, Guest]]) -> None:
         ("watch", 5, "store"),
     ],
 )
-def test_accesses(start: Callable[[str], tuple[Timeline, Guest]], kind: str, byte: int, labels: str) -> None:
+def test_watchpoints_stop_at_accesses(
+    start: Callable[[str], tuple[Timeline, Guest]], kind: str, byte: int, labels: str
+) -> None:
     timeline, guest = start(ACCESSES)
     names = "masked gaps index halves store put get".split()
     places = {name: 0x10014 + 4 * number for number, name in enumerate(names)}
@@ -259,7 +261,7 @@ def test_accesses(start: Callable[[str], tuple[Timeline, Guest]], kind: str, byt
     assert not found and guest.pc == 0x10000
 
 
-def test_where_there_is_no_way_back(
+def test_back_beyond_limit_is_refused(
     start: Callable[[str], tuple[Timeline, Guest]], monkeypatch: pytest.MonkeyPatch
 ) -> None:
     """1,000 ticks are more than 999."""
@@ -272,7 +274,7 @@ def test_where_there_is_no_way_back(
 
 
 @pytest.mark.parametrize("steps", [0, 41])
-def test_more_output_than_the_buffer_holds(start: Callable[[str], tuple[Timeline, Guest]], steps: int) -> None:
+def test_back_handles_full_output_buffer(start: Callable[[str], tuple[Timeline, Guest]], steps: int) -> None:
     """Four instructions, nine rounds of four that write 256 bytes each, and one more: run, or stepped, and taken back."""
     timeline, guest = start(WRITES_MUCH)
     for _ in range(steps):
@@ -285,7 +287,7 @@ def test_more_output_than_the_buffer_holds(start: Callable[[str], tuple[Timeline
     assert not timeline.back(5) and state(guest)[:2] == (0x10000, 0)
 
 
-def test_output_on_the_way(start: Callable[[str], tuple[Timeline, Guest]]) -> None:
+def test_output_is_not_repeated(start: Callable[[str], tuple[Timeline, Guest]]) -> None:
     """Eight instructions write eight bytes, 5,000 times: there is a way back over a thousand writes."""
     timeline, guest = start(WRITES)
     timeline.watches = [Watch("watch", 0x10000, 8)]

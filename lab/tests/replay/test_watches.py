@@ -26,7 +26,7 @@ TYPE = " e32 m1 l2 v2  0x" + 64 * "0"
         (LD, " x5  0x0000000000011000", "rwatch", []),
     ],
 )
-def test_bytes_that_are_accessed(word: int, rest: str, kind: str, at: list[int]) -> None:
+def test_accessed_bytes_are_watched(word: int, rest: str, kind: str, at: list[int]) -> None:
     line = LINE.format(word=word, rest=rest).encode()
     places = [Watch(kind, 0x11000 + byte, 1) for byte in range(32)]
     assert [place.address - 0x11000 for place in places if logged_access([place], line)] == list(at)

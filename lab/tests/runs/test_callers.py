@@ -3,7 +3,7 @@
 from vecmon_lab.runs.callers import CallFrame, Callers
 
 
-def test_a_function_with_two_callers() -> None:
+def test_ticks_are_divided_between_callers() -> None:
     """60 ticks of `add` in six calls: one from `main`, five from `sum`, whose own ten are added to these 50."""
     callers = Callers(
         {"main": 5, "sum": 10, "add": 60}, {("main", "sum"): 2, ("main", "add"): 1, ("sum", "add"): 5}, "main"
@@ -14,7 +14,7 @@ def test_a_function_with_two_callers() -> None:
     assert callers.frames() == (CallFrame("main", 5, 75, (CallFrame("sum", 10, 60, (in_sum,)), in_main)),)
 
 
-def test_functions_that_call_each_other() -> None:
+def test_recursive_functions_have_frames() -> None:
     """`odd` is called by `even` alone, and its calls of `even` lead back; so does what `even` calls of itself."""
     calls = {("main", "even"): 1, ("even", "odd"): 9, ("odd", "even"): 9, ("even", "even"): 3}
     callers = Callers({"main": 1, "even": 20, "odd": 18}, calls, "main")
@@ -24,13 +24,13 @@ def test_functions_that_call_each_other() -> None:
     assert [top.total, top.callees[0].total, top.callees[0].callees] == [39, 38, (CallFrame("odd", 18, 18, ()),)]
 
 
-def test_functions_that_nobody_calls() -> None:
+def test_uncalled_functions_are_roots() -> None:
     """As one that is jumped to; and one of two ticks of 3,002 has no frame."""
     callers = Callers({"main": 2000, "jumped": 1000, "rare": 2}, {("main", "rare"): 1}, "main")
     assert callers.frames() == (CallFrame("main", 2000, 2002, ()), CallFrame("jumped", 1000, 1000, ()))
 
 
-def test_calls_of_any_depth() -> None:
+def test_deep_calls_are_bounded() -> None:
     """Of 5,000 functions, each of which calls the next one, a hundred have a frame."""
     names = [f"f{number}" for number in range(5000)]
     callers = Callers(dict.fromkeys(names, 1), dict.fromkeys(zip(names, names[1:]), 1), "f0")

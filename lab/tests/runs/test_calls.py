@@ -65,7 +65,7 @@ def calls(program: pathlib.Path, tmp_path: pathlib.Path) -> tuple[pathlib.Path, 
     return tmp_path / "calls", "".join(f"vecmon-lab: {places[name]:x}: {text}\n" for name, text in TOLD.items())
 
 
-def test_each_command_reports_them_once(lab: Lab, calls: tuple[pathlib.Path, str]) -> None:
+def test_every_command_reports_unsupported_call_once(lab: Lab, calls: tuple[pathlib.Path, str]) -> None:
     path, reply = calls
     assert lab("run", path) == (5, b"hi\nhi\n", reply)
     for command in ("profile", "compare"):
@@ -74,20 +74,20 @@ def test_each_command_reports_them_once(lab: Lab, calls: tuple[pathlib.Path, str
 
 
 @pytest.mark.parametrize("lines", [["run"], ["step 200"]])
-def test_the_console_reports_them(calls: tuple[pathlib.Path, str], lines: list[str]) -> None:
+def test_console_reports_unsupported_call(calls: tuple[pathlib.Path, str], lines: list[str]) -> None:
     path, reply = calls
     command, given = [sys.executable, "-m", "vecmon_lab", "console", str(path)], "".join(f"{line}\n" for line in lines)
     shown = subprocess.run(command, cwd=TOP, input=given, capture_output=True, check=True, text=True)
     assert shown.stderr == reply and "status 5" in shown.stdout
 
 
-def test_gdb_reports_them(calls: tuple[pathlib.Path, str]) -> None:
+def test_gdb_reports_unsupported_call(calls: tuple[pathlib.Path, str]) -> None:
     path, reply = calls
     output, end, error = run_in_gdb(path)
     assert (output, error) == (b"hi\nhi\n", reply) and "with status 5;" in end
 
 
-def test_a_call_of_a_function_reports_them(
+def test_kernel_call_reports_unsupported_call(
     calls: tuple[pathlib.Path, str], capsys: pytest.CaptureFixture[str], tmp_path: pathlib.Path
 ) -> None:
     source = tmp_path / "reads.s"
@@ -98,7 +98,7 @@ def test_a_call_of_a_function_reports_them(
     assert capsys.readouterr().err == f"vecmon-lab: 10004 reads+0x4: {TOLD['read']}\n"
 
 
-def test_what_is_supported_is_not_looked_at(program: pathlib.Path, tmp_path: pathlib.Path) -> None:
+def test_supported_calls_are_not_searched(program: pathlib.Path, tmp_path: pathlib.Path) -> None:
     """Where the code before an ECALL, without a target of a branch between, shows the call, no run stops there."""
     good = "li a7, 64\nli a0, 1\nli a2, 0\necall\n" + EXIT
     for source, number in [(good, 0), (good.replace("\necall", "\nmv a7, a7\necall", 1), 1)]:
@@ -111,7 +111,7 @@ def test_what_is_supported_is_not_looked_at(program: pathlib.Path, tmp_path: pat
         assert guest.runner.has_uncertain()
 
 
-def test_a_page_shows_them_at_the_instruction(session: Session) -> None:
+def test_page_marks_unsupported_call(session: Session) -> None:
     """Those in the code, from the start on; a call with a computed number once the program reaches it."""
     guest = Guest(session)
     code = ["addi x17, x0, 63", "ecall", "addi x17, x10, 42", "ecall", "addi x17, x0, 93", "ecall"]
@@ -132,7 +132,7 @@ def test_a_page_shows_them_at_the_instruction(session: Session) -> None:
     assert "calls" not in look_at(guest, watch_set, shown[-1], [])
 
 
-def test_the_table_of_the_documents() -> None:
+def test_documents_list_supported_calls() -> None:
     """Each number of RARS and Venus is there with what it does, and what to write here."""
     rows = re.findall(r"^\| (\d+) \| ([\w and]+): (.+?) \| `?(.+?)`? \|$", (DOCS / "COMPILING.md").read_text(), re.M)
     listed = {
@@ -142,7 +142,7 @@ def test_the_table_of_the_documents() -> None:
 
 
 @pytest.mark.parametrize("number, file, sentence", [(64, 1, ""), (93, 7, ""), (94, 0, ""), (64, 0, "(standard input)")])
-def test_supported_calls(number: int, file: int, sentence: str) -> None:
+def test_supported_call_is_accepted(number: int, file: int, sentence: str) -> None:
     x = [0] * 32
     x[10], x[17] = file, number
     assert sentence in unsupported_call(x) and bool(sentence) == bool(unsupported_call(x))

@@ -144,7 +144,7 @@ def alike(first: str) -> list[str]:
 
 
 @pytest.mark.by_command("compare")
-def test_stock_programs(lab: Lab) -> None:
+def test_stock_programs_do_not_differ(lab: Lab) -> None:
     """Their outputs and ends are those of QEMU."""
     status, output, errors = lab("compare", SUM)
     first = "keep, slices of 1,000:  exit 0 pc=00000000000112dc; 7 bytes: b'328350\\n'"
@@ -165,7 +165,7 @@ def compared(
 
 
 @pytest.mark.parametrize("name", UNWRITTEN)
-def test_what_nobody_has_written(lab: Lab, program: pathlib.Path, tmp_path: pathlib.Path, name: str) -> None:
+def test_unwritten_value_is_reported(lab: Lab, program: pathlib.Path, tmp_path: pathlib.Path, name: str) -> None:
     source = (EXAMPLES / "unwritten" / f"{name}.s").read_text("utf-8")
     status, lines, labels = compared(lab, program, tmp_path, source)
     places = {label: f"{address:x}" for label, address in labels.items()}
@@ -183,7 +183,7 @@ def test_what_nobody_has_written(lab: Lab, program: pathlib.Path, tmp_path: path
         ("read: csrr a0, vxsat", ["  x10: 0 as loaded, 1 filled", "csrrs x10, vxsat, x0", "vxsat"]),
     ],
 )
-def test_control_registers_that_nobody_has_written(
+def test_unwritten_control_register_is_reported(
     lab: Lab, program: pathlib.Path, tmp_path: pathlib.Path, source: str, expected: list[str]
 ) -> None:
     status, lines, labels = compared(lab, program, tmp_path, f"{source}\nli a7, 93\nend: ecall")
@@ -199,11 +199,11 @@ def test_control_registers_that_nobody_has_written(
     )
 
 
-def test_there_is_a_program_of_each_fault() -> None:
+def test_every_fault_has_example_program() -> None:
     assert {path.stem for path in (EXAMPLES / "unwritten").iterdir()} == set(UNWRITTEN)
 
 
-def test_what_shows_behind_a_million_instructions(lab: Lab, program: pathlib.Path, tmp_path: pathlib.Path) -> None:
+def test_late_divergence_is_reported(lab: Lab, program: pathlib.Path, tmp_path: pathlib.Path) -> None:
     status, lines, labels = compared(lab, program, tmp_path, LATE)
     assert status == 1 and lines[8:] == [
         f"the runs diverge at {labels['branch']:x}: bne x8, x7, 8",
@@ -217,7 +217,7 @@ IMAGES = {path.name: path for path in [*STOCK.parent.rglob("*"), *(DATA / "image
 
 
 @pytest.mark.parametrize("name", [name for name, path in IMAGES.items() if path.read_bytes()[:4] == b"\x7fELF"])
-def test_images_rely_on_nothing(lab: Lab, name: str) -> None:
+def test_example_images_depend_on_nothing(lab: Lab, name: str) -> None:
     """`good` is for the loader: it exits with what is in a0. prefix_sums.c has a mistake in line 44."""
     status, output, _ = lab("compare", "--ticks", 70_000, IMAGES[name])
     expected = [line for line in output.decode().splitlines() if " diverge at " in line or " comes from " in line]
@@ -228,9 +228,7 @@ def test_images_rely_on_nothing(lab: Lab, name: str) -> None:
     assert (status == 1, expected) == ((True, exits) if name == "good" else (False, []))
 
 
-def test_slices_tell_where_a_store_writes_over_its_own_word(
-    lab: Lab, program: pathlib.Path, tmp_path: pathlib.Path
-) -> None:
+def test_slices_reveal_store_over_own_word(lab: Lab, program: pathlib.Path, tmp_path: pathlib.Path) -> None:
     make_image(program, tmp_path / "image", OWN_WORD)
     data = bytearray((tmp_path / "image").read_bytes())
     data[64 + 4] = 7  # p_flags: the text may be written
@@ -244,17 +242,17 @@ def test_slices_tell_where_a_store_writes_over_its_own_word(
     )
 
 
-def test_what_is_saved_may_be_anything(lab: Lab, program: pathlib.Path, tmp_path: pathlib.Path) -> None:
+def test_saved_value_may_be_unspecified(lab: Lab, program: pathlib.Path, tmp_path: pathlib.Path) -> None:
     status, lines, _ = compared(lab, program, tmp_path, SAVED)
     assert (status, len(lines)) == (0, 8) and "exit 4 " in lines[0]
 
 
-def test_output_is_cut_alike_in_all_slices(lab: Lab, program: pathlib.Path, tmp_path: pathlib.Path) -> None:
+def test_output_is_truncated_alike_in_all_slices(lab: Lab, program: pathlib.Path, tmp_path: pathlib.Path) -> None:
     status, lines, _ = compared(lab, program, tmp_path, WRITES_UNEVENLY)
     assert (status, len(lines)) == (0, 8) and "exit 3 " in lines[0]
 
 
-def test_a_program_without_an_end(lab: Lab, program: pathlib.Path, tmp_path: pathlib.Path) -> None:
+def test_endless_program_is_compared(lab: Lab, program: pathlib.Path, tmp_path: pathlib.Path) -> None:
     make_image(program, tmp_path / "forever", FOREVER)
     status, output, _ = lab("compare", "--ticks", "6999", tmp_path / "forever")
     first = "keep, slices of 1,000:  no end in 7,000 ticks, pc=0000000000010000; 0 bytes: b''"
@@ -262,11 +260,11 @@ def test_a_program_without_an_end(lab: Lab, program: pathlib.Path, tmp_path: pat
 
 
 @pytest.mark.parametrize("words", [[], ["none"], [STOCK / "short"], ["--ticks", "none", SUM]])
-def test_bad_input(lab: Lab, words: list[object]) -> None:
+def test_bad_input_is_refused(lab: Lab, words: list[object]) -> None:
     status, output, errors = lab("compare", *words)
     assert (status, output, errors.count("\n")) == (2, b"", 1)
 
 
-def test_a_breakpoint_has_the_status_of_a_run(lab: Lab, program: pathlib.Path, tmp_path: pathlib.Path) -> None:
+def test_breakpoint_gives_exit_status_of_run(lab: Lab, program: pathlib.Path, tmp_path: pathlib.Path) -> None:
     make_image(program, tmp_path / "stops", "nop\nebreak")
     assert lab("compare", tmp_path / "stops")[0] == lab("run", tmp_path / "stops")[0] == 133

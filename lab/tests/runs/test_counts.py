@@ -54,7 +54,7 @@ TYPES = {"e8 m1": 0, "e8 mf2": 7, "e16 m1": 8, "e32 m1": 16, "e32 m2": 17, "e64 
         ("vcpop.m x5, v8", "e8 m1", 10, 0, list(range(10)), 0, 22),
     ],
 )
-def test_elements(
+def test_element_counts_equal_hand_worked_counts(
     session: Session, text: str, vtype: str, vl: int, vstart: int, active: list[int], masked: int, tail: int
 ) -> None:
     """Bits 1, 2, 4 and 15 of v0 are set.
@@ -81,7 +81,7 @@ def _word(session: Session, text: str) -> int:
     return int(session.do(f"1 asm 10000 {text}")[0].split()[2], 16)
 
 
-def test_ticks_are_those_of_slices(program: pathlib.Path, tmp_path: pathlib.Path) -> None:
+def test_ticks_equal_slices(program: pathlib.Path, tmp_path: pathlib.Path) -> None:
     """A slice of one tick is granted once for each tick counted."""
     source = re.sub(r"vse32.v v10.*", "li a7, 93\n        ecall", re.sub(r"\|.*", "", CHANGES))
     make_image(program, tmp_path / "rows", source)
@@ -93,7 +93,7 @@ def test_ticks_are_those_of_slices(program: pathlib.Path, tmp_path: pathlib.Path
         assert counts.ticks == guest.ticks
 
 
-def test_counts_of_a_program() -> None:
+def test_program_counts_equal_hand_worked_counts() -> None:
     """QEMU 7.2 executes 250 instructions, too. The loop at 1123c has 6 strips of 16 and one of 4."""
     counts = record(initial_state_of(SUM, ["sum"]))
     places = {
@@ -109,7 +109,7 @@ def test_counts_of_a_program() -> None:
     assert counts.lengths["e64,m4,ta,ma", 16] == 13 and counts.lengths.total() == 43
 
 
-def test_a_run_that_begins_where_a_guest_stands(session: Session) -> None:
+def test_run_counts_from_guest_state(session: Session) -> None:
     """Under a mask of 5, three elements of eight are added, from 4 left over: the value set before is there."""
     guest, lines = Guest(session), ["1 enter", "1 map 10000 1 rx", "1 asm 10000 vadd.vi v8, v8, 1, v0.t"]
     lines += ["1 asm 10004 ebreak", "1 asm 10008 vsetivli x0, 3, e32, m1, ta, ma", "1 setpc 10008", "1 step 1"]
@@ -126,7 +126,7 @@ def test_fault_at_first_instruction_has_no_place(program: pathlib.Path, tmp_path
     assert [(place.address, place.times) for place in counts.places] == [(0x10000, 1)]
 
 
-def test_a_recorder_that_is_not_there(monkeypatch: pytest.MonkeyPatch) -> None:
+def test_missing_recorder_is_reported(monkeypatch: pytest.MonkeyPatch) -> None:
     monkeypatch.setenv("VECMON_RECORD", "none")
     with pytest.raises(LabError, match="^there is no program none; counts and runs need it, "):
         record(InitialState(SUM))

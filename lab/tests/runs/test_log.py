@@ -26,7 +26,7 @@ def test_log_lines_equal_hand_worked_lines(lab: Lab, tmp_path: pathlib.Path) -> 
     assert log.read_text() == (BY_HAND / "scalar_loop.log").read_text()
 
 
-def test_a_store_to_where_x11_leads(lab: Lab, tmp_path: pathlib.Path) -> None:
+def test_store_log_line_has_address(lab: Lab, tmp_path: pathlib.Path) -> None:
     """Which is 0 here, and 2000 where the lines were worked out."""
     log, image = tmp_path / "log", image_of(tmp_path / "image", MASKED_VECTORS, 0)
     assert lab("run", "--log", log, "--to", 100, image) == (5, b"", "")
@@ -34,7 +34,7 @@ def test_a_store_to_where_x11_leads(lab: Lab, tmp_path: pathlib.Path) -> None:
     assert log.read_text() == by_hand.replace("mem 0x0000000000002", "mem 0x0000000000000")
 
 
-def test_a_window_of_a_trace_and_a_log(lab: Lab, tmp_path: pathlib.Path) -> None:
+def test_trace_and_log_windows_agree(lab: Lab, tmp_path: pathlib.Path) -> None:
     log, trace, image = tmp_path / "log", tmp_path / "trace", image_of(tmp_path / "image", SCALAR_LOOP, 0x2000)
     assert lab("run", "--log", log, "--trace", trace, "--from", 5, "--to", 7, image)[0] == 133
     *lines, end = (BY_HAND / "scalar_loop.log").read_text().splitlines()
@@ -42,7 +42,7 @@ def test_a_window_of_a_trace_and_a_log(lab: Lab, tmp_path: pathlib.Path) -> None
     assert [line.split()[0] for line in trace.read_text().splitlines()] == ["100c", "1004", "1014"]
 
 
-def test_a_log_that_goes_through_a_pipe_needs_no_end(lab: Lab, tmp_path: pathlib.Path) -> None:
+def test_log_to_pipe_needs_no_end(lab: Lab, tmp_path: pathlib.Path) -> None:
     image, (end, other) = image_of(tmp_path / "image", SCALAR_LOOP, 0x2000), os.pipe()
     assert lab("run", "--log", f"/dev/fd/{other}", image)[0] == 133
     os.close(other)
@@ -50,7 +50,7 @@ def test_a_log_that_goes_through_a_pipe_needs_no_end(lab: Lab, tmp_path: pathlib
         assert file.read() == (BY_HAND / "scalar_loop.log").read_text()
 
 
-def test_a_log_is_emptied_once_there_is_something_to_record(lab: Lab, tmp_path: pathlib.Path) -> None:
+def test_log_is_truncated_when_recording_starts(lab: Lab, tmp_path: pathlib.Path) -> None:
     log, image = tmp_path / "log", image_of(tmp_path / "image", SCALAR_LOOP, 0x2000)
     log.write_text("before\n" * 1000)
     assert lab("run", "--log", log, "--to", 100, STOCK / "short")[0] == 2 and log.stat().st_size == 7000
@@ -74,7 +74,7 @@ def test_a_log_is_emptied_once_there_is_something_to_record(lab: Lab, tmp_path: 
         (["--log", "/dev/full"], "cannot write log"),
     ],
 )
-def test_bad_words(
+def test_bad_options_are_refused(
     lab: Lab, monkeypatch: pytest.MonkeyPatch, tmp_path: pathlib.Path, words: list[str], expected: str
 ) -> None:
     monkeypatch.chdir(tmp_path)

@@ -70,9 +70,7 @@ def image(clang: Compiler, tmp_path_factory: pytest.TempPathFactory) -> Callable
 
 
 @pytest.mark.parametrize("name", EXPECTED)
-def test_all_commands_give_the_same_output(
-    lab: Lab, qemu: None, image: Callable[[str], pathlib.Path], name: str
-) -> None:
+def test_commands_give_equal_output(lab: Lab, qemu: None, image: Callable[[str], pathlib.Path], name: str) -> None:
     """The bytes are worked out by hand."""
     path, expected = image(name), EXPECTED[name]
     command = ["qemu-riscv64", "-cpu", "rv64,v=true,vext_spec=v1.0,vlen=256", str(path)]
@@ -93,14 +91,12 @@ def test_all_commands_give_the_same_output(
         assert (result.value, result.output) == (0, expected)
 
 
-def test_a_program_without_an_end_isn_t_compared_by_where_its_ticks_run_out(
-    lab: Lab, image: Callable[[str], pathlib.Path]
-) -> None:
+def test_endless_program_is_not_compared_at_tick_limit(lab: Lab, image: Callable[[str], pathlib.Path]) -> None:
     status, compared, errors = lab("compare", "--ticks", 14_000, image("endless"))
     assert (status, compared.count(b"the same\n"), errors) == (124, 7, "")
 
 
-def test_more_calls_than_breakpoints(lab: Lab, program: pathlib.Path, tmp_path: pathlib.Path) -> None:
+def test_calls_beyond_breakpoint_limit_are_reported(lab: Lab, program: pathlib.Path, tmp_path: pathlib.Path) -> None:
     make_image(program, tmp_path / "unrolled", UNROLLED)
     with started(tmp_path / "unrolled") as guest:
         stop = guest.go(1_000_000)
@@ -121,14 +117,14 @@ def with_code(session: Session, permissions: str, lines: Sequence[str]) -> Guest
     return guest
 
 
-def test_a_call_that_the_program_writes_itself(session: Session) -> None:
+def test_self_written_call_is_reported(session: Session) -> None:
     guest = with_code(session, "rwx", WRITES_ITS_CALL.strip().splitlines())
     assert guest.go(100_000) == Stop("ebreak", 0x1002C)
     code = guest.peek(0x10000, 200)
     assert guest.output() == code * 20 and code[32:36] == b"\x73\0\0\0"
 
 
-def test_ticks_of_a_program_that_writes_much(session: Session) -> None:
+def test_ticks_of_printing_program_are_counted(session: Session) -> None:
     """A call writes 256 bytes: four calls count as a slice; the go has 100 slices."""
     lines = ["addi x10, x0, 1", "lui x11, 0x10", "addi x12, x0, 256", "addi x17, x0, 64", "ecall", "jal x0, -20"]
     guest = with_code(session, "rx", lines)

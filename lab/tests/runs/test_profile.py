@@ -39,7 +39,7 @@ def cells(line: str) -> list[str]:
 
 
 @pytest.mark.by_command("profile")
-def test_the_table(lab: Lab) -> None:
+def test_profile_table_equals_hand_worked_table(lab: Lab) -> None:
     """Times and elements were counted by hand in the listing, and source lines are those that objdump shows."""
     status, output, errors = lab("profile", SUM_DWARF4)
     lines = output.decode().splitlines()
@@ -57,7 +57,7 @@ def test_the_table(lab: Lab) -> None:
     ]
 
 
-def test_a_program_without_vectors(lab: Lab, program: pathlib.Path, tmp_path: pathlib.Path) -> None:
+def test_scalar_program_is_profiled(lab: Lab, program: pathlib.Path, tmp_path: pathlib.Path) -> None:
     make_image(program, tmp_path / "loop", "loop: j loop")
     status, output, errors = lab("profile", "--ticks", "2000", "-o", tmp_path / "page.html", tmp_path / "loop")
     assert (status, errors) == (124, "")
@@ -70,14 +70,14 @@ def test_a_program_without_vectors(lab: Lab, program: pathlib.Path, tmp_path: pa
     assert output.decode().splitlines()[-1] == "2,000 instructions in 2,000 ticks; the ticks ran out at 10000"
 
 
-def test_source_lines_that_cannot_be_read(lab: Lab) -> None:
+def test_unreadable_source_lines_give_warning(lab: Lab) -> None:
     status, output, errors = lab("profile", SUM_DWARF5)
     warning = Symbols.read(SUM_DWARF5).warning
     assert (status, errors) == (0, f"vecmon-lab: {warning}\n" if warning else "")
     assert b"_start+0xb0" in output
 
 
-def test_the_csv_file(lab: Lab, program: pathlib.Path, tmp_path: pathlib.Path) -> None:
+def test_csv_file_has_rows(lab: Lab, program: pathlib.Path, tmp_path: pathlib.Path) -> None:
     make_image(program, tmp_path / "masked", MASKED)
     assert lab("profile", "-o", tmp_path / "page.html", tmp_path / "masked")[0] == 0
     with (tmp_path / "page.csv").open(newline="", encoding="utf-8") as file:
@@ -109,7 +109,7 @@ twice:  jal ra, short
 """
 
 
-def test_loops_functions_and_calls(lab: Lab, program: pathlib.Path, tmp_path: pathlib.Path) -> None:
+def test_profile_has_loops_functions_and_calls(lab: Lab, program: pathlib.Path, tmp_path: pathlib.Path) -> None:
     """Without symbols a function begins where a call leads. `short` has 5 times 11 of 74 instructions."""
     make_image(program, tmp_path / "calls", CALLS)
     status, output, errors = lab("profile", tmp_path / "calls")
@@ -120,7 +120,7 @@ def test_loops_functions_and_calls(lab: Lab, program: pathlib.Path, tmp_path: pa
     assert tables[2] == ["10000 1002c 1 46".split(), "1002c 10018 3 33".split(), "10000 10018 2 22".split()]
 
 
-def test_source_lines(lab: Lab) -> None:
+def test_profile_has_source_lines(lab: Lab) -> None:
     """The sums of the rows of a line, by the listing."""
     tables = [table.splitlines() for table in lab("profile", SUM_DWARF4)[1].decode().split("\n\n")]
     assert tables[0][1].split() == "111d4 111f4 _start+0x44 sum.c:34-35 6 54 432 60 % 672 0 0 100 %".split()
@@ -130,7 +130,7 @@ def test_source_lines(lab: Lab) -> None:
     assert tables[2][-1] == "and 6 more, which -o FILE.html shows"
 
 
-def test_one_beside_another(lab: Lab, program: pathlib.Path, tmp_path: pathlib.Path) -> None:
+def test_profiles_are_compared(lab: Lab, program: pathlib.Path, tmp_path: pathlib.Path) -> None:
     """A loop of 5 rounds in place of 20, so 30 ticks less in the one function that there is."""
     make_image(program, tmp_path / "long", MASKED)
     make_image(program, tmp_path / "short", MASKED.replace("li t0, 20", "li t0, 5"))
@@ -149,7 +149,9 @@ def test_one_beside_another(lab: Lab, program: pathlib.Path, tmp_path: pathlib.P
 
 
 @pytest.mark.parametrize("scheme", ["light", "dark"])
-def test_the_page(browser: "Chrome", lab: Lab, program: pathlib.Path, tmp_path: pathlib.Path, scheme: str) -> None:
+def test_profile_page_is_written(
+    browser: "Chrome", lab: Lab, program: pathlib.Path, tmp_path: pathlib.Path, scheme: str
+) -> None:
     make_image(program, tmp_path / "<b>masked", MASKED)
     assert lab("profile", "-o", tmp_path / "page.html", tmp_path / "<b>masked")[0] == 0
     features = [{"name": "prefers-color-scheme", "value": scheme}]
@@ -179,7 +181,7 @@ def test_the_page(browser: "Chrome", lab: Lab, program: pathlib.Path, tmp_path: 
 
 
 @pytest.mark.parametrize("scheme", ["light", "dark"])
-def test_the_flame_graph(
+def test_flame_graph_has_frames(
     browser: "Chrome", lab: Lab, program: pathlib.Path, tmp_path: pathlib.Path, scheme: str
 ) -> None:
     """Of 74 ticks `long` has 46, and 33 of them are calls of `short`, which has 22 more; a click makes 46 the whole."""
@@ -215,13 +217,15 @@ def test_the_flame_graph(
         (["-o", STOCK / "none" / "page.html", SUM], f"vecmon-lab: {STOCK}/none/page.csv: No such file or directory"),
     ],
 )
-def test_bad_input(lab: Lab, words: list[object], expected: str) -> None:
+def test_bad_input_is_refused(lab: Lab, words: list[object], expected: str) -> None:
     status, _, errors = lab("profile", *words)
     assert (status, errors.count("\n")) == (2, 1) and errors.startswith(expected)
 
 
 @pytest.mark.parametrize("source, ends", [("li a7, 93\necall", 0), ("nop\nebreak", 133), (".word 0", 139)])
-def test_statuses(lab: Lab, program: pathlib.Path, tmp_path: pathlib.Path, source: str, ends: int) -> None:
+def test_profile_has_exit_status_of_run(
+    lab: Lab, program: pathlib.Path, tmp_path: pathlib.Path, source: str, ends: int
+) -> None:
     make_image(program, tmp_path / "stops", source)
     status, output, errors = lab("profile", tmp_path / "stops")
     assert (status, errors) == (ends, "") and output.startswith(b"function  called" if ends < 139 else b"")

@@ -33,12 +33,12 @@ def test_counts_are_read() -> None:
 @pytest.mark.parametrize(
     "text", ["", "exit 0", "at 0 0 1 1 0 0\nexit 0 pc=0000000000000000 1 1\n", "hello 1 1", "ok 1 1"]
 )
-def test_what_is_no_counts(text: str) -> None:
+def test_malformed_counts_are_refused(text: str) -> None:
     with pytest.raises(LabError, match="^vecmon-record prints no counts: "):
         read_counts(text)
 
 
-def test_memory_registers_and_ticks() -> None:
+def test_recorder_receives_memory_registers_and_ticks() -> None:
     """Half a megabyte of memory, more than a pipe holds; x5 counts down from 3, so there are six instructions."""
     memory = [(0x20000, "rw", bytes(1 << 19)), (0x10000, "rx", LOOP)]
     initial_state = InitialState(None, memory, ["x5 3", "pc 10000"])
@@ -62,6 +62,6 @@ def test_memory_registers_and_ticks() -> None:
         (InitialState(pathlib.Path("none")), "cannot read none$"),
     ],
 )
-def test_refusals(initial_state: InitialState, expected: str) -> None:
+def test_recorder_refusal_is_explained(initial_state: InitialState, expected: str) -> None:
     with pytest.raises(LabError, match=expected):
         record(initial_state)

@@ -21,14 +21,14 @@ VID = "10000: vid.v v8: Illegal instruction at 0x10000: vid.v v8."
 
 
 @pytest.mark.by_command("run")
-def test_stock_programs(lab: Lab) -> None:
+def test_stock_programs_run(lab: Lab) -> None:
     """As in QEMU, which also executes 509,200 instructions of the second one."""
     assert lab("run", SUM) == (0, b"328350\n", "")
     assert lab("run", SORT) == (42, (QEMU / "sortgcc").read_bytes(), "")
     assert lab("run", "--policy", "ones", SUM, "one", "two") == (0, b"328350\n", "")
 
 
-def test_a_fault(lab: Lab) -> None:
+def test_fault_is_reported(lab: Lab) -> None:
     why = (
         "The store at 0x10198 may not write from 0x12000 on: a page isn't mapped, or has no permission w. "
         "It stopped at element 14."
@@ -39,7 +39,7 @@ def test_a_fault(lab: Lab) -> None:
 
 
 @pytest.mark.parametrize("status", [0, 2, 124, 133, 139, 255])
-def test_a_status_of_its_own(lab: Lab, program: pathlib.Path, tmp_path: pathlib.Path, status: int) -> None:
+def test_exit_status_is_passed_on(lab: Lab, program: pathlib.Path, tmp_path: pathlib.Path, status: int) -> None:
     make_image(program, tmp_path / "exits", f"li a0, {status}\nli a7, 93\necall")
     assert lab("run", tmp_path / "exits") == (status, b"", "")
 
@@ -54,14 +54,14 @@ def test_a_status_of_its_own(lab: Lab, program: pathlib.Path, tmp_path: pathlib.
         ("vid.v v8", 139, f"{VID} The vector type is vill: no vset instruction has set one that is supported."),
     ],
 )
-def test_other_stops(
+def test_stop_is_reported(
     lab: Lab, program: pathlib.Path, tmp_path: pathlib.Path, source: str, status: int, expected: str
 ) -> None:
     make_image(program, tmp_path / "stops", source)
     assert lab("run", tmp_path / "stops") == (status, b"", f"vecmon-lab: {tmp_path / 'stops'}: {expected}\n")
 
 
-def test_images_of_other_kinds(lab: Lab, program: pathlib.Path, tmp_path: pathlib.Path) -> None:
+def test_unsupported_image_is_refused(lab: Lab, program: pathlib.Path, tmp_path: pathlib.Path) -> None:
     """By the psABI: e_flags at byte 48, where 1 is compressed instructions, 2 to 6 floating-point ABIs, 8 is RVE."""
     image, words = tmp_path / "image", f"compile with {MARCH}"
     make_image(program, image, "li a0, 3\nli a7, 93\necall\n.word 0x20b56533")
@@ -78,7 +78,7 @@ def test_images_of_other_kinds(lab: Lab, program: pathlib.Path, tmp_path: pathli
     assert status == 139 and errors.endswith(f"10000: .word 0x20b56533. {other}: {words}.\n")
 
 
-def test_ticks_run_out(lab: Lab, program: pathlib.Path, tmp_path: pathlib.Path) -> None:
+def test_tick_limit_is_reported(lab: Lab, program: pathlib.Path, tmp_path: pathlib.Path) -> None:
     image = tmp_path / "forever"
     make_image(program, image, FOREVER)
     errors = f"vecmon-lab: {image}: the ticks ran out at 10000\n"
@@ -89,7 +89,7 @@ def test_ticks_run_out(lab: Lab, program: pathlib.Path, tmp_path: pathlib.Path) 
     assert (status, errors.splitlines()[0]) == (124, "14 instructions in 14 ticks")
 
 
-def test_a_full_buffer(lab: Lab, program: pathlib.Path, tmp_path: pathlib.Path) -> None:
+def test_full_output_buffer_is_emptied(lab: Lab, program: pathlib.Path, tmp_path: pathlib.Path) -> None:
     make_image(program, tmp_path / "writes", WRITES)
     status, output, _ = lab("run", "--ticks", "100000", tmp_path / "writes")
     assert (status, output) == (124, b"1234567\n" * 5000)
@@ -97,7 +97,7 @@ def test_a_full_buffer(lab: Lab, program: pathlib.Path, tmp_path: pathlib.Path) 
     assert (status, output) == (124, b"1234567\n" * 125)
 
 
-def test_commands_carry_out_the_same(lab: Lab, program: pathlib.Path, tmp_path: pathlib.Path) -> None:
+def test_commands_execute_same_instructions(lab: Lab, program: pathlib.Path, tmp_path: pathlib.Path) -> None:
     """1,000 times eight instructions write seven bytes, which doesn't divide 1,024; one before that, and two behind."""
     source = WRITES.replace("5000", "1000").replace("1234567", "123456").replace("li a2, 8", "li a2, 7")
     make_image(program, tmp_path / "pieces", source.replace("loop:   j loop", EXIT))
@@ -108,7 +108,7 @@ def test_commands_carry_out_the_same(lab: Lab, program: pathlib.Path, tmp_path: 
     assert lab("profile", tmp_path / "pieces")[1].endswith(b"8,003 instructions in 8,003 ticks; status 7\n")
 
 
-def test_a_run_that_is_long(lab: Lab, program: pathlib.Path, tmp_path: pathlib.Path) -> None:
+def test_long_run_completes(lab: Lab, program: pathlib.Path, tmp_path: pathlib.Path) -> None:
     """Six million instructions: two that load a number, a loop of two, and two to exit."""
     make_image(
         program, tmp_path / "long", f"lui t0, 0x2fb\naddi t0, t0, -0x10\nloop: addi t0, t0, -1\nbnez t0, loop\n{EXIT}"
@@ -118,7 +118,7 @@ def test_a_run_that_is_long(lab: Lab, program: pathlib.Path, tmp_path: pathlib.P
     assert (status, errors.splitlines()[0]) == (0, f"{4 + 2 * rounds:,} instructions in {4 + 2 * rounds:,} ticks")
 
 
-def test_arguments(lab: Lab, program: pathlib.Path, tmp_path: pathlib.Path) -> None:
+def test_program_receives_arguments(lab: Lab, program: pathlib.Path, tmp_path: pathlib.Path) -> None:
     make_image(program, tmp_path / "arguments", ARGUMENTS)
     assert lab("run", tmp_path / "arguments") == (1, b"arguments\n", "")
     assert lab("run", "--", tmp_path / "arguments", "one", "--stats", "--") == (4, b"arguments\none\n--stats\n--\n", "")
@@ -126,7 +126,7 @@ def test_arguments(lab: Lab, program: pathlib.Path, tmp_path: pathlib.Path) -> N
     assert lab("profile", tmp_path / "arguments", "-2")[1].endswith(b"ticks; status 2\n")
 
 
-def test_output_comes_while_it_runs_and_ctrl_c_ends_it(program: pathlib.Path, tmp_path: pathlib.Path) -> None:
+def test_output_streams_and_ctrl_c_ends_run(program: pathlib.Path, tmp_path: pathlib.Path) -> None:
     make_image(program, tmp_path / "writes", WRITES.replace("5000", "1"))
     command = [sys.executable, "-m", "vecmon_lab", "run", str(tmp_path / "writes")]
     with subprocess.Popen(command, cwd=TOP, stdout=subprocess.PIPE, stderr=subprocess.PIPE) as run:
@@ -156,13 +156,13 @@ def test_output_comes_while_it_runs_and_ctrl_c_ends_it(program: pathlib.Path, tm
         ([SUM, "x" * 9000], f"vecmon-lab: {SUM}: arguments take 8,192 bytes of the stack at most"),
     ],
 )
-def test_bad_input(lab: Lab, words: list[object], expected: str) -> None:
+def test_bad_input_is_refused(lab: Lab, words: list[object], expected: str) -> None:
     status, output, errors = lab("run", *words)
     assert (status, output, errors.count("\n")) == (2, b"", 1)
     assert errors.startswith(expected)
 
 
-def test_no_program(lab: Lab, monkeypatch: pytest.MonkeyPatch) -> None:
+def test_missing_program_is_refused(lab: Lab, monkeypatch: pytest.MonkeyPatch) -> None:
     monkeypatch.setenv("VECMON", "none")
     monkeypatch.delenv("VECMON_RECORD", raising=False)
     status, output, errors = lab("run", SUM)
@@ -170,21 +170,21 @@ def test_no_program(lab: Lab, monkeypatch: pytest.MonkeyPatch) -> None:
     assert errors.startswith("vecmon-lab: VECMON=none is no program; ")
 
 
-def test_no_recorder(lab: Lab, monkeypatch: pytest.MonkeyPatch) -> None:
+def test_missing_recorder_is_refused(lab: Lab, monkeypatch: pytest.MonkeyPatch) -> None:
     monkeypatch.setenv("VECMON_RECORD", "none")
     status, output, errors = lab("run", SUM)
     assert (status, output, errors.count("\n")) == (2, b"", 1)
     assert errors.startswith("vecmon-lab: there is no program none; counts and runs need it, ")
 
 
-def test_standard_output_that_is_full() -> None:
+def test_full_standard_output_is_reported() -> None:
     with open("/dev/full", "wb") as full:
         command = [sys.executable, "-m", "vecmon_lab", "run", str(SUM)]
         run = subprocess.run(command, cwd=TOP, stdout=full, stderr=subprocess.PIPE, check=False)
     assert (run.returncode, run.stderr) == (2, b"vecmon-lab: [Errno 28] No space left on device\n")
 
 
-def test_a_file_that_may_have_five_bytes_more(tmp_path: pathlib.Path) -> None:
+def test_file_size_limit_is_reported(tmp_path: pathlib.Path) -> None:
     """The system takes five of seven, and says only at the next write why it takes no more."""
     limit = "import resource, vecmon_lab.__main__; resource.setrlimit(resource.RLIMIT_FSIZE, (1 << 20, 1 << 20))"
     code = f"{limit}; raise SystemExit(vecmon_lab.__main__.main())"
@@ -196,7 +196,7 @@ def test_a_file_that_may_have_five_bytes_more(tmp_path: pathlib.Path) -> None:
     assert (tmp_path / "output").read_bytes().lstrip(b"\0") == b"32835"
 
 
-def test_counts(lab: Lab) -> None:
+def test_run_prints_counts(lab: Lab) -> None:
     """Instructions and elements were counted by hand, in the listing that objdump makes of the program."""
     status, output, errors = lab("run", "--stats", SUM)
     assert (status, output) == (0, b"328350\n")
@@ -210,7 +210,7 @@ def test_counts(lab: Lab) -> None:
     assert lab("run", "--count", SUM) == (0, b"328350\n", "250 instructions in 721 ticks\n")
 
 
-def test_a_count_of_what_stops(lab: Lab, program: pathlib.Path, tmp_path: pathlib.Path) -> None:
+def test_stopping_instruction_is_not_counted(lab: Lab, program: pathlib.Path, tmp_path: pathlib.Path) -> None:
     make_image(program, tmp_path / "stops", "nop\nnop\nebreak")
     status, _, errors = lab("run", "--count", tmp_path / "stops")
     assert status == 133 and errors.splitlines()[0] == "2 instructions in 2 ticks" and errors.count("\n") == 2

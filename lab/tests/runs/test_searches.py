@@ -35,7 +35,7 @@ def copied(folder: pathlib.Path, name: str, changes: Mapping[str, str] = {}) -> 
     return folder / name
 
 
-def test_a_length_that_is_taken_anew(lab: Lab, clang: Compiler, tmp_path: pathlib.Path) -> None:
+def test_recomputed_length_is_found(lab: Lab, clang: Compiler, tmp_path: pathlib.Path) -> None:
     """A fifth of the text, so a 25th of a hundred million instructions. Of 22 characters that repeat 15 are small letters,
     and the function is called once more than there are bytes; each takes four instructions."""
     shorter = {"BYTES 5000": "BYTES 1000"}
@@ -53,7 +53,7 @@ def test_a_length_that_is_taken_anew(lab: Lab, clang: Compiler, tmp_path: pathli
     assert lab("run", better)[0] == 68
 
 
-def test_pieces(lab: Lab, clang: Compiler, tmp_path: pathlib.Path) -> None:
+def test_strip_mined_pieces_are_found(lab: Lab, clang: Compiler, tmp_path: pathlib.Path) -> None:
     """Two writes, of 994 bytes and of 60; 256 of the first come out. All commands execute equally many instructions."""
     pieces, trace = compiled(clang, copied(tmp_path / "first", "pieces.c")), tmp_path / "trace"
     status, output, errors = lab("run", "--count", "--trace", trace, "--from", "18001", pieces)
@@ -71,7 +71,7 @@ def test_pieces(lab: Lab, clang: Compiler, tmp_path: pathlib.Path) -> None:
     assert lab("run", whole) == (0, SQUARES, "")
 
 
-def test_a_tail(lab: Lab, clang: Compiler, tmp_path: pathlib.Path) -> None:
+def test_tail_is_found(lab: Lab, clang: Compiler, tmp_path: pathlib.Path) -> None:
     """4 of 16 elements are multiplied at last; the sums keep what they had only where that is asked for."""
     assert sum(number * (99 - number) for number in range(100)) == 161_700
     slip = compiled(clang, copied(tmp_path / "slip", "dot_product.c"))

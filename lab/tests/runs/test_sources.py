@@ -21,7 +21,7 @@ def images(tmp_path_factory: pytest.TempPathFactory, monkeypatch: pytest.MonkeyP
     monkeypatch.setattr(tempfile, "tempdir", str(tmp_path_factory.mktemp("images")))
 
 
-def test_a_kernel(lab: Lab, clang: Compiler, tmp_path: pathlib.Path) -> None:
+def test_commands_accept_c_source(lab: Lab, clang: Compiler, tmp_path: pathlib.Path) -> None:
     """Beside an image by the page's command; of 45 pixels 32 have room in a round, so six instructions have 19 in the tail."""
     page = (DOCS / "RUNNING.md").read_text("utf-8").partition("### C sources instead of images")[2]
     command = page.partition("$ clang-19 ")[2].partition("\n```")[0]
@@ -37,7 +37,7 @@ def test_a_kernel(lab: Lab, clang: Compiler, tmp_path: pathlib.Path) -> None:
     assert (status, output) == (0, bytes((77 * r + 150 * g + 29 * b) >> 8 for r, g, b in pixels))
 
 
-def test_a_source_with_a_begin_of_its_own(lab: Lab, clang: Compiler, tmp_path: pathlib.Path) -> None:
+def test_source_with_start_label_runs(lab: Lab, clang: Compiler, tmp_path: pathlib.Path) -> None:
     """It is linked to nothing. A slip of two, and the same mended: a line has fewer ticks, and nothing is relied on."""
     slip = (EXAMPLES / "searches" / "dot_product.c").read_text("ascii")
     mended = tmp_path / "dot_product.c"
@@ -49,7 +49,7 @@ def test_a_source_with_a_begin_of_its_own(lab: Lab, clang: Compiler, tmp_path: p
     assert status == 0 and output.startswith(b"source            ticks  against  change\n")
 
 
-def test_mistakes_and_what_is_missing(
+def test_source_mistakes_and_missing_compiler_are_reported(
     lab: Lab, clang: Compiler, tmp_path: pathlib.Path, monkeypatch: pytest.MonkeyPatch
 ) -> None:
     bad = tmp_path / "bad.c"
@@ -66,7 +66,7 @@ def test_mistakes_and_what_is_missing(
     assert lab("gdb", GREY) == lab("console", GREY) == (2, b"", errors)
 
 
-def test_nothing_is_left(clang: Compiler, tmp_path: pathlib.Path, monkeypatch: pytest.MonkeyPatch) -> None:
+def test_temporary_files_are_removed(clang: Compiler, tmp_path: pathlib.Path, monkeypatch: pytest.MonkeyPatch) -> None:
     monkeypatch.setenv("TMPDIR", str(tmp_path))
     lines = b"until main\nlist\nlist _start\n"
     run = subprocess.run([sys.executable, "-m", "vecmon_lab", "console", GREY], input=lines, stdout=subprocess.PIPE)

@@ -35,7 +35,7 @@ next:   li a0, 1
 """
 
 
-def test_a_trace_beside_one_of_qemu(lab: Lab, tmp_path: pathlib.Path) -> None:
+def test_trace_equals_qemu_trace(lab: Lab, tmp_path: pathlib.Path) -> None:
     """The trace is of qemu-riscv64 with -cpu rv64,v=true,vext_spec=v1.0,vlen=256.
 
     A client of its gdb stub (-g) stepped it, and wrote down the program counter, and each scalar and vector register
@@ -94,7 +94,7 @@ def traced(lab: Lab, folder: pathlib.Path, image: pathlib.Path, *words: str) -> 
     return (folder / "trace").read_text().splitlines()
 
 
-def test_a_window(lab: Lab, tmp_path: pathlib.Path) -> None:
+def test_window_limits_trace(lab: Lab, tmp_path: pathlib.Path) -> None:
     """The addresses are those of QEMU's trace, and the lines those of a whole one."""
     whole = traced(lab, tmp_path, SUM)
     theirs = [line.split()[0] for line in (QEMU / "sum").read_text().splitlines()]
@@ -104,7 +104,7 @@ def test_a_window(lab: Lab, tmp_path: pathlib.Path) -> None:
     assert traced(lab, tmp_path, SUM, "--from", "250", "--to", "999") == whole[-1:]
 
 
-def test_a_window_of_a_long_run(lab: Lab, program: pathlib.Path, tmp_path: pathlib.Path) -> None:
+def test_window_of_long_run_is_traced(lab: Lab, program: pathlib.Path, tmp_path: pathlib.Path) -> None:
     """Number 2 k + 1 is the subtraction that leaves k less in the register."""
     make_image(program, tmp_path / "long", LONG)
     lines = traced(lab, tmp_path, tmp_path / "long", "--from", "5000001", "--to", "5000003")
@@ -112,7 +112,7 @@ def test_a_window_of_a_long_run(lab: Lab, program: pathlib.Path, tmp_path: pathl
     assert [" ".join(line.split()) for line in lines] == [expected[0], "1000c - bne x5, x0, -4", expected[1]]
 
 
-def test_a_window_behind_much_output(lab: Lab, program: pathlib.Path, tmp_path: pathlib.Path) -> None:
+def test_window_after_much_output_is_traced(lab: Lab, program: pathlib.Path, tmp_path: pathlib.Path) -> None:
     """Each call finds room for its 200 bytes, as it does in the run itself: the 60th one is instruction 3 + 59 x 5 + 3."""
     make_image(program, tmp_path / "much", WRITES_MUCH)
     lines = traced(lab, tmp_path, tmp_path / "much", "--from", "301", "--to", "302")
@@ -120,7 +120,7 @@ def test_a_window_behind_much_output(lab: Lab, program: pathlib.Path, tmp_path: 
     assert len(lab("run", tmp_path / "much")[1]) == 20_000
 
 
-def test_what_stops_a_run_is_its_last_line(lab: Lab, program: pathlib.Path, tmp_path: pathlib.Path) -> None:
+def test_stopping_instruction_is_last_line(lab: Lab, program: pathlib.Path, tmp_path: pathlib.Path) -> None:
     make_image(program, tmp_path / "stops", "nop\nebreak")
     assert [line.split()[0] for line in traced(lab, tmp_path, tmp_path / "stops")] == ["10000", "10004"]
     assert [line.split()[2] for line in traced(lab, tmp_path, tmp_path / "stops", "--from", "2")] == ["ebreak"]
@@ -135,7 +135,7 @@ def test_what_stops_a_run_is_its_last_line(lab: Lab, program: pathlib.Path, tmp_
         (["--trace", "trace", "--from", "251"], "the run has 250 instructions, and none from 251 on"),
     ],
 )
-def test_windows_that_are_none(
+def test_bad_window_is_refused(
     lab: Lab, monkeypatch: pytest.MonkeyPatch, tmp_path: pathlib.Path, words: list[str], expected: str
 ) -> None:
     monkeypatch.chdir(tmp_path)

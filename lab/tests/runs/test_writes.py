@@ -36,7 +36,7 @@ next:   li a0, 1
         (300, "a2", True),
     ],
 )
-def test_short_writes(
+def test_short_write_is_reported(
     lab: Lab, program: pathlib.Path, tmp_path: pathlib.Path, count: int, step: str, is_reported: bool
 ) -> None:
     image = tmp_path / "writes"
@@ -47,7 +47,7 @@ def test_short_writes(
     assert errors == (f"vecmon-lab: {image}: 10018: {line}\n" if is_reported else "")
 
 
-def test_the_last_call(lab: Lab, program: pathlib.Path, tmp_path: pathlib.Path) -> None:
+def test_last_call_is_checked(lab: Lab, program: pathlib.Path, tmp_path: pathlib.Path) -> None:
     """Reported if no other call follows, next to the cause of the stop."""
     source = "li a0, 1\nlui a1, 0x10\nli a2, 500\nli a7, 64\necall\nebreak\n.zero 800"
     make_image(program, tmp_path / "writes", source)

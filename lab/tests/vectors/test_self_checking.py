@@ -57,7 +57,7 @@ def differing(lines: list[str], reference: pathlib.Path) -> list[int]:
     return [at // 2 + 1 for at in range(0, SIGNATURE_LINES, 2) if lines[at : at + 2] != words[at : at + 2]]
 
 
-def test_on_vecmon_no_case_differs(lab: Lab, tmp_path: pathlib.Path) -> None:
+def test_vecmon_passes_all_cases(lab: Lab, tmp_path: pathlib.Path) -> None:
     status, output, _ = lab("vectors", *NAMES, "--cases", "12", "--elf", tmp_path, "--environment", "vecmon")
     assert status == 0 and output.decode().splitlines()[0].endswith("cases in 10 programs")
     for name in NAMES:
@@ -69,14 +69,14 @@ def test_on_vecmon_no_case_differs(lab: Lab, tmp_path: pathlib.Path) -> None:
 
 
 @pytest.mark.usefixtures("qemu")
-def test_on_qemu_without_qemu(tmp_path: pathlib.Path) -> None:
+def test_missing_qemu_is_reported(tmp_path: pathlib.Path) -> None:
     command = [sys.executable, on_qemu.__file__, str(tmp_path / "golden.jsonl")]
     run = subprocess.run(command, env={"PATH": str(tmp_path)}, capture_output=True, text=True)
     assert (run.returncode, run.stdout) == (1, "")
     assert run.stderr == "on_qemu.py: qemu-riscv64 not found: sudo apt install qemu-user\n"
 
 
-def test_on_qemu_those_cases_differ_that_differ_there(lab: Lab, tmp_path: pathlib.Path) -> None:
+def test_qemu_differs_in_known_cases(lab: Lab, tmp_path: pathlib.Path) -> None:
     assert lab("vectors", *NAMES, "--cases", "12", "--seed", "3", "--elf", tmp_path)[0] == 0
     for name in NAMES:
         cases = cases_of(tmp_path, name)
@@ -86,7 +86,7 @@ def test_on_qemu_those_cases_differ_that_differ_there(lab: Lab, tmp_path: pathli
         assert (status, int(lines[-1], 16)) == (odd[0] if odd else 0,) * 2
 
 
-def test_a_planted_fault_is_found_at_its_case(lab: Lab, program: pathlib.Path, tmp_path: pathlib.Path) -> None:
+def test_planted_fault_is_reported_at_its_case(lab: Lab, program: pathlib.Path, tmp_path: pathlib.Path) -> None:
     right = golden(program, "vsub.vv", 24)
     right = [case for case in right if case["end"] == "ran" and "v" in case["after"]]
     for number in (1, 7, len(right)):
@@ -98,7 +98,7 @@ def test_a_planted_fault_is_found_at_its_case(lab: Lab, program: pathlib.Path, t
         assert status == number == int(output.split()[-1], 16)
 
 
-def test_cases_unavailable_in_environment_are_left_out(lab: Lab, tmp_path: pathlib.Path) -> None:
+def test_unavailable_cases_are_omitted(lab: Lab, tmp_path: pathlib.Path) -> None:
     expected = {}
     for environment in ("linux", "vecmon", "bare"):
         status, output, _ = lab("vectors", "vle8.v", "ecall", "ebreak", "--elf", tmp_path, "--environment", environment)
@@ -113,7 +113,7 @@ def test_cases_unavailable_in_environment_are_left_out(lab: Lab, tmp_path: pathl
 
 
 @pytest.mark.parametrize("environment", ["linux", "bare"])
-def test_a_stock_assembler_makes_the_same(lab: Lab, tmp_path: pathlib.Path, environment: str) -> None:
+def test_stock_assembler_makes_same_program(lab: Lab, tmp_path: pathlib.Path, environment: str) -> None:
     """Of each kind of instruction; and the programs leave the same signature."""
     if not shutil.which("riscv64-linux-gnu-ld"):
         leave_out(NO_BINUTILS)

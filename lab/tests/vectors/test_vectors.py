@@ -27,25 +27,25 @@ def changes(session: Session, name: str, case: Case) -> dict[str, Any]:
     return {key: golden[key] for key in ("end", "cause", "value", "status", "after") if key in golden}
 
 
-def test_elements_wrap_and_the_tail_stays(session: Session) -> None:
+def test_elements_wrap_and_tail_is_undisturbed(session: Session) -> None:
     register = bytes([0, 1, 128, 255]) + bytes(28)
     case = Case(0x021FB157, ControlRegisters(3, E8), v={1: register, 2: b"\x55" * 32})  # vadd.vi v2, v1, -1
     after = {"pc": "10804", "v": {2: "ff007f" + "55" * 29}}
     assert changes(session, "vadd.vi", case) == {"end": "ran", "after": after}
 
 
-def test_a_store_changes_bytes(session: Session) -> None:
+def test_store_changes_bytes(session: Session) -> None:
     case = Case(0x00532223, ControlRegisters(), x={5: 0x1122334455667788, 6: 0x20000}, memory={0x20004: b"\x88\0\0\0"})
     after = {"pc": "10804", "memory": {"20005": "776655"}}  # sw x5, 4(x6), whose first byte was there already
     assert changes(session, "sw", case) == {"end": "ran", "after": after}
 
 
-def test_a_load_faults_where_no_page_is(session: Session) -> None:
+def test_load_faults_on_unmapped_page(session: Session) -> None:
     case = Case(0xFFC32283, ControlRegisters(), x={6: 0x22002})  # lw x5, -4(x6)
     assert changes(session, "lw", case) == {"end": "fault", "cause": 5, "value": "21ffe", "after": {}}
 
 
-def test_a_store_faults_at_its_second_element(session: Session) -> None:
+def test_store_faults_at_second_element(session: Session) -> None:
     case = Case(
         0x020350A7, ControlRegisters(2, E16), x={6: 0x20FFE}, v={1: b"\x01\x02\x03\x04" + bytes(28)}
     )  # vse16.v v1, (x6)
@@ -53,13 +53,13 @@ def test_a_store_faults_at_its_second_element(session: Session) -> None:
     assert changes(session, "vse16.v", case) == {"end": "fault", "cause": 7, "value": "21000", "after": after}
 
 
-def test_a_fault_only_first_load_is_shortened(session: Session) -> None:
+def test_fault_only_first_load_is_shortened(session: Session) -> None:
     case = Case(0x03030087, ControlRegisters(4, E8), x={6: 0x21FFE}, memory={0x21FFE: b"ab"})  # vle8ff.v v1, (x6)
     after = {"pc": "10804", "vl": 2, "v": {1: "6162" + "00" * 30}}
     assert changes(session, "vle8ff.v", case) == {"end": "ran", "after": after}
 
 
-def test_calls_put_out_and_end(session: Session) -> None:
+def test_calls_print_and_exit(session: Session) -> None:
     write = Case(0x73, ControlRegisters(), x={17: 64, 10: 1, 11: 0x20010, 12: 3}, memory={0x20010: b"abc"})
     after = {"pc": "10804", "x": {10: "3"}, "output": "616263"}
     assert changes(session, "ecall", write) == {"end": "ran", "after": after}
@@ -71,14 +71,14 @@ def test_calls_put_out_and_end(session: Session) -> None:
     assert changes(session, "ebreak", Case(0x00100073, ControlRegisters())) == {"end": "ebreak", "after": {}}
 
 
-def test_agnostic_elements_become_ones_if_that_is_asked_for(session: Session) -> None:
+def test_agnostic_elements_become_ones_by_policy(session: Session) -> None:
     case = Case(0x021FB157, ControlRegisters(1, E8), v={2: bytes(32)})  # vadd.vi v2, v1, -1
     golden = execute_case(session, instruction_table()["vadd.vi"], case, "ones")
     assert golden["after"] == {"pc": "10804", "v": {2: "ff" * 32}}
 
 
 @pytest.mark.by_command("vectors")
-def test_results_are_those_that_qemu_gave(session: Session) -> None:
+def test_results_equal_qemu_results(session: Session) -> None:
     lines = (DATA / "golden_vectors.jsonl").read_text("ascii").splitlines()
     for line in lines:
         recorded = json.loads(line)
@@ -96,7 +96,7 @@ def test_results_are_those_that_qemu_gave(session: Session) -> None:
     "name, types",  # SEW 8, 16, 32 and 64 have 7, 6, 5 and 4 group multipliers
     [("vadd.vv", 22), ("vwadd.vv", 15), ("vsext.vf8", 4), ("vmulh.vx", 18), ("vlseg8e8.v", 16), ("vl8re8.v", 22)],
 )
-def test_a_plan_has_each_legal_type_and_mask(name: str, types: int) -> None:
+def test_plan_covers_legal_types_and_masks(name: str, types: int) -> None:
     row = instruction_table()[name]
     kinds = [kind for kind in plan(row, 5) if not kind.is_illegal and not kind.is_out_of_range]
     masks = 1 if name == "vl8re8.v" else 2
@@ -104,7 +104,7 @@ def test_a_plan_has_each_legal_type_and_mask(name: str, types: int) -> None:
     assert len({kind.vtype for kind in kinds}) == types
 
 
-def test_a_plan_is_carried_out_as_planned(program: pathlib.Path) -> None:
+def test_plan_executes_as_planned(program: pathlib.Path) -> None:
     row = instruction_table()["vlse32.v"]
     ends = Counter((result["end"], result.get("cause")) for result in golden_results(program, row))
     assert ends["ran", None] >= 38  # each of 19 types, with and without a mask
@@ -112,7 +112,7 @@ def test_a_plan_is_carried_out_as_planned(program: pathlib.Path) -> None:
     assert ends.total() == 46
 
 
-def test_a_seed_gives_the_same_lines_and_another_one_others(program: pathlib.Path) -> None:
+def test_seed_determines_lines(program: pathlib.Path) -> None:
     row = instruction_table()["vluxei16.v"]
     lines = [list(golden_results(program, row, cases, seed)) for cases, seed in ((4, 1), (8, 1), (4, 2))]
     assert lines[0] == lines[1][:4]
@@ -130,7 +130,7 @@ def test_a_seed_gives_the_same_lines_and_another_one_others(program: pathlib.Pat
         ("11.1.3 (Debian 1:11.1.3+ds-1)", "zve64f"),
     ],
 )
-def test_names_of_extensions(
+def test_extension_names_select_instructions(
     monkeypatch: pytest.MonkeyPatch, tmp_path: pathlib.Path, version: str, extension: str
 ) -> None:
     """QEMU 8.2 renamed the property, and QEMU 11 refuses the old name."""
@@ -143,7 +143,7 @@ def test_names_of_extensions(
     on_qemu.version.cache_clear()
 
 
-def test_cases_behind_one_that_ends_qemu(monkeypatch: pytest.MonkeyPatch) -> None:
+def test_cases_after_qemu_crash_are_run(monkeypatch: pytest.MonkeyPatch) -> None:
     """A process that ends at each case of zeros: the next one begins behind it."""
     size = on_qemu.LAYOUT.size
 
@@ -174,12 +174,12 @@ def test_the_program_for_qemu_is_what_its_texts_say(session: Session) -> None:
         (["add", "--cases", "0"], "--cases takes a number from 1 up"),
     ],
 )
-def test_bad_words_are_told_in_a_line(words: list[str], message: str) -> None:
+def test_bad_arguments_are_refused_in_one_line(words: list[str], message: str) -> None:
     done = subprocess.run([sys.executable, "-m", "vecmon_lab", "vectors", *words], capture_output=True, text=True)
     assert (done.returncode, done.stdout, done.stderr) == (2, "", f"vecmon-lab: {message}\n")
 
 
-def test_the_command_prints_a_line_for_each_case(program: pathlib.Path) -> None:
+def test_command_prints_one_line_per_case(program: pathlib.Path) -> None:
     command = [sys.executable, "-m", "vecmon_lab", "vectors", "vid.v", "add", "--cases", "3", "--seed", "9"]
     one, other = [subprocess.run(command, capture_output=True, check=True).stdout for _ in range(2)]
     assert one == other
