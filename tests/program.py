@@ -26,12 +26,12 @@ def built() -> pathlib.Path:
     return pathlib.Path(os.environ.get("VECMON") or TOP / "crates/vecmon/out/vecmon").absolute()
 
 
-def run(program: pathlib.Path, words: Sequence[str], script: str, folder: pathlib.Path) -> Run:
+def run(program: pathlib.Path, arguments: Sequence[str], script: str, folder: pathlib.Path) -> Run:
     """Runs the program on words in a folder, with a script on standard input."""
-    ran = subprocess.run(
-        [program, *words], input=script.encode("latin-1"), cwd=folder, capture_output=True, check=False
+    completed = subprocess.run(
+        [program, *arguments], input=script.encode("latin-1"), cwd=folder, capture_output=True, check=False
     )
-    return Run(ran.stdout.decode("latin-1"), ran.stderr.decode("latin-1"), ran.returncode)
+    return Run(completed.stdout.decode("latin-1"), completed.stderr.decode("latin-1"), completed.returncode)
 
 
 def lines_of(text: str) -> list[str]:
@@ -47,15 +47,17 @@ def sync_line(line: str) -> tuple[str, str]:
     return ("9", "* E01") if line.startswith("* ") else ("* dance", "* E03")
 
 
-def answers(program: pathlib.Path, words: Sequence[str], lines: Sequence[str], folder: pathlib.Path) -> list[list[str]]:
+def answers(
+    program: pathlib.Path, arguments: Sequence[str], lines: Sequence[str], folder: pathlib.Path
+) -> list[list[str]]:
     """What is answered to each line of a script. Raises ValueError where a plain run answers otherwise."""
     script = "".join(f"{line}\n{sync_line(line)[0]}\n" for line in lines)
-    output = iter(lines_of(run(program, ["/dev/stdin", *words], script, folder).stdout))
+    output = iter(lines_of(run(program, ["/dev/stdin", *arguments], script, folder).stdout))
     divided = []
     for line in lines:
         end = sync_line(line)[1]
         divided.append(list(iter(lambda: next(output), end)))
-    plain = run(program, ["/dev/stdin", *words], "".join(f"{line}\n" for line in lines), folder)
+    plain = run(program, ["/dev/stdin", *arguments], "".join(f"{line}\n" for line in lines), folder)
     if "".join(f"{part}\n" for answer in divided for part in answer) != plain.stdout:
         raise ValueError("marks between the lines of a script change what is answered")
     return divided

@@ -18,7 +18,7 @@ from collections import Counter, defaultdict
 from collections.abc import Iterator
 from pathlib import Path
 
-MOST_CONTRACTS, MOST_PARAMETERS, MOST_CHARACTERS = 8, 6, 120
+MAX_CONTRACTS, MAX_PARAMETERS, MAX_CHARACTERS = 8, 6, 120
 PART = re.compile(r"\bfn (?P<function>\w+)|\b(?P<kind>requires|ensures\*?)\s+(?:\w+\s+)?\{")
 CLOSING = {"(": ")", "{": "}", "[": "]", "<": ">"}
 
@@ -65,17 +65,17 @@ def main(names: list[str]) -> int:
         for path in sorted(Path("crates", crate, "src").rglob("*.rt")):
             source = path.read_text()
             for number, line in enumerate(source.splitlines(), 1):
-                if len(line) > MOST_CHARACTERS:
+                if len(line) > MAX_CHARACTERS:
                     print(f"{path}:{number}: {len(line)} characters")
             text = re.sub(r"//[^\n]*", "", source)
             for found in re.finditer(r"\bfn (\w+)", text):
                 count = parameters(text, found.end())
-                if count > MOST_PARAMETERS:
+                if count > MAX_PARAMETERS:
                     print(f"{path}: {found[1]} has {count} parameters")
             for function, clause in clauses(text):
                 contracts[clause].add((crate, str(path), function))
     for clause, found in sorted(contracts.items(), key=lambda it: -len(it[1])):
-        if len(found) > MOST_CONTRACTS:
+        if len(found) > MAX_CONTRACTS:
             crates = ", ".join(
                 f"{crate} {count}" for crate, count in Counter(crate for crate, _, _ in found).most_common()
             )

@@ -88,11 +88,11 @@ class Served:
     def check_replay(self, digest: str) -> bytes:
         """The recorded script, whose plain run gives answers of this SHA-256."""
         script = self.fetch("A/script")
-        done = subprocess.run(
+        completed = subprocess.run(
             [self.program, "--", "/dev/stdin", f"sum={SUM}"], input=script, stdout=subprocess.PIPE, check=True
         )
-        assert hashlib.sha256(done.stdout).hexdigest() == digest
-        assert self.fetch("A/transcript") == done.stdout
+        assert hashlib.sha256(completed.stdout).hexdigest() == digest
+        assert self.fetch("A/transcript") == completed.stdout
         return script
 
     def kill(self) -> None:

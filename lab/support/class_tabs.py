@@ -148,13 +148,13 @@ class Served:
         script = (await self.get(f"{machine}/script"))[1]
         images = [f"{name}={self.folder}/images/{name}.elf" for name in teacher.view["images"]]
         command = [str(find_program()), "--quantum", str(teacher.view["quantum"]), "/dev/stdin", *images]
-        done = subprocess.run(command, input=script, stdout=subprocess.PIPE, check=True)
-        assert hashlib.sha256(done.stdout).hexdigest() == teacher.view["machines"][machine]["digest"]
-        assert (await self.get(f"{machine}/transcript"))[1] == done.stdout
+        completed = subprocess.run(command, input=script, stdout=subprocess.PIPE, check=True)
+        assert hashlib.sha256(completed.stdout).hexdigest() == teacher.view["machines"][machine]["digest"]
+        assert (await self.get(f"{machine}/transcript"))[1] == completed.stdout
         name = script_name(machine, teacher.view["machines"][machine]["scripts"])
         assert not is_saved or (self.folder / name).read_bytes() == script
         await teacher.socket.close()
-        return script, done.stdout
+        return script, completed.stdout
 
 
 @asynccontextmanager

@@ -13,8 +13,8 @@ class Lab:
     def __init__(self, monkeypatch: pytest.MonkeyPatch, capture: pytest.CaptureFixture[bytes]) -> None:
         self._monkeypatch, self._capture = monkeypatch, capture
 
-    def __call__(self, *words: object) -> tuple[int, bytes, str]:
-        self._monkeypatch.setattr(sys, "argv", ["vecmon-lab", *map(str, words)])
+    def __call__(self, *arguments: object) -> tuple[int, bytes, str]:
+        self._monkeypatch.setattr(sys, "argv", ["vecmon-lab", *map(str, arguments)])
         try:
             status = start.main()
         except SystemExit as error:

@@ -9,7 +9,7 @@ from vecmon_lab.exercises.exercise import OURS
 
 Request = dict[str, Any]
 
-MOST_LETTERS = 60_000  # of a source
+MAX_LETTERS = 60_000  # of a source
 COUNTED = """start: li a7, 64
  li a0, 1
  lui a1, 0x20
@@ -69,7 +69,7 @@ def source_requests() -> list[Request]:
     paths = sorted({*(TOP / "lab").rglob("*.s"), *(TOP / "tests").rglob("*.s")})
     texts = [path.read_text("utf-8", "replace") for path in paths if "harness" not in path.parts]
     requests = list[Request]()
-    for number, text in enumerate(text for text in texts if len(text) < MOST_LETTERS):
+    for number, text in enumerate(text for text in texts if len(text) < MAX_LETTERS):
         requests += [{"ask": "source", "text": text}, *[_lines("step 1")] * 6]
         requests.append(_lines("step 100", "out", look=["regs", "vreg v1 8"]))
         if number % 4 == 0:

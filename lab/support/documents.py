@@ -100,7 +100,7 @@ class Chain:
                 else f'set -e; . "{folder}/.step{at}"; set +e'
             )
             lines += [run, "status=$?", f"printf '{_TOKEN}'"]
-        done = subprocess.run(
+        completed = subprocess.run(
             ["bash", "-c", "\n".join(lines)],
             cwd=folder / "work",
             env=variables,
@@ -109,10 +109,10 @@ class Chain:
             text=True,
             timeout=600,
         )
-        output = done.stdout.split(_TOKEN)
+        output = completed.stdout.split(_TOKEN)
         for at, (block, command, shown) in enumerate(steps):
             if at + 1 >= len(output):
-                yield f"{block.page}:{block.number}: it fails with status {done.returncode}: {command}{output[at] if at < len(output) else ''}"
+                yield f"{block.page}:{block.number}: it fails with status {completed.returncode}: {command}{output[at] if at < len(output) else ''}"
                 return
             if block.is_session and _SECONDS.sub("", output[at]) != _SECONDS.sub("", shown):
                 yield f"{block.page}:{block.number}: $ {command}prints\n{output[at]}in place of\n{shown}"

@@ -22,9 +22,9 @@ def numbers(random: Random, kind: str, count: int) -> list[int]:
     """This number of values of a type, some of them at its limits."""
     bits = int(kind[1:])
     least = -(1 << bits - 1) if kind[0] == "i" else 0
-    most = least + (1 << bits) - 1
-    ends = [least, most, 0, 1, most - 1]
-    return [random.choice(ends) if random.random() < 0.2 else random.randint(least, most) for _ in range(count)]
+    limit = least + (1 << bits) - 1
+    ends = [least, limit, 0, 1, limit - 1]
+    return [random.choice(ends) if random.random() < 0.2 else random.randint(least, limit) for _ in range(count)]
 
 
 def wrapped(value: int) -> int:
@@ -32,9 +32,9 @@ def wrapped(value: int) -> int:
     return (value + (1 << 31)) % (1 << 32) - (1 << 31)
 
 
-def length(random: Random, most: int) -> int:
+def length(random: Random, limit: int) -> int:
     """How many numbers there are; often one of a group's ends."""
-    return min(most, random.choice([0, 1, 8, 31, 32, 33, 64, 128, random.randint(0, most), random.randint(0, 20)]))
+    return min(limit, random.choice([0, 1, 8, 31, 32, 33, 64, 128, random.randint(0, limit), random.randint(0, 20)]))
 
 
 def _given(*values: int) -> dict[str, int]:
@@ -91,18 +91,18 @@ def dot_product(random: Random) -> Drawn:
 
 def mask_count(random: Random) -> Drawn:
     n = length(random, 300)
-    x, (least, most) = numbers(random, "i16", n + 3), numbers(random, "i16", 2)
+    x, (least, limit) = numbers(random, "i16", n + 3), numbers(random, "i16", 2)
     return _answered(
-        _given(OUT, n, least, most), [Numbers(OUT, "i16", x)], sum(least <= each <= most for each in x[:n])
+        _given(OUT, n, least, limit), [Numbers(OUT, "i16", x)], sum(least <= each <= limit for each in x[:n])
     )
 
 
 def clamped_magnitude(random: Random) -> Drawn:
-    n, most = length(random, 150), random.choice([0, 1, 1000, (1 << 31) - 1, random.randint(0, (1 << 31) - 1)])
+    n, limit = length(random, 150), random.choice([0, 1, 1000, (1 << 31) - 1, random.randint(0, (1 << 31) - 1)])
     x, flags = numbers(random, "i32", n + 2), numbers(random, "u8", n + 2)
-    results = [min(abs(each), most) if flag else each for each, flag in zip(x[:n], flags)] + x[n:]
+    results = [min(abs(each), limit) if flag else each for each, flag in zip(x[:n], flags)] + x[n:]
     memory = [Numbers(OUT, "i32", x), Numbers(IN, "u8", flags)]
-    return Drawn(_given(OUT, IN, n, most), memory, Results({}, [Numbers(OUT, "i32", results)], None))
+    return Drawn(_given(OUT, IN, n, limit), memory, Results({}, [Numbers(OUT, "i32", results)], None))
 
 
 def strlen(random: Random) -> Drawn:

@@ -36,7 +36,7 @@ class FrameState:
 
     vl: int
     vstart: int
-    most: int
+    vlmax: int
     masked: dict[int, int]
     changed: set[str]
 
@@ -65,10 +65,10 @@ class Follower:
         control = dict(word.split("=") for word in answer[2:].split())
         vtype, vl, vstart = int(control["vtype"], 16), int(control["vl"]), int(control["vstart"])
         lmul = Fraction(2) ** ((vtype & 7) - 8 * (vtype >> 2 & 1))
-        most = int(256 // (8 << (vtype >> 3 & 7)) * lmul)
+        vlmax = int(256 // (8 << (vtype >> 3 & 7)) * lmul)
         old, new = before[user], self._values[user]
         changed = {name for name in old if old[name] != new[name]}
-        return FrameState(vl, vstart, most, self._masked(user, answers, vl, vstart), changed)
+        return FrameState(vl, vstart, vlmax, self._masked(user, answers, vl, vstart), changed)
 
     def _registers(self, user: str) -> dict[str, str]:
         """The scalar and vector registers of a user who is stopped."""

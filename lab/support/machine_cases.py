@@ -104,7 +104,7 @@ def machine_says(program: pathlib.Path, cases: list[Case]) -> list[tuple[Control
     resident = b"".join(word.to_bytes(4, "little") for word in (SET_TYPE, SET_VSTART)).hex()
     start = ["1 enter", f"1 map {CODE:x} 1 rx", f"1 poke {CODE:x} {resident}"]
     script = "\n".join([*start, *(line for case in cases for line in _lines(case))]) + "\n"
-    done = subprocess.run([program], input=script.encode(), stdout=subprocess.PIPE, check=True)
-    answers = done.stdout.decode().splitlines()[len(start) :]
+    completed = subprocess.run([program], input=script.encode(), stdout=subprocess.PIPE, check=True)
+    answers = completed.stdout.decode().splitlines()[len(start) :]
     assert len(answers) == 8 * len(cases)
     return [(view_of(answers[at + 6]), answers[at + 7]) for at in range(0, len(answers), 8)]

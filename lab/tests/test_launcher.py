@@ -29,29 +29,29 @@ def installed(tmp_path_factory: pytest.TempPathFactory) -> pathlib.Path:
     return folder
 
 
-def run(installed: pathlib.Path, *words: object, python: str = "") -> tuple[int, str, str]:
+def run(installed: pathlib.Path, *arguments: object, python: str = "") -> tuple[int, str, str]:
     """Run the launcher with VECMON_PYTHON set to `python`; return its status and its output."""
-    command = [sys.executable, "-EB", str(installed / "bin" / "vecmon-lab"), *map(str, words)]
-    done = subprocess.run(
+    command = [sys.executable, "-EB", str(installed / "bin" / "vecmon-lab"), *map(str, arguments)]
+    completed = subprocess.run(
         command, cwd=installed, env={**os.environ, "VECMON_PYTHON": python}, input="", capture_output=True, text=True
     )
-    return done.returncode, done.stdout, done.stderr
+    return completed.returncode, completed.stdout, completed.stderr
 
 
-def completed(folder: pathlib.Path, *words: str) -> list[str]:
+def completed(folder: pathlib.Path, *arguments: str) -> list[str]:
     """The completions of the last of these words, with functions of bash-completion as simple as can be."""
     code = f"""
         vecmon-lab() {{ {sys.executable} -m vecmon_lab "$@"; }}
-        _init_completion() {{ words=("${{WORDS[@]}}"); cword={len(words)}; cur=${{words[cword]}}; }}
+        _init_completion() {{ words=("${{WORDS[@]}}"); cword={len(arguments)}; cur=${{words[cword]}}; }}
         _filedir() {{ COMPREPLY+=(A_FILE); }}
-        WORDS=(vecmon-lab {' '.join(f"'{word}'" for word in words)})
+        WORDS=(vecmon-lab {' '.join(f"'{word}'" for word in arguments)})
         source {TOP / "packaging" / "completion"}
         _vecmon
         printf '%s\\n' "${{COMPREPLY[@]}}"
     """
-    done = subprocess.run(["bash", "-c", code], cwd=folder, capture_output=True, text=True, check=True)
-    assert done.stderr == ""
-    return done.stdout.split()
+    completed = subprocess.run(["bash", "-c", code], cwd=folder, capture_output=True, text=True, check=True)
+    assert completed.stderr == ""
+    return completed.stdout.split()
 
 
 def test_completion_lists_commands(tmp_path: pathlib.Path) -> None:
@@ -79,9 +79,9 @@ def test_python_without_library_is_refused(installed: pathlib.Path, program: pat
     status, output, _ = run(installed, "check", python="plain/bin/python")
     assert status == 0 and "aiohttp for class and explore: not installed: sudo apt install python3-aiohttp\n" in output
     assert run(installed, "console", python="plain/bin/python") == (0, "=> 0  \n", "")
-    status, _, output = run(installed, "console", SUM, python="plain/bin/python")
-    assert status == 2 and output.startswith("vecmon-lab: this needs the Python library pyelftools: `sudo apt install ")
-    assert "python3-pyelftools`" in output
+    status, _, errors = run(installed, "console", SUM, python="plain/bin/python")
+    assert status == 2 and errors.startswith("vecmon-lab: this needs the Python library pyelftools: `sudo apt install ")
+    assert "python3-pyelftools`" in errors
 
 
 def test_python_with_library_is_used(installed: pathlib.Path, program: pathlib.Path) -> None:

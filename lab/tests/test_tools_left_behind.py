@@ -29,9 +29,9 @@ def left(mark: str, folder: pathlib.Path) -> tuple[int, str]:
         "-c",
         f"{code}sys.exit(left_behind.main(*sys.argv[1:2], left_behind.pathlib.Path(sys.argv[2])))",
     ]
-    done = subprocess.run([*command, mark, str(folder)], capture_output=True, text=True)
-    assert done.stderr == ""
-    return done.returncode, done.stdout
+    completed = subprocess.run([*command, mark, str(folder)], capture_output=True, text=True)
+    assert completed.stderr == ""
+    return completed.returncode, completed.stdout
 
 
 @pytest.fixture

@@ -79,10 +79,10 @@ class Clone:
         file.chmod(0o755)
         return file
 
-    def run(self, *words: object, path: str | None = None, cwd: pathlib.Path | None = None) -> Run:
+    def run(self, *arguments: object, path: str | None = None, cwd: pathlib.Path | None = None) -> Run:
         """Runs tools/run to its end."""
         environment = {**self.environment, "PATH": path or self.environment["PATH"]}
-        command = [str(self.run_tool), *map(str, words)]
+        command = [str(self.run_tool), *map(str, arguments)]
         return subprocess.run(command, env=environment, cwd=cwd or self.top.parent, capture_output=True, text=True)
 
     def start(self) -> subprocess.Popen[str]:
@@ -99,9 +99,9 @@ class Clone:
         until(lambda: len(self.builds()) >= 2)
         return process
 
-    def digest(self, *words: str) -> Run:
+    def digest(self, *arguments: str) -> Run:
         """Runs tools/source_digest."""
-        command = [str(self.top / "tools" / "source_digest"), *words]
+        command = [str(self.top / "tools" / "source_digest"), *arguments]
         return subprocess.run(command, env=self.environment, capture_output=True, text=True)
 
     def builds(self) -> list[str]:
@@ -213,8 +213,10 @@ def test_first_and_second_start(clone: Clone) -> None:
     assert (second.returncode, second.stdout, second.stderr) == (0, answers, built)
     assert (clone.top / "builds").read_text().count("\n") == 3  # one set-up and two programs, once
     command = clone.top / ".venv" / "bin" / "vecmon"
-    done = subprocess.run([command, clone.top / "crates" / "vecmon" / "first_vectors"], capture_output=True, text=True)
-    assert (done.stdout, done.stderr) == (answers, "")
+    completed = subprocess.run(
+        [command, clone.top / "crates" / "vecmon" / "first_vectors"], capture_output=True, text=True
+    )
+    assert (completed.stdout, completed.stderr) == (answers, "")
     assert command.with_name("vecmon-record").read_text().endswith(f'/{folder}/vecmon-record "$@"\n')
 
 
@@ -331,16 +333,19 @@ def test_script_and_images_are_passed_on(clone: Clone, program: pathlib.Path, tm
         ["--quantum", "0", "script"],
     ):
         direct = subprocess.run([program, *words], cwd=tmp_path, capture_output=True, text=True)
-        ran = clone.run(*words, cwd=tmp_path)
-        assert (ran.returncode, ran.stdout) == (direct.returncode, direct.stdout)
-        assert ran.stderr.endswith(f"/vecmon\n{direct.stderr}")
-    assert ran.returncode == 2
+        completed = clone.run(*words, cwd=tmp_path)
+        assert (completed.returncode, completed.stdout) == (direct.returncode, direct.stdout)
+        assert completed.stderr.endswith(f"/vecmon\n{direct.stderr}")
+    assert completed.returncode == 2
 
 
 def test_missing_rt_is_reported(clone: Clone) -> None:
-    ran = clone.run(path="/usr/bin:/bin")
-    assert (ran.returncode, ran.stdout, ran.stderr.count("\n")) == (2, "", 1)
-    assert "rt not found: install the Rattle kit" in ran.stderr and "install the vecmon package instead" in ran.stderr
+    completed = clone.run(path="/usr/bin:/bin")
+    assert (completed.returncode, completed.stdout, completed.stderr.count("\n")) == (2, "", 1)
+    assert (
+        "rt not found: install the Rattle kit" in completed.stderr
+        and "install the vecmon package instead" in completed.stderr
+    )
     assert not clone.unproved.exists()
 
 
@@ -350,26 +355,26 @@ def test_missing_packages_are_reported(clone: Clone) -> None:
     clone.write("rattle/id", "#!/bin/sh\necho 1000\n")
     clone.write("rattle/sudo", "#!/bin/sh\nexit 1\n")
     clone.write("rattle/dpkg-query", "#!/bin/sh\nprintf 'python3:ii \\npython3-pip:rc \\npython3-wheel:ii \\n'\n")
-    ran = clone.run()
+    completed = clone.run()
     packages = "python3-pip python3-setuptools python3-aiohttp python3-prompt-toolkit python3-pyelftools python3-segno"
     command = f"apt-get update && apt-get install --no-install-recommends {packages}"
     expected = f"tools/debian_packages: missing packages; as root, run: {command}\n"
-    assert (ran.returncode, ran.stdout, ran.stderr) == (2, "", expected)
+    assert (completed.returncode, completed.stdout, completed.stderr) == (2, "", expected)
     assert clone.builds() == []
 
 
 def test_unwritable_folder_is_reported(clone: Clone) -> None:
     (clone.top / "build").write_text("a file")
-    ran = clone.run()
-    assert (ran.returncode, ran.stdout, ran.stderr.count("\n")) == (2, "", 1)
-    assert f"{clone.unproved} isn't writable" in ran.stderr
+    completed = clone.run()
+    assert (completed.returncode, completed.stdout, completed.stderr.count("\n")) == (2, "", 1)
+    assert f"{clone.unproved} isn't writable" in completed.stderr
 
 
 def test_failed_build_is_reported(clone: Clone) -> None:
     (clone.top / "fail").touch()
-    ran = clone.run()
-    assert (ran.returncode, ran.stdout, clone.folders()) == (2, "", [])
-    assert ran.stderr.endswith("no module was made\ntools/run: the build failed: see the lines above\n")
+    completed = clone.run()
+    assert (completed.returncode, completed.stdout, clone.folders()) == (2, "", [])
+    assert completed.stderr.endswith("no module was made\ntools/run: the build failed: see the lines above\n")
 
 
 def test_changed_sources_during_build_are_detected(clone: Clone) -> None:
@@ -382,6 +387,8 @@ def test_changed_sources_during_build_are_detected(clone: Clone) -> None:
 
 
 def test_help_shows_usage(clone: Clone) -> None:
-    ran = clone.run("--help", path="/usr/bin:/bin")
-    assert (ran.returncode, ran.stderr) == (0, "") and ran.stdout.startswith("Runs a script with vecmon")
-    assert ran.stdout.rstrip().endswith("that of vecmon.")
+    completed = clone.run("--help", path="/usr/bin:/bin")
+    assert (completed.returncode, completed.stderr) == (0, "") and completed.stdout.startswith(
+        "Runs a script with vecmon"
+    )
+    assert completed.stdout.rstrip().endswith("that of vecmon.")

@@ -45,8 +45,8 @@ def data_of(page: str) -> Any:
 def replay(program: pathlib.Path, script: str, images: dict[str, pathlib.Path] = {}) -> list[str]:
     """The transcript of a script, by line."""
     command = [str(program), "--quantum", "100", "/dev/stdin", *(f"{name}={path}" for name, path in images.items())]
-    done = subprocess.run(command, input=script.encode(), stdout=subprocess.PIPE, check=True)
-    return done.stdout.decode().splitlines()
+    completed = subprocess.run(command, input=script.encode(), stdout=subprocess.PIPE, check=True)
+    return completed.stdout.decode().splitlines()
 
 
 def check_lesson(program: pathlib.Path, page: pathlib.Path) -> list[dict[str, Any]]:

@@ -73,21 +73,21 @@ def _shown(line: str) -> str:
     return line if len(line) <= LONGEST_SHOWN else f"{line[:BEGINNING_SHOWN]} .. ({len(line)} bytes)"
 
 
-def _program_run(program: pathlib.Path, words: str) -> Iterator[str]:
+def _program_run(program: pathlib.Path, arguments: str) -> Iterator[str]:
     """The output of a run of the program at a terminal, and its exit status."""
-    is_full, pipe = words.endswith(FULL), subprocess.PIPE
+    is_full, pipe = arguments.endswith(FULL), subprocess.PIPE
     with open("/dev/full", "wb") as full:
-        ran = subprocess.run(
-            [str(program), *words.removesuffix(FULL).split()],
+        completed = subprocess.run(
+            [str(program), *arguments.removesuffix(FULL).split()],
             cwd=DATA,
             stdin=subprocess.DEVNULL,
             stdout=full if is_full else pipe,
             stderr=pipe if is_full else subprocess.STDOUT,
             check=False,
         )
-    output = ran.stderr if is_full else ran.stdout
+    output = completed.stderr if is_full else completed.stdout
     yield from lines_of(output.decode("latin-1"))
-    yield from ("$ echo $?", str(ran.returncode))
+    yield from ("$ echo $?", str(completed.returncode))
 
 
 def _steps(name: str, answers: Iterator[tuple[str, list[str]]]) -> Iterator[str]:

@@ -68,8 +68,10 @@ def _belongs(path: pathlib.Path, names: list[str]) -> bool:
 
 def record(program: pathlib.Path, line: str) -> str:
     """Return the program's standard output, and a line with its exit status, the arguments and its standard error."""
-    ran = run(program, json.loads(line), (HERE / "stdin").read_text("ascii"), DATA)
-    return f"{ran.stdout}{ran.status} {line}{' ' + json.dumps(ran.stderr) if ran.stderr else ''}\n"
+    completed = run(program, json.loads(line), (HERE / "stdin").read_text("ascii"), DATA)
+    return (
+        f"{completed.stdout}{completed.status} {line}{' ' + json.dumps(completed.stderr) if completed.stderr else ''}\n"
+    )
 
 
 def printed(program: pathlib.Path) -> dict[str, str]:

@@ -11,24 +11,24 @@ import pytest
 
 from tests.program import built
 
-MOST_IMAGE = 4_194_304  # bytes
-MOST_SCRIPT = 16_777_216  # bytes
-MOST_MEMORY = 64 << 20  # bytes of a process: its users' 8 MiB, an image and more
+MAX_IMAGE = 4_194_304  # bytes
+MAX_SCRIPT = 16_777_216  # bytes
+MAX_MEMORY = 64 << 20  # bytes of a process: its users' 8 MiB, an image and more
 SECONDS = 20
 LOADS = b"1 enter\n1 load a\n1 load b"
 LOADED = b"1 entered\n1 E09 Magic\n1 E08\n"
 
 
-def run_program(*words: str | bytes, script: bytes = b"") -> tuple[int, bytes, bytes]:
-    """The status, the output and the errors of a run in `MOST_MEMORY`."""
+def run_program(*arguments: str | bytes, script: bytes = b"") -> tuple[int, bytes, bytes]:
+    """The status, the output and the errors of a run in `MAX_MEMORY`."""
 
     def limit() -> None:
-        resource.setrlimit(resource.RLIMIT_AS, (MOST_MEMORY, MOST_MEMORY))
+        resource.setrlimit(resource.RLIMIT_AS, (MAX_MEMORY, MAX_MEMORY))
 
-    ran = subprocess.run(
-        [built(), *words], input=script, capture_output=True, preexec_fn=limit, timeout=SECONDS, check=False
+    completed = subprocess.run(
+        [built(), *arguments], input=script, capture_output=True, preexec_fn=limit, timeout=SECONDS, check=False
     )
-    return ran.returncode, ran.stdout, ran.stderr
+    return completed.returncode, completed.stdout, completed.stderr
 
 
 def write_zeros(folder: pathlib.Path, length: int) -> str:
@@ -39,12 +39,12 @@ def write_zeros(folder: pathlib.Path, length: int) -> str:
 
 
 def test_longest_image_is_accepted(tmp_path: pathlib.Path) -> None:
-    image = write_zeros(tmp_path, MOST_IMAGE)
+    image = write_zeros(tmp_path, MAX_IMAGE)
     assert run_program("/dev/stdin", f"a={image}", script=LOADS) == (0, LOADED, b"")
 
 
 def test_image_above_limit_is_refused(tmp_path: pathlib.Path) -> None:
-    image = write_zeros(tmp_path, MOST_IMAGE + 1)
+    image = write_zeros(tmp_path, MAX_IMAGE + 1)
     assert run_program("/dev/stdin", f"a={image}", script=LOADS) == (4, b"", b"vecmon: bad image list\n")
 
 
@@ -55,17 +55,17 @@ def test_endless_image_is_refused() -> None:
 @pytest.mark.parametrize(
     "length, text, output",
     [
-        (MOST_SCRIPT, b"", b""),
-        (MOST_SCRIPT, b"1 enter", b"1 entered\n"),
-        (MOST_SCRIPT + 1, b"", b""),
-        (MOST_SCRIPT + 1, b"1 enter\n", b""),  # the newline that would end the line is one byte too far
-        (MOST_SCRIPT + 1, b"1 enter\n ", b"1 entered\n"),
+        (MAX_SCRIPT, b"", b""),
+        (MAX_SCRIPT, b"1 enter", b"1 entered\n"),
+        (MAX_SCRIPT + 1, b"", b""),
+        (MAX_SCRIPT + 1, b"1 enter\n", b""),  # the newline that would end the line is one byte too far
+        (MAX_SCRIPT + 1, b"1 enter\n ", b"1 entered\n"),
     ],
 )
 def test_script_length_limit_is_enforced(tmp_path: pathlib.Path, length: int, text: bytes, output: bytes) -> None:
     script = tmp_path / "script"
     script.write_bytes(b"\n" * (length - len(text)) + text)
-    expected = (0, output, b"") if length == MOST_SCRIPT else (3, output, b"vecmon: script too long\n")
+    expected = (0, output, b"") if length == MAX_SCRIPT else (3, output, b"vecmon: script too long\n")
     assert run_program(str(script)) == expected
 
 

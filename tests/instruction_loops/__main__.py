@@ -5,12 +5,17 @@ import sys
 from tests.instruction_loops.loops import LOOPS, script
 
 
-def main(words: list[str]) -> int | str:
+def main(arguments: list[str]) -> int | str:
     """Writes the scripts that the words ask for; a text says why not."""
-    if len(words) != 2 or words[0] not in (*LOOPS, "all") or not words[1].isdecimal() or int(words[1]) == 0:
+    if (
+        len(arguments) != 2
+        or arguments[0] not in (*LOOPS, "all")
+        or not arguments[1].isdecimal()
+        or int(arguments[1]) == 0
+    ):
         return f"python3 -m tests.instruction_loops LOOP COUNT; a LOOP is `all` or one of {' '.join(LOOPS)}"
-    for name in LOOPS if words[0] == "all" else words[:1]:
-        sys.stdout.write(script(name, int(words[1])))
+    for name in LOOPS if arguments[0] == "all" else arguments[:1]:
+        sys.stdout.write(script(name, int(arguments[1])))
     return 0
 
 

@@ -7,11 +7,11 @@ from tests.isolation.comparison import eight_users, slices_of_each_length
 from tests.program import built
 
 
-def main(words: list[str]) -> int | str:
+def main(arguments: list[str]) -> int | str:
     """Prints how much was compared; a text says why not."""
-    if len(words) != 1 or not words[0].isdecimal():
+    if len(arguments) != 1 or not arguments[0].isdecimal():
         return "python3 -m tests.isolation ROUNDS"
-    for line in (*slices_of_each_length(built()), *eight_users(built(), int(words[0]))):
+    for line in (*slices_of_each_length(built()), *eight_users(built(), int(arguments[0]))):
         print(line, end="")
     return 0
 

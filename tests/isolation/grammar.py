@@ -40,16 +40,16 @@ class Grammar:
         """The expansion of a rule."""
         return re.sub("{([^}]*)}", lambda braces: self._braces(draws, braces[1]), self.choice(draws, name)[1])
 
-    def _braces(self, draws: Draws, words: str) -> str:
+    def _braces(self, draws: Draws, arguments: str) -> str:
         """The expansion of braces with these words."""
-        if words in ("", "n"):
-            return "\n" if words else ""
-        if words == "w":
+        if arguments in ("", "n"):
+            return "\n" if arguments else ""
+        if arguments == "w":
             return f"{draws.double_word():016x}"
-        if words == "code":
+        if arguments == "code":
             word = draws.word() & ~0x7F
             return (word | OPCODES[draws.below(len(OPCODES))]).to_bytes(4, "little").hex()
-        if number := re.fullmatch("([xd]) ([0-9a-f]+)([+-])([0-9a-f]+)", words):
+        if number := re.fullmatch("([xd]) ([0-9a-f]+)([+-])([0-9a-f]+)", arguments):
             drawn = draws.below(int(number[4], 16)) * (1 if number[3] == "+" else -1)
             return format(int(number[2], 16) + drawn, number[1])
-        return self.text(draws, words)
+        return self.text(draws, arguments)

@@ -10,7 +10,7 @@ from tests.program import difference, sync_line, run
 DATA = pathlib.Path(__file__).parent / "data"
 IMAGES = [f"{name}={name}" for name in ("good", "short", "sortgcc")]
 USERS = range(1, 9)
-MOST_PENDING = 32_768  # bytes of lines that are written at once; a pipe takes them all, so nobody waits for a reader
+MAX_PENDING = 32_768  # bytes of lines that are written at once; a pipe takes them all, so nobody waits for a reader
 
 
 class PrivateMachine:
@@ -30,7 +30,7 @@ class PrivateMachine:
         self._pending.append((line, answer))
         self._size += len(line)
         self._is_idle = False
-        if self._size > MOST_PENDING:
+        if self._size > MAX_PENDING:
             self.execute()
         return answer
 

@@ -15,7 +15,7 @@ LONGEST = 64  # ticks of a slice, and the most ticks after which runs are compar
 ROUNDS = 6  # how often a program is set up with other registers and memory
 EARLY_STOPS = 3  # how often a program that stopped goes on before the page that it wants is mapped
 LATE_STOPS = 8  # and how often from then on: three times through the program, with two breakpoints
-MOST_TICKS = 20_000  # more than a program takes from a stop to the next one
+MAX_TICKS = 20_000  # more than a program takes from a stop to the next one
 AFTER_STOP = ("regs", "vcsr", "trace")
 MAPPED = "map 23000 1 rw"  # the page that a program wants
 
@@ -79,6 +79,6 @@ def _commands(lines: list[str] | tuple[str, ...]) -> Iterator[str]:
 
 def _whole(quantum: int) -> list[str]:
     """The lines that run a program to its end, from stop to stop; two grants behind each stop find nothing to run."""
-    slices = ["* slices 1000"] * (MOST_TICKS // (1000 * quantum) + 1)
+    slices = ["* slices 1000"] * (MAX_TICKS // (1000 * quantum) + 1)
     on = ["1 go", *slices, "* run 1", "* run 1", *_commands(AFTER_STOP)]
     return [*on * EARLY_STOPS, *_commands([MAPPED]), *on * LATE_STOPS]

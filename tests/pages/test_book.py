@@ -103,6 +103,9 @@ def test_contract_is_highlighted() -> None:
 
 def test_folder_without_book_is_refused(tmp_path: Path) -> None:
     (tmp_path / "mine").write_text("x")
-    ran = subprocess.run([TOP / "tools/book", tmp_path], capture_output=True, text=True, check=False)
-    assert ran.returncode == 2 and (tmp_path / "mine").read_text() == "x"
-    assert "exists and isn't a book; name a new folder" in ran.stderr or "run tools/debian_packages book" in ran.stderr
+    completed = subprocess.run([TOP / "tools/book", tmp_path], capture_output=True, text=True, check=False)
+    assert completed.returncode == 2 and (tmp_path / "mine").read_text() == "x"
+    assert (
+        "exists and isn't a book; name a new folder" in completed.stderr
+        or "run tools/debian_packages book" in completed.stderr
+    )

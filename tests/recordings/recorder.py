@@ -57,26 +57,31 @@ def built_recorder() -> pathlib.Path:
     return pathlib.Path(named or beside).absolute()
 
 
-def record(folder: pathlib.Path, *words: object, more: Sequence[int] = (), counts: bool = True) -> Recorded:
+def record(folder: pathlib.Path, *arguments: object, more: Sequence[int] = (), counts: bool = True) -> Recorded:
     """Runs the recorder in a folder with `--counts counts` before other words, or without.
 
     more: descriptors that it is given
     """
     file = folder / "counts"
     file.unlink(missing_ok=True)
-    command = [str(built_recorder()), *(["--counts", "counts"] if counts else []), *map(str, words)]
-    ran = subprocess.run(command, cwd=folder, capture_output=True, check=False, pass_fds=more)
+    command = [str(built_recorder()), *(["--counts", "counts"] if counts else []), *map(str, arguments)]
+    completed = subprocess.run(command, cwd=folder, capture_output=True, check=False, pass_fds=more)
     reply = file.read_text("ascii") if file.exists() else ""
-    return Recorded(ran.stdout, ran.stderr.decode(), ran.returncode, reply)
+    return Recorded(completed.stdout, completed.stderr.decode(), completed.returncode, reply)
 
 
-def record_log(folder: pathlib.Path, *words: object) -> RecordedLog:
+def record_log(folder: pathlib.Path, *arguments: object) -> RecordedLog:
     """Runs the recorder in a folder with `--log log` before other words."""
     log = folder / "log"
     log.unlink(missing_ok=True)
-    command = [str(built_recorder()), "--log", "log", *map(str, words)]
-    ran = subprocess.run(command, cwd=folder, capture_output=True, check=False)
-    return RecordedLog(ran.stdout, ran.stderr.decode(), ran.returncode, log.read_text("ascii") if log.exists() else "")
+    command = [str(built_recorder()), "--log", "log", *map(str, arguments)]
+    completed = subprocess.run(command, cwd=folder, capture_output=True, check=False)
+    return RecordedLog(
+        completed.stdout,
+        completed.stderr.decode(),
+        completed.returncode,
+        log.read_text("ascii") if log.exists() else "",
+    )
 
 
 def read_counts(text: str) -> Counts:

@@ -28,19 +28,19 @@ MASKED_VECTORS = (0x00500513, 0x010572D7, 0x5E02B057, 0x00430157, 0x0205E127, 0x
 li x17, 93; ecall. Of the mask's bits 0 to 4 those of elements 0 and 2 are set."""
 
 
-def write_inputs(folder: pathlib.Path, words: tuple[int, ...]) -> list[str]:
+def write_inputs(folder: pathlib.Path, arguments: tuple[int, ...]) -> list[str]:
     """Files of a program at 1000, where it begins, and of a page at 2000, to which x11 leads; and the recorder's words."""
-    (folder / "code").write_bytes(b"".join(word.to_bytes(4, "little") for word in words))
+    (folder / "code").write_bytes(b"".join(word.to_bytes(4, "little") for word in arguments))
     (folder / "page").write_bytes(bytes(4096))
     (folder / "registers").write_text("pc 1000\nx11 2000\n", "ascii")
     return ["--memory", "1000:rx:code", "--memory", "2000:rw:page", "--registers", "registers"]
 
 
-@pytest.mark.parametrize("name, words", [("scalar_loop", SCALAR_LOOP), ("masked_vectors", MASKED_VECTORS)])
-def test_counts_equal_hand_worked_counts(tmp_path: pathlib.Path, name: str, words: tuple[int, ...]) -> None:
-    ran = record(tmp_path, *write_inputs(tmp_path, words))
-    assert (ran.status, ran.stdout, ran.stderr) == (0, b"", "")
-    assert read_counts(ran.counts) == read_counts((HERE / "data" / name).read_text("ascii"))
+@pytest.mark.parametrize("name, arguments", [("scalar_loop", SCALAR_LOOP), ("masked_vectors", MASKED_VECTORS)])
+def test_counts_equal_hand_worked_counts(tmp_path: pathlib.Path, name: str, arguments: tuple[int, ...]) -> None:
+    completed = record(tmp_path, *write_inputs(tmp_path, arguments))
+    assert (completed.status, completed.stdout, completed.stderr) == (0, b"", "")
+    assert read_counts(completed.counts) == read_counts((HERE / "data" / name).read_text("ascii"))
 
 
 @pytest.mark.parametrize("policy", ["keep", "ones"])
@@ -48,9 +48,9 @@ def test_counts_equal_hand_worked_counts(tmp_path: pathlib.Path, name: str, word
 def test_counts_equal_monitor_steps(tmp_path: pathlib.Path, image: pathlib.Path, policy: str) -> None:
     counts, output = stepped(image, policy, MOST)
     limit = ["--ticks", counts.ticks] if counts.end.startswith("running") else []
-    ran = record(tmp_path, "--policy", policy, *limit, image)
-    assert (ran.status, ran.stdout, ran.stderr) == (0, output, "")
-    assert read_counts(ran.counts) == counts
+    completed = record(tmp_path, "--policy", policy, *limit, image)
+    assert (completed.status, completed.stdout, completed.stderr) == (0, output, "")
+    assert read_counts(completed.counts) == counts
 
 
 @pytest.mark.skipif(shutil.which(QEMU[0]) is None, reason="there is no QEMU")
@@ -90,10 +90,10 @@ def test_rewritten_word_has_its_own_row(tmp_path: pathlib.Path) -> None:
     words = (0x00150513, 0x00050013, *(0x00000013,) * 2, *store)
     (tmp_path / "code").write_bytes(b"".join(word.to_bytes(4, "little") for word in words))
     (tmp_path / "registers").write_text("pc 1000\nx10 00000592\nx11 1\nx12 1000\n", "ascii")
-    ran = record(tmp_path, "--memory", "1000:rwx:code", "--registers", "registers")
-    counts = read_counts(ran.counts)
+    completed = record(tmp_path, "--memory", "1000:rwx:code", "--registers", "registers")
+    counts = read_counts(completed.counts)
     # the word 593, addi x11, x0, 0, takes the place of addi x10, x10, 1, and then the branch falls through
     assert counts.words[0x1000, 0x00150513][0] == counts.words[0x1000, 0x00000593][0] == 1
     assert counts.words[0x1014, 0xFE0596E3][0] == 2
     assert (counts.end.partition(" value=")[0], counts.instructions) == ("fault cause=2 pc=0000000000001018", 12)
-    assert not difference(ran.stderr, "")
+    assert not difference(completed.stderr, "")

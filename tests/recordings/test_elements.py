@@ -65,7 +65,7 @@ def test_recorder_counts_elements_of_instruction(
     (tmp_path / "code").write_bytes(word.to_bytes(4, "little") + EBREAK.to_bytes(4, "little"))
     state = f"pc 1000\nvtype 11\nvl {vl:x}\nvstart {vstart:x}\nv0 12{62 * '0'}\n"
     (tmp_path / "registers").write_text(state, "ascii")
-    ran = record(tmp_path, "--memory", "1000:x:code", "--registers", "registers")
-    counts = read_counts(ran.counts)
-    assert (ran.status, counts.instructions, counts.end) == (0, 1, "ebreak pc=0000000000001004"), text
+    completed = record(tmp_path, "--memory", "1000:x:code", "--registers", "registers")
+    counts = read_counts(completed.counts)
+    assert (completed.status, counts.instructions, counts.end) == (0, 1, "ebreak pc=0000000000001004"), text
     assert counts.words[0x1000, word] == (1, 1, active, masked, tail), text

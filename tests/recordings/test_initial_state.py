@@ -32,9 +32,9 @@ def test_scalar_registers(tmp_path: pathlib.Path) -> None:
         "pc 1000",
     ]
     (tmp_path / "registers").write_text("\n".join(lines), "ascii")
-    ran = record(tmp_path, "--memory", "1000:x:code", "--memory", "2000:rw:page", "--registers", "registers")
+    completed = record(tmp_path, "--memory", "1000:x:code", "--memory", "2000:rw:page", "--registers", "registers")
     values = (1, 0x123456789ABCDEF0, 2**64 - 1, 0)
-    assert (ran.status, ran.stdout) == (0, b"".join(value.to_bytes(8, "little") for value in values))
+    assert (completed.status, completed.stdout) == (0, b"".join(value.to_bytes(8, "little") for value in values))
 
 
 def test_vector_registers_and_control_registers(tmp_path: pathlib.Path) -> None:
@@ -55,12 +55,12 @@ def test_vector_registers_and_control_registers(tmp_path: pathlib.Path) -> None:
     (tmp_path / "code").write_bytes(code(*stores, *reads, *WRITE_AND_EXIT))
     (tmp_path / "page").write_bytes(bytes([0xAA]) * 32)
     (tmp_path / "registers").write_text("\n".join(lines), "ascii")
-    ran = record(tmp_path, "--memory", "1000:x:code", "--memory", "2000:rw:page", "--registers", "registers")
-    assert ran.status == 0
-    assert ran.stdout == bytes(range(6)) + bytes([0xAA]) * 2 + bytes([2]) + bytes(7) + bytes([8]) + bytes(7) + bytes(
-        [3]
-    ) + bytes(7)
-    counts = read_counts(ran.counts)
+    completed = record(tmp_path, "--memory", "1000:x:code", "--memory", "2000:rw:page", "--registers", "registers")
+    assert completed.status == 0
+    assert completed.stdout == bytes(range(6)) + bytes([0xAA]) * 2 + bytes([2]) + bytes(7) + bytes([8]) + bytes(
+        7
+    ) + bytes([3]) + bytes(7)
+    counts = read_counts(completed.counts)
     assert counts.lengths == {(8, 3): 1}
     assert counts.words[0x1000, 0x0205D427] == (1, 3, 3, 0, 13)
 
@@ -69,8 +69,8 @@ def test_body_starts_at_vstart(tmp_path: pathlib.Path) -> None:
     (tmp_path / "code").write_bytes(code(0x0205D427))
     (tmp_path / "page").write_bytes(bytes(32))
     (tmp_path / "registers").write_text("pc 1000\nx11 2000\nvl 5\nvtype 0\nvstart 2\n", "ascii")
-    words = ["--memory", "1000:x:code", "--memory", "2000:rw:page", "--registers", "registers", "--ticks", "1"]
-    counts = read_counts(record(tmp_path, *words).counts)
+    arguments = ["--memory", "1000:x:code", "--memory", "2000:rw:page", "--registers", "registers", "--ticks", "1"]
+    counts = read_counts(record(tmp_path, *arguments).counts)
     assert counts.words[0x1000, 0x0205D427] == (1, 3, 3, 0, 27)
 
 
@@ -81,8 +81,8 @@ def test_memory_file_preserves_mapped_pages(tmp_path: pathlib.Path) -> None:
     (tmp_path / "both").write_bytes(b"0123456789")
     (tmp_path / "registers").write_text("pc 1000\nx10 1\nx11 2ff8\nx12 10\n", "ascii")
     files = ["--memory", "1000:x:code", "--memory", "2000:r:read", "--memory", "2ffb:rw:both"]
-    ran = record(tmp_path, *files, "--registers", "registers")
-    assert (ran.status, ran.stdout) == (0, b"...0123456789" + bytes(3))
+    completed = record(tmp_path, *files, "--registers", "registers")
+    assert (completed.status, completed.stdout) == (0, b"...0123456789" + bytes(3))
     store = [0x00B58023]  # sb x11, 0(x11): the page at 2000 is for reading alone
     (tmp_path / "code").write_bytes(code(*store))
     assert record(tmp_path, *files, "--registers", "registers").counts.startswith("fault cause=7 pc=0000000000001000")
@@ -92,8 +92,8 @@ def test_memory_file_preserves_mapped_pages(tmp_path: pathlib.Path) -> None:
 
 
 def test_machine_is_empty_without_image(tmp_path: pathlib.Path) -> None:
-    ran = record(tmp_path)
-    assert (ran.status, ran.counts) == (0, "fault cause=1 pc=0000000000000000 value=0000000000000000 0 0\n")
+    completed = record(tmp_path)
+    assert (completed.status, completed.counts) == (0, "fault cause=1 pc=0000000000000000 value=0000000000000000 0 0\n")
 
 
 def test_files_may_be_descriptors(tmp_path: pathlib.Path) -> None:
@@ -101,6 +101,6 @@ def test_files_may_be_descriptors(tmp_path: pathlib.Path) -> None:
     reader, writer = os.pipe()
     os.write(writer, code(0x00100073))
     os.close(writer)
-    ran = record(tmp_path, "--memory", f"0:x:/dev/fd/{reader}", more=[reader])
+    completed = record(tmp_path, "--memory", f"0:x:/dev/fd/{reader}", more=[reader])
     os.close(reader)
-    assert (ran.status, ran.counts) == (0, "ebreak pc=0000000000000000 0 0\n")
+    assert (completed.status, completed.counts) == (0, "ebreak pc=0000000000000000 0 0\n")

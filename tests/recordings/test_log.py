@@ -54,26 +54,26 @@ def missing(line: LogLine, retired: Retired) -> list[int]:
 @pytest.mark.parametrize("policy", ["keep", "ones"])
 @pytest.mark.parametrize("image", IMAGES, ids=[path.name for path in IMAGES])
 def test_log_lines_give_registers_of_monitor_steps(tmp_path: pathlib.Path, image: pathlib.Path, policy: str) -> None:
-    ran = record_log(tmp_path, "--policy", policy, "--to", MOST, image)
-    lines, end = read_log(ran.log)
-    assert (ran.status, ran.stderr) == (0, "") and end
+    result = record_log(tmp_path, "--policy", policy, "--to", MOST, image)
+    lines, end = read_log(result.log)
+    assert (result.status, result.stderr) == (0, "") and end
     with started(image, policy=policy) as guest:
         assert unlike(lines, Stepper(guest)) == []
 
 
-@pytest.mark.parametrize("name, words", [("scalar_loop", SCALAR_LOOP), ("masked_vectors", MASKED_VECTORS)])
-def test_log_lines_equal_hand_worked_lines(tmp_path: pathlib.Path, name: str, words: tuple[int, ...]) -> None:
-    ran = record_log(tmp_path, "--ticks", 1000, *write_inputs(tmp_path, words))
-    assert (ran.status, ran.stdout, ran.stderr) == (0, b"", "")
-    assert ran.log == (HERE / "data" / f"{name}.log").read_text("ascii")
+@pytest.mark.parametrize("name, arguments", [("scalar_loop", SCALAR_LOOP), ("masked_vectors", MASKED_VECTORS)])
+def test_log_lines_equal_hand_worked_lines(tmp_path: pathlib.Path, name: str, arguments: tuple[int, ...]) -> None:
+    result = record_log(tmp_path, "--ticks", 1000, *write_inputs(tmp_path, arguments))
+    assert (result.status, result.stdout, result.stderr) == (0, b"", "")
+    assert result.log == (HERE / "data" / f"{name}.log").read_text("ascii")
 
 
 def test_window_has_lines_of_its_instruction_numbers(tmp_path: pathlib.Path) -> None:
     words = write_inputs(tmp_path, SCALAR_LOOP)
     *lines, end = (HERE / "data/scalar_loop.log").read_text("ascii").splitlines()
     for first, last in [(1, 1), (2, 5), (13, 13), (13, 2**63), (14, 20)]:
-        ran = record_log(tmp_path, "--from", first, "--to", last, *words)
-        assert ran.log.splitlines() == [*lines[first - 1 : last], end]
+        result = record_log(tmp_path, "--from", first, "--to", last, *words)
+        assert result.log.splitlines() == [*lines[first - 1 : last], end]
 
 
 def test_log_counts_and_changes_together(tmp_path: pathlib.Path) -> None:
@@ -88,14 +88,14 @@ def test_log_counts_and_changes_together(tmp_path: pathlib.Path) -> None:
 
 def test_faulting_instruction_has_no_log_line(tmp_path: pathlib.Path) -> None:
     """li x5, 3, and then a load from an address without memory."""
-    ran = record_log(tmp_path, "--to", 9, *write_inputs(tmp_path, (0x00300293, 0x0002B303)))
-    first, end = ran.log.splitlines()
+    result = record_log(tmp_path, "--to", 9, *write_inputs(tmp_path, (0x00300293, 0x0002B303)))
+    first, end = result.log.splitlines()
     assert first == "core   0: 0 0x0000000000001000 (0x00300293) x5  0x0000000000000003"
     assert end.startswith("fault cause=5 pc=0000000000001004 ") and end.endswith(" 1 1")
 
 
 @pytest.mark.parametrize(
-    "words, message",
+    "arguments, message",
     [
         (["--log", "log"], "--log needs --ticks or --to, unless FILE begins with /dev/"),
         (["--log", "log", "--from", "2"], "--log needs --ticks or --to, unless FILE begins with /dev/"),
@@ -107,15 +107,15 @@ def test_faulting_instruction_has_no_log_line(tmp_path: pathlib.Path) -> None:
         (["--to", "2", "--ticks", "5"], "--from and --to need --log"),
     ],
 )
-def test_bad_log_options_are_refused(tmp_path: pathlib.Path, words: list[str], message: str) -> None:
-    ran = record(tmp_path, *words, counts=False)
-    assert (ran.status, ran.stdout, ran.stderr) == (2, b"", f"vecmon-record: {message}\n")
+def test_bad_log_options_are_refused(tmp_path: pathlib.Path, arguments: list[str], message: str) -> None:
+    completed = record(tmp_path, *arguments, counts=False)
+    assert (completed.status, completed.stdout, completed.stderr) == (2, b"", f"vecmon-record: {message}\n")
     assert not (tmp_path / "log").exists()
 
 
 def test_log_to_device_needs_no_end(tmp_path: pathlib.Path) -> None:
     words = write_inputs(tmp_path, SCALAR_LOOP)
-    ran = record(tmp_path, "--log", "/dev/stdout", *words, counts=False)
-    assert ran.stdout.decode() == (HERE / "data/scalar_loop.log").read_text("ascii")
-    ran = record(tmp_path, "--log", "/dev/full", *words, counts=False)
-    assert (ran.status, ran.stderr) == (5, "vecmon-record: cannot write log\n")
+    completed = record(tmp_path, "--log", "/dev/stdout", *words, counts=False)
+    assert completed.stdout.decode() == (HERE / "data/scalar_loop.log").read_text("ascii")
+    completed = record(tmp_path, "--log", "/dev/full", *words, counts=False)
+    assert (completed.status, completed.stderr) == (5, "vecmon-record: cannot write log\n")

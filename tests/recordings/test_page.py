@@ -19,7 +19,7 @@ def test_page_examples_are_reproduced(tmp_path: pathlib.Path) -> None:
     for session in SESSIONS:
         output = ""
         for line in re.findall(r"^\$ (.*)\n", session, re.MULTILINE):
-            ran = subprocess.run(
+            completed = subprocess.run(
                 line,
                 shell=True,
                 cwd=tmp_path,
@@ -28,7 +28,7 @@ def test_page_examples_are_reproduced(tmp_path: pathlib.Path) -> None:
                 stderr=subprocess.STDOUT,
                 check=False,
             )
-            output += f"$ {line}\n{ran.stdout.decode()}"
+            output += f"$ {line}\n{completed.stdout.decode()}"
         assert not difference(output, session), difference(output, session)
 
 
@@ -37,7 +37,7 @@ def test_page_has_examples() -> None:
 
 
 def test_page_has_options_of_help() -> None:
-    ran = subprocess.run([built_recorder(), "--help"], capture_output=True, check=True)
+    completed = subprocess.run([built_recorder(), "--help"], capture_output=True, check=True)
     words = re.compile(r"--[a-z]+")
     synopsis = PAGE.split("```text\n", 1)[1].split("```", 1)[0]
-    assert set(words.findall(ran.stdout.decode())) - {"--help"} == set(words.findall(synopsis))
+    assert set(words.findall(completed.stdout.decode())) - {"--help"} == set(words.findall(synopsis))

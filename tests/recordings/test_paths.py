@@ -25,9 +25,9 @@ def run(folder: pathlib.Path, **paths: str) -> tuple[int, str]:
             (folder / name).write_bytes(data)
     outputs = {**OUTPUTS, **{f"--{name}": path for name, path in paths.items()}}
     words = [word for option, path in outputs.items() for word in (option, path)]
-    ran = record(folder, "--watch", "100000:8", "--to", 5, *words, *RUN, counts=False)
-    assert ran.status == 0 or ran.stdout == b""
-    return ran.status, ran.stderr.removeprefix("vecmon-record: ").removesuffix("\n")
+    completed = record(folder, "--watch", "100000:8", "--to", 5, *words, *RUN, counts=False)
+    assert completed.status == 0 or completed.stdout == b""
+    return completed.status, completed.stderr.removeprefix("vecmon-record: ").removesuffix("\n")
 
 
 def inputs(folder: pathlib.Path) -> dict[str, bytes]:
@@ -75,18 +75,18 @@ def test_output_equal_to_input_is_refused(tmp_path: pathlib.Path, option: str, n
 def test_every_memory_file_is_compared(tmp_path: pathlib.Path) -> None:
     for name in ("one", "two", "three"):
         (tmp_path / name).write_bytes(bytes(4))
-        words = ["--memory", "0:r:one", "--memory", "1000:r:two", "--memory", "2000:r:three", "--counts", name]
-        ran = record(tmp_path, *words, counts=False)
-        assert (ran.status, ran.stderr) == (2, f"vecmon-record: {OVERWRITES.format('--counts', name)}\n")
+        arguments = ["--memory", "0:r:one", "--memory", "1000:r:two", "--memory", "2000:r:three", "--counts", name]
+        completed = record(tmp_path, *arguments, counts=False)
+        assert (completed.status, completed.stderr) == (2, f"vecmon-record: {OVERWRITES.format('--counts', name)}\n")
 
 
 def test_inputs_may_be_one_file(tmp_path: pathlib.Path) -> None:
     (tmp_path / "zeros").write_bytes(bytes(4))
-    ran = record(tmp_path, "--memory", "0:x:zeros", "--memory", "1000:r:zeros")
-    assert (ran.status, ran.stderr) == (0, "")
-    assert ran.counts == "fault cause=2 pc=0000000000000000 value=0000000000000000 0 0\n"
+    completed = record(tmp_path, "--memory", "0:x:zeros", "--memory", "1000:r:zeros")
+    assert (completed.status, completed.stderr) == (0, "")
+    assert completed.counts == "fault cause=2 pc=0000000000000000 value=0000000000000000 0 0\n"
 
 
 def test_usage_error_is_reported_before_path_conflict(tmp_path: pathlib.Path) -> None:
-    ran = record(tmp_path, "--counts", "x", "--log", "x", "--ticks", "0", counts=False)
-    assert (ran.status, ran.stderr.partition(" needs")[0]) == (2, "vecmon-record: --ticks")
+    completed = record(tmp_path, "--counts", "x", "--log", "x", "--ticks", "0", counts=False)
+    assert (completed.status, completed.stderr.partition(" needs")[0]) == (2, "vecmon-record: --ticks")

@@ -13,15 +13,15 @@ GOOD = TOP / "tests/command_lines/data/images/sum"
 NO_LINE = "line {}: no register and a value that it can have"
 
 
-def refused(folder: pathlib.Path, *words: object) -> tuple[int, str]:
+def refused(folder: pathlib.Path, *arguments: object) -> tuple[int, str]:
     """The status of a run that does nothing, and what it says without the recorder's name."""
-    ran = record(folder, *words)
-    assert ran.stdout == b"" and not ran.counts
-    return ran.status, ran.stderr.removeprefix("vecmon-record: ").rstrip("\n")
+    completed = record(folder, *arguments)
+    assert completed.stdout == b"" and not completed.counts
+    return completed.status, completed.stderr.removeprefix("vecmon-record: ").rstrip("\n")
 
 
 @pytest.mark.parametrize(
-    "words, message",
+    "arguments, message",
     [
         (["--policy", "none"], "--policy needs keep or ones"),
         (["--ticks", "0"], "--ticks needs a number from 1 to 9223372036854775808"),
@@ -34,21 +34,23 @@ def refused(folder: pathlib.Path, *words: object) -> tuple[int, str]:
         (["--memory", "0:r:file", "--memory", ":r:file"], "--memory needs ADDR:PERMS:FILE, not :r:file"),
     ],
 )
-def test_bad_arguments_are_refused(tmp_path: pathlib.Path, words: list[str], message: str) -> None:
-    assert refused(tmp_path, *words, "there is no such image") == (2, message)
+def test_bad_arguments_are_refused(tmp_path: pathlib.Path, arguments: list[str], message: str) -> None:
+    assert refused(tmp_path, *arguments, "there is no such image") == (2, message)
 
 
-@pytest.mark.parametrize("words", [["--trace", "file"], ["--ticks"], ["one", "two"], ["--ticks", "1", "--ticks", "2"]])
-def test_usage_errors_of_clap_are_refused(tmp_path: pathlib.Path, words: list[str]) -> None:
-    status, message = refused(tmp_path, *words)
+@pytest.mark.parametrize(
+    "arguments", [["--trace", "file"], ["--ticks"], ["one", "two"], ["--ticks", "1", "--ticks", "2"]]
+)
+def test_usage_errors_of_clap_are_refused(tmp_path: pathlib.Path, arguments: list[str]) -> None:
+    status, message = refused(tmp_path, *arguments)
     assert status == 2 and message.startswith("error: ") and message.endswith("For more information, try '--help'.")
 
 
 def test_help_shows_usage(tmp_path: pathlib.Path) -> None:
-    ran = record(tmp_path, "--help")
-    assert ran.status == 0 and not ran.stderr and not ran.counts
+    completed = record(tmp_path, "--help")
+    assert completed.status == 0 and not completed.stderr and not completed.counts
     for word in ("--policy", "--ticks", "--memory", "--registers", "--counts", "IMAGE"):
-        assert word in ran.stdout.decode()
+        assert word in completed.stdout.decode()
 
 
 @pytest.mark.parametrize(
@@ -89,8 +91,8 @@ def test_memory_limit_is_enforced(tmp_path: pathlib.Path) -> None:
     """All 256 pages of a user; the last one ends at the highest address."""
     (tmp_path / "file").write_bytes(bytes(255 * 4096))
     (tmp_path / "page").write_bytes(bytes(4096))
-    ran = record(tmp_path, "--memory", "0:x:file", "--memory", "fffffffff000:r:page")
-    assert ran.counts == "fault cause=2 pc=0000000000000000 value=0000000000000000 0 0\n"
+    completed = record(tmp_path, "--memory", "0:x:file", "--memory", "fffffffff000:r:page")
+    assert completed.counts == "fault cause=2 pc=0000000000000000 value=0000000000000000 0 0\n"
 
 
 @pytest.mark.parametrize(
@@ -123,21 +125,21 @@ def test_unwritable_counts_file_is_refused(tmp_path: pathlib.Path) -> None:
     """A folder isn't written, and a device takes nothing; nothing runs without the file."""
     for path, output in (("/", b""), ("/dev/full", record(tmp_path, GOOD).stdout)):
         command = [str(built_recorder()), "--counts", path, str(GOOD)]
-        ran = subprocess.run(command, capture_output=True, check=False)
-        assert (ran.returncode, ran.stderr.decode()) == (5, f"vecmon-record: cannot write {path}\n")
-        assert ran.stdout == output
+        completed = subprocess.run(command, capture_output=True, check=False)
+        assert (completed.returncode, completed.stderr.decode()) == (5, f"vecmon-record: cannot write {path}\n")
+        assert completed.stdout == output
 
 
 def test_unwritable_output_is_refused(tmp_path: pathlib.Path) -> None:
     with open("/dev/full", "wb") as full:
         command = [str(built_recorder()), "--counts", "counts", str(GOOD)]
-        ran = subprocess.run(command, cwd=tmp_path, stdout=full, stderr=subprocess.PIPE, check=False)
-    assert (ran.returncode, ran.stderr.decode()) == (5, "vecmon-record: cannot write output\n")
+        completed = subprocess.run(command, cwd=tmp_path, stdout=full, stderr=subprocess.PIPE, check=False)
+    assert (completed.returncode, completed.stderr.decode()) == (5, "vecmon-record: cannot write output\n")
 
 
 def test_memory_failure_is_reported(tmp_path: pathlib.Path) -> None:
     """With 8 MB of addresses there is no room for the rows."""
     command = f"ulimit -v 8000; exec {built_recorder()} --counts counts {GOOD}"
-    ran = subprocess.run(["sh", "-c", command], cwd=tmp_path, capture_output=True, check=False)
-    assert (ran.returncode, ran.stderr.decode()) == (6, "vecmon-record: out of memory\n")
+    completed = subprocess.run(["sh", "-c", command], cwd=tmp_path, capture_output=True, check=False)
+    assert (completed.returncode, completed.stderr.decode()) == (6, "vecmon-record: out of memory\n")
     assert not os.path.exists(tmp_path / "counts")

@@ -11,6 +11,6 @@ SEGMENT_STORE = (0xC0017057, 0x5E03B257, 0x5E04B2D7, 0x22058227, 0x00100073)
 
 
 def test_segment_fields_are_in_one_line(tmp_path: pathlib.Path) -> None:
-    ran = record_log(tmp_path, "--to", 5, *write_inputs(tmp_path, SEGMENT_STORE))
-    lines, _ = read_log(ran.log)
+    result = record_log(tmp_path, "--to", 5, *write_inputs(tmp_path, SEGMENT_STORE))
+    lines, _ = read_log(result.log)
     assert dict(bytes_stored(lines[3])) == {0x2000: 7, 0x2001: 9, 0x2002: 7, 0x2003: 9}

@@ -41,9 +41,9 @@ def run_sphinx(sources: Path, html: Path, scratch: Path) -> int:
     options = ["-q", "-W", "--keep-going", "-b", "html", "-c", str(TOP / "tools/book_html"), "-d", str(scratch)]
     command = [sys.executable, "-m", "sphinx", *options, str(sources), str(html)]
     environment = os.environ | {"PYTHONHASHSEED": "0", "PYTHONDONTWRITEBYTECODE": "1", "LC_ALL": "C.UTF-8"}
-    ran = subprocess.run(command, env=environment, stderr=subprocess.PIPE, encoding="utf-8", check=False)
-    sys.stderr.write(ran.stderr.replace(f"{sources}/", ""))  # paths from the top of the repository
-    return ran.returncode
+    completed = subprocess.run(command, env=environment, stderr=subprocess.PIPE, encoding="utf-8", check=False)
+    sys.stderr.write(completed.stderr.replace(f"{sources}/", ""))  # paths from the top of the repository
+    return completed.returncode
 
 
 def build(out: Path, room: Path, top: Path = TOP) -> int:

@@ -13,7 +13,7 @@ from vecmon_lab.meanings.describe import encoding_fields, examples, illegal_caus
 from vecmon_lab.meanings.record import Record, instruction_records, records  # noqa: E402
 
 FOLDER = Path("docs/instructions")
-BOX, MOST_PICTURES = 22, 12  # pixels of a bit; encodings on a page
+BOX, MAX_PICTURES = 22, 12  # pixels of a bit; encodings on a page
 
 
 def write_instruction_pages(stage: Path) -> None:
@@ -54,11 +54,11 @@ def _parts(record: Record) -> Iterator[str]:
     yield from (f"**{title}**: {text}" for title, text in (("Use", record.use), ("Mistake", record.mistake)) if text)
     yield from _example(record)
     yield "## Encoding"
-    shown = record.members[:MOST_PICTURES]
+    shown = record.members[:MAX_PICTURES]
     yield from (
         f"`{name} {instruction_table()[name].operands}`\n\n{picture(instruction_table()[name])}" for name in shown
     )
-    if rest := record.members[MOST_PICTURES:]:
+    if rest := record.members[MAX_PICTURES:]:
         yield f"{len(rest)} more have the same fields: {', '.join(f'`{name}`' for name in rest)}."
     yield from _references(record)
 

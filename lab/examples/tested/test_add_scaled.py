@@ -27,9 +27,7 @@ def kernel() -> Iterator[Kernel]:
 
 @settings(deadline=None)
 @given(st.lists(st.tuples(INT32, INT32)), INT32, st.sampled_from([None, 0, 1, 4092]))
-def test_add_scaled_equals_python(
-    kernel: Kernel, pairs: list[tuple[int, int]], factor: int, offset: int | None
-) -> None:
+def test_result_equals_python(kernel: Kernel, pairs: list[tuple[int, int]], factor: int, offset: int | None) -> None:
     before, added = array("i", [one for one, _ in pairs]), array("i", [other for _, other in pairs])
     to = Placed(before, offset)  # with None both arrays end where a page ends, so that an overrun faults
     result = kernel.call("add_scaled", len(pairs), factor, added, to, policy="both")

@@ -8,7 +8,7 @@ import pytest
 
 from support.command_tables import with_tables
 from support.places import DOCS
-from vecmon_lab.assembler.commands import COMMANDS, MEANINGS, help_on, refusal_in_words
+from vecmon_lab.assembler.commands import COMMANDS, MEANINGS, help_on, explain_refusal
 from vecmon_lab.machine.answers import Refused, read
 from vecmon_lab.machine.session import Session
 from vecmon_lab.page.reference import OF_THE_CONSOLE
@@ -113,4 +113,4 @@ def test_refusal_is_explained(session: Session, line: str, expected: list[str]) 
         session.do(before)
     answer = read(session.do(line))
     assert isinstance(answer, Refused)
-    assert refusal_in_words(line, answer) == expected
+    assert explain_refusal(line, answer) == expected

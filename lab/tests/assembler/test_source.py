@@ -235,8 +235,8 @@ def test_mistakes_are_reported_in_order(program: pathlib.Path) -> None:
         nop, ,
         .align 2"""
     expected = [(each.line, each.message.split(" ")[0]) for each in all_mistakes(read_source(text), program)]
-    words = ["there", "4096", "22222222222222222222", "an", "nowhere", "a1", "here", "an"]
-    assert expected == [*zip([1, 2, 3, 4, 5, 6, 7, 9], words)]
+    arguments = ["there", "4096", "22222222222222222222", "an", "nowhere", "a1", "here", "an"]
+    assert expected == [*zip([1, 2, 3, 4, 5, 6, 7, 9], arguments)]
 
 
 def test_first_hundred_mistakes_are_reported() -> None:

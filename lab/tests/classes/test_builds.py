@@ -221,7 +221,7 @@ async def test_endless_compile_delays_no_other_seat(
 
 async def test_oversized_program_is_refused(tmp_path: pathlib.Path, clang: Compiler, builds: Builds) -> None:
     """An image has a limit, which the teacher sets, and a seat its share; the refusal has the remaining bytes."""
-    async with served(tmp_path / "class", builds=Builds(clang, most=200)) as room:
+    async with served(tmp_path / "class", builds=Builds(clang, limit=200)) as room:
         tab = await room.sit("A1")
         assert "200 bytes that aren't zeros are the most" in (await tab.ask("source", text=EMPTY, language=C))["error"]
         assert "65,536 bytes" in (await tab.ask("source", text="\u00e9" * 40_000, language=C))["error"]

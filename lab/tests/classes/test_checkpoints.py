@@ -45,7 +45,7 @@ async def test_killed_process_restarts_from_checkpoint(tmp_path: pathlib.Path) -
         await room.check_replay()
 
 
-async def begin_script(room: Served) -> bytes:
+async def start_next_script(room: Served) -> bytes:
     """Two students do something, and the class goes on in another script; the first one."""
     assert room.members
     machine = room.members.rooms["A"]
@@ -59,7 +59,7 @@ async def begin_script(room: Served) -> bytes:
     first = machine.session.script
     (room.folder / "A.2.script").write_text("1 ent")  # as a server leaves it that is killed while it writes
     with pytest.MonkeyPatch.context() as patch, pytest.raises(LabError, match="notes of the script aren't saved"):
-        patch.setattr(machine, "keep", lambda notes: False)  # as where the disk is full
+        patch.setattr(machine, "save", lambda notes: False)  # as where the disk is full
         await machine.begin_script()
     await room.check_replay()
     await machine.begin_script()
@@ -71,7 +71,7 @@ async def begin_script(room: Served) -> bytes:
 
 async def test_class_continues_in_next_script(tmp_path: pathlib.Path) -> None:
     async with served(tmp_path / "class", {"sum": SUM}) as room:
-        first = await begin_script(room)
+        first = await start_next_script(room)
         _, transcript = await room.check_replay()
         assert [await room.get(place) for place in ("A.1/script", "A.2/script", "A.2/transcript")] == [
             (200, first), (200, (room.folder / "A.2.script").read_bytes()), (200, transcript)
@@ -81,7 +81,7 @@ async def test_class_continues_in_next_script(tmp_path: pathlib.Path) -> None:
         tab = await room.sit("A1")
         assert await tab.do("state") == [["state stopped pc=0000000000010000"]] and tab.view["share"]["used"] == 20
         assert room.members
-        room.members.keep()
+        room.members.save()
         room.members.store.flush()
         store = Store(room.folder, find_program(), is_reading=True)  # while the class runs
         assert solo(store, "A2") == [f"2 {line}" for line in (*SUM_LINES, "step 1")]
@@ -92,7 +92,7 @@ async def test_class_continues_in_next_script(tmp_path: pathlib.Path) -> None:
 
 async def test_class_restarts_from_next_script(tmp_path: pathlib.Path) -> None:
     async with served(tmp_path / "class", {"sum": SUM}) as room:
-        await begin_script(room)
+        await start_next_script(room)
         registers = await (await room.sit("A2")).do("regs")
     async with served(tmp_path / "class") as room:
         tab, other, teacher = await room.sit("A1"), await room.sit("A2"), await room.sit("teacher")

@@ -45,8 +45,8 @@ REQUESTS: list[dict[str, object]] = [
 def imported(*modules: str) -> str:
     """Imports modules of the lab while others are blocked; "" where that goes well, else what Python complains of."""
     command = [sys.executable, "-c", BLOCK + IMPORT.format(modules)]
-    done = subprocess.run(command, stderr=subprocess.PIPE, text=True)
-    return done.stderr if done.returncode else ""
+    completed = subprocess.run(command, stderr=subprocess.PIPE, text=True)
+    return completed.stderr if completed.returncode else ""
 
 
 def test_core_imports_without_server_libraries() -> None:
@@ -64,9 +64,9 @@ def test_core_answers_without_server_libraries(program: pathlib.Path) -> None:
     """A machine is spawned by other means, and answers as one behind pipes."""
     requests = [json.dumps(dict(request, id=number)) for number, request in enumerate(REQUESTS)]
     command = [sys.executable, "-c", BLOCK + ANSWER.format(str(program), requests)]
-    done = subprocess.run(command, stdout=subprocess.PIPE, check=True, cwd=TOP / "lab")
+    completed = subprocess.run(command, stdout=subprocess.PIPE, check=True, cwd=TOP / "lab")
     desk = Desk(program, {}, 100_000)
     answers = [[desk.answer(request), desk.settle()] for request in requests]
     desk.close()
     assert answers[1][0]["do"] == [["stepped 3 pc=000000000001000c"], ["ok"]]
-    assert untimed(json.loads(done.stdout)) == untimed(json.loads(json.dumps(answers)))
+    assert untimed(json.loads(completed.stdout)) == untimed(json.loads(json.dumps(answers)))

@@ -43,9 +43,9 @@ async def test_source_waits_for_disk(tmp_path: pathlib.Path, monkeypatch: pytest
         tab = await room.sit("A1")
         for text, language in (("# doubles", 0), ("// doubles", C), ("# again", 0)):
             await draft(tab, text, language=language)
-            room.members.keep()
+            room.members.save()
             await open_exercise(tab, "byte_sum")
-            room.members.keep()
+            room.members.save()
             source = await open_exercise(tab, "doubles")
             assert (source["text"], source["language"]) == (text, language)
             assert not list((room.folder / "drafts").glob("*"))
@@ -75,7 +75,7 @@ async def test_exercises_have_separate_sources(tmp_path: pathlib.Path) -> None:
         assert (source["text"], source["language"]) == ("// byte_sum", C)
         assert (await room.sit("A2")).view["source"]["text"] == ""
         assert room.members
-        room.members.keep()
+        room.members.save()
     assert (folder / "A1.exercise").read_text() == "byte_sum"
     for exercises in (TWO, TWO[:1]):
         async with served(folder, exercises=exercises) as room:
@@ -96,7 +96,7 @@ async def test_late_draft_is_version_of_its_exercise(tmp_path: pathlib.Path) -> 
         assert (await texts(other, "doubles"), await texts(other, "byte_sum")) == (["# typed at doubles"], [])
         assert "no such exercise" in (await other.ask("draft", text="x", number=0, exercise="nosuch"))["error"]
         assert room.members
-        room.members.keep()
+        room.members.save()
     async with served(tmp_path / "class") as room:
         tab = await room.sit("A1")
         assert await texts(tab, "doubles") == ["# typed at doubles"]
@@ -138,7 +138,7 @@ async def test_source_of_earlier_server_is_restored(tmp_path: pathlib.Path) -> N
         tab = await room.sit("A1")
         await draft(tab, "# of before")
         assert tab.view["source"]["exercise"] == "" and room.members
-        room.members.keep()
+        room.members.save()
     shutil.rmtree(folder / "drafts", ignore_errors=True)
     async with served(folder, exercises=TWO) as room:
         tab = await room.sit("A1")

@@ -24,16 +24,37 @@ from vecmon_lab.compilers.compiler import Compiler
 GREY = EXAMPLES / "kernels" / "grey.c"
 
 
+async def _check_listings(session: aiohttp.ClientSession, url: str, code: str, tab: Tab, clang: Compiler) -> None:
+    """The listings of two compilations are served side by side; errors and unknown pages have no listings."""
+    source = tab.view["source"]
+    other = tab.view["against"].index(f"{clang.name} O0")
+    reply = await tab.ask("listings", text=source["text"], language=source["language"], other=other)
+    listings = await _listings(session, f"{url}listings/{reply['listings']}")
+    assert [each["name"] for each in listings] == [f"{clang.name} O1", f"{clang.name} O0"]
+    grey = GREY.read_text("ascii").split("\n")
+    stores = [row for each in listings for row in each["rows"] if row[3].startswith("vse8.v")]
+    assert all("vse8" in grey[line - 1] for _, line, *_ in stores)
+    assert [row[5] for row in stores] == [45, 45], "pixels, by each compiler"
+    reply = await tab.ask("listings", text="int main(void)\n{", language=1, other=other)
+    async with session.get(f"{url}listings/{reply['listings']}") as answer:
+        assert answer.status == 404 and f"{clang.name} O2:2:2: " in await answer.text()
+    async with session.get(f"{url}listings/{code}") as answer:
+        assert answer.status == 404 and "no such page" in await answer.text()
+    for number, text in ((len(tab.view["against"]), "int x;"), (-1, "int x;")):
+        assert "error" in await tab.ask("listings", text=text, language=1, other=number)
+    assert "error" in await tab.ask("listings", text="nop", language=0, other=0)
+
+
 @pytest.mark.asyncio
 @pytest.mark.by_command("explore")
 async def test_explore_serves_file_to_one_seat(clang: Compiler, tmp_path: pathlib.Path) -> None:
     """The file is the source of its one seat; another site gets nothing; and nothing is left of it."""
     if shutil.which("bwrap") is None:
         leave_out(NO_SANDBOX)
-    words = [*lab_command(True), "explore", str(GREY), "--options", "O1", "--cc", clang.name]
+    arguments = [*lab_command(True), "explore", str(GREY), "--options", "O1", "--cc", clang.name]
     environment = {"PATH": "/usr/bin:/bin", "TMPDIR": str(tmp_path)}
     child = await asyncio.create_subprocess_exec(
-        *words, cwd=TOP, stdout=subprocess.PIPE, env=_with_program(environment)
+        *arguments, cwd=TOP, stdout=subprocess.PIPE, env=_with_program(environment)
     )
     assert child.stdout
     try:
@@ -55,22 +76,7 @@ async def test_explore_serves_file_to_one_seat(clang: Compiler, tmp_path: pathli
             assert reply["mistakes"] == [] and tab.view["state"]["run"] == "stopped"
             await tab.do("go")
             await tab.until(lambda view: view["stop"].startswith("exit 0"))
-            other = tab.view["against"].index(f"{clang.name} O0")
-            reply = await tab.ask("listings", text=source["text"], language=source["language"], other=other)
-            listings = await _listings(session, f"{found[1]}listings/{reply['listings']}")
-            assert [each["name"] for each in listings] == [f"{clang.name} O1", f"{clang.name} O0"]
-            grey = GREY.read_text("ascii").split("\n")
-            stores = [row for each in listings for row in each["rows"] if row[3].startswith("vse8.v")]
-            assert all("vse8" in grey[line - 1] for _, line, *_ in stores)
-            assert [row[5] for row in stores] == [45, 45], "pixels, by each compiler"
-            reply = await tab.ask("listings", text="int main(void)\n{", language=1, other=other)
-            async with session.get(f"{found[1]}listings/{reply['listings']}") as answer:
-                assert answer.status == 404 and f"{clang.name} O2:2:2: " in await answer.text()
-            async with session.get(f"{found[1]}listings/{found[2]}") as answer:
-                assert answer.status == 404 and "no such page" in await answer.text()
-            for number, text in ((len(tab.view["against"]), "int x;"), (-1, "int x;")):
-                assert "error" in await tab.ask("listings", text=text, language=1, other=number)
-            assert "error" in await tab.ask("listings", text="nop", language=0, other=0)
+            await _check_listings(session, found[1], found[2], tab, clang)
         child.send_signal(signal.SIGTERM)
         assert await asyncio.wait_for(child.wait(), SECONDS) == 0 and not list(tmp_path.iterdir())
     finally:

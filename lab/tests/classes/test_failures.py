@@ -179,7 +179,7 @@ async def test_changed_script_answers_are_refused(tmp_path: pathlib.Path, progra
         members = Class(Store(copy, program), 5.0)
         assert members.store.lost == [f"A.script: {expected}"] and members.rooms["A"].session.script == changed
         assert expected in members.store.loss
-        members.keep()
+        members.save()
         members.end()
         members = Class(Store(copy, program), 5.0)  # whose notes are of the script as it is now
         assert not members.store.lost
@@ -241,9 +241,9 @@ async def test_files_at_end_are_consistent(tmp_path: pathlib.Path) -> None:
     members, notes = Class(Store(tmp_path / "class", find_program()), 5.0), tmp_path / "class" / "A.json"
     room = members.rooms["A"]
     await room.lines(room.seats.users["1"], Lines("", [*LOOP, "go"], 0, []), [])
-    members.keep()
+    members.save()
     members.store.flush()
-    kept, process = notes.read_text(), room.session.process
+    stored, process = notes.read_text(), room.session.process
     assert process
     os.kill(process, signal.SIGSTOP)
     clock = asyncio.create_task(room.clock.run())
@@ -251,13 +251,13 @@ async def test_files_at_end_are_consistent(tmp_path: pathlib.Path) -> None:
         await asyncio.sleep(0.01)
     clock.cancel()
     await asyncio.sleep(0.1)
-    members.keep()
+    members.save()
     members.store.flush()
-    assert room.is_busy() and notes.read_text() == kept
+    assert room.is_busy() and notes.read_text() == stored
     os.kill(process, signal.SIGCONT)
     with pytest.raises(asyncio.CancelledError):
         await clock
-    members.keep()
+    members.save()
     members.store.flush()
     reply = json.loads(notes.read_text())
     assert (reply["lines"], reply["answers"]) == (len(LOOP) + 2, room.session.digest)
@@ -394,23 +394,23 @@ async def test_busy_port_is_reported_before_replay(tmp_path: pathlib.Path) -> No
 
 
 @pytest.mark.parametrize(
-    "words, expected",
+    "arguments, expected",
     [
         (["--port", "65536"], " class: argument --port: 65536 is no number from 0 to 65535; --help says more\n"),
         (["--port", "-1"], " class: argument --port: -1 is no number from 0 to 65535; --help says more\n"),
         (["--host", "256.1.1.1"], ": 256.1.1.1, port 8765: Name or service not known\n"),
     ],
 )
-async def test_unavailable_address_is_refused(tmp_path: pathlib.Path, words: list[str], expected: str) -> None:
-    assert refused(tmp_path / "class", *words) == f"vecmon-lab{expected}"
+async def test_unavailable_address_is_refused(tmp_path: pathlib.Path, arguments: list[str], expected: str) -> None:
+    assert refused(tmp_path / "class", *arguments) == f"vecmon-lab{expected}"
 
 
-def refused(folder: pathlib.Path, *words: object) -> str:
+def refused(folder: pathlib.Path, *arguments: object) -> str:
     """The output of the command for a class that it doesn't serve."""
-    line = [sys.executable, "-m", "vecmon_lab", "class", str(folder), *map(str, words)]
-    done = subprocess.run(line, cwd=TOP, capture_output=True, text=True, timeout=SECONDS)
-    assert (done.returncode, done.stdout) == (2, "")
-    return done.stderr
+    line = [sys.executable, "-m", "vecmon_lab", "class", str(folder), *map(str, arguments)]
+    completed = subprocess.run(line, cwd=TOP, capture_output=True, text=True, timeout=SECONDS)
+    assert (completed.returncode, completed.stdout) == (2, "")
+    return completed.stderr
 
 
 async def test_torn_connection_preserves_seat(tmp_path: pathlib.Path) -> None:

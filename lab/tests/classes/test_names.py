@@ -64,6 +64,17 @@ def test_invalid_name_is_refused(typed: str) -> None:
         checked_name(typed)
 
 
+async def _check_restart(folder: pathlib.Path) -> None:
+    """A restarted class has the name; the seat removes it, and no other command may delete it meanwhile."""
+    async with served(folder) as room:
+        tab = await room.sit("A3")
+        assert tab.view["name"] == NAME
+        with pytest.raises(BadFolder, match="is served by another server"):
+            forget(folder, "names.json")
+        await tab.ask("name", name="")
+        assert tab.view["name"] == ""
+
+
 @pytest.mark.asyncio
 async def test_name_is_sent_to_seat_and_teacher_only(tmp_path: pathlib.Path) -> None:
     """The seat and the teacher, the table and what is taken home; no machine, no other seat, no wall, no file's name."""
@@ -99,13 +110,7 @@ async def test_name_is_sent_to_seat_and_teacher_only(tmp_path: pathlib.Path) -> 
         assert "Zo" not in reply and b"Zo" not in (await room.check_replay())[0]
     having = [path.name for path in folder.rglob("*") if path.is_file() and "O'Brien".encode() in path.read_bytes()]
     assert having == ["names.json"]
-    async with served(folder) as room:
-        tab = await room.sit("A3")
-        assert tab.view["name"] == NAME
-        with pytest.raises(BadFolder, match="is served by another server"):
-            forget(folder, "names.json")
-        await tab.ask("name", name="")
-        assert tab.view["name"] == ""
+    await _check_restart(folder)
     assert json.loads((folder / "names.json").read_text()) == {"B8": "Bo"}
 
 

@@ -67,7 +67,7 @@ class Lesson:
             self.now += TICK
             if tick % EVERY == 0:
                 self.members.store.flush()
-                self.members.keep(with_counts=False)
+                self.members.save(with_counts=False)
                 self.disk.check()
             await acts[tick % len(acts)]()
             if tick % RENEWED == 0:

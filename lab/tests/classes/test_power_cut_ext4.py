@@ -59,7 +59,7 @@ def check(image: pathlib.Path, program: pathlib.Path, known: list[int]) -> list[
         counts = [script.count(f"{seat[1]} step 1") for seat in SEATS]
         lost = [sentence for sentence in members.store.lost if not sentence.startswith("A.script is damaged behind")]
         members.end()
-    assert not lost and all(count >= least for count, least in zip(counts, known)), (lost, counts, known)
+    assert not lost and all(count >= minimum for count, minimum in zip(counts, known)), (lost, counts, known)
     return counts
 
 

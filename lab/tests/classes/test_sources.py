@@ -59,8 +59,15 @@ async def test_draft_is_stored_for_seat(room: Served) -> None:
     await tab.ask("draft", text="nop\r\n\tadd \u00e9", number=0)
     for each in (other, teacher):
         await each.until(lambda view: view["source"]["text"] == "nop\r\n\tadd \u00e9")
-    kept = {"text": "nop\r\n\tadd \u00e9", "language": 0, "number": 1, "exercise": "", "stands": False, "versions": []}
-    assert (await room.sit("A3")).view["source"] == kept
+    stored = {
+        "text": "nop\r\n\tadd \u00e9",
+        "language": 0,
+        "number": 1,
+        "exercise": "",
+        "stands": False,
+        "versions": [],
+    }
+    assert (await room.sit("A3")).view["source"] == stored
     await outsider.do("enter")
     assert "nop" not in str(outsider.view)
     await teacher.ask("shoulder", seat="")
@@ -103,7 +110,7 @@ async def test_given_source_reaches_seats(room: Served) -> None:
 
 def keep(members: Class) -> None:
     """Brings the class's folder up to date, and waits for the disk."""
-    members.keep()
+    members.save()
     members.store.flush()
 
 
@@ -167,9 +174,9 @@ async def test_versions_are_stored(room: Served, monkeypatch: pytest.MonkeyPatch
     keep(members)
     assert (room.folder / "A1.s").read_text() == "typed" and len(tab.view["source"]["versions"]) == 2
     monkeypatch.setattr("vecmon_lab.classes.sources.TYPING_SECONDS", 0)
-    members.keep()
+    members.save()
     await tab.until(lambda view: len(view["source"]["versions"]) == 3)
-    members.keep()
+    members.save()
     for number in range(60):
         await tab.ask("source", text=f"# {number}")
     keep(members)
@@ -212,10 +219,10 @@ async def test_full_disk_keeps_source_in_memory(room: Served, monkeypatch: pytes
         full.setattr("vecmon_lab.classes.durable.replace_file", refuse)
         await tab.ask("source", text="nop")
         keep(members)
-        members.keep()
+        members.save()
         await teacher.until(lambda view: "A1.s isn't saved: No space left on device" in view["trouble"])
         assert (await tab.ask("version", number=1))["text"] == "nop"
     keep(members)
-    members.keep()
+    members.save()
     await teacher.until(lambda view: view["trouble"] == "")
     assert (room.folder / "sources" / "A1.1.written.s").read_text() == "nop"

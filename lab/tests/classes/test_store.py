@@ -261,14 +261,14 @@ async def test_damaged_seat_program_is_dropped(tmp_path: pathlib.Path, program: 
 def test_class_command_refuses_bad_arguments(
     tmp_path: pathlib.Path, program: pathlib.Path, monkeypatch: pytest.MonkeyPatch, capsys: pytest.CaptureFixture[str]
 ) -> None:
-    def failed(*words: str) -> str:
-        monkeypatch.setattr(sys, "argv", ["vecmon-lab", *words])
+    def failed(*arguments: str) -> str:
+        monkeypatch.setattr(sys, "argv", ["vecmon-lab", *arguments])
         try:
             status: object = main()
         except SystemExit as end:
             status = end.code
         output = capsys.readouterr()
-        assert (status, output.out, output.err.count("\n")) == (2, "", 1), words
+        assert (status, output.out, output.err.count("\n")) == (2, "", 1), arguments
         return output.err
 
     folder = tmp_path / "class"

@@ -12,7 +12,7 @@ import pytest
 
 from support.class_tabs import served
 from support.places import SUM
-from vecmon_lab.classes.take_home import MOST_FRAMES, steps_of
+from vecmon_lab.classes.take_home import MAX_FRAMES, steps_of
 from vecmon_lab.machine.program import find_program
 
 SOURCE = (
@@ -61,5 +61,5 @@ def test_lesson_frames_are_limited() -> None:
     lines = ["3 enter", *["3 step 1"] * 400, "3 go", *["* slices 1000"] * 900, "3 out ", "3 stop", *["3 step 99"] * 2]
     steps = steps_of(lines)
     assert [line for step in steps for line in step.lines] == lines
-    assert len(steps) + 2 * 98 == MOST_FRAMES and steps[1].lines == ["3 step 1"] and len(steps[-4].lines) == 902
+    assert len(steps) + 2 * 98 == MAX_FRAMES and steps[1].lines == ["3 step 1"] and len(steps[-4].lines) == 902
     assert len(steps_of(lines[:300])) == 300 and steps_of([]) == []

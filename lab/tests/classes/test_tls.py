@@ -93,9 +93,9 @@ async def test_silent_connections_are_closed(
             writer.close()
 
 
-def openssl(folder: pathlib.Path, words: str) -> None:
+def openssl(folder: pathlib.Path, arguments: str) -> None:
     """Runs a command of openssl's in a folder."""
-    subprocess.run(["openssl", *words.split()], cwd=folder, check=True, capture_output=True)
+    subprocess.run(["openssl", *arguments.split()], cwd=folder, check=True, capture_output=True)
 
 
 async def test_bad_certificate_or_key_is_refused(tmp_path: pathlib.Path, pair: Pair) -> None:
@@ -127,15 +127,15 @@ async def test_refused_certificate_starts_no_server(tmp_path: pathlib.Path, pair
     openssl(tmp_path, f"x509 -in {pair[0]} -signkey {pair[1]} -days -1 -out old.pem")
     old = ["--tls", f"{tmp_path / 'old.pem'}", f"{pair[1]}"]
     for words in (old, ["--tls", *map(str, pair), "--address", "http://10.0.0.1:8765/"]):
-        done = subprocess.run(
+        completed = subprocess.run(
             command(tmp_path / "class", *words), cwd=TOP, capture_output=True, text=True, timeout=SECONDS
         )
-        assert (done.returncode, done.stdout, done.stderr.count("\n")) == (2, "", 1), done.stderr
-        assert done.stderr.startswith("vecmon-lab: ") and not (tmp_path / "class").exists()
+        assert (completed.returncode, completed.stdout, completed.stderr.count("\n")) == (2, "", 1), completed.stderr
+        assert completed.stderr.startswith("vecmon-lab: ") and not (tmp_path / "class").exists()
 
 
 @pytest.mark.parametrize(
-    "words, is_warned",
+    "arguments, is_warned",
     [
         (["--host", "0.0.0.0"], True),
         (["--host", "0.0.0.0", "--tls"], False),
@@ -144,17 +144,17 @@ async def test_refused_certificate_starts_no_server(tmp_path: pathlib.Path, pair
     ],
 )
 async def test_unencrypted_codes_are_warned_about(
-    tmp_path: pathlib.Path, pair: Pair, words: list[str], is_warned: bool
+    tmp_path: pathlib.Path, pair: Pair, arguments: list[str], is_warned: bool
 ) -> None:
     """The terminal and the teacher's page say so, where other computers can reach the class and there is no TLS."""
-    call = command(tmp_path / "class", *words, *(map(str, pair) if "--tls" in words else ()))
+    call = command(tmp_path / "class", *arguments, *(map(str, pair) if "--tls" in arguments else ()))
     process = await asyncio.create_subprocess_exec(*call, cwd=TOP, stdout=subprocess.PIPE, stderr=subprocess.PIPE)
     assert process.stdout
     found = re.fullmatch(
         rb"teacher: (https?)://\S+:(\d+)/#(\S+)\n", await asyncio.wait_for(process.stdout.readline(), SECONDS)
     )
-    assert found and (found[1] == b"https") == ("--tls" in words)
-    scheme, host = found[1].decode(), "127.0.0.2" if "127.0.0.2" in words else "127.0.0.1"
+    assert found and (found[1] == b"https") == ("--tls" in arguments)
+    scheme, host = found[1].decode(), "127.0.0.2" if "127.0.0.2" in arguments else "127.0.0.1"
     tls = ssl.create_default_context(cafile=pair[0])
     async with aiohttp.ClientSession() as session:
         socket = await session.ws_connect(f"{scheme}://{host}:{int(found[2])}/socket", ssl=tls, max_msg_size=0)

@@ -24,8 +24,8 @@ async def room(tmp_path: pathlib.Path) -> AsyncIterator[Served]:
 
 def codes(room: Served) -> dict[str, str]:
     """The codes that hold now, by name."""
-    kept: dict[str, str] = json.loads((room.folder / "codes.json").read_text())
-    return kept
+    stored: dict[str, str] = json.loads((room.folder / "codes.json").read_text())
+    return stored
 
 
 async def test_wall_shows_seat(room: Served) -> None:
@@ -84,7 +84,7 @@ async def test_wall_frame_contains_no_code(room: Served) -> None:
         assert (await room.get(path, "wall"))[0] == 404
     await tab.do("step 1")
     await listen(lambda reply: wall.view["state"].get("x", {}).get("5") == "1" and wall.view["state"]["pc"] == "10000")
-    others = {code for kept in (before, codes(room)) for name, code in kept.items() if name != "wall"}
+    others = {code for stored in (before, codes(room)) for name, code in stored.items() if name != "wall"}
     assert len(others) == 19 and len(frames) > len(asks)
     assert not [code for code in others for frame in frames if code in frame]
 

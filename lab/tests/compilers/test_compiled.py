@@ -304,8 +304,8 @@ def test_command_installs_compilers(
 
 def test_c_source_makes_lesson(clang: Compiler, tmp_path: pathlib.Path) -> None:
     page = tmp_path / "page.html"
-    words = ["lesson", str(KERNELS / "grey.c"), "-o", str(page), "--cc", clang.name, "--options", "O3"]
-    subprocess.run([sys.executable, "-m", "vecmon_lab", *words], check=True)
+    arguments = ["lesson", str(KERNELS / "grey.c"), "-o", str(page), "--cc", clang.name, "--options", "O3"]
+    subprocess.run([sys.executable, "-m", "vecmon_lab", *arguments], check=True)
     text = page.read_text("utf-8")
     assert "Colours to grey: three fields of a pixel" in text and "vlseg3e8.v" in text
     assert "length = __riscv_vsetvl_e8m1(count);" in text
@@ -315,9 +315,9 @@ def test_c_source_makes_lesson(clang: Compiler, tmp_path: pathlib.Path) -> None:
 def test_c_source_with_mistakes_makes_no_lesson(clang: Compiler, tmp_path: pathlib.Path) -> None:
     source = tmp_path / "wrong.c"
     source.write_text("int main(void)\n{\n    return 1 +;\n}\n", "ascii")
-    words = ["lesson", str(source), "--cc", clang.name]
-    done = subprocess.run([sys.executable, "-m", "vecmon_lab", *words], capture_output=True, text=True)
-    assert (done.returncode, done.stderr) == (2, "vecmon-lab: wrong.c:3:15: expected expression\n")
+    arguments = ["lesson", str(source), "--cc", clang.name]
+    completed = subprocess.run([sys.executable, "-m", "vecmon_lab", *arguments], capture_output=True, text=True)
+    assert (completed.returncode, completed.stderr) == (2, "vecmon-lab: wrong.c:3:15: expected expression\n")
 
 
 def test_stock_assembler_source_makes_lesson(clang: Compiler, tmp_path: pathlib.Path) -> None:
@@ -325,8 +325,8 @@ def test_stock_assembler_source_makes_lesson(clang: Compiler, tmp_path: pathlib.
     source, page = tmp_path / "doubles.s", tmp_path / "page.html"
     source.write_text(DOUBLES, "ascii")
     words = [sys.executable, "-m", "vecmon_lab", "lesson", str(source), "-o", str(page)]
-    done = subprocess.run(words, capture_output=True, text=True)
-    assert (done.returncode, done.stderr) == (2, "vecmon-lab: doubles.s:3:9: there is no directive .macro\n")
+    completed = subprocess.run(words, capture_output=True, text=True)
+    assert (completed.returncode, completed.stderr) == (2, "vecmon-lab: doubles.s:3:9: there is no directive .macro\n")
     subprocess.run([*words, "--cc", clang.name, "--options", "stock"], check=True)
     text = page.read_text("utf-8")
     assert "<title>Doubles by a macro" in text and "The numbers 0 to 7." in text and "Three times." in text

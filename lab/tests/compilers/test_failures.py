@@ -49,8 +49,8 @@ def no_namespaces(tmp_path: pathlib.Path, monkeypatch: pytest.MonkeyPatch, sandb
 @pytest.mark.parametrize("report", ["--csv", "--junit", "--gradescope"])
 def test_grade_refuses_without_sandbox(no_namespaces: Compiler, lab: Lab, tmp_path: pathlib.Path, report: str) -> None:
     """`grade` ends with 2 and bwrap's own words, prints no mark and writes no report."""
-    words: list[object] = [report] if report == "--csv" else [report, tmp_path / "report"]
-    status, output, errors = lab("grade", "doubles", GOOD, *words)
+    arguments: list[object] = [report] if report == "--csv" else [report, tmp_path / "report"]
+    status, output, errors = lab("grade", "doubles", GOOD, *arguments)
     assert (status, output) == (2, b"") and not (tmp_path / "report").exists()
     assert errors.startswith(f"vecmon-lab: the sandbox of compilers doesn't start: {WORDS}")
 
@@ -221,10 +221,13 @@ def test_missing_package_is_explained(clang: Compiler, tmp_path: pathlib.Path) -
     """`profile x.c` without pyelftools names the package."""
     (tmp_path / "x.c").write_text(MAIN)
     code = "import sys; sys.modules['elftools'] = None; import vecmon_lab.__main__ as lab; sys.exit(lab.main())"
-    done = subprocess.run(
+    completed = subprocess.run(
         [sys.executable, "-c", code, "profile", str(tmp_path / "x.c")], capture_output=True, text=True
     )
-    assert done.returncode == 2 and "pyelftools isn't installed: apt-get install python3-pyelftools" in done.stderr
+    assert (
+        completed.returncode == 2
+        and "pyelftools isn't installed: apt-get install python3-pyelftools" in completed.stderr
+    )
 
 
 def _children(name: str) -> list[int]:

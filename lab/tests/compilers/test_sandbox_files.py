@@ -82,8 +82,8 @@ def messages(reply: bytes) -> list[Any]:
 def test_list_covers_imports() -> None:
     """In a new interpreter `sandbox_main` loads the modules of the list, and no other of the lab."""
     code = "import sys, vecmon_lab.compilers.sandbox_main; print(*(m.__file__ for n, m in sys.modules.items() if 'vecmon' in n))"
-    done = subprocess.run([sys.executable, "-c", code], capture_output=True, text=True, check=True)
-    loaded = {str(pathlib.Path(path).relative_to(LAB)) for path in done.stdout.split()}
+    completed = subprocess.run([sys.executable, "-c", code], capture_output=True, text=True, check=True)
+    loaded = {str(pathlib.Path(path).relative_to(LAB)) for path in completed.stdout.split()}
     assert loaded == {module for module in MODULES if module.endswith(".py")}
 
 

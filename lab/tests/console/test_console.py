@@ -41,9 +41,9 @@ def forever(tmp_path: pathlib.Path) -> pathlib.Path:
     return path
 
 
-def terminal(tmp_path: pathlib.Path, *words: object, **environment: str) -> Terminal:
+def terminal(tmp_path: pathlib.Path, *arguments: object, **environment: str) -> Terminal:
     """A console at a terminal."""
-    return Terminal([*CONSOLE, *map(str, words)], {"XDG_STATE_HOME": str(tmp_path / "state"), **environment})
+    return Terminal([*CONSOLE, *map(str, arguments)], {"XDG_STATE_HOME": str(tmp_path / "state"), **environment})
 
 
 def test_image_runs_to_exit() -> None:

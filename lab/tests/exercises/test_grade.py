@@ -86,9 +86,9 @@ def answer(name: str) -> pathlib.Path:
     return shown if shown.is_file() else DATA / "answers" / name
 
 
-def run_grade(*words: object, folder: pathlib.Path | None = None) -> "subprocess.CompletedProcess[str]":
+def run_grade(*arguments: object, folder: pathlib.Path | None = None) -> "subprocess.CompletedProcess[str]":
     """The command, with its outputs, in a folder."""
-    command = [sys.executable, "-m", "vecmon_lab", "grade", *map(str, words)]
+    command = [sys.executable, "-m", "vecmon_lab", "grade", *map(str, arguments)]
     return subprocess.run(command, capture_output=True, text=True, cwd=folder)
 
 
@@ -248,8 +248,8 @@ def test_unusable_answer_fails_with_reason(echo: Echo, content: str | bytes, nam
 
 
 def test_unreadable_answer_has_row(tmp_path: pathlib.Path) -> None:
-    done = run_grade("strlen", "--csv", tmp_path / "none", tmp_path, SUM, answer("typo.s"))
-    header, *rows = csv.reader(done.stdout.splitlines())
+    completed = run_grade("strlen", "--csv", tmp_path / "none", tmp_path, SUM, answer("typo.s"))
+    header, *rows = csv.reader(completed.stdout.splitlines())
     assert header[:4] == ["answer", "passed", "of", "short"] and header[-2:] == ["empty", "reason"]
     assert {tuple(row[1:8]) for row in rows[:2] + rows[3:]} == {("0", "5", *["fails"] * 5)}
     assert [row[-1] for row in rows[:2]] == [
@@ -257,7 +257,7 @@ def test_unreadable_answer_has_row(tmp_path: pathlib.Path) -> None:
         "it can't be read: Is a directory",
     ]
     assert rows[3][-1] == "typo.s:3:19: an operand is missing at the end; the form is vle16.v vd, (rs1)[, v0.t]"
-    assert (done.returncode, done.stderr) == (1, "")
+    assert (completed.returncode, completed.stderr) == (1, "")
 
 
 def test_manual_table_is_reproduced(monkeypatch: pytest.MonkeyPatch) -> None:
@@ -265,20 +265,20 @@ def test_manual_table_is_reproduced(monkeypatch: pytest.MonkeyPatch) -> None:
     command = "$ vecmon-lab grade saturating_sum answers/*; echo $?\n"
     shown = (DOCS / "GRADING.md").read_text("utf-8").partition(command)[2].partition("```")[0]
     monkeypatch.chdir(EXAMPLES)
-    done = run_grade("saturating_sum", *sorted(pathlib.Path("answers").iterdir()))
-    assert f"{done.stdout}{done.stderr}{done.returncode}\n" == shown
+    completed = run_grade("saturating_sum", *sorted(pathlib.Path("answers").iterdir()))
+    assert f"{completed.stdout}{completed.stderr}{completed.returncode}\n" == shown
 
 
 def test_excess_output_fails() -> None:
-    done = run_grade("saturating_sum", answer("talks.s"))
-    assert done.stdout.endswith("talks.s: it writes more than 4,096 bytes\n") and done.returncode == 1
+    completed = run_grade("saturating_sum", answer("talks.s"))
+    assert completed.stdout.endswith("talks.s: it writes more than 4,096 bytes\n") and completed.returncode == 1
 
 
 def test_parallel_grading_equals_single_grading() -> None:
     names = ["copy.s", "by_registers.s", "copy.script", "forever.s"]
-    done = run_grade("strip_mined_copy", "--rows", *(answer(name) for name in names * 6))
+    completed = run_grade("strip_mined_copy", "--rows", *(answer(name) for name in names * 6))
     alone = [run_grade("strip_mined_copy", "--rows", answer(name)) for name in names]
-    assert done.stdout == "".join(each.stdout for each in alone) * 6
+    assert completed.stdout == "".join(each.stdout for each in alone) * 6
     assert [each.returncode for each in alone] == [0, 1, 0, 1]
 
 
@@ -402,11 +402,11 @@ def test_non_file_is_refused(tmp_path: pathlib.Path) -> None:
     """A pipe would never end, and a link would show the first line of another file."""
     os.mkfifo(tmp_path / "pipe.s")
     (tmp_path / "link.s").symlink_to("/etc/passwd")
-    done = run_grade("strlen", tmp_path / "pipe.s", tmp_path / "link.s", "/dev/zero")
-    output = [line.rpartition(": ")[2] for line in done.stdout.splitlines()[-3:]]
+    completed = run_grade("strlen", tmp_path / "pipe.s", tmp_path / "link.s", "/dev/zero")
+    output = [line.rpartition(": ")[2] for line in completed.stdout.splitlines()[-3:]]
     no_file = "it is no regular file, and others aren't read"
     assert output == [no_file, "it is a link, and links aren't read", no_file]
-    assert "root:" not in done.stdout and done.returncode == 1
+    assert "root:" not in completed.stdout and completed.returncode == 1
 
 
 def test_reports_have_documented_formats(tmp_path: pathlib.Path) -> None:
@@ -415,8 +415,8 @@ def test_reports_have_documented_formats(tmp_path: pathlib.Path) -> None:
     odd.write_bytes(b"\0")
     shutil.copy(answer("wraps.s"), tmp_path / "wraps.s")
     words = ("saturating_sum", "--junit", "report.xml")
-    done = run_grade(*words, "--rows", "wraps.s", odd.name, folder=tmp_path)
-    assert done.stdout.splitlines()[1].startswith("'=HYPERLINK(1)<&.s,0,5,fails,")  # a text, and no formula
+    completed = run_grade(*words, "--rows", "wraps.s", odd.name, folder=tmp_path)
+    assert completed.stdout.splitlines()[1].startswith("'=HYPERLINK(1)<&.s,0,5,fails,")  # a text, and no formula
     suites = ElementTree.parse(tmp_path / "report.xml").getroot()
     assert [(suite.get("name"), suite.get("tests"), suite.get("failures")) for suite in suites] == [
         ("wraps.s", "5", "3"), (odd.name, "5", "5")
@@ -508,9 +508,9 @@ def test_bad_exercise_is_refused(program: pathlib.Path, tmp_path: pathlib.Path, 
 
 def test_bad_exercise_is_refused_in_one_line(tmp_path: pathlib.Path) -> None:
     (tmp_path / "exercise.toml").write_text("title =")
-    done = run_grade(tmp_path, answer("copy.s"))
-    assert (done.returncode, done.stdout) == (2, "")
-    assert done.stderr == f"vecmon-lab: {tmp_path}/exercise.toml: Invalid value (at end of document)\n"
+    completed = run_grade(tmp_path, answer("copy.s"))
+    assert (completed.returncode, completed.stdout) == (2, "")
+    assert completed.stderr == f"vecmon-lab: {tmp_path}/exercise.toml: Invalid value (at end of document)\n"
 
 
 def test_unknown_exercise_is_refused(tmp_path: pathlib.Path) -> None:
@@ -524,9 +524,9 @@ def test_unknown_exercise_is_refused(tmp_path: pathlib.Path) -> None:
 
 @pytest.mark.parametrize("name, near", [("double", "doubles"), ("strip_mine_copy", "strip_mined_copy")])
 def test_unknown_name_suggests_nearest(name: str, near: str) -> None:
-    done = run_grade(name, answer("copy.s"))
-    assert (done.returncode, done.stdout) == (2, "")
-    assert done.stderr == f"vecmon-lab: exercise '{name}' not found; did you mean '{near}'?\n"
+    completed = run_grade(name, answer("copy.s"))
+    assert (completed.returncode, completed.stdout) == (2, "")
+    assert completed.stderr == f"vecmon-lab: exercise '{name}' not found; did you mean '{near}'?\n"
 
 
 def test_course_and_folder_are_accepted(tmp_path: pathlib.Path, monkeypatch: pytest.MonkeyPatch) -> None:

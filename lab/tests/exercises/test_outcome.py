@@ -121,11 +121,11 @@ def shared() -> Iterator[pathlib.Path]:
     shutil.rmtree(folder)
 
 
-def grade_in_container(folder: pathlib.Path, answer: str, *words: str) -> "subprocess.CompletedProcess[str]":
+def grade_in_container(folder: pathlib.Path, answer: str, *arguments: str) -> "subprocess.CompletedProcess[str]":
     """The lab's `grade` of an answer in C, by root without the right to make namespaces."""
     (folder / "answer.c").write_text(answer)
     (folder / "answer.c").chmod(0o644)
-    command = [*AS_IN_A_CONTAINER, sys.executable, "-m", "vecmon_lab", "grade", "doubles", "answer.c", *words]
+    command = [*AS_IN_A_CONTAINER, sys.executable, "-m", "vecmon_lab", "grade", "doubles", "answer.c", *arguments]
     return subprocess.run(command, capture_output=True, text=True, cwd=folder)
 
 

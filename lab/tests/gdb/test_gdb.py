@@ -17,7 +17,7 @@ from support.images import make_image
 from support.skips import NO_GDB, leave_out
 from support.places import EXAMPLES, PREFIX_SUMS, SQUARES, STOCK, SUM, SUM_DWARF4, SUM_DWARF5, TOP
 from support.sources import ARGUMENTS, COUNTDOWN
-from support.terminal import MOST_SECONDS
+from support.terminal import MAX_SECONDS
 from vecmon_lab.compilers.compiler import Compiler
 
 GDB = [sys.executable, "-m", "vecmon_lab", "gdb"]
@@ -46,8 +46,8 @@ break:  ebreak
 class Packets:
     """The other end of the pipe, as gdb has it."""
 
-    def __init__(self, image: pathlib.Path, *words: str) -> None:
-        pipe, command = subprocess.PIPE, [*GDB, str(image), *words]
+    def __init__(self, image: pathlib.Path, *arguments: str) -> None:
+        pipe, command = subprocess.PIPE, [*GDB, str(image), *arguments]
         self.program = subprocess.Popen(command, cwd=TOP, stdin=pipe, stdout=pipe, stderr=pipe, bufsize=0)
         assert self.program.stdout
         self._source = self.program.stdout.fileno()
@@ -70,7 +70,7 @@ class Packets:
         """The next bytes, less of them at the end."""
         data = b""
         while len(data) < number:
-            assert select.select([self._source], [], [], MOST_SECONDS)[0], "nothing comes"
+            assert select.select([self._source], [], [], MAX_SECONDS)[0], "nothing comes"
             part = os.read(self._source, number - len(data))
             if not part:
                 break

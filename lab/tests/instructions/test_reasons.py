@@ -294,8 +294,8 @@ REASONS: list[tuple[str, ControlRegisters, list[str]]] = [
 def test_illegal_reasons_equal_hand_worked_reasons(program: pathlib.Path) -> None:
     """Each reason by hand from the manual's rules; the words are the machine's own for the text."""
     lines = ["1 enter", "1 map 10000 1 rwx", *(f"1 asm 10000 {text}" for text, _, _ in REASONS)]
-    done = subprocess.run([program], input="\n".join(lines).encode(), stdout=subprocess.PIPE, check=True)
-    words = [int(answer.split()[2], 16) for answer in done.stdout.decode().splitlines()[2:]]
+    completed = subprocess.run([program], input="\n".join(lines).encode(), stdout=subprocess.PIPE, check=True)
+    words = [int(answer.split()[2], 16) for answer in completed.stdout.decode().splitlines()[2:]]
     given = [(text, state, illegal_reasons(word, state)) for word, (text, state, _) in zip(words, REASONS)]
     assert given == REASONS
 
@@ -362,7 +362,7 @@ def test_vector_access_fault_names_element() -> None:
 
 
 @pytest.mark.parametrize(
-    "stop, word, text, words",
+    "stop, word, text, arguments",
     [
         ("break", 0x13, "addi x0, x0, 0", "at a breakpoint"),
         ("ebreak", 0x00100073, "ebreak", "at an ebreak"),
@@ -378,9 +378,9 @@ def test_vector_access_fault_names_element() -> None:
         ("fault cause=7", None, "", "fault at 0x10008"),
     ],
 )
-def test_stop_is_described_briefly(stop: str, word: int | None, text: str, words: str) -> None:
+def test_stop_is_described_briefly(stop: str, word: int | None, text: str, arguments: str) -> None:
     value = " value=0000000000020000" if stop.startswith("fault") else ""
-    assert brief_stop(position_of(f"1 {stop} pc=0000000000010008{value}"), word, view(32, "m2", 5), text) == words
+    assert brief_stop(position_of(f"1 {stop} pc=0000000000010008{value}"), word, view(32, "m2", 5), text) == arguments
 
 
 @pytest.mark.parametrize("line", ["", "1 ok", "1 E07", "1 out 0", "1 fault cause=3 pc=0000000000010008", "* granted 1"])

@@ -70,8 +70,8 @@ def test_breakpoint_covers_inlined_function(clang: Compiler, session: Session) -
 
 def test_listings_are_shown_side_by_side(lab: Lab, clang: Compiler, tmp_path: pathlib.Path) -> None:
     page, source = tmp_path / "page.html", KERNELS / "plain_sum.c"
-    words = ["lesson", str(source), "--cc", clang.name, "--against", "O2-scalar", "-o", str(page)]
-    assert lab(*words)[0] == 0
+    arguments = ["lesson", str(source), "--cc", clang.name, "--against", "O2-scalar", "-o", str(page)]
+    assert lab(*arguments)[0] == 0
     data = re.search(r'<script type="application/json" id="data">(.*)</script>', page.read_text("utf-8"))
     assert data
     reply = json.loads(data[1])
@@ -82,15 +82,15 @@ def test_listings_are_shown_side_by_side(lab: Lab, clang: Compiler, tmp_path: pa
 
 
 @pytest.mark.parametrize(
-    ("words", "expected"),
+    ("arguments", "expected"),
     [
         (["saxpy.c", "--against", "O7"], "O7 aren't options"),
         (["saxpy.c", "--against", "stock"], "stock is for assembler"),
         (["saxpy.c", "--against", "clang-1:O2"], "clang-1 is no compiler that is here"),
     ],
 )
-def test_unavailable_comparison_is_refused(lab: Lab, clang: Compiler, words: list[str], expected: str) -> None:
-    status, _, errors = lab("lesson", str(KERNELS / words[0]), *words[1:])
+def test_unavailable_comparison_is_refused(lab: Lab, clang: Compiler, arguments: list[str], expected: str) -> None:
+    status, _, errors = lab("lesson", str(KERNELS / arguments[0]), *arguments[1:])
     assert status == 2 and expected in errors
 
 

@@ -30,8 +30,8 @@ from vecmon_lab.tables.table import read_table
 
 def transcript(program: pathlib.Path, script: str) -> list[str]:
     """The output of a plain run of the program."""
-    done = subprocess.run([program], input=script.encode("utf-8"), stdout=subprocess.PIPE, check=True)
-    return done.stdout.decode("ascii").splitlines()
+    completed = subprocess.run([program], input=script.encode("utf-8"), stdout=subprocess.PIPE, check=True)
+    return completed.stdout.decode("ascii").splitlines()
 
 
 def logged(frames: list[Frame], mark: str) -> list[str]:
@@ -39,9 +39,9 @@ def logged(frames: list[Frame], mark: str) -> list[str]:
     return [entry[1:].split("\n")[0] for frame in frames for entry in frame.log if entry[0] == mark]
 
 
-def lab(*words: str, **variables: str) -> subprocess.CompletedProcess[str]:
+def lab(*arguments: str, **variables: str) -> subprocess.CompletedProcess[str]:
     """A run of `vecmon-lab`."""
-    command = [sys.executable, "-m", "vecmon_lab", *words]
+    command = [sys.executable, "-m", "vecmon_lab", *arguments]
     return subprocess.run(command, capture_output=True, text=True, env=os.environ | variables)
 
 
@@ -244,7 +244,7 @@ def test_page_files_do_not_close_their_elements() -> None:
 
 
 @pytest.mark.parametrize(
-    ("words", "mistake"),
+    ("arguments", "mistake"),
     [
         (["lesson", "{tmp}/none"], "{tmp}/none: No such file or directory"),
         (["lesson", "{tmp}/good", "x={tmp}/none"], "image x: there is no file {tmp}/none"),
@@ -256,28 +256,28 @@ def test_page_files_do_not_close_their_elements() -> None:
         (["tour", "{tmp}/good"], "{tmp}/good: File exists"),
     ],
 )
-def test_bad_input_is_refused_in_one_line(tmp_path: pathlib.Path, words: list[str], mistake: str) -> None:
+def test_bad_input_is_refused_in_one_line(tmp_path: pathlib.Path, arguments: list[str], mistake: str) -> None:
     (tmp_path / "good").write_text("1 enter\n")
     (tmp_path / "empty").write_text("## A title\n\n")
     (tmp_path / "label.s").write_text("nop\nj  nowhere\n")
     (tmp_path / "range.s").write_text(" vadd.vi v1, v2, 99\n")
-    done = lab(*(word.format(tmp=tmp_path) for word in words))
-    assert done.returncode == 2 and done.stdout == ""
-    assert done.stderr.startswith(f"vecmon-lab: {mistake.format(tmp=tmp_path)}")
-    assert done.stderr.count("\n") == 1
+    completed = lab(*(word.format(tmp=tmp_path) for word in arguments))
+    assert completed.returncode == 2 and completed.stdout == ""
+    assert completed.stderr.startswith(f"vecmon-lab: {mistake.format(tmp=tmp_path)}")
+    assert completed.stderr.count("\n") == 1
 
 
 def test_missing_program_is_refused(tmp_path: pathlib.Path) -> None:
     (tmp_path / "good").write_text("1 enter\n")
-    done = lab("lesson", str(tmp_path / "good"), VECMON="/nowhere/vecmon")
-    assert done.returncode == 2 and done.stderr.count("\n") == 1 and "/nowhere/vecmon" in done.stderr
+    completed = lab("lesson", str(tmp_path / "good"), VECMON="/nowhere/vecmon")
+    assert completed.returncode == 2 and completed.stderr.count("\n") == 1 and "/nowhere/vecmon" in completed.stderr
 
 
 @pytest.mark.by_command("lesson")
 def test_lesson_page_is_written(tmp_path: pathlib.Path) -> None:
     (tmp_path / "script").write_text("# <first>\n1 enter\n1 load sum\n")
-    done = lab("lesson", str(tmp_path / "script"), f"sum={SUM}", "-o", str(tmp_path / "page.html"))
-    assert (done.returncode, done.stdout, done.stderr) == (0, "", "")
+    completed = lab("lesson", str(tmp_path / "script"), f"sum={SUM}", "-o", str(tmp_path / "page.html"))
+    assert (completed.returncode, completed.stdout, completed.stderr) == (0, "", "")
     page = (tmp_path / "page.html").read_text("utf-8")
     assert page.startswith("<!doctype html>") and "1 loaded pc=" in page and "<first>" not in page
     assert lab("lesson", str(tmp_path / "script"), f"sum={SUM}").stdout == page
@@ -311,9 +311,11 @@ def test_tour_is_complete_without_reader(tmp_path: pathlib.Path) -> None:
     """As `tour DIR | head -0`: all files are written before the first line is printed."""
     source, end = os.pipe()
     os.close(source)
-    done = subprocess.run([sys.executable, "-m", "vecmon_lab", "tour", tmp_path], stdout=end, stderr=subprocess.PIPE)
+    completed = subprocess.run(
+        [sys.executable, "-m", "vecmon_lab", "tour", tmp_path], stdout=end, stderr=subprocess.PIPE
+    )
     os.close(end)
-    assert (done.returncode, done.stderr) == (141, b"")
+    assert (completed.returncode, completed.stderr) == (141, b"")
     assert {path.stem for path in tmp_path.iterdir()} == {"index", *tours()}
 
 

@@ -78,9 +78,9 @@ def test_every_command_is_tested_with_proved_program() -> None:
     assert sorted(marked) == sorted(start.COMMANDS)
 
 
-@pytest.mark.parametrize("words", [[], ["dance"], ["--dance"], ["help", "dance"]])
-def test_bad_arguments_are_refused(words: list[str]) -> None:
-    run = subprocess.run([sys.executable, "-m", "vecmon_lab", *words], cwd=TOP, capture_output=True, text=True)
+@pytest.mark.parametrize("arguments", [[], ["dance"], ["--dance"], ["help", "dance"]])
+def test_bad_arguments_are_refused(arguments: list[str]) -> None:
+    run = subprocess.run([sys.executable, "-m", "vecmon_lab", *arguments], cwd=TOP, capture_output=True, text=True)
     assert (run.returncode, run.stdout, run.stderr.count("\n")) == (2, "", 1)
     assert run.stderr.startswith("vecmon-lab: ")
 
@@ -112,8 +112,8 @@ def test_options_are_accepted_anywhere(words: list[str], expected: dict[str, obj
 )
 def test_arguments_after_image_belong_to_program(command: str, words: list[str], given: list[str]) -> None:
     """As qemu-riscv64 has them."""
-    befores: list[list[str]] = [[], ["--in", "file"], ["--in", "file", "--"]]
-    for before in befores:
+    prefixes: list[list[str]] = [[], ["--in", "file"], ["--in", "file", "--"]]
+    for before in prefixes:
         arguments = start.arguments_of([command, *before, "image", *words])
         assert (arguments.image, arguments.words) == (pathlib.Path("image"), given)
         assert arguments.input == (pathlib.Path("file") if before else None)
@@ -128,14 +128,14 @@ def test_option_after_image_is_refused(capsys: pytest.CaptureFixture[str], word:
     assert capsys.readouterr() == ("", "")
 
 
-@pytest.mark.parametrize("words", [["run", "--trace"], ["lesson", "-o"], ["profile", "-o"]])
+@pytest.mark.parametrize("arguments", [["run", "--trace"], ["lesson", "-o"], ["profile", "-o"]])
 def test_output_equal_to_input_is_refused(
-    monkeypatch: pytest.MonkeyPatch, capsys: pytest.CaptureFixture[str], tmp_path: pathlib.Path, words: list[str]
+    monkeypatch: pytest.MonkeyPatch, capsys: pytest.CaptureFixture[str], tmp_path: pathlib.Path, arguments: list[str]
 ) -> None:
     (tmp_path / "sum.csv").write_bytes(SUM.read_bytes())
     (tmp_path / "sum.html").symlink_to("sum.csv")
     monkeypatch.chdir(tmp_path)
-    monkeypatch.setattr(sys, "argv", ["vecmon-lab", *words, "sum.html", "sum.csv"])
+    monkeypatch.setattr(sys, "argv", ["vecmon-lab", *arguments, "sum.html", "sum.csv"])
     expected = "vecmon-lab: sum.html would be overwritten, and it is read here: name another file\n"
     assert (start.main(), *capsys.readouterr()) == (2, "", expected)
     assert (tmp_path / "sum.csv").read_bytes() == SUM.read_bytes()
@@ -149,7 +149,7 @@ def test_profile_csv_equal_to_input_is_refused(monkeypatch: pytest.MonkeyPatch, 
 
 
 @pytest.mark.parametrize(
-    "words, first, has",
+    "arguments, first, has",
     [
         (["help"], "usage: vecmon-lab [-h]", "a page that steps back and forth"),
         (["--help"], "usage: vecmon-lab [-h]", "a page that steps back and forth"),
@@ -157,22 +157,22 @@ def test_profile_csv_equal_to_input_is_refused(monkeypatch: pytest.MonkeyPatch, 
         (["run", "--help"], "usage: vecmon-lab run [-h]", "--trace FILE"),
     ],
 )
-def test_help_lists_arguments(capsys: pytest.CaptureFixture[str], words: list[str], first: str, has: str) -> None:
+def test_help_lists_arguments(capsys: pytest.CaptureFixture[str], arguments: list[str], first: str, has: str) -> None:
     with pytest.raises(SystemExit, match="0"):
-        start.arguments_of(words)
+        start.arguments_of(arguments)
     output = capsys.readouterr().out
     assert output.startswith(first) and has in output
 
 
 @pytest.mark.parametrize(
-    "module, words, library",
+    "module, arguments, library",
     [
         ("aiohttp", ["class", "x"], "aiohttp"),
         ("elftools.elf", ["run", str(SUM)], "pyelftools"),
     ],
 )
-def test_missing_library_is_reported(program: pathlib.Path, module: str, words: list[str], library: str) -> None:
-    code = f"import sys; sys.modules[{module!r}] = None; sys.argv[1:] = {words}; from vecmon_lab.__main__ import main; sys.exit(main())"
+def test_missing_library_is_reported(program: pathlib.Path, module: str, arguments: list[str], library: str) -> None:
+    code = f"import sys; sys.modules[{module!r}] = None; sys.argv[1:] = {arguments}; from vecmon_lab.__main__ import main; sys.exit(main())"
     run = subprocess.run([sys.executable, "-c", code], cwd=TOP, capture_output=True, text=True)
     assert (run.returncode, run.stdout) == (2, "")
     assert run.stderr.startswith(

@@ -132,7 +132,7 @@ def test_hanging_process_is_replaced(program: pathlib.Path) -> None:
 def test_interrupt_between_line_and_record_is_recovered(
     counting: Session, monkeypatch: pytest.MonkeyPatch, place: str
 ) -> None:
-    def interrupted(*words: object) -> bool:
+    def interrupted(*arguments: object) -> bool:
         raise KeyboardInterrupt
 
     with monkeypatch.context() as patch, pytest.raises(KeyboardInterrupt):

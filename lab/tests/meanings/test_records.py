@@ -87,9 +87,9 @@ def test_every_intrinsic_compiles(tmp_path: pathlib.Path, clang: Compiler) -> No
         "-o",
         "-",
     ]
-    done = subprocess.run([clang.name, *words, source], capture_output=True, text=True)
-    assert done.returncode == 0, done.stderr
-    bodies = dict(re.findall(r"^(f\d+):(.*?)^\.Lfunc_end", done.stdout, re.MULTILINE | re.DOTALL))
+    completed = subprocess.run([clang.name, *words, source], capture_output=True, text=True)
+    assert completed.returncode == 0, completed.stderr
+    bodies = dict(re.findall(r"^(f\d+):(.*?)^\.Lfunc_end", completed.stdout, re.MULTILINE | re.DOTALL))
     for function, name in names.items():
         used = set(re.findall(r"^\t(v[\w.]+)", bodies[function], re.MULTILINE))
         assert used & {*records()[name].members, "vsetivli"}, f"{name}: {used}"
@@ -97,7 +97,7 @@ def test_every_intrinsic_compiles(tmp_path: pathlib.Path, clang: Compiler) -> No
 
 
 @pytest.mark.parametrize(
-    "words, first, others",
+    "arguments, first, others",
     [
         ("add with carry", "vadc", set()),
         ("reverse", "vrsub", {"vrgather"}),
@@ -106,8 +106,8 @@ def test_every_intrinsic_compiles(tmp_path: pathlib.Path, clang: Compiler) -> No
         ("end of a string", "vfirst", set()),
     ],
 )
-def test_search_finds_records(words: str, first: str, others: set[str]) -> None:
-    names = [record.name for record in found(words)]
+def test_search_finds_records(arguments: str, first: str, others: set[str]) -> None:
+    names = [record.name for record in found(arguments)]
     assert first in names and others <= {*names}
 
 

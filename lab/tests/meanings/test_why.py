@@ -156,7 +156,7 @@ def test_every_element_of_tour_and_course_is_explained(program: pathlib.Path) ->
                     wrong += unexplained(before, stepper, retired)
                     if retired.stop:
                         break
-    assert wrong == [] and all(counts[name] >= least for name, least in STEPS.items()), counts
+    assert wrong == [] and all(counts[name] >= minimum for name, minimum in STEPS.items()), counts
 
 
 def test_console_explains_element(tmp_path: pathlib.Path) -> None:

@@ -93,6 +93,25 @@ def test_mistake_links_to_source_location(sit: Sit) -> None:
     assert tab.run("document.activeElement.id") == "source"
 
 
+def _paste_long_sources(tab: Tab, put: str) -> None:
+    """Sources above the limit are refused."""
+    tab.click("#show-source")
+    for text in ("nop\n" * 16384 + "#", "#" * 6_000_000):  # the second one has no room in the tab's storage
+        tab.run("id('source').value = ''")
+        tab.run(put, "source", text)
+        tab.click("#assemble")
+        assert f"This source has {len(text):,} characters, and 65,536 are taken at most" in tab.text("#stop")
+
+
+def _paste_longest_source(tab: Tab, put: str) -> None:
+    """A source at the limit is assembled."""
+    tab.run("id('source').value = ''")
+    tab.run(put, "source", "nop\n" * 1000 + "#" * 61536)
+    assert tab.run("id('source').maxLength") == -1 and tab.run("id('source').value.length") == 65536
+    tab.click("#assemble")
+    tab.wait("!id('listing').hidden && id('listing').textContent.includes('10000')")
+
+
 def test_pasted_text_is_taken_or_refused(sit: Sit, served: Served) -> None:
     """A source and lines are taken as they are, or refused in a sentence before anything is sent."""
     from selenium.webdriver.common.keys import Keys
@@ -129,18 +148,33 @@ def test_pasted_text_is_taken_or_refused(sit: Sit, served: Served) -> None:
         teacher.run(put, "operator-line", text)
         teacher.keys("#operator-line", Keys.ENTER)
         assert teacher.text("#gone").replace("`", "") == expected
-    tab.click("#show-source")
-    for text in ("nop\n" * 16384 + "#", "#" * 6_000_000):  # the second one has no room in the tab's storage
-        tab.run("id('source').value = ''")
-        tab.run(put, "source", text)
-        tab.click("#assemble")
-        assert f"This source has {len(text):,} characters, and 65,536 are taken at most" in tab.text("#stop")
+    _paste_long_sources(tab, put)
     assert served.fetch("A/script") == script
-    tab.run("id('source').value = ''")
-    tab.run(put, "source", "nop\n" * 1000 + "#" * 61536)
-    assert tab.run("id('source').maxLength") == -1 and tab.run("id('source').value.length") == 65536
-    tab.click("#assemble")
-    tab.wait("!id('listing').hidden && id('listing').textContent.includes('10000')")
+    _paste_longest_source(tab, put)
+
+
+def _check_help(tab: Tab) -> None:
+    """`help` describes a command or an instruction in the browser alone; a line that is typed has a hint."""
+    from selenium.webdriver.common.keys import Keys
+
+    tab.keys("#line", "help peek\n")
+    assert tab.text("#stop") == "peek ADDR N: prints 1 to 256 bytes from ADDR"
+    assert tab.run("!id('reference').hidden && one('#entries code').textContent") == "peek ADDR N"
+    tab.keys("#line", "help vadd.vi\n")
+    expected = "Adds the elements of vs1 to those of vs2; the sums wrap around. vd[i] = vs2[i] + vs1[i]"
+    assert tab.text("#stop") == f"vadd.vi vd, vs2, imm[, v0.t]: {expected}"
+    tab.keys("#line", "help vfadd.vv\n")
+    assert tab.text("#stop").startswith("vfadd.vv: Floating point isn't supported")
+    tab.keys("#line", "help dance\n")
+    assert "no command and no instruction dance" in tab.text("#stop")
+    tab.keys("#line", "pe")
+    assert tab.text("#hint") == ""
+    tab.keys("#line", "ek 10000")
+    tab.keys("#line", Keys.HOME)
+    tab.wait("id('hint').textContent.startsWith('peek ADDR N')")
+    tab.keys("#line", Keys.CONTROL, "a", Keys.NULL, Keys.DELETE, Keys.F1)
+    tab.wait("all('#entries code').length > 700 && all('#entries h3').length === 7")
+    assert "help" not in tab.text("#log")
 
 
 def test_first_view_and_keys_work(sit: Sit) -> None:
@@ -173,24 +207,7 @@ def test_first_view_and_keys_work(sit: Sit) -> None:
             tab.run("document.activeElement.id") == box
             and tab.run("one(`#at-${arguments[0]}`).dataset.edit", box) == place
         )
-    tab.keys("#line", "help peek\n")
-    assert tab.text("#stop") == "peek ADDR N: prints 1 to 256 bytes from ADDR"
-    assert tab.run("!id('reference').hidden && one('#entries code').textContent") == "peek ADDR N"
-    tab.keys("#line", "help vadd.vi\n")
-    expected = "Adds the elements of vs1 to those of vs2; the sums wrap around. vd[i] = vs2[i] + vs1[i]"
-    assert tab.text("#stop") == f"vadd.vi vd, vs2, imm[, v0.t]: {expected}"
-    tab.keys("#line", "help vfadd.vv\n")
-    assert tab.text("#stop").startswith("vfadd.vv: Floating point isn't supported")
-    tab.keys("#line", "help dance\n")
-    assert "no command and no instruction dance" in tab.text("#stop")
-    tab.keys("#line", "pe")
-    assert tab.text("#hint") == ""
-    tab.keys("#line", "ek 10000")
-    tab.keys("#line", Keys.HOME)
-    tab.wait("id('hint').textContent.startsWith('peek ADDR N')")
-    tab.keys("#line", Keys.CONTROL, "a", Keys.NULL, Keys.DELETE, Keys.F1)
-    tab.wait("all('#entries code').length > 700 && all('#entries h3').length === 7")
-    assert "help" not in tab.text("#log")
+    _check_help(tab)
 
 
 def test_layout_follows_window_size(sit: Sit) -> None:

@@ -59,7 +59,7 @@ def test_lesson_steps_forwards_and_backwards(
         reply = follower.state_after(frame)
         if reply:
             for register, group in groups.items():
-                assert group["cells"] >= reply.most
+                assert group["cells"] >= reply.vlmax
                 assert group["tail"] == group["cells"] - reply.vl
                 assert group["prestart"] == min(reply.vstart, reply.vl)
                 assert group["masked"] == reply.masked.get(int(register), 0)

@@ -21,7 +21,7 @@ def empty(tab: Tab, field: str = "source") -> None:
     tab.keys(f"#{field}", Keys.CONTROL, "a", Keys.NULL, Keys.DELETE)
 
 
-def begin_a_line(tab: Tab) -> None:
+def start_line(tab: Tab) -> None:
     """Type the beginning of a name, for which the page then offers several."""
     empty(tab)
     tab.keys("#source", "loop: vadd.v")
@@ -40,7 +40,7 @@ def type_on(tab: Tab) -> None:
 
 def test_editor_completes_and_highlights(sit: Sit) -> None:
     tab = sit("A1")
-    begin_a_line(tab)
+    start_line(tab)
     offered = "all('#editor .choices li').map((item) => item.textContent)"
     assert tab.run(offered) == [
         f"vadd.v{kind} vd, vs2, {last}[, v0.t]" for kind, last in (("i", "imm"), ("v", "vs1"), ("x", "rs1"))
@@ -62,7 +62,7 @@ def test_tab_indents_and_undo_survives_write(sit: Sit) -> None:
     from selenium.webdriver.common.keys import Keys
 
     tab = sit("A7")
-    begin_a_line(tab)
+    start_line(tab)
     type_on(tab)
     tab.keys("#source", Keys.SHIFT, Keys.TAB)
     assert tab.run(TEXT).endswith("\nfro")

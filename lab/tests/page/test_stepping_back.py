@@ -1,17 +1,28 @@
 """A class's page goes back through what it saw, and asks where something would be lost."""
 
 from page.conftest import Sit
+from support.class_pages import Tab
 
 SHOWN_ADDRESS = "one('#listing .told')?.dataset.address"
 V1 = "all(\"#elements [data-register='1'] td\").map((cell) => cell.firstChild.data).join(' ')"
 DOUBLES = "vsetivli zero, 8, e32, m1, ta, ma\nvid.v v1\nvadd.vv v2, v1, v1\nli a0, 7\nebreak\n"
 
 
-def test_steps_back_and_forth(sit: Sit) -> None:
-    """An earlier state is shown, plainly as the past, where nothing can be done; Now returns, and so does a line."""
+def _check_read_only(tab: Tab) -> None:
+    """An earlier state can't be changed."""
     from selenium.webdriver.common.keys import Keys
 
-    tab, teacher = sit("A1"), sit("teacher")
+    asked = tab.run("all('#log .asked').length")
+    for button in ("one", "many", "go", "again", "new"):
+        assert tab.run("id(arguments[0]).matches(':disabled')", button)
+    tab.keys("#listing", Keys.F8, Keys.F9)
+    tab.click("#listing [data-address='10008'] .text")
+    tab.click("[data-edit='set x10']")
+    assert tab.run("all('#log .asked').length") == asked and not tab.run("id('edit').open || one('.breakpoint')")
+
+
+def _step_thrice(tab: Tab, teacher: Tab) -> None:
+    """Step a source at a seat that the teacher watches."""
     tab.run("id('source').value = arguments[0]", DOUBLES)
     tab.click("#assemble")
     tab.wait("one('#listing .next')")
@@ -21,13 +32,18 @@ def test_steps_back_and_forth(sit: Sit) -> None:
         tab.click("#one")
         tab.wait(f"{SHOWN_ADDRESS} === arguments[0]", address)
         teacher.wait(f"{SHOWN_ADDRESS} === arguments[0]", address)
+
+
+def test_steps_back_and_forth(sit: Sit) -> None:
+    """An earlier state is shown, plainly as the past, where nothing can be done; Now returns, and so does a line."""
+    from selenium.webdriver.common.keys import Keys
+
+    tab, teacher = sit("A1"), sit("teacher")
+    _step_thrice(tab, teacher)
     for page in (tab, teacher):
         assert page.run("[id('forth').disabled, id('now').disabled, id('says-past').hidden]") == [True, True, True]
         page.click("#backward")
-        assert page.run(f"[{SHOWN_ADDRESS}, id('says-past').textContent]") == [
-            "10004",
-            "This is the past, one moment ago.",
-        ]
+        assert page.run(SHOWN_ADDRESS) == "10004" and page.text("#says-past") == "This is the past, one moment ago."
     tab.keys("#listing", Keys.F7)
     assert tab.run(SHOWN_ADDRESS) == "10000" and "2 moments" in tab.text("#says-past")
     assert "vsetivli" in tab.text("#step") and tab.run("id('facts').textContent.includes('vl8 of 8')")
@@ -35,13 +51,7 @@ def test_steps_back_and_forth(sit: Sit) -> None:
     assert tab.run(seen) == "stepped 1 pc=0000000000010004"
     tab.keys("#listing", Keys.SHIFT, Keys.F7, Keys.NULL)
     assert tab.run(SHOWN_ADDRESS) == "10004" and tab.run(V1) == " ".join(f"{element:08x}" for element in range(8))
-    asked = tab.run("all('#log .asked').length")
-    for button in ("one", "many", "go", "again", "new"):
-        assert tab.run("id(arguments[0]).matches(':disabled')", button)
-    tab.keys("#listing", Keys.F8, Keys.F9)
-    tab.click("#listing [data-address='10008'] .text")
-    tab.click("[data-edit='set x10']")
-    assert tab.run("all('#log .asked').length") == asked and not tab.run("id('edit').open || one('.breakpoint')")
+    _check_read_only(tab)
     tab.keys("#listing", Keys.ESCAPE)
     assert (
         tab.run(SHOWN_ADDRESS) == "10008"

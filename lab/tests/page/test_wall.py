@@ -66,18 +66,8 @@ def test_codes_are_shown_and_printed(sit: Sit, served: Served) -> None:
     assert teacher.run("Object.values({ ...sessionStorage, ...localStorage })") == [teacher_code]
 
 
-def test_wall_shows_seat_without_codes(tabs: "Chrome", served: Served) -> None:
-    """It fills the screen with vectors and six lines; no other code is in its page, state, frames or address."""
-    codes = served.codes
-    tab, teacher = Tab(tabs, served, "A7"), Tab(tabs, served, "teacher")
-    wall = Tab(tabs, served, "wall", KEEP)
-    assert "shows no seat" in wall.text("#who") and not wall.run("id('desk').checkVisibility()")
-    tab.begin("vsetivli x0, 8, e16, m2, ta, ma", *["vadd.vi v2, v2, 3"] * 20)
-    teacher.choose("#on-wall", "A7")
-    wall.wait("id('who').textContent === 'Seat A7' && id('desk').checkVisibility()")
-    tab.run("id('number').value = 12")
-    tab.click("#many")
-    wall.wait("one('#listing .told')?.dataset.address === '1002c'")
+def _check_layout(wall: Tab) -> None:
+    """Six lines and the vectors fill each screen, in large letters and with contrast."""
     rows = """((box) => all('#listing tr[data-address]').filter((row) => row.getBoundingClientRect().top >= box.top - 2 &&
         row.getBoundingClientRect().bottom <= box.bottom + 2))(id('listing').getBoundingClientRect())"""
     try:
@@ -98,6 +88,21 @@ def test_wall_shows_seat_without_codes(tabs: "Chrome", served: Served) -> None:
     finally:
         media(wall.browser)
         wall.browser.execute_cdp_cmd("Emulation.clearDeviceMetricsOverride", {})
+
+
+def test_wall_shows_seat_without_codes(tabs: "Chrome", served: Served) -> None:
+    """It fills the screen with vectors and six lines; no other code is in its page, state, frames or address."""
+    codes = served.codes
+    tab, teacher = Tab(tabs, served, "A7"), Tab(tabs, served, "teacher")
+    wall = Tab(tabs, served, "wall", KEEP)
+    assert "shows no seat" in wall.text("#who") and not wall.run("id('desk').checkVisibility()")
+    tab.begin("vsetivli x0, 8, e16, m2, ta, ma", *["vadd.vi v2, v2, 3"] * 20)
+    teacher.choose("#on-wall", "A7")
+    wall.wait("id('who').textContent === 'Seat A7' && id('desk').checkVisibility()")
+    tab.run("id('number').value = 12")
+    tab.click("#many")
+    wall.wait("one('#listing .told')?.dataset.address === '1002c'")
+    _check_layout(wall)
     teacher.click("#show-codes")
     teacher.click("tr[data-seat='A2'] [aria-label^='New code']")
     teacher.click("#yes")

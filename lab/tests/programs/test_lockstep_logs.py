@@ -195,8 +195,8 @@ def test_new_qemu_difference_is_located(
 def test_truncated_qemu_log_is_reported(lab: Lab, newer: tuple[pathlib.Path, str]) -> None:
     image, text = newer
     head, *states = text.split(" pc  ")
-    goes_on = "3 instructions agree, and then the log is truncated: the program goes on at 1000c"
-    error = f"vecmon-lab: {image.with_name('log')}: {goes_on}. Record all of it, or less of the program\n"
+    continues = "3 instructions agree, and then the log is truncated: the program goes on at 1000c"
+    error = f"vecmon-lab: {image.with_name('log')}: {continues}. Record all of it, or less of the program\n"
     inside = " pc  ".join([head, *states[:4]]) + " pc  " + states[4][:1500]
     assert compared(lab, image, inside) == (2, [], error)
     assert compared(lab, image, inside[: inside.rindex("\n") + 1]) == (2, [], error)

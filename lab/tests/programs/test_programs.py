@@ -43,9 +43,9 @@ def test_faults_on_qemu(lab: Lab, tmp_path: pathlib.Path) -> None:
 
 def test_equal_seeds_give_equal_programs(lab: Lab, tmp_path: pathlib.Path) -> None:
     folders = [tmp_path / name for name in ("one", "same", "choices")]
-    words = ["--count", "2", "--length", "100", "--seed", "7"]
+    arguments = ["--count", "2", "--length", "100", "--seed", "7"]
     for folder in folders:
-        assert lab("programs", folder, *words, *(["--choices"] if folder.name == "choices" else []))[0] == 0
+        assert lab("programs", folder, *arguments, *(["--choices"] if folder.name == "choices" else []))[0] == 0
     one, same, choices = ([path.read_bytes() for path in sorted(folder.iterdir())] for folder in folders)
     assert one == same and len(one) == 6 and one[0] != one[3] and one[0] != choices[0]
 

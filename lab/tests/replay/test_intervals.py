@@ -5,7 +5,7 @@ import subprocess
 
 from support.images import make_image
 from vecmon_lab.machine.program import find_recorder
-from vecmon_lab.replay.intervals import MOST_TICKS
+from vecmon_lab.replay.intervals import MAX_TICKS
 
 # A group of 256 elements, the largest one, at the end of the stack; of the second load the last element faults.
 SOURCE = """\
@@ -29,4 +29,4 @@ def test_instruction_takes_at_most_256_ticks(program: pathlib.Path, tmp_path: pa
     lines = [line.split() for line in counts.read_text("ascii").splitlines()]
     ticks = [int(line[4]) for line in lines if line[0] == "at"]
     assert ticks == [1] * 5 + [256] * 4
-    assert MOST_TICKS == 256
+    assert MAX_TICKS == 256

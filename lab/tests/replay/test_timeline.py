@@ -267,7 +267,7 @@ def test_back_beyond_limit_is_refused(
     """1,000 ticks are more than 999."""
     timeline, guest = start(COUNTDOWN)
     assert timeline.go(never) == Stop("ebreak", 0x10018)
-    monkeypatch.setattr("vecmon_lab.replay.timeline.MOST_BACK", 999)
+    monkeypatch.setattr("vecmon_lab.replay.timeline.MAX_BACK", 999)
     with pytest.raises(LabError, match="no way back into a run of more than 200,000,000 ticks"):
         timeline.back()
     assert state(guest) == (0x10018, 0, 3, 1)

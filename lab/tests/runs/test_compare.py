@@ -259,9 +259,9 @@ def test_endless_program_is_compared(lab: Lab, program: pathlib.Path, tmp_path: 
     assert (status, output.decode().splitlines()) == (124, alike(first))
 
 
-@pytest.mark.parametrize("words", [[], ["none"], [STOCK / "short"], ["--ticks", "none", SUM]])
-def test_bad_input_is_refused(lab: Lab, words: list[object]) -> None:
-    status, output, errors = lab("compare", *words)
+@pytest.mark.parametrize("arguments", [[], ["none"], [STOCK / "short"], ["--ticks", "none", SUM]])
+def test_bad_input_is_refused(lab: Lab, arguments: list[object]) -> None:
+    status, output, errors = lab("compare", *arguments)
     assert (status, output, errors.count("\n")) == (2, b"", 1)
 
 

@@ -13,9 +13,9 @@ from vecmon_lab.harness.elf import Segment, elf
 BY_HAND = TOP / "tests" / "recordings" / "data"
 
 
-def image_of(path: pathlib.Path, words: tuple[int, ...], data: int) -> pathlib.Path:
+def image_of(path: pathlib.Path, arguments: tuple[int, ...], data: int) -> pathlib.Path:
     """Writes an image of these words at 1000, and of a page of zeros at another address."""
-    code = b"".join(word.to_bytes(4, "little") for word in words)
+    code = b"".join(word.to_bytes(4, "little") for word in arguments)
     path.write_bytes(elf(0x1000, [Segment(0x1000, code, len(code), 5), Segment(data, b"", 4096, 6)], {}))
     return path
 
@@ -59,7 +59,7 @@ def test_log_is_truncated_when_recording_starts(lab: Lab, tmp_path: pathlib.Path
 
 
 @pytest.mark.parametrize(
-    "words, expected",
+    "arguments, expected",
     [
         (["--log", "log"], "a log needs --ticks or --to, so that it has an end, unless FILE begins with /dev/"),
         (
@@ -75,8 +75,8 @@ def test_log_is_truncated_when_recording_starts(lab: Lab, tmp_path: pathlib.Path
     ],
 )
 def test_bad_options_are_refused(
-    lab: Lab, monkeypatch: pytest.MonkeyPatch, tmp_path: pathlib.Path, words: list[str], expected: str
+    lab: Lab, monkeypatch: pytest.MonkeyPatch, tmp_path: pathlib.Path, arguments: list[str], expected: str
 ) -> None:
     monkeypatch.chdir(tmp_path)
-    status, _, errors = lab("run", *words, SUM)
+    status, _, errors = lab("run", *arguments, SUM)
     assert (status, errors) == (2, f"vecmon-lab: {expected}\n")

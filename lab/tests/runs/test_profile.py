@@ -209,7 +209,7 @@ def test_flame_graph_has_frames(
 
 
 @pytest.mark.parametrize(
-    "words, expected",
+    "arguments, expected",
     [
         (["none"], "vecmon-lab: none: No such file or directory"),
         ([STOCK / "short"], f"vecmon-lab: {STOCK}/short: the machine refuses image (E09 Short)"),
@@ -217,8 +217,8 @@ def test_flame_graph_has_frames(
         (["-o", STOCK / "none" / "page.html", SUM], f"vecmon-lab: {STOCK}/none/page.csv: No such file or directory"),
     ],
 )
-def test_bad_input_is_refused(lab: Lab, words: list[object], expected: str) -> None:
-    status, _, errors = lab("profile", *words)
+def test_bad_input_is_refused(lab: Lab, arguments: list[object], expected: str) -> None:
+    status, _, errors = lab("profile", *arguments)
     assert (status, errors.count("\n")) == (2, 1) and errors.startswith(expected)
 
 

@@ -136,7 +136,7 @@ def test_output_streams_and_ctrl_c_ends_run(program: pathlib.Path, tmp_path: pat
 
 
 @pytest.mark.parametrize(
-    "words, expected",
+    "arguments, expected",
     [
         ([], "vecmon-lab run: the following arguments are required: IMAGE; --help says more"),
         (["--ticks", "0", SUM], "vecmon-lab run: argument --ticks: 0 is no number from 1 to 9223372036854775808; "),
@@ -156,8 +156,8 @@ def test_output_streams_and_ctrl_c_ends_run(program: pathlib.Path, tmp_path: pat
         ([SUM, "x" * 9000], f"vecmon-lab: {SUM}: arguments take 8,192 bytes of the stack at most"),
     ],
 )
-def test_bad_input_is_refused(lab: Lab, words: list[object], expected: str) -> None:
-    status, output, errors = lab("run", *words)
+def test_bad_input_is_refused(lab: Lab, arguments: list[object], expected: str) -> None:
+    status, output, errors = lab("run", *arguments)
     assert (status, output, errors.count("\n")) == (2, b"", 1)
     assert errors.startswith(expected)
 

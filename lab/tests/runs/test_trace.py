@@ -88,9 +88,9 @@ class State:
         self.vectors[place : place + len(data)] = data
 
 
-def traced(lab: Lab, folder: pathlib.Path, image: pathlib.Path, *words: str) -> list[str]:
+def traced(lab: Lab, folder: pathlib.Path, image: pathlib.Path, *arguments: str) -> list[str]:
     """The lines of a trace, by these words."""
-    lab("run", "--trace", folder / "trace", *words, image)
+    lab("run", "--trace", folder / "trace", *arguments, image)
     return (folder / "trace").read_text().splitlines()
 
 
@@ -127,7 +127,7 @@ def test_stopping_instruction_is_last_line(lab: Lab, program: pathlib.Path, tmp_
 
 
 @pytest.mark.parametrize(
-    "words, expected",
+    "arguments, expected",
     [
         (["--from", "2"], "--from and --to are of a trace or a log: --trace FILE or --log FILE names its file"),
         (["--to", "2"], "--from and --to are of a trace or a log: --trace FILE or --log FILE names its file"),
@@ -136,8 +136,8 @@ def test_stopping_instruction_is_last_line(lab: Lab, program: pathlib.Path, tmp_
     ],
 )
 def test_bad_window_is_refused(
-    lab: Lab, monkeypatch: pytest.MonkeyPatch, tmp_path: pathlib.Path, words: list[str], expected: str
+    lab: Lab, monkeypatch: pytest.MonkeyPatch, tmp_path: pathlib.Path, arguments: list[str], expected: str
 ) -> None:
     monkeypatch.chdir(tmp_path)
-    status, _, errors = lab("run", *words, SUM)
+    status, _, errors = lab("run", *arguments, SUM)
     assert (status, errors) == (2, f"vecmon-lab: {expected}\n")

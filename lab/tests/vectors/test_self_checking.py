@@ -46,8 +46,8 @@ def cases_of(folder: pathlib.Path, name: str) -> list[dict[str, Any]]:
 
 def output_of(words: list[str | pathlib.Path]) -> tuple[int, list[str]]:
     """The status of a program, and its lines of output."""
-    done = subprocess.run(words, stdout=subprocess.PIPE, text=True)
-    return done.returncode, done.stdout.splitlines()
+    completed = subprocess.run(words, stdout=subprocess.PIPE, text=True)
+    return completed.returncode, completed.stdout.splitlines()
 
 
 def differing(lines: list[str], reference: pathlib.Path) -> list[int]:
@@ -117,8 +117,8 @@ def test_stock_assembler_makes_same_program(lab: Lab, tmp_path: pathlib.Path, en
     """Of each kind of instruction; and the programs leave the same signature."""
     if not shutil.which("riscv64-linux-gnu-ld"):
         leave_out(NO_BINUTILS)
-    words = ["--cases", "12", "--environment", environment, "--asm", tmp_path, "--elf", tmp_path]
-    assert lab("vectors", *NAMES, *words)[0] == 0
+    arguments = ["--cases", "12", "--environment", environment, "--asm", tmp_path, "--elf", tmp_path]
+    assert lab("vectors", *NAMES, *arguments)[0] == 0
     for source in tmp_path.glob("*.s"):
         made, linked = source.with_suffix(".o"), source.with_suffix(".linked")
         options = next(line for line in source.read_text("ascii").splitlines() if "-Wl" in line).partition("-Wl,")[2]

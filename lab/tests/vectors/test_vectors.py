@@ -165,7 +165,7 @@ def test_the_program_for_qemu_is_what_its_texts_say(session: Session) -> None:
 
 
 @pytest.mark.parametrize(
-    "words, message",
+    "arguments, message",
     [
         (["vadd.vw"], "there is no instruction vadd.vw: docs/INSTRUCTIONS.md lists them, and all means each one"),
         ([".word"], "there is no instruction .word: docs/INSTRUCTIONS.md lists them, and all means each one"),
@@ -174,9 +174,11 @@ def test_the_program_for_qemu_is_what_its_texts_say(session: Session) -> None:
         (["add", "--cases", "0"], "--cases takes a number from 1 up"),
     ],
 )
-def test_bad_arguments_are_refused_in_one_line(words: list[str], message: str) -> None:
-    done = subprocess.run([sys.executable, "-m", "vecmon_lab", "vectors", *words], capture_output=True, text=True)
-    assert (done.returncode, done.stdout, done.stderr) == (2, "", f"vecmon-lab: {message}\n")
+def test_bad_arguments_are_refused_in_one_line(arguments: list[str], message: str) -> None:
+    completed = subprocess.run(
+        [sys.executable, "-m", "vecmon_lab", "vectors", *arguments], capture_output=True, text=True
+    )
+    assert (completed.returncode, completed.stdout, completed.stderr) == (2, "", f"vecmon-lab: {message}\n")
 
 
 def test_command_prints_one_line_per_case(program: pathlib.Path) -> None:

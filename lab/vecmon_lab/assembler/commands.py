@@ -52,7 +52,7 @@ def help_on(name: str) -> list[str]:
     return [f"{command.form}: {command.does}", *own]
 
 
-def refusal_in_words(line: str, answer: Refused) -> list[str]:
+def explain_refusal(line: str, answer: Refused) -> list[str]:
     """The meaning of a line's refusal. Below a text that is no instruction, the wrong part is marked."""
     word = "".join(words_of(line)[:1])
     own, other, whose = (f"* {word}", word, "a user") if line[0] == "*" else (word, f"* {word}", "the operator")
@@ -83,7 +83,7 @@ def refusal_on_pages(line: str, answer: Sequence[str]) -> str:
     said = read(answer) if is_refusal(answer) else None
     if not isinstance(said, Refused):
         return ""
-    *marked, sentence = refusal_in_words(line, said)
+    *marked, sentence = explain_refusal(line, said)
     return "`{}\n{}`\n{}".format(*marked, sentence) if marked else sentence
 
 

@@ -75,8 +75,8 @@ def constant_steps(value: int) -> list[Operation]:
     if -32 <= value >> zeros < 32:
         ways.reverse()
     if value & 0x1800 == 0x1000 and value & 0x7FF:
-        least = (value & 0x7FF) - 0x800
-        ways.append(_plain_steps(_signed(value - least, 64)) + [("addi", least)])
+        minimum = (value & 0x7FF) - 0x800
+        ways.append(_plain_steps(_signed(value - minimum, 64)) + [("addi", minimum)])
     if value > 0:
         ways += _steps_with_leading_zeros(value)
     if value < -1:

@@ -18,7 +18,7 @@ from .value import Section, Symbols, Value
 
 __all__ = ["Program", "SourceError", "Statement", "assemble", "in_order", "read_source", "refusal"]
 
-MOST_MISTAKES = 100
+MAX_MISTAKES = 100
 
 _USER_PAGES = 256
 _WIDTHS = {".byte": 1, ".half": 2, ".word": 4, ".dword": 8}
@@ -29,7 +29,7 @@ _STRINGS = {".ascii": b"", ".asciz": b"\0", ".string": b"\0"}  # and what ends t
 class Program:
     """Lines of the monitor (map, asm, poke) behind digit and space, addresses by label, where the program begins.
 
-    mistakes: of form, one for a line of the source and MOST_MISTAKES at most, in order; with any there are no lines
+    mistakes: of form, one for a line of the source and MAX_MISTAKES at most, in order; with any there are no lines
     """
 
     lines: list[str]
@@ -83,7 +83,7 @@ def read_source(text: str, origin: int = 0x10000) -> Program:
         raise ValueError(f"{origin:#x} is no multiple of {PAGE_BYTES} with room for {_USER_PAGES} pages below 2^48")
     assembler = _Assembler()
     for number, line in enumerate(text.split("\n"), 1):
-        if len(assembler.mistakes) == MOST_MISTAKES:
+        if len(assembler.mistakes) == MAX_MISTAKES:
             return Program([], {}, [], origin, list(assembler.mistakes.values()))
         assembler.read(line.removesuffix("\r"), number)
     return assembler.finish(origin)
@@ -91,7 +91,7 @@ def read_source(text: str, origin: int = 0x10000) -> Program:
 
 def in_order(mistakes: Iterable[SourceError]) -> list[SourceError]:
     """The first mistakes, in the order of the source."""
-    return sorted(mistakes, key=lambda mistake: (mistake.line, mistake.column))[:MOST_MISTAKES]
+    return sorted(mistakes, key=lambda mistake: (mistake.line, mistake.column))[:MAX_MISTAKES]
 
 
 class _Assembler:
@@ -181,8 +181,8 @@ class _Assembler:
         self._section.size += size
         if sum(section.pages() for section in self._sections.values()) > _USER_PAGES:
             self._section.size -= size  # so that others may fit
-            most = f"{_USER_PAGES} pages of {PAGE_BYTES} bytes"
-            raise name.error(f"here the program grows beyond {most}, all that a user has")
+            limit = f"{_USER_PAGES} pages of {PAGE_BYTES} bytes"
+            raise name.error(f"here the program grows beyond {limit}, all that a user has")
 
     def _read_instruction(self, name: Token, operands: list[Operand]) -> None:
         if self._section is not self._text:

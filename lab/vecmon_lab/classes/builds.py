@@ -23,10 +23,10 @@ class Builds:
     """
 
     def __init__(
-        self, compiler: Compiler | None = None, no_c: str = "no compiler was named", most: int = IMAGE_BYTES
+        self, compiler: Compiler | None = None, no_c: str = "no compiler was named", limit: int = IMAGE_BYTES
     ) -> None:
         """most: bytes of an image that aren't zeros"""
-        self.compiler, self._most = compiler, most
+        self.compiler, self._limit = compiler, limit
         self.others: Sequence[Compiler] = ()
         self.no_c = "" if compiler else no_c
         self._places = asyncio.Semaphore(os.cpu_count() or 1)
@@ -46,13 +46,13 @@ class Builds:
             words = words_for(text, compiler, choice, is_answer)
             async with self._places:
                 answer = await run_in_sandbox_async(words, text)
-            return await asyncio.to_thread(read_compiled_program, answer, self._most)
+            return await asyncio.to_thread(read_compiled_program, answer, self._limit)
 
 
-def builds_by(name: str | None, most: int = IMAGE_BYTES, is_needed: bool = False) -> Builds:
+def builds_by(name: str | None, limit: int = IMAGE_BYTES, is_needed: bool = False) -> Builds:
     """Return what compiles C sources, perhaps nothing. Raises LabError for a named or needed compiler that can't."""
     try:
-        return Builds(sandboxed_compiler(name), most=most)
+        return Builds(sandboxed_compiler(name), limit=limit)
     except LabError as error:
         if name or is_needed:
             raise

@@ -31,7 +31,7 @@ from .languages import SourceText
 from .names import local_time
 from .requests import BadRequest
 from .store import BadFolder, Store
-from .progress import MOST_TRIES, Exercises, SeatResult, Try, source_of, starts_of
+from .progress import MAX_TRIES, Exercises, SeatResult, Try, source_of, starts_of
 
 EXERCISES, ANSWERS = "exercises.json", "answers"
 LOST = "this answer is lost, and counts as a try in which nothing passes"
@@ -53,9 +53,9 @@ class Checks:
         `tell` is called with the names of seats that have news. Raises LabError and OSError for a bad exercise.
         """
         self._store, self._tell, self._workers, self._builds = store, tell, WorkerPool(PLACES, SECONDS), builds
-        kept = [pathlib.Path(path) for path in store.read(EXERCISES, texts, WITHOUT).values()]
+        stored = [pathlib.Path(path) for path in store.read(EXERCISES, texts, WITHOUT).values()]
         found: dict[str, Exercise] = {}
-        for folder in list(folders) or kept:
+        for folder in list(folders) or stored:
             exercise = settled(store.program, read_exercise(folder))  # so that a mistake is reported now
             name = exercise.folder.name
             if not re.fullmatch(r"[\w-]{1,40}", name, re.ASCII) or name in found:
@@ -80,7 +80,7 @@ class Checks:
         self.exercises.exercise(name)
         if source.choice is not None and self._builds.no_c:
             raise BadRequest(f"this class takes no C: {self._builds.no_c}")
-        self.exercises.check_may_begin(seat, name)
+        self.exercises.check_may_start(seat, name)
         self.exercises.busy[seat] = name
         task = asyncio.get_running_loop().create_task(self._check(seat, name, source))
         self._tasks.add(task)
@@ -114,7 +114,7 @@ class Checks:
         file = _file(seat, name, number)
         return source_of(self._unsaved.get(file) or self._store.read(file, attempt, LOST))
 
-    def keep(self) -> None:
+    def save(self) -> None:
         """Brings the folder up to date, as far as the disk takes it."""
         for file in [file for file, done in self._unsaved.items() if self._store.write(file, done)]:
             del self._unsaved[file]
@@ -148,7 +148,7 @@ class Checks:
         done = Try(time=int(time.time()), text=source.text, suffix=source.suffix, told=result)
         if self.exercises.take(seat, name, done):
             self._unsaved[_file(seat, name, len(self.exercises.progress(seat, name).tries))] = done
-            self.keep()
+            self.save()
         self._tell([seat])
 
     async def _check_result(self, seat: str, name: str, source: SourceText) -> CheckResult:
@@ -196,7 +196,7 @@ def found_answers(store: Store) -> Iterator[tuple[str, str, int, Try]]:
     """The tries that the folder has: the seat, the exercise, the number of the try, and the try itself."""
     for path in (store.folder / ANSWERS).glob("*.json"):
         parts = re.fullmatch(r"([A-L][1-8])\.([\w-]+)\.([1-9]\d{0,3})\.json", path.name, re.ASCII)
-        if parts and int(parts[3]) <= MOST_TRIES:
+        if parts and int(parts[3]) <= MAX_TRIES:
             yield parts[1], parts[2], int(parts[3]), store.read(f"{ANSWERS}/{path.name}", attempt, LOST)
 
 

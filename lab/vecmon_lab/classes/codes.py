@@ -19,10 +19,10 @@ def new_code() -> str:
 class Codes:
     """The code of each seat (A1 to L8), of the teacher, and of the wall, which only looks."""
 
-    def __init__(self, machines: Iterable[str], kept: Mapping[str, str]) -> None:
+    def __init__(self, machines: Iterable[str], stored: Mapping[str, str]) -> None:
         """The codes that were kept, and new ones for all others."""
         seats = [f"{machine}{digit}" for machine in machines for digit in DIGITS]
-        self.codes = {name: kept.get(name) or new_code() for name in (TEACHER, WALL, *seats)}
+        self.codes = {name: stored.get(name) or new_code() for name in (TEACHER, WALL, *seats)}
 
     def owner(self, code: object) -> str | None:
         """Whose code it is, if anybody's; it takes as long for any text."""

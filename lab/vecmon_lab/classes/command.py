@@ -66,11 +66,11 @@ def _add_exercises(parser: argparse.ArgumentParser) -> None:
     parser.add_argument("--exercise", metavar="NAME|DIR", type=folder, action="append", default=[], help=help_text)
     parser.add_argument("--course", action="store_true", help="all exercises of the course, before those of --exercise")
     parser.add_argument("--cc", metavar="NAME", help="the compiler of sources in C, such as clang-19")
-    most = between(1, 512)
+    limit = between(1, 512)
     parser.add_argument(
         "--image-size",
         metavar="KB",
-        type=most,
+        type=limit,
         default=64,
         help="maximum of nonzero kilobytes of a program; by default 64",
     )

@@ -87,9 +87,9 @@ class History:
         """Tells the seats, which know nothing yet."""
         for _, line, answer in chain(*self._places.values()):
             seats.follow(line, answer.split("\n"))
-        kept = {done[0]: done for done in chain(self._turns.values(), *self._last.values(), *self._output.values())}
-        for number in sorted(kept):
-            _, line, answer = kept[number]
+        stored = {done[0]: done for done in chain(self._turns.values(), *self._last.values(), *self._output.values())}
+        for number in sorted(stored):
+            _, line, answer = stored[number]
             seats.observe(line, answer.split("\n"), is_reported=not line.startswith(("* slices", "* run")))
         used = Counter[str]()
         for line, times in self._lines.items():

@@ -10,7 +10,7 @@ from ..tables.table import spreadsheet_row
 from .requests import BadRequest
 
 NAMES = "names.json"  # by seat
-MOST_LETTERS = 40
+MAX_LETTERS = 40
 
 
 def checked_name(text: str) -> str:
@@ -21,8 +21,8 @@ def checked_name(text: str) -> str:
     name = unicodedata.normalize("NFC", text).replace("’", "'").strip(" ")
     kinds = [unicodedata.category(letter) for letter in name]
     is_fit = all(kind[0] in "LM" or kind == "Nd" or letter in " -'." for letter, kind in zip(name, kinds))
-    if not is_fit or len(name) > MOST_LETTERS or name and kinds[0][0] != "L":
-        raise BadRequest(f"a name begins with a letter, and has {MOST_LETTERS} letters, digits, spaces or -'. at most")
+    if not is_fit or len(name) > MAX_LETTERS or name and kinds[0][0] != "L":
+        raise BadRequest(f"a name begins with a letter, and has {MAX_LETTERS} letters, digits, spaces or -'. at most")
     return name
 
 

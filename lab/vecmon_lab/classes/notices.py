@@ -10,7 +10,7 @@ from typing import TypedDict
 from .store import Store
 
 NOTICES = "notices.json"
-MOST_NOTICES = 20  # of a seat
+MAX_NOTICES = 20  # of a seat
 
 Notice = TypedDict("Notice", {"number": int, "time": int, "text": str})
 """A message: its number, which no other open one has, its time in seconds since 1970, and its text."""
@@ -38,19 +38,19 @@ class Notices:
         return self._by_seat.get(seat, [])
 
     def add(self, seats: Iterable[str], text: str) -> None:
-        """Adds a message to these seats; of each the last MOST_NOTICES stay."""
+        """Adds a message to these seats; of each the last MAX_NOTICES stay."""
         self._number += 1
         notice = Notice(number=self._number, time=int(time.time()), text=text)
-        added = {seat: [*self.of(seat), notice][-MOST_NOTICES:] for seat in seats}
+        added = {seat: [*self.of(seat), notice][-MAX_NOTICES:] for seat in seats}
         self._by_seat = self._by_seat | added
-        self.keep()
+        self.save()
 
     def close(self, seat: str, number: int) -> None:
         """Closes a message of a seat, if it is open."""
         left = [notice for notice in self.of(seat) if notice["number"] != number]
         self._by_seat = {name: notices for name, notices in (self._by_seat | {seat: left}).items() if notices}
-        self.keep()
+        self.save()
 
-    def keep(self) -> None:
+    def save(self) -> None:
         """Saves the open messages."""
         self._store.write(NOTICES, self._by_seat)

@@ -12,8 +12,8 @@ from .codes import new_code
 from .languages import NUMBERS, C, SourceText
 from .requests import BadRequest
 
-MOST_TRIES = 200  # of a seat at an exercise
-MOST_FAILURES = 50  # of checks, which the teacher is shown
+MAX_TRIES = 200  # of a seat at an exercise
+MAX_FAILURES = 50  # of checks, which the teacher is shown
 
 Try = TypedDict("Try", {"time": int, "text": str, "suffix": NotRequired[str], "told": CheckResult})
 """An answer: when, in seconds since 1970; the source, and that of its language, else `s`; and the result of its check."""
@@ -103,19 +103,19 @@ class Exercises:
         """The progress of each seat that has tried an exercise."""
         return {seat: it for (seat, exercise), it in self._progress.items() if exercise == name and it.tries}
 
-    def check_may_begin(self, seat: str, name: str) -> None:
+    def check_may_start(self, seat: str, name: str) -> None:
         """Raises BadRequest where no answer of the seat to this exercise may be checked now."""
         self.exercise(name)
         if seat in self.busy:
             raise BadRequest("a check of this seat is under way")
-        if len(self.progress(seat, name).tries) >= MOST_TRIES:
-            raise BadRequest(f"this seat has tried it {MOST_TRIES} times")
+        if len(self.progress(seat, name).tries) >= MAX_TRIES:
+            raise BadRequest(f"this seat has tried it {MAX_TRIES} times")
 
     def take(self, seat: str, name: str, done: Try) -> bool:
         """Takes up the result of a check; returns whether it counts as a try. The cause of a failed check is the teacher's."""
         if cause := done["told"].pop("failure", ""):
             failure = CheckFailure(seat=seat, exercise=name, time=done["time"], cause=cause)
-            self.failures = [*self.failures, failure][-MOST_FAILURES:]
+            self.failures = [*self.failures, failure][-MAX_FAILURES:]
         return self.progress(seat, name).add(done)
 
     def failed(self, seat: str, name: str, source: SourceText) -> Callable[[int], list[str]]:

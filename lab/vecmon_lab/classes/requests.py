@@ -9,7 +9,7 @@ from .languages import LANGUAGES, SourceText
 from .live import is_servers
 
 REQUEST_LINES, SOURCE_LETTERS, SENTENCE_LETTERS = 256, 1 << 16, 400
-MOST_SLICES = 100
+MAX_SLICES = 100
 
 
 class BadRequest(LabError):
@@ -260,8 +260,8 @@ def _lines(message: JsonObject, is_teacher: bool) -> Lines:
     do, look, slices = message.get("do", []), message.get("look", []), message.get("slices", 0)
     if not isinstance(do, list) or not isinstance(look, list) or len(do) + len(look) > REQUEST_LINES:
         raise BadRequest(f"a request has lists of {REQUEST_LINES} lines at most")
-    if not isinstance(slices, int) or not 0 <= slices <= MOST_SLICES:
-        raise BadRequest(f"a request grants 0 to {MOST_SLICES} slices")
+    if not isinstance(slices, int) or not 0 <= slices <= MAX_SLICES:
+        raise BadRequest(f"a request grants 0 to {MAX_SLICES} slices")
     for text in (*do, *look):
         check_text(text)
     for text in do:
@@ -277,9 +277,9 @@ def _settings(message: JsonObject) -> Mapping[str, int]:
     """The settings of a clock in a message."""
     settings = {}
     for name in _LIMITS.keys() & message.keys():
-        (least, most), value = _LIMITS[name], message[name]
-        if not isinstance(value, int) or not least <= value <= most:
-            raise BadRequest(f"{name} of the clock is {least} to {most}")
+        (minimum, limit), value = _LIMITS[name], message[name]
+        if not isinstance(value, int) or not minimum <= value <= limit:
+            raise BadRequest(f"{name} of the clock is {minimum} to {limit}")
         settings[name] = bool(value) if name == "on" else value
     return settings
 

@@ -32,7 +32,7 @@ UNSEEN_SECONDS = 60.0  # after which a program that runs is stopped, if nobody l
 class Room:
     """A machine, its seats, and its clock.
 
-    `changed` is called with the names of seats that have news; `watched` returns the seats that somebody looks at; `keep`
+    `changed` is called with the names of seats that have news; `watched` returns the seats that somebody looks at; `save`
     saves notes, and returns whether that succeeded; `compile` compiles a seat's source.
     """
 
@@ -41,12 +41,12 @@ class Room:
         self.letter, self.machine, self.clock = letter, SharedMachine(letter, session, file), Clock(self._tick)
         self.seats, self.own_slices = self.machine.seats, True
         self.changed: Callable[[Iterable[str]], None] = lambda names: None
-        self.keep: Callable[[Notes], bool] = lambda notes: False
+        self.save: Callable[[Notes], bool] = lambda notes: False
         self.watched: Callable[[], Container[str]] = set
         self.compile = Builds().compile
         self.thread = MachineThread(self.machine, self._change_all, lambda: self.set_clock({"on": False}))
-        self.scripts = Scripts(self.thread, file, makers, lambda *it: self.keep(self._notes(*it)))
-        self.shorten, self.begin_script = self.scripts.shorten, self.scripts.begin_next
+        self.scripts = Scripts(self.thread, file, makers, lambda *it: self.save(self._notes(*it)))
+        self.shorten, self.begin_script = self.scripts.shorten, self.scripts.start_next
         self.make_checkpoint = self.scripts.make_checkpoint
         self._turns = {digit: asyncio.Lock() for digit in f"{DIGITS}*"}  # given first come, first served
         self._assembler = concurrent.futures.ThreadPoolExecutor(1)  # which needs no machine
@@ -120,16 +120,16 @@ class Room:
         looks = await self.run(seat, self.machine.lines(seat, request, done))
         if not (self.clock.settings.on or slices or seat.state["run"] != "running") and "go" in request.do:
             own_way = ", or Slice grants some slices" if self.own_slices else ""
-            self.note(seat, f"!The clock is off, so the program waits: the teacher can turn it on{own_way}.")
+            self.add_log_entry(seat, f"!The clock is off, so the program waits: the teacher can turn it on{own_way}.")
         return looks
 
     async def source(self, seat: Seat, source: SourceText | None) -> tuple[Mistakes, Mistakes]:
         """Starts a seat's machine anew with a source; its mistakes, and a compiler's warnings. Raises as `run` does."""
         return await self.run(seat, self.machine.write(seat, source))
 
-    def note(self, seat: Seat, entry: str) -> None:
+    def add_log_entry(self, seat: Seat, entry: str) -> None:
         """Adds an entry to a seat's log, and sends it to the pages."""
-        seat.note(entry)
+        seat.add_log_entry(entry)
         self.changed([seat.name])
 
     def set_clock(self, settings: Mapping[str, int]) -> None:
@@ -183,7 +183,7 @@ class Room:
                     await self.thread.execute(self.machine.grant(settings.slices))
                 except LabError as error:
                     self.set_clock({"on": False})
-                    self.seats.operator.note(f"!The clock was stopped: {error}.")
+                    self.seats.operator.add_log_entry(f"!The clock was stopped: {error}.")
 
     def _notes(self, session: Session, scripts: Sequence[int]) -> Notes:
         """Notes of a session, whose script is the last one of these."""

@@ -14,8 +14,8 @@ from .store import ScriptFile
 
 FOLLOW_SECONDS, SHORTEN_SECONDS = 0.2, 0.5  # between a spare's parts; and between looks at how long a script has become
 NEXT_SCRIPT_BYTES, NEXT_SCRIPT_SECONDS = 12_000_000, 300.0  # after which another one starts: a server starts with it
-MOST_SET_UP_BYTES = 9_000_000  # of lines that set the machine up in another one
-MOST_BEHIND = 3.0  # times the weight at which a checkpoint is due: until it is made, no slices are granted
+MAX_SET_UP_BYTES = 9_000_000  # of lines that set the machine up in another one
+MAX_BEHIND = 3.0  # times the weight at which a checkpoint is due: until it is made, no slices are granted
 
 
 Saver = Callable[[Session, Sequence[int]], bool]
@@ -33,27 +33,27 @@ class Scripts:
         self.file = file
         self.set_up: Sequence[int] = [0]
         self._machine, self._thread, self._makers, self._save = thread.machine, thread, makers, save
-        self._least = math.inf  # the weight of a script that gets a checkpoint; more where there was none
+        self._minimum = math.inf  # the weight of a script that gets a checkpoint; more where there was none
         self._follower = concurrent.futures.ThreadPoolExecutor(1)  # of the spare process
 
     def is_behind(self) -> bool:
         """Whether a new process would be busy for so long that slices wait for a checkpoint."""
-        return self._machine.session.weight > MOST_BEHIND * self._least
+        return self._machine.session.weight > MAX_BEHIND * self._minimum
 
     async def shorten(self) -> None:
         """Makes checkpoints, so that a new process catches up fast; runs for ever."""
-        self._least = max(1.0, self._machine.session.weight)
+        self._minimum = max(1.0, self._machine.session.weight)
         while True:
             await asyncio.sleep(SHORTEN_SECONDS)
-            if self._machine.session.weight >= self._least:
+            if self._machine.session.weight >= self._minimum:
                 try:
                     await self.make_checkpoint()
-                    self._least = 1.0
+                    self._minimum = 1.0
                     session = self._machine.session
                     if session.size > NEXT_SCRIPT_BYTES or session.recorded.total > NEXT_SCRIPT_SECONDS:
-                        await self.begin_next()
+                        await self.start_next()
                 except (LabError, OSError):
-                    self._least = max(1.0, 1.5 * self._machine.session.weight)
+                    self._minimum = max(1.0, 1.5 * self._machine.session.weight)
 
     async def follow(self) -> None:
         """Brings the spare process up to the machine, again and again; runs for ever."""
@@ -73,7 +73,7 @@ class Scripts:
         async with self._thread.lock:
             session.recorded.shorten(Checkpoint(int(number), lines), spent)
 
-    async def begin_next(self) -> None:
+    async def start_next(self) -> None:
         """Continues in another script, which starts with the last checkpoint.
 
         Raises LabError and OSError where that fails; then the script continues.
@@ -89,7 +89,7 @@ class Scripts:
         replacement = self._machine.session.renewed()
         set_up = [*self.set_up, replacement.lines]
         try:
-            if replacement.size > MOST_SET_UP_BYTES or not self.file.is_saved:
+            if replacement.size > MAX_SET_UP_BYTES or not self.file.is_saved:
                 raise LabError("there is no room for another script")
             file = self.file.successor(len(set_up), replacement.script)
             if not self._save(replacement, set_up):

@@ -11,7 +11,7 @@ from ..assembler.source import Program
 from ..compilers.compiled import CompiledProgram, variable_rows
 from ..guest.guest import Guest
 from ..instructions.reasons import brief_stop
-from ..lessons.frames import MOST_NAMED
+from ..lessons.frames import MAX_NAMED
 from ..machine.answers import ControlRegisters, Granted, Stop, answers_by_user, is_refusal, is_stop, read
 from ..machine.lines import DIGITS, is_look, words_of
 from ..machine.session import Session
@@ -69,9 +69,9 @@ class Seat:
     slices: float = 0.0
     seen: float = 0.0
 
-    def note(self, entry: str) -> None:
+    def add_log_entry(self, entry: str) -> None:
         """Adds an entry to the log, but of those that follow each other while a program prints without end each once."""
-        if _comes_again(entry) and entry in takewhile(_comes_again, reversed(self.log)):
+        if _is_repeatable(entry) and entry in takewhile(_is_repeatable, reversed(self.log)):
             return
         self.log.append(entry)
         self.number += 1
@@ -100,7 +100,7 @@ class Seat:
     def list_program(self, program: Program) -> None:
         """Has instructions and variables of a program shown that a compiler made, in place of all that lines name."""
         if isinstance(program, CompiledProgram):
-            self.watch_set.take_compiled(program.text(), variable_rows(program.variables)[:MOST_NAMED])
+            self.watch_set.take_compiled(program.text(), variable_rows(program.variables)[:MAX_NAMED])
 
     def put_out(self, digits: str) -> None:
         """Append output of the program. Full blocks stay as they are, so that pages don't receive them again."""
@@ -136,7 +136,7 @@ class Seats:
         if line[0] in self.users and not is_refusal(answer):
             seat = self.users[line[0]]
             seat.watch_set.follow(line)
-            if _begins_anew(line, answer):
+            if _restarts(line, answer):
                 seat.rows = VisibleRows()
 
     def touched(self, done: Sequence[Done]) -> set[str]:
@@ -150,7 +150,7 @@ class Seats:
         said = [each for _, answer in done for each in answers_by_user(answer)]
         for digit in digits:
             seat = self.users[digit]
-            anew = any(line[0] == digit and _begins_anew(line, answer) for line, answer in done)
+            anew = any(line[0] == digit and _restarts(line, answer) for line, answer in done)
             before = ABSENT if anew else seat.state
             own = [each for whom, each in said if whom == digit]
             single = lines == [f"{digit} step 1"] and before["run"] == "stopped"
@@ -183,17 +183,17 @@ class Seats:
             asker.put_out("".join(answer[0].split()[3:]))
         if is_servers(line):
             if words == ["out"] and answer[0][2:] != "out 0":
-                asker.note("=" + " ".join(answer[0].split()[:3]))
+                asker.add_log_entry("=" + " ".join(answer[0].split()[:3]))
             asker.stop = "" if words == ["go"] else asker.stop
             return
         if is_reported:
-            asker.note(f">{line}")
+            asker.add_log_entry(f">{line}")
             asker.line = line[2:]
         if line[0] == "*" and words[:1] == ["run"] and words[1:] and words[1] in self.users:
             self.users[words[1]].used += len(line) + 1
         elif not is_look(line):
             asker.used += len(line) + 1
-        if _begins_anew(line, answer):
+        if _restarts(line, answer):
             asker.stop, asker.written, asker.program = "", SourceText(), None
             asker.named, asker.output = UNNAMED.copy(), {}
         elif words == ["go"] and not is_refusal(answer):
@@ -201,14 +201,14 @@ class Seats:
         for part, entry in zip(answer, log_entries(line, answer)):
             seat = self.users.get(part[0], self.operator)
             if is_reported or seat is not self.operator:
-                seat.note(entry)
+                seat.add_log_entry(entry)
                 seat.answer = part[2:]
             if is_stop(part):
                 seat.stop = part[2:]
                 seat.slices = seat.slices if seat.stop.startswith("outfull") else 0.0
 
 
-def _comes_again(entry: str) -> bool:
+def _is_repeatable(entry: str) -> bool:
     """Whether an entry is about a full buffer, or about the server that empties it."""
     return entry[0] == "=" or entry[2:10] == " outfull"
 
@@ -225,6 +225,6 @@ def _condition(state: State, last: str) -> tuple[str, bool]:
     return brief_stop(stop, int(line[:8], 16) if line else None, view, line[9:]), stop.kind == "fault"
 
 
-def _begins_anew(line: str, answer: Sequence[str]) -> bool:
+def _restarts(line: str, answer: Sequence[str]) -> bool:
     """Whether the line dropped all that its user had."""
     return words_of(line)[:1] in (["enter"], ["leave"], ["load"]) and line[0] != "*" and not is_refusal(answer)

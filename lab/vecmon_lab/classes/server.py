@@ -248,7 +248,7 @@ async def served(
         for task in tasks:
             task.cancel()
         await server.close()
-        members.keep()
+        members.save()
         members.end()
         await asyncio.gather(*tasks, return_exceptions=True)
         await runner.cleanup()
@@ -267,8 +267,8 @@ async def serve(
     Raises BadFolder once the program was replaced or taken away, as with its package.
     """
     sys.setswitchinterval(0.0005)  # so long a machine's thread waits for the event loop's, which may be busy
-    most = resource.getrlimit(resource.RLIMIT_NOFILE)[1]
-    resource.setrlimit(resource.RLIMIT_NOFILE, (most, most))
+    limit = resource.getrlimit(resource.RLIMIT_NOFILE)[1]
+    resource.setrlimit(resource.RLIMIT_NOFILE, (limit, limit))
     ended, loop = asyncio.Event(), asyncio.get_running_loop()
     for sign in (signal.SIGINT, signal.SIGTERM):
         loop.add_signal_handler(sign, ended.set)
@@ -302,7 +302,7 @@ def _is_ours(record: logging.LogRecord) -> bool:
 async def _keep(members: Class) -> None:
     while True:
         await asyncio.sleep(KEEP_SECONDS)
-        members.keep(with_counts=False)
+        members.save(with_counts=False)
 
 
 def _address(host: str, port: int, scheme: str) -> str:

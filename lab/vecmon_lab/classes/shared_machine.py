@@ -119,11 +119,11 @@ class SharedMachine:
             return program.mistakes, warnings
         if (number := len(program.lines)) > SOURCE_LINES:
             raise BadRequest(f"a source becomes {SOURCE_LINES} lines at most, and this one {number}")
-        mistakes = yield from self.bring_in(seat, program, breaks)
+        mistakes = yield from self.load_program(seat, program, breaks)
         seat.take(source, program)
         return mistakes, warnings
 
-    def bring_in(self, seat: Seat, program: Program, breaks: Iterable[int]) -> Steps[Mistakes]:
+    def load_program(self, seat: Seat, program: Program, breaks: Iterable[int]) -> Steps[Mistakes]:
         """Brings a program in, some dozens of lines at a turn; the mistakes that the machine refuses.
 
         Raises BadRequest where the seat's share of the script has no room for it.
@@ -202,7 +202,7 @@ class SharedMachine:
         yield Turn(partial(self._show, seat, not why))
         if why and seat.state["run"] == "stopped":
             seat.set_condition(f"stopped, since {why}", True)
-            seat.note(f"!The {role} stopped the program, since {why}. go lets it run on.")
+            seat.add_log_entry(f"!The {role} stopped the program, since {why}. go lets it run on.")
 
     def has_run_long(self, seat: Seat, limit: int) -> str:
         """Why a running program must stop: it has run for about this number of ticks; "" if it hasn't."""
@@ -290,7 +290,7 @@ class SharedMachine:
             left = f"this takes {size:,} bytes, and {max(0, SEAT_BYTES - seat.used):,} are left"
             raise BadRequest(f"this seat's share of the script is used up, so only lines that look go on: {left}")
 
-    def _show(self, seat: Seat, goes_on: bool, turn: Turn) -> None:
+    def _show(self, seat: Seat, continues: bool, turn: Turn) -> None:
         """Looks at a running program, which stops for that, and may go on; at no breakpoint, since `go` passes one."""
         turn.is_last = False
         place = read(self.session.look(f"{seat.digit} state"))
@@ -298,7 +298,7 @@ class SharedMachine:
             return
         self.do(turn, server_line(seat.digit, "stop"), server_line(seat.digit, "out"))
         self._look(turn)
-        if goes_on:
+        if continues:
             self.do(turn, server_line(seat.digit, "go"))
             for state in turn.states[seat.digit]:
                 state["run"] = "running"
@@ -306,8 +306,8 @@ class SharedMachine:
     def _take_output(self, turn: Turn) -> None:
         """Takes the output of programs that stopped. One whose buffer was full goes on."""
         states = {digit: seat.state for digit, seat in self.seats.users.items()}
-        for digit, goes_on in with_output(turn.done, states).items():
-            self.do(turn, *(server_line(digit, it) for it in (["out", "go"] if goes_on else ["out"])))
+        for digit, continues in with_output(turn.done, states).items():
+            self.do(turn, *(server_line(digit, it) for it in (["out", "go"] if continues else ["out"])))
 
     def _look(self, turn: Turn) -> None:
         """Looks at whom the turn may have changed."""

@@ -7,7 +7,7 @@ from collections import deque
 from collections.abc import Iterator, Sequence
 
 from .. import LabError
-from ..guest.runner import MOST_SLICES
+from ..guest.runner import MAX_SLICES
 from ..machine.answers import Granted, is_refusal, read
 from ..machine.lines import DIGITS, words_of
 from ..machine.program import find_program
@@ -94,7 +94,7 @@ class OwnScript:
     def _slices(self) -> Iterator[str]:
         """Lines that grant the user's slices; none are left then."""
         while self._granted:
-            number = min(self._granted, MOST_SLICES)
+            number = min(self._granted, MAX_SLICES)
             self._granted -= number
             yield f"* slices {number}"
 

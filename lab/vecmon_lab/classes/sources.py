@@ -17,13 +17,13 @@ from typing import TypedDict
 from .. import LabError
 from ..assembler.source import Program, read_source
 from ..compilers.compiled import CompiledProgram, read_compiled_program
-from ..compilers.debug import MOST_BYTES
+from ..compilers.debug import MAX_BYTES
 from .languages import LANGUAGES, NUMBERS, SourceText
 from .requests import BadRequest
 from .text_store import TextStore
 
 MADE, OPEN, DRAFTS = "written.json", "exercise", "drafts"
-MOST_VERSIONS = 50
+MAX_VERSIONS = 50
 TYPING_SECONDS = 30.0  # after which what is typed becomes a version
 
 Version = TypedDict("Version", {"number": int, "time": int, "why": str, "language": int, "exercise": str})
@@ -119,7 +119,7 @@ class SeatSource:
                 return self._unsaved.get(number) or SourceText(text, version["language"])
         raise BadRequest("there is no such version")
 
-    def keep(self, program: Program | None = None) -> bool:
+    def save(self, program: Program | None = None) -> bool:
         """Brings the folder up to date, as far as the disk takes it; whether there is a new version.
 
         program: of the source in the machine
@@ -182,7 +182,7 @@ class SeatSource:
         self.versions = [*self.versions, version]
         self._unsaved[number] = source
         self._newest = source if exercise == self.exercise else self._newest
-        while len(self.versions) > MOST_VERSIONS:
+        while len(self.versions) > MAX_VERSIONS:
             oldest, *self.versions = self.versions
             self._unsaved.pop(oldest["number"], None)
             self._store.remove(self._file(oldest))
@@ -199,7 +199,7 @@ class SeatSource:
             if parts and parts[4] in NUMBERS:
                 number, language, exercise = int(parts[1]), NUMBERS[parts[4]], parts[3] or ""
                 found.append(Version(number=number, time=int(when), why=parts[2], language=language, exercise=exercise))
-        return sorted(found, key=lambda version: version["number"])[-MOST_VERSIONS:]
+        return sorted(found, key=lambda version: version["number"])[-MAX_VERSIONS:]
 
 
 def kept_source(store: TextStore, name: str) -> SourceText:
@@ -224,6 +224,6 @@ def kept_program(store: TextStore, seat: str) -> tuple[SourceText, Program]:
     try:
         if source.choice is None:
             return source, read_source(source.text)
-        return source, read_compiled_program(store.read_text(f"{seat}.{MADE}").encode("utf-8"), MOST_BYTES)
+        return source, read_compiled_program(store.read_text(f"{seat}.{MADE}").encode("utf-8"), MAX_BYTES)
     except LabError as error:
         raise LabError(f"{seat}.written.*: the source of the seat's machine isn't listed, since {error}") from error

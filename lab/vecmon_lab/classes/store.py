@@ -38,7 +38,7 @@ class BadFolder(LabError):
 
 Kept = TypeVar("Kept")
 SHOWN = 5  # sentences on damaged files that pages show
-MOST_ASIDE = 10_000  # copies of a damaged file
+MAX_ASIDE = 10_000  # copies of a damaged file
 NEWLINE = b"\n"
 
 
@@ -201,10 +201,12 @@ class Store:
             raise
 
     def _open(self, images: Mapping[str, pathlib.Path], quantum: int | None, machines: int | None) -> None:
-        kept = self._kept_facts(quantum, machines)
-        if self._is_reading and not kept.program:
+        stored = self._kept_facts(quantum, machines)
+        if self._is_reading and not stored.program:
             raise BadFolder(f"{self.folder} has no class")
-        facts = self._facts(kept, images, quantum, machines) if kept.program else self._begin(images, quantum, machines)
+        facts = (
+            self._facts(stored, images, quantum, machines) if stored.program else self._begin(images, quantum, machines)
+        )
         self._program_digest = facts.program
         self.quantum = facts.quantum
         self.machines = LETTERS[: facts.machines]
@@ -393,7 +395,7 @@ class Store:
         """Renames a damaged file, or copies it; how that is reported. A class that is only read stays as it is."""
         if self._is_reading:
             return ""
-        names = (f"{name}.damaged{number}" for number in ("", *(f"-{number}" for number in range(2, MOST_ASIDE))))
+        names = (f"{name}.damaged{number}" for number in ("", *(f"-{number}" for number in range(2, MAX_ASIDE))))
         aside = next(each for each in names if not (self.folder / each).exists())
         if copied is None:
             os.replace(self.folder / name, self.folder / aside)
@@ -419,20 +421,20 @@ class Store:
             return self.read(name, Facts)
         numbers = {letter: self._numbers(letter) for letter in LETTERS}
         has_lines = any(self._lines(letter, number) for letter in LETTERS for number in numbers[letter])
-        kept = self._read("codes.json", codes) if self._is_readable("codes.json", codes) else {}
-        if not has_lines and not (kept and is_there):
+        stored = self._read("codes.json", codes) if self._is_readable("codes.json", codes) else {}
+        if not has_lines and not (stored and is_there):
             if is_there:
                 what = "no script has a line, and class.json and codes.json are damaged"
                 raise BadFolder(f"{self.folder}: {what}: copy the folder back from a backup, or name another folder")
             return Facts()
         state = f"damaged{self._set_aside(name)}" if is_there else "lost"
         self.lose(f"{name} is {state}: program, quantum and images are taken to be as they are now")
-        seats = {seat[0] for seat in kept if re.fullmatch("[A-L][1-8]", seat)}
-        most = max(
+        seats = {seat[0] for seat in stored if re.fullmatch("[A-L][1-8]", seat)}
+        limit = max(
             LETTERS.index(letter) + 1 for letter in LETTERS if letter in seats or numbers[letter] or letter == "A"
         )
         images = {path.stem: digest_of(path) for path in sorted((self.folder / "images").glob("*.elf"))}
-        return Facts(digest_of(self.program), quantum or 100, max(most, machines or 1), images)
+        return Facts(digest_of(self.program), quantum or 100, max(limit, machines or 1), images)
 
     def _image(self, name: str) -> pathlib.Path:
         return self.folder / "images" / f"{name}.elf"
@@ -466,16 +468,16 @@ class Store:
         return True
 
     def _facts(
-        self, kept: Facts, images: Mapping[str, pathlib.Path], quantum: int | None, machines: int | None
+        self, stored: Facts, images: Mapping[str, pathlib.Path], quantum: int | None, machines: int | None
     ) -> Facts:
         """The start of the class, compared with the options now."""
-        if digest_of(self.program) != kept.program:
+        if digest_of(self.program) != stored.program:
             raise BadFolder(f"{self.folder} was begun with another program than {self.program}")
-        if images and {name: digest_of(path) for name, path in images.items()} != kept.images:
+        if images and {name: digest_of(path) for name, path in images.items()} != stored.images:
             raise BadFolder(f"{self.folder} was begun with other images")
-        if quantum not in (None, kept.quantum):
-            raise BadFolder(f"{self.folder} was begun with --quantum {kept.quantum}")
-        return replace(kept, machines=max(kept.machines, machines or 1))
+        if quantum not in (None, stored.quantum):
+            raise BadFolder(f"{self.folder} was begun with --quantum {stored.quantum}")
+        return replace(stored, machines=max(stored.machines, machines or 1))
 
 
 def forget(folder: pathlib.Path, name: str) -> None:
@@ -495,10 +497,10 @@ def renew_teacher(folder: pathlib.Path) -> None:
         raise BadFolder(f"{folder} has no class")
     lock = _locked(folder)
     try:
-        kept = codes(**json.loads((folder / "codes.json").read_bytes()))
-        if TEACHER not in kept:
+        stored = codes(**json.loads((folder / "codes.json").read_bytes()))
+        if TEACHER not in stored:
             raise ValueError("there are no codes")
-        replace_file(folder / "codes.json", json.dumps(kept | {TEACHER: new_code()}, indent=1).encode())
+        replace_file(folder / "codes.json", json.dumps(stored | {TEACHER: new_code()}, indent=1).encode())
         sync_folder(folder)
     except (FileNotFoundError, TypeError, ValueError, RecursionError) as error:
         raise BadFolder(f"{folder}/codes.json is missing or damaged: the next start gives all new codes") from error

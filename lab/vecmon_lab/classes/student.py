@@ -41,10 +41,10 @@ class Student:
             self.seat.list_program(program)
         return ""
 
-    def keep(self) -> bool:
+    def save(self) -> bool:
         """Keeps the source where it has changed; whether there is a new version."""
         self.source.written = self.seat.written
-        return self.source.keep(self.seat.program)
+        return self.source.save(self.seat.program)
 
     def execute(self, request: SeatsRequest) -> Steps[Message]:
         """Execute a request; return the fields of its answer. Raises BadRequest.

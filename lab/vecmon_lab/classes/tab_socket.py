@@ -14,8 +14,8 @@ from .tab_requests import TabRequests
 from .view import Tab
 
 READ_SECONDS = 20.0  # in which a tab has to take a message
-MOST_WAITING, WAITING_BYTES = 64, 2_000_000  # requests of a tab that wait, besides the one that executes
-TOO_MANY_WAIT = f"{MOST_WAITING} requests of this tab wait already, or they are too long: nothing was done"
+MAX_WAITING, WAITING_BYTES = 64, 2_000_000  # requests of a tab that wait, besides the one that executes
+TOO_MANY_WAIT = f"{MAX_WAITING} requests of this tab wait already, or they are too long: nothing was done"
 CLOSED = 4403  # why a socket is closed: its code is none, or none any more
 
 
@@ -56,7 +56,7 @@ class TabSocket:
         async for message in self._socket:
             if message.type is not WSMsgType.TEXT or not self._tab.is_open:
                 return
-            if len(self._waiting) < MOST_WAITING and sum(map(len, self._waiting)) + len(message.data) <= WAITING_BYTES:
+            if len(self._waiting) < MAX_WAITING and sum(map(len, self._waiting)) + len(message.data) <= WAITING_BYTES:
                 self._waiting.append(message.data)
                 self._has_come.set()
             else:

@@ -27,12 +27,12 @@ from .sources import kept_program, kept_source
 from .store import Store
 from .work_file import work_file
 
-MOST_FRAMES, MOST_ENTRIES = 500, 200  # of a lesson; and of a frame's log
+MAX_FRAMES, MAX_ENTRIES = 500, 200  # of a lesson; and of a frame's log
 
 
 def steps_of(lines: Sequence[str]) -> list[Step]:
     """The last steps of a student's script, at most 500 frames; the first has all lines before them."""
-    steps, left = list[Step](), MOST_FRAMES - 1
+    steps, left = list[Step](), MAX_FRAMES - 1
     for line in lines:
         joins = line[0] == "*" or is_servers(line)  # the program runs on, or its output is taken
         if steps and joins and not _frames(steps[-1]):
@@ -82,7 +82,7 @@ def _played(store: Store, seat: str, lines: Sequence[str], own: SourceText) -> d
             named = replace(read_assembled(text, seat), said=assemble(text).source_lines(text))
         script = replace(named, title=script.title, steps=script.steps, source="", statements={}, program=None)
     frames = make_frames(script, store.program, store.images, store.quantum)
-    frames = [replace(frame, log=frame.log[-MOST_ENTRIES:]) for frame in frames]
+    frames = [replace(frame, log=frame.log[-MAX_ENTRIES:]) for frame in frames]
     files: dict[str, str | bytes] = {f"{seat}.script": "".join(f"{line}\n" for line in lines)}
     files |= {f"{seat}.html": lesson_page(script.title, frames, script)}
     loaded = {words_of(line)[1] for line in lines if words_of(line)[:1] == ["load"] and words_of(line)[1:]}

@@ -27,21 +27,21 @@ async def execute_teachers(members: Class, tab: Tab, request: TeacherRequest) ->
     match request:
         case Give(name, source):
             replaced = [members.students[seat.name].source.give(source) for seat in members.seats(name)]
-            members.note(members.seats(name), "The teacher gave a source. Your own is kept, as a version.")
+            members.add_log_entry(members.seats(name), "The teacher gave a source. Your own is kept, as a version.")
             members.given = name, sum(replaced)
             return {"replaced": sum(replaced)}
         case TakeBack(name):
             members.given = None
             back = [seat for seat in members.seats(name) if members.students[seat.name].source.take_back()]
-            members.note(back, "The teacher took a source back. Your own is in the editor again.")
+            members.add_log_entry(back, "The teacher took a source back. Your own is in the editor again.")
             return {"replaced": sum(members.students[seat.name].source.own.text != "" for seat in back)}
         case Write(name, text):
             members.notices.add([seat.name for seat in members.seats(name)], text)
-            members.note(members.seats(name), f"The teacher: {text}")
+            members.add_log_entry(members.seats(name), f"The teacher: {text}")
         case Reset(name):
             seat, room = members.seat(name), members.rooms[name[0]]
             await room.run(seat, room.machine.reset(seat))
-            members.note([seat], "The teacher has taken this machine away. Your source is kept.")
+            members.add_log_entry([seat], "The teacher has taken this machine away. Your source is kept.")
         case SetClock(machine, settings):
             members.room(machine).set_clock(settings)
         case SetRights(machine, own_slices):

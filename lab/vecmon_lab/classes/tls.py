@@ -68,12 +68,12 @@ class HandshakeServer:
         listener: socket.socket,
         make: Callable[[], asyncio.Protocol],
         context: ssl.SSLContext,
-        most: int,
+        limit: int,
         seconds: float,
     ) -> None:
         """make: returns the protocol of a connection; most, seconds: of handshakes at once, and the limit of one"""
         self.sockets = (listener,)
-        self._make, self._context, self._most, self._seconds = make, context, most, seconds
+        self._make, self._context, self._limit, self._seconds = make, context, limit, seconds
         self._handshakes: deque[asyncio.Task[None]] = deque()  # the oldest first; some have ended
         self._accepting = asyncio.create_task(self._accept(listener))
 
@@ -98,7 +98,7 @@ class HandshakeServer:
                 continue
             self._handshakes = deque(task for task in self._handshakes if not task.done())
             self._handshakes.append(asyncio.create_task(self._shake(connection)))
-            if len(self._handshakes) > self._most:
+            if len(self._handshakes) > self._limit:
                 self._handshakes.popleft().cancel()
 
     async def _shake(self, connection: socket.socket) -> None:
@@ -128,11 +128,11 @@ class TlsSite(web.SockSite):
     __slots__ = ("_limits",)
 
     def __init__(
-        self, runner: web.BaseRunner, listener: socket.socket, context: ssl.SSLContext, most: int, seconds: float
+        self, runner: web.BaseRunner, listener: socket.socket, context: ssl.SSLContext, limit: int, seconds: float
     ) -> None:
         """most, seconds: of handshakes at once, and the limit of one"""
         super().__init__(runner, listener, ssl_context=context, shutdown_timeout=LAST_SECONDS)
-        self._limits = most, seconds
+        self._limits = limit, seconds
 
     async def start(self) -> None:
         """Begins to serve."""

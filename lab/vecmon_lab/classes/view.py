@@ -77,18 +77,24 @@ class Class:
         try:
             self.checks = Checks(store, exercises, self.tell, self.builds)
             for letter in store.machines:
-                notes = store.notes(letter)
-                file = store.script_file(letter, len(notes.scripts))
-                self.rooms[letter] = room = Room(letter, store.session(patience), file, makers)
-                room.changed, room.watched, room.keep = self.tell, self._watched, partial(self._keep, letter)
-                room.compile = self.builds.compile
-                room.set_clock({"on": clock})
-                name = script_name(letter, len(notes.scripts))
-                room.restore(notes, progress, lambda sentence: store.lose(f"{name}: {sentence}"))
-                self._seat_students(room)
+                self._open_room(letter, patience, progress, clock, makers)
         except BaseException:
             self.end()
             raise
+
+    def _open_room(
+        self, letter: str, patience: float, progress: Callable[[str], object], clock: bool, makers: WorkerPool
+    ) -> None:
+        """Start a machine, restore its state, and seat its students. Raises LabError where that can't be."""
+        notes = self.store.notes(letter)
+        file = self.store.script_file(letter, len(notes.scripts))
+        self.rooms[letter] = room = Room(letter, self.store.session(patience), file, makers)
+        room.changed, room.watched, room.save = self.tell, self._watched, partial(self._keep, letter)
+        room.compile = self.builds.compile
+        room.set_clock({"on": clock})
+        name = script_name(letter, len(notes.scripts))
+        room.restore(notes, progress, lambda sentence: self.store.lose(f"{name}: {sentence}"))
+        self._seat_students(room)
 
     def end(self) -> None:
         """Ends the machines, and leaves the folder."""
@@ -96,13 +102,13 @@ class Class:
             room.end()
         self.store.close()
 
-    def keep(self, with_counts: bool = True) -> None:
+    def save(self, with_counts: bool = True) -> None:
         """Save the changed notes of each script, and write scripts again where the disk was full.
 
         with_counts: also notes that only count more lines; else those are kept once a second
         """
         for student in self.students.values():
-            if student.keep():
+            if student.save():
                 self.tell([student.seat.name])
         for room in self.rooms.values():
             if room.is_busy():
@@ -115,7 +121,7 @@ class Class:
             if room.scripts.file.is_saved and self._are_due(room.letter, notes, with_counts):
                 self.store.write(f"{room.letter}.json", asdict(notes))
                 self._kept[room.letter] = notes, time.monotonic()
-        self.checks.keep()
+        self.checks.save()
         if self.store.warning != self._trouble:
             self._trouble = self.store.warning
             self.tell([])
@@ -123,7 +129,7 @@ class Class:
     async def take_home(self, seat: str) -> bytes:
         """The archive that a student takes home. Raises LabError where there is none, or it is being made already."""
         with exclusive(seat, self._packing, LabError("it is being made already")):
-            self.keep()
+            self.save()
             await asyncio.to_thread(self.store.flush)
             return await self._packers.run("classes.take_home", f"{self.store.folder}", f"{self.store.program}", seat)
 
@@ -172,10 +178,10 @@ class Class:
             if tab.who in names:
                 tab.changed.set()
 
-    def note(self, seats: Iterable[Seat], sentence: str) -> None:
+    def add_log_entry(self, seats: Iterable[Seat], sentence: str) -> None:
         """Writes a sentence into the transcripts of seats."""
         for seat in seats:
-            self.rooms[seat.name[0]].note(seat, f"!{sentence}")
+            self.rooms[seat.name[0]].add_log_entry(seat, f"!{sentence}")
 
     def close_notice(self, seat: str, number: int) -> None:
         """Closes a message of the teacher's, in all tabs of a seat."""
@@ -184,7 +190,7 @@ class Class:
 
     def set_name(self, seat: str, name: str) -> None:
         """Save the name of the student at a seat, or "" for nobody."""
-        self.names = {each: kept for each, kept in (self.names | {seat: name}).items() if kept}
+        self.names = {each: stored for each, stored in (self.names | {seat: name}).items() if stored}
         self.store.write(NAMES, self.names)
         self.tell([seat])
 
@@ -223,9 +229,9 @@ class Class:
 
     def _are_due(self, letter: str, notes: Notes, with_counts: bool) -> bool:
         """Whether notes are to be kept: they differ, and not only in their counts, or these are to be kept now."""
-        kept, since = self._kept.get(letter, (Notes(), -math.inf))
+        stored, since = self._kept.get(letter, (Notes(), -math.inf))
         with_counts = with_counts or time.monotonic() - since >= COUNTS_SECONDS
-        return kept != (notes if with_counts else replace(notes, lines=kept.lines, answers=kept.answers))
+        return stored != (notes if with_counts else replace(notes, lines=stored.lines, answers=stored.answers))
 
     def _watched(self) -> set[str]:
         """The names of seats that somebody looks at: with a tab, over the shoulder, or on a wall."""

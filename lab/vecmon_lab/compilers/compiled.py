@@ -15,7 +15,7 @@ from ..guest.entries import NAME_LETTERS
 from ..guest.guest import STACK_END, STACK_POINTER, pokes
 from ..instructions.accesses import PAGE_BYTES, ROW_BYTES
 from .compiler import OWN_SOURCES
-from .debug import MESSAGE_LETTERS, MOST_BYTES, MOST_MESSAGES, MOST_ROWS, MOST_SEGMENTS, MOST_STOPS, MOST_SYMBOLS
+from .debug import MESSAGE_LETTERS, MAX_BYTES, MAX_MESSAGES, MAX_ROWS, MAX_SEGMENTS, MAX_STOPS, MAX_SYMBOLS
 from .failures import ToolError
 from .variables import Variable, read_variables
 
@@ -89,7 +89,7 @@ class CompiledProgram(Program):
         return {number: address for address, number, _ in reversed(self.rows) if number}
 
 
-def read_compiled_program(reply: bytes, most: int = IMAGE_BYTES) -> CompiledProgram:
+def read_compiled_program(reply: bytes, limit: int = IMAGE_BYTES) -> CompiledProgram:
     """The program of what `sandbox_main` printed. Raises LabError where that is in bad form, or too much.
 
     Raises ToolError where the source couldn't be compiled, and that says nothing about it.
@@ -99,11 +99,11 @@ def read_compiled_program(reply: bytes, most: int = IMAGE_BYTES) -> CompiledProg
         answer = json.loads(reply)
         if failure := answer.get("failure"):
             raise ToolError(str(failure)[:MESSAGE_LETTERS])
-        for line, column, is_error, text in answer["messages"][:MOST_MESSAGES]:
+        for line, column, is_error, text in answer["messages"][:MAX_MESSAGES]:
             (errors if is_error else warnings).append(SourceError(int(line), int(column), str(text)[:MESSAGE_LETTERS]))
         if errors:
             return CompiledProgram([], {}, [], 0, errors, (), warnings)
-        program = program_of(answer["image"], warnings, most)
+        program = program_of(answer["image"], warnings, limit)
         program.names()  # so that a malformed field is reported now
         return replace(program, reply=reply)
     except (ValueError, TypeError, LookupError, AttributeError, RecursionError) as error:
@@ -118,17 +118,17 @@ def program_of(
     most_bytes: of those that aren't zeros
     """
     segments = [(address, rights, size, bytes.fromhex(data)) for address, rights, size, data in image["segments"]]
-    if len(segments) > MOST_SEGMENTS or not all(0 < size <= MOST_BYTES for _, _, size, _ in segments):
-        raise LabError(f"the image has more than {MOST_SEGMENTS} segments, or one of more than {MOST_BYTES:,} bytes")
+    if len(segments) > MAX_SEGMENTS or not all(0 < size <= MAX_BYTES for _, _, size, _ in segments):
+        raise LabError(f"the image has more than {MAX_SEGMENTS} segments, or one of more than {MAX_BYTES:,} bytes")
     pages = rights_by_page((address, rights, size) for address, rights, size, _ in segments)
     pieces = [(address + piece.start(), piece[0]) for address, _, _, data in segments for piece in _DATA.finditer(data)]
     size = sum(len(data) for _, data in pieces)
     if len(pages) > IMAGE_PAGES or size > most_bytes:
-        most = f"{IMAGE_PAGES} pages and {most_bytes:,} bytes that aren't zeros"
-        raise LabError(f"the program has {len(pages)} pages and {size:,} bytes; {most} are the most")
+        limit = f"{IMAGE_PAGES} pages and {most_bytes:,} bytes that aren't zeros"
+        raise LabError(f"the program has {len(pages)} pages and {size:,} bytes; {limit} are the most")
     lines = [*maps(pages), *(line for address, data in pieces for line in pokes(address, data)), *STACK]
-    rows = [(int(address), _own_line(line), str(inlined)) for address, line, inlined in image["rows"][:MOST_ROWS]]
-    labels = dict(islice(dict(image["symbols"]).items(), MOST_SYMBOLS))
+    rows = [(int(address), _own_line(line), str(inlined)) for address, line, inlined in image["rows"][:MAX_ROWS]]
+    labels = dict(islice(dict(image["symbols"]).items(), MAX_SYMBOLS))
     variables = read_variables(image["variables"])
     stops, entries = _stops(image.get("stops"), rows)
     return CompiledProgram(lines, labels, [], int(image["entry"]), [], rows, warnings, variables, stops, entries)
@@ -149,8 +149,8 @@ def _stops(
 ) -> tuple[dict[int, list[int]], dict[str, list[int]]]:
     """The addresses of breakpoints by line, and by function. Images of version 1.0 have none, so a line's are where it begins."""
     stops, entries = dict[int, list[int]](), dict[str, list[int]]()
-    for name, addresses in islice((addresses_by_name or {}).items(), MOST_ROWS):
-        places = sorted({int(address) for address in islice(addresses, MOST_STOPS)})
+    for name, addresses in islice((addresses_by_name or {}).items(), MAX_ROWS):
+        places = sorted({int(address) for address in islice(addresses, MAX_STOPS)})
         if number := _own_line(name):
             stops[number] = places
         else:

@@ -18,7 +18,7 @@ OWN_SOURCES = (C_SOURCE, ASSEMBLER_SOURCE)
 FUNCTION = "answer"
 """The function that begins an image which is to answer an exercise; others begin with `main`."""
 
-LEAST_CLANG, LEAST_GCC = 17, 14  # which have the intrinsics of vectors by their present names
+MIN_CLANG, MIN_GCC = 17, 14  # which have the intrinsics of vectors by their present names
 
 INSTALLER = pathlib.Path(__file__).resolve().parents[3] / "tools" / "debian_packages"
 """The tool of a clone that installs Debian packages. An installed vecmon has no such file."""
@@ -64,7 +64,7 @@ class Compiler:
     @property
     def has_vectors(self) -> bool:
         """Whether it has the intrinsics of vectors."""
-        return self.is_clang or _version(self.name) >= LEAST_GCC
+        return self.is_clang or _version(self.name) >= MIN_GCC
 
     def title(self, choice: int) -> str:
         """The compiler with its options, as pages name it; and what it lacks."""
@@ -122,10 +122,10 @@ def choice_for(path: pathlib.Path, name: str) -> int | None:
 
 def find_compilers() -> list[Compiler]:
     """The compilers that there are, the newest clang first."""
-    clangs = [Compiler(f"clang-{version}") for version in range(LEAST_CLANG + 12, LEAST_CLANG - 1, -1)]
+    clangs = [Compiler(f"clang-{version}") for version in range(MIN_CLANG + 12, MIN_CLANG - 1, -1)]
     gccs = [Compiler(f"riscv64-linux-gnu-gcc{ending}") for ending in ("-16", "-15", "-14", "")]
     gccs.append(Compiler("riscv64-unknown-elf-gcc"))
-    return [each for each in (*clangs, *gccs) if _is_there(each)]
+    return [each for each in (*clangs, *gccs) if _is_installed(each)]
 
 
 def find_compiler(name: str | None) -> Compiler:
@@ -147,7 +147,7 @@ def install_compilers() -> None:
         subprocess.run([INSTALLER, "compilers"], stdout=subprocess.DEVNULL)
 
 
-def _is_there(compiler: Compiler) -> bool:
+def _is_installed(compiler: Compiler) -> bool:
     """Whether a compiler and, for a clang, the linker of its version are in the system's folder."""
     linker = f"ld.lld{compiler.name.removeprefix('clang')}" if compiler.is_clang else compiler.name
     return all(shutil.which(name, path="/usr/bin") for name in (compiler.name, linker))

@@ -39,9 +39,9 @@ def compiled_image(path: pathlib.Path) -> pathlib.Path:
     with mistakes_in(path):
         text = path.read_text("utf-8", "replace")
         words = [*words_for(text, find_compiler(None), 0), f"{path.absolute()}"]
-        kept = tempfile.TemporaryDirectory()
-        atexit.register(kept.cleanup)
-        folder = pathlib.Path(kept.name)
+        saved = tempfile.TemporaryDirectory()
+        atexit.register(saved.cleanup)
+        folder = pathlib.Path(saved.name)
         program = read_compiled_program(answer_of_own(words, text, path.parent, folder))
     program.check(f"{path}")
     (folder / C_SOURCE).rename(folder / path.name)  # where its lines are looked for

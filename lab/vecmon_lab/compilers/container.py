@@ -30,12 +30,12 @@ def check_container(*private: pathlib.Path) -> None:
     paths = [str(path.resolve()) for path in private]
     command = [*_AS_NOBODY, "/usr/bin/find", "-L", *paths, "-type", "f", "-readable", "-print", "-quit"]
     try:
-        done = subprocess.run(command, stdin=DEVNULL, capture_output=True, cwd="/", timeout=SECONDS)
+        completed = subprocess.run(command, stdin=DEVNULL, capture_output=True, cwd="/", timeout=SECONDS)
     except (OSError, subprocess.TimeoutExpired) as error:
         raise ToolError(f"{command[0]} can't be run: {error}") from error
-    if done.stderr.startswith(b"setpriv: "):
-        raise ToolError(done.stderr.decode("utf-8", "replace").strip())
-    if found := done.stdout.decode("utf-8", "replace").strip():
+    if completed.stderr.startswith(b"setpriv: "):
+        raise ToolError(completed.stderr.decode("utf-8", "replace").strip())
+    if found := completed.stdout.decode("utf-8", "replace").strip():
         place = next((path for path in private if pathlib.Path(found).is_relative_to(path.resolve())), found)
         raise LabError(f"without a sandbox a source in C could include {found}: chmod -R go= {place}")
 

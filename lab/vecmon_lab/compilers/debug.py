@@ -15,9 +15,9 @@ from .variables import Variable, variables_of
 if TYPE_CHECKING:
     from elftools.elf.elffile import ELFFile
 
-MOST_MESSAGES, MESSAGE_LETTERS = 100, 400  # of a compiler's
-MOST_SEGMENTS, MOST_BYTES, MOST_SYMBOLS, MOST_ROWS = 64, 1 << 20, 2000, 20_000
-MOST_STOPS = 64  # addresses of a line or a function
+MAX_MESSAGES, MESSAGE_LETTERS = 100, 400  # of a compiler's
+MAX_SEGMENTS, MAX_BYTES, MAX_SYMBOLS, MAX_ROWS = 64, 1 << 20, 2000, 20_000
+MAX_STOPS = 64  # addresses of a line or a function
 _CODE = 4  # SHF_EXECINSTR: the section has instructions
 
 
@@ -68,7 +68,7 @@ def image_of(path: pathlib.Path) -> Image:
         return {
             "entry": elf.header["e_entry"] or dict(symbols).get("_start", min(code, default=0)),
             "segments": list(_segments(elf)),
-            "symbols": {name[:NAME_LETTERS]: address for name, address in symbols[:MOST_SYMBOLS]},
+            "symbols": {name[:NAME_LETTERS]: address for name, address in symbols[:MAX_SYMBOLS]},
             "rows": rows,
             "stops": stops,
             "variables": variables_of(elf),
@@ -77,13 +77,13 @@ def image_of(path: pathlib.Path) -> Image:
 
 def _segments(elf: "ELFFile") -> Iterator[Segment]:
     """The segments that are loaded. Raises ValueError where they are too many or too large."""
-    left = MOST_BYTES
-    if elf.num_segments() > MOST_SEGMENTS:
-        raise ValueError(f"the image has more than {MOST_SEGMENTS} segments")
+    left = MAX_BYTES
+    if elf.num_segments() > MAX_SEGMENTS:
+        raise ValueError(f"the image has more than {MAX_SEGMENTS} segments")
     for segment in elf.iter_segments("PT_LOAD"):
         left -= segment["p_memsz"]
         if left < 0 or segment["p_filesz"] > segment["p_memsz"]:
-            raise ValueError(f"the image has more than {MOST_BYTES:,} bytes")
+            raise ValueError(f"the image has more than {MAX_BYTES:,} bytes")
         if segment["p_memsz"]:
             yield Segment(segment["p_vaddr"], rights_of(segment["p_flags"]), segment["p_memsz"], segment.data().hex())
 
@@ -91,13 +91,13 @@ def _segments(elf: "ELFFile") -> Iterator[Segment]:
 def _rows(elf: "ELFFile") -> tuple[list[LineRow], dict[str, list[int]]]:
     """The rows of the line tables, by addresses, and where breakpoints of lines and functions of the source are; none if those are damaged."""
     try:
-        listed, copies = [*islice(source_rows(elf), MOST_ROWS)], [*copies_in(elf)]
+        listed, copies = [*islice(source_rows(elf), MAX_ROWS)], [*copies_in(elf)]
     except Exception:  # pylint: disable=broad-except  # damaged data makes pyelftools raise what its parts do
         return [], {}
     copy_at = innermost((row.address for row in listed), copies)
     inlined = {address: copy.name for address, copy in copy_at.items() if copy.called}
     rows = [LineRow(row.address, row.line[:NAME_LETTERS], inlined.get(row.address, "")) for row in listed]
-    stops = {line: at[:MOST_STOPS] for line, at in line_addresses(listed, copies).items() if _is_own(line)}
+    stops = {line: at[:MAX_STOPS] for line, at in line_addresses(listed, copies).items() if _is_own(line)}
     for copy in copies:
         if _is_own(copy.declared):
             stops.setdefault(copy.name, []).extend(copy.entries)

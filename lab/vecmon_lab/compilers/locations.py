@@ -5,7 +5,7 @@ from collections.abc import Sequence
 from typing import NamedTuple
 
 CODE_END = 1 << 48  # no code is as high
-MOST_BYTES = 64  # of an expression
+MAX_BYTES = 64  # of an expression
 
 _LITERAL, _REGISTER, _BASE = 0x30, 0x50, 0x70  # of 32 operations each, the first one
 _VECTOR, _LENGTH, _VECTOR_BYTES = 96, 7202, 32  # the numbers of v0 and of vlenb, and what that is here

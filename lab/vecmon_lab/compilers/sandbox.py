@@ -51,11 +51,11 @@ def check_start(compiler: Compiler) -> None:
     """Starts the sandbox of a compiler once. Raises ToolError with bwrap's message where that fails."""
     command = [*_sandbox(compiler), "--", TRUE]
     try:
-        done = subprocess.run(command, stdin=DEVNULL, capture_output=True, timeout=SECONDS, env=_environment())
+        completed = subprocess.run(command, stdin=DEVNULL, capture_output=True, timeout=SECONDS, env=_environment())
     except (OSError, subprocess.TimeoutExpired) as error:
         raise ToolError(f"the sandbox of compilers doesn't start: {error}") from error
-    if done.returncode:
-        raise _failure(done.returncode, done.stderr)
+    if completed.returncode:
+        raise _failure(completed.returncode, completed.stderr)
 
 
 def sandboxed_compiler(name: str | None) -> Compiler:
@@ -77,7 +77,7 @@ async def run_in_sandbox_async(words: Sequence[str], text: str) -> bytes:
     return await run_inside([*files, *_INSIDE, *MODULE, *words], text, pathlib.Path("/"), _environment())
 
 
-def answer_of_own(words: Sequence[str], text: str, headers: pathlib.Path, kept: pathlib.Path | None = None) -> bytes:
+def answer_of_own(words: Sequence[str], text: str, headers: pathlib.Path, saved: pathlib.Path | None = None) -> bytes:
     """The output of `sandbox_main` for your own source, which includes headers of a folder. Raises LabError, and ToolError.
 
     kept: the folder that keeps source and image; without it they are deleted
@@ -86,7 +86,7 @@ def answer_of_own(words: Sequence[str], text: str, headers: pathlib.Path, kept: 
     variables = os.environ | {"PYTHONPATH": f"{LAB}", "CPATH": f"{headers.absolute()}", "LC_ALL": "C.UTF-8"}
     with tempfile.TemporaryDirectory() as folder:
         return asyncio.run(
-            run_inside([sys.executable, "-PB", *MODULE, *words], text, kept or pathlib.Path(folder), variables)
+            run_inside([sys.executable, "-PB", *MODULE, *words], text, saved or pathlib.Path(folder), variables)
         )
 
 

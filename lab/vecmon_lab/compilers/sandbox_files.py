@@ -81,10 +81,12 @@ def _gcc_files(compiler: Compiler) -> tuple[list[str], list[str]]:
 
 def _asked(compiler: Compiler, option: str) -> str:
     """The line that a compiler prints for an option. Raises ToolError where it prints none."""
-    done = _run(f"/usr/bin/{compiler.name}", option)
-    if done.returncode or not done.stdout.strip():
-        raise ToolError(f"{compiler.name} {option} fails with status {done.returncode}: {done.stderr.strip()[:200]}")
-    return done.stdout.strip()
+    completed = _run(f"/usr/bin/{compiler.name}", option)
+    if completed.returncode or not completed.stdout.strip():
+        raise ToolError(
+            f"{compiler.name} {option} fails with status {completed.returncode}: {completed.stderr.strip()[:200]}"
+        )
+    return completed.stdout.strip()
 
 
 def _run(*command: str) -> "subprocess.CompletedProcess[str]":
@@ -112,10 +114,10 @@ def _plugins(folders: Iterable[str]) -> Iterator[str]:
 
 def _libraries(programs: Iterable[str]) -> list[str]:
     """The shared libraries that programs load. Raises ToolError where one is missing."""
-    done = _run("/usr/bin/ldd", *programs)
-    if missing := re.search(r"\S+(?= => not found)", done.stdout):
+    completed = _run("/usr/bin/ldd", *programs)
+    if missing := re.search(r"\S+(?= => not found)", completed.stdout):
         raise ToolError(f"the compiler's library {missing[0]} isn't installed")
-    return sorted(set(_LIBRARY.findall(done.stdout)))
+    return sorted(set(_LIBRARY.findall(completed.stdout)))
 
 
 def _merged(path: str) -> str:

@@ -18,7 +18,7 @@ from subprocess import DEVNULL, PIPE, Popen
 from typing import NamedTuple
 
 from .compiler import FUNCTION, IMAGE, OWN_SOURCES, Compiler, source_of
-from .debug import MESSAGE_LETTERS, MOST_MESSAGES, Image, image_of
+from .debug import MESSAGE_LETTERS, MAX_MESSAGES, Image, image_of
 from .failures import without_folders
 
 COMPLAINT_BYTES = 1 << 16
@@ -68,7 +68,7 @@ def read_messages(errors: str) -> list[Diagnostic]:
             text = text if is_own or not file else f"{file}:{number}: {text}"
             place = (int(number), int(column or 1)) if is_own else (0, 0)
             messages.append(Diagnostic(*place, kind.lower() != "warning", without_folders(text)[:MESSAGE_LETTERS]))
-    return list(dict.fromkeys(messages))[:MOST_MESSAGES]
+    return list(dict.fromkeys(messages))[:MAX_MESSAGES]
 
 
 def compile_source(command: Sequence[str]) -> list[Diagnostic]:

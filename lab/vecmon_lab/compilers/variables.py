@@ -8,7 +8,7 @@ from typing import TYPE_CHECKING, Any, NamedTuple
 from .c_types import declaration, shape
 from .compiler import C_SOURCE
 from ..guest.entries import NAME_LETTERS, entry_at, name_of, ranges_of
-from .locations import CODE_END, MOST_BYTES, Location, Sum, location
+from .locations import CODE_END, MAX_BYTES, Location, Sum, location
 
 if TYPE_CHECKING:
     from elftools.dwarf.compileunit import CompileUnit
@@ -16,7 +16,7 @@ if TYPE_CHECKING:
     from elftools.dwarf.dwarfinfo import DWARFInfo
     from elftools.elf.elffile import ELFFile
 
-MOST_VARIABLES, MOST_PARTS = 300, 32
+MAX_VARIABLES, MAX_PARTS = 300, 32
 
 _ELEMENT = re.compile("([iucx](8|16|32|64))?")
 _VARIABLES = ("DW_TAG_formal_parameter", "DW_TAG_variable")
@@ -43,13 +43,13 @@ class Variable(NamedTuple):
 
 
 def variables_of(elf: "ELFFile") -> list[Variable]:
-    """The variables of the source, MOST_VARIABLES at most; those up to where the debug data is damaged."""
+    """The variables of the source, MAX_VARIABLES at most; those up to where the debug data is damaged."""
     found = list[Variable]()
     try:
         debug = elf.get_dwarf_info() if elf.has_dwarf_info() else None
         for unit in debug.iter_CUs() if debug else ():
             if name_of(top := unit.get_top_DIE()) == C_SOURCE:
-                found += islice(_Unit(debug, unit).variables(top), MOST_VARIABLES - len(found))
+                found += islice(_Unit(debug, unit).variables(top), MAX_VARIABLES - len(found))
     except Exception:  # pylint: disable=broad-except  # damaged data makes pyelftools raise what its parts do
         pass
     return found
@@ -58,14 +58,14 @@ def variables_of(elf: "ELFFile") -> list[Variable]:
 def read_variables(entries: Iterable[Any]) -> list[Variable]:
     """Variables as they came as JSON. Raises ValueError and TypeError where that is in another form."""
     found = list[Variable]()
-    for name, words, element, counts, function, scopes, locations in islice(entries, MOST_VARIABLES):
+    for name, words, element, counts, function, scopes, locations in islice(entries, MAX_VARIABLES):
         if not _ELEMENT.fullmatch(element):
             raise ValueError("a kind of numbers that there isn't")
-        parts = locations[:MOST_PARTS]
+        parts = locations[:MAX_PARTS]
         places = [Location(int(a), int(b), str(c), d % 32, f"{int(e, 16):x}") for a, b, c, d, e in parts]
-        ranges = [(int(first), int(end)) for first, end in scopes[:MOST_PARTS]]
+        ranges = [(int(first), int(end)) for first, end in scopes[:MAX_PARTS]]
         name, words, function = (str(each)[:NAME_LETTERS] for each in (name, words, function))
-        sizes = [int(each) for each in counts[:MOST_PARTS]]
+        sizes = [int(each) for each in counts[:MAX_PARTS]]
         found.append(Variable(name, words, element, sizes, function, ranges, places))
     return found
 
@@ -89,7 +89,7 @@ class _Unit:
             if child.tag in _VARIABLES:
                 yield _variable(child, function, scopes, self._locations(child, frame))
             elif child.tag in (_FUNCTION, *_BLOCKS):
-                own = list(islice(ranges_of(self._debug, self._unit, child), MOST_PARTS))
+                own = list(islice(ranges_of(self._debug, self._unit, child), MAX_PARTS))
                 if own:  # else it is what a function is inlined from
                     name = name_of(child) or function
                     base = self._frame(child) if child.tag == _FUNCTION else frame
@@ -112,7 +112,7 @@ class _Unit:
         if attribute.form == "DW_FORM_exprloc":
             return [self._location(0, CODE_END, attribute.value, frame)]
         base, found = self._base, list[Location]()
-        for each in self._debug.location_lists().get_location_list_at_offset(attribute.value, entry)[:MOST_PARTS]:
+        for each in self._debug.location_lists().get_location_list_at_offset(attribute.value, entry)[:MAX_PARTS]:
             if hasattr(each, "base_address"):
                 base = each.base_address
             else:
@@ -122,7 +122,7 @@ class _Unit:
     def _location(self, first: int, end: int, expression: Sequence[int], frame: Sum | None) -> Location:
         """A location by its expression; `untold` where that is long, damaged, or has what isn't known here."""
         try:
-            if len(expression) <= MOST_BYTES:
+            if len(expression) <= MAX_BYTES:
                 return location(first, end, self._operations(expression), frame)
         except Exception:  # pylint: disable=broad-except  # as above
             pass
@@ -142,9 +142,9 @@ def _variable(entry: "DIE", function: str, scopes: Sequence[Sum], locations: Seq
 def _dropped(entry: "DIE") -> list["DIE"]:
     """The variables of an inlined function that its copy doesn't list: they were optimized out."""
     origin = entry_at(entry, "DW_AT_abstract_origin")
-    kept = {source.offset for each in _all_within(entry) if (source := entry_at(each, "DW_AT_abstract_origin"))}
+    saved = {source.offset for each in _all_within(entry) if (source := entry_at(each, "DW_AT_abstract_origin"))}
     whole = _all_within(origin) if origin else ()
-    return [each for each in whole if each.tag in _VARIABLES and each.offset not in kept]
+    return [each for each in whole if each.tag in _VARIABLES and each.offset not in saved]
 
 
 def _all_within(entry: "DIE") -> Iterator["DIE"]:

@@ -3,7 +3,7 @@
 from collections.abc import Mapping, Sequence
 
 from .. import LabError
-from ..assembler.commands import refusal_in_words
+from ..assembler.commands import explain_refusal
 from ..guest.guest import Guest
 from ..machine.answers import Addresses, Refused, read
 from ..machine.lines import check_text
@@ -12,7 +12,7 @@ from .names import Names, state_of
 from .places import Place, Places, is_number
 from .show import Screen
 
-MOST_BREAKPOINTS = 16  # of a user
+MAX_BREAKPOINTS = 16  # of a user
 
 Kept = Mapping[int, Condition | None]
 """Breakpoints by their addresses, with their conditions."""
@@ -53,23 +53,23 @@ class Breakpoints:
     def check_room(self, word: str, place: Place) -> None:
         """Raises LabError if a place with several addresses needs more breakpoints than there may be."""
         there = self._there()
-        new, left = [each for each in place.addresses if int(each, 16) not in there], MOST_BREAKPOINTS - len(there)
+        new, left = [each for each in place.addresses if int(each, 16) not in there], MAX_BREAKPOINTS - len(there)
         if len(new) > max(left, 1) or len(new) > left and len(place.addresses) > 1:
-            needed = f"{word} needs {len(new)} breakpoints, and {left} of {MOST_BREAKPOINTS} are left"
+            needed = f"{word} needs {len(new)} breakpoints, and {left} of {MAX_BREAKPOINTS} are left"
             raise LabError(f"{needed}: none is set; break takes one address, of {', '.join(place.addresses)}")
 
     def all(self) -> Kept:
         """All breakpoints with their conditions."""
         return {address: self._conditions.by_address.get(address) for address in self._there()}
 
-    def restart(self, kept: Kept, is_same: bool) -> None:
+    def restart(self, saved: Kept, is_same: bool) -> None:
         """After a program was brought in: sets the breakpoints that there were again if it is the same, or reports their end."""
         if is_same:
-            self._guest.ask(*(f"break {address:x}" for address in kept))
-            self._conditions.by_address.update({at: condition for at, condition in kept.items() if condition})
-        elif kept:
-            number = "1 breakpoint was" if len(kept) == 1 else f"{len(kept)} breakpoints were"
-            places = ", ".join(f"{address:x}" for address in kept)
+            self._guest.ask(*(f"break {address:x}" for address in saved))
+            self._conditions.by_address.update({at: condition for at, condition in saved.items() if condition})
+        elif saved:
+            number = "1 breakpoint was" if len(saved) == 1 else f"{len(saved)} breakpoints were"
+            places = ", ".join(f"{address:x}" for address in saved)
             self._screen.say(f"{number} removed, since the program is another one: {places}")
 
     def _there(self) -> Sequence[int]:
@@ -84,7 +84,7 @@ class Breakpoints:
             line = f"{self._guest.user} {command} {address}"
             answer = read(self._guest.session.do(line))
             if isinstance(answer, Refused):
-                self._screen.say(*refusal_in_words(line, answer), kind="refused")
+                self._screen.say(*explain_refusal(line, answer), kind="refused")
                 return False
         return True
 

@@ -6,7 +6,7 @@ import threading
 from collections.abc import Collection, Iterable, Iterator, Sequence
 
 from .. import LabError
-from ..assembler.commands import refusal_in_words
+from ..assembler.commands import explain_refusal
 from ..guest.changes import NAMES, Retired, Change, Stepper
 from ..guest.guest import Guest
 from ..instructions.accesses import REGISTER_BYTES
@@ -18,7 +18,7 @@ from .conditions import REGISTERS, Conditions
 from .names import DIGITS, VECTORS, Names, state_of
 from .show import Screen, change_rows, change_text
 
-MOST_ROWS = 6  # of what a run has changed
+MAX_ROWS = 6  # of what a run has changed
 
 
 class Execution:
@@ -50,7 +50,7 @@ class Execution:
             for line in lines:
                 answer = read(self._guest.session.do(line))
                 if isinstance(answer, Refused):
-                    self._screen.say(*refusal_in_words(line, answer), kind="refused")
+                    self._screen.say(*explain_refusal(line, answer), kind="refused")
                     return
             stop = self._go(numbers.values())
         finally:
@@ -149,8 +149,8 @@ class Execution:
         """The changes since the last look, and the next instruction."""
         self.has_mask = False
         self.changes = rows = self._change_rows(self.look())
-        if len(rows) > MOST_ROWS:
-            rows = [*rows[: MOST_ROWS - 1], f"      and {len(rows) - MOST_ROWS + 1} rows more: see changes"]
+        if len(rows) > MAX_ROWS:
+            rows = [*rows[: MAX_ROWS - 1], f"      and {len(rows) - MAX_ROWS + 1} rows more: see changes"]
         self._screen.say(*rows, kind="changed")
         self.show_place()
 

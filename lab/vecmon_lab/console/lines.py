@@ -7,7 +7,7 @@ from collections.abc import Callable, Iterable, Sequence
 from functools import partial
 
 from .. import LabError
-from ..assembler.commands import COMMANDS, refusal_in_words
+from ..assembler.commands import COMMANDS, explain_refusal
 from ..guest.changes import Stepper, vtype_text
 from ..guest.guest import Guest
 from ..guest.symbols import Symbols
@@ -77,12 +77,12 @@ class Console:
         commands = [line[2:] for line in script.steps[0].lines]
         with Session(find_program()) as trial:
             send(Guest(trial), commands, script)
-        kept, is_same, self._program = self._breakpoints.all(), commands == self._program, commands
+        saved, is_same, self._program = self._breakpoints.all(), commands == self._program, commands
         self._guest.ask("stop", "leave", *commands)
         self.names.symbols = Symbols.of_labels(script.labels)
         self._source.own = path, {each.address: each.line for each in script.statements.values()}
         self._conditions.by_address.clear()
-        self._breakpoints.restart(kept, is_same)
+        self._breakpoints.restart(saved, is_same)
         self.execution.look()
 
     def bar(self) -> str:
@@ -96,46 +96,50 @@ class Console:
     def _execute(self, line: str) -> None:
         """Execute a line; report its mistakes."""
         try:
-            match self.names.words(line):
-                case ["help", *name]:
-                    self._screen.say(*help_lines(" ".join(name)), *HELP_ON_PLACES.get(" ".join(name), []))
-                case ["quit"]:
-                    self.is_open = False
-                case ["why", element]:
-                    self._screen.say(why_stepped(self._stepper, *read_name(element)).text)
-                case ["run"]:
-                    self._run(self.execution.run)
-                case ["until", place] if place in REGISTERS or place in VECTORS:
-                    self._run(partial(self.execution.until_changed, place))
-                case ["until", word]:
-                    self._until(word)
-                case ["break", text]:
-                    self._breakpoints.set(text)
-                case ["unbreak", word]:
-                    self._breakpoints.remove(word)
-                case ["back", number] if re.fullmatch("[1-9][0-9]{0,17}", number):
-                    self.execution.back(int(number))
-                case ["back", where] if found := re.fullmatch(r"to +write +(\S+)", where):
-                    self.execution.back_to_write(self.names.named(found[1], "ADDR"))
-                case ["changes"]:
-                    self._screen.say(*self.execution.changes or ["nothing has changed"], kind="changed")
-                case ["list", word]:
-                    address = self._breakpoints.find(word).addresses[0]
-                    at = int(address, 16) if re.fullmatch(DIGITS, address) else -1
-                    self._screen.say(*self._source.rows(at, state_of(self._guest)[1]))
-                case ["source", path]:
-                    self.source(pathlib.Path(path).expanduser())
-                    self.execution.show_place()
-                case ["step", number] if state_of(self._guest)[0] == "stopped" and number in STEPS:
-                    self.execution.step(int(number))
-                case [("quit" | "run" | "source" | "until" | "changes" | "list" | "back" | "why") as name, *_]:
-                    raise LabError(f"the form is {COMMANDS[name].form}")
-                case words:
-                    self._monitor(words)
+            self._dispatch(self.names.words(line))
         except OSError as error:
             self._screen.say(f"{error.filename}: {error.strerror}", kind="refused")
         except LabError as error:
             self._screen.say(str(error), kind="refused")
+
+    def _dispatch(self, command: list[str]) -> None:
+        """Execute a command of the console, or send it to the machine. Raises LabError and OSError."""
+        match command:
+            case ["help", *name]:
+                self._screen.say(*help_lines(" ".join(name)), *HELP_ON_PLACES.get(" ".join(name), []))
+            case ["quit"]:
+                self.is_open = False
+            case ["why", element]:
+                self._screen.say(why_stepped(self._stepper, *read_name(element)).text)
+            case ["run"]:
+                self._run(self.execution.run)
+            case ["until", place] if place in REGISTERS or place in VECTORS:
+                self._run(partial(self.execution.until_changed, place))
+            case ["until", word]:
+                self._until(word)
+            case ["break", text]:
+                self._breakpoints.set(text)
+            case ["unbreak", word]:
+                self._breakpoints.remove(word)
+            case ["back", number] if re.fullmatch("[1-9][0-9]{0,17}", number):
+                self.execution.back(int(number))
+            case ["back", where] if found := re.fullmatch(r"to +write +(\S+)", where):
+                self.execution.back_to_write(self.names.named(found[1], "ADDR"))
+            case ["changes"]:
+                self._screen.say(*self.execution.changes or ["nothing has changed"], kind="changed")
+            case ["list", word]:
+                address = self._breakpoints.find(word).addresses[0]
+                at = int(address, 16) if re.fullmatch(DIGITS, address) else -1
+                self._screen.say(*self._source.rows(at, state_of(self._guest)[1]))
+            case ["source", path]:
+                self.source(pathlib.Path(path).expanduser())
+                self.execution.show_place()
+            case ["step", number] if state_of(self._guest)[0] == "stopped" and number in STEPS:
+                self.execution.step(int(number))
+            case [("quit" | "run" | "source" | "until" | "changes" | "list" | "back" | "why") as name, *_]:
+                raise LabError(f"the form is {COMMANDS[name].form}")
+            case words:
+                self._monitor(words)
 
     def _monitor(self, words: Sequence[str]) -> Answer:
         """Execute a line of the monitor, perhaps with a user or the operator before it; show the answer."""
@@ -143,7 +147,7 @@ class Console:
         if not has_user:
             check_text(" ".join(words))
         line = " ".join(words if has_user else [str(self._guest.user), *words])
-        kept = self._breakpoints.all() if words[0] == "load" else {}
+        saved = self._breakpoints.all() if words[0] == "load" else {}
         lines = self._guest.session.do(line)
         answer = read(lines)
         if isinstance(answer, Loaded) and line[0] == str(self._guest.user):
@@ -152,12 +156,12 @@ class Console:
             self.execution.look()
             self._conditions.drop_old()
         if isinstance(answer, Refused):
-            self._screen.say(*refusal_in_words(line, answer), kind="refused")
+            self._screen.say(*explain_refusal(line, answer), kind="refused")
         else:
             self._screen.say(*lines if has_user else self._shown(answer, lines))
         if isinstance(answer, Loaded):
             self.names.symbols, self._source.own = self._image_symbols, None
-            self._breakpoints.restart(kept, words == self._program)
+            self._breakpoints.restart(saved, words == self._program)
             self._program = words[has_user:]
         elif words[has_user] in ("enter", "leave") and not isinstance(answer, Refused):
             self._program = []

@@ -64,8 +64,8 @@ class Screen:
         name, group = f"v{register.number}", max(1, int(Fraction(register.width, control.sew) * control.lmul))
         first = register.number % group * len(values)
         texts = [self.paint(value, _placement(first + place, control, mask)) for place, value in enumerate(values)]
-        most = max(1, min(ELEMENTS_WIDTH, self.width - 4) // (register.width // 4 + 1))
-        room = 1 << most.bit_length() - 1
+        limit = max(1, min(ELEMENTS_WIDTH, self.width - 4) // (register.width // 4 + 1))
+        room = 1 << limit.bit_length() - 1
         for row in range(0, len(texts), room):
             yield f"{'' if row else name:3} {' '.join(texts[row : row + room])}"
 
@@ -103,14 +103,14 @@ def change_rows(texts: Iterable[str], width: int) -> Iterator[str]:
     yield row
 
 
-def _pieces(text: str, most: int) -> list[str]:
+def _pieces(text: str, limit: int) -> list[str]:
     """A change in pieces of this number of characters at most, which end after a number, a name or a byte's digits."""
-    if len(text) <= most:
+    if len(text) <= limit:
         return [text]
     if "," in text:
         return re.findall("[^,=]+[,=]?", text)
     name, _, digits = text.partition("=")
-    room = (most - len(name) - 1) // 2 * 2
+    room = (limit - len(name) - 1) // 2 * 2
     return [f"{name}={digits[:room]}", *(digits[at : at + room] for at in range(room, len(digits), room))]
 
 

@@ -11,7 +11,7 @@ from random import Random
 
 from .. import LabError, mistakes_in
 from ..compilers.compiled import STACK, CompiledProgram, Isolation
-from ..guest.guest import IMAGE_BYTES, MOST_STEPS, QUANTUM, STACK_END, Guest, pokes
+from ..guest.guest import IMAGE_BYTES, MAX_STEPS, QUANTUM, STACK_END, Guest, pokes
 from ..lessons.script import Script, read_assembled, read_compiled, send
 from ..machine.answers import Position, ScalarRegisters, Stop
 from ..machine.lines import check_line, words_of
@@ -53,7 +53,7 @@ class Attempt:
 
 
 def read_answer(
-    path: pathlib.Path, most: int = IMAGE_BYTES, is_own: bool = False, isolation: Isolation | None = None
+    path: pathlib.Path, limit: int = IMAGE_BYTES, is_own: bool = False, isolation: Isolation | None = None
 ) -> Answer:
     """The answer in a file of at most this number of bytes: an ELF image, a source (.s, .S, .c), or a script.
 
@@ -65,12 +65,12 @@ def read_answer(
         with open(path, "rb", opener=_open) as file:
             if not stat.S_ISREG(os.fstat(file.fileno()).st_mode):
                 raise LabError("it is no regular file, and others aren't read")
-            data = file.read(most + 1)
+            data = file.read(limit + 1)
     except OSError as error:
         why = "it is a link, and links aren't read" if path.is_symlink() else f"it can't be read: {error.strerror}"
         raise LabError(why) from error
-    if len(data) > most:
-        raise LabError(f"it has more than {most:,} bytes")
+    if len(data) > limit:
+        raise LabError(f"it has more than {limit:,} bytes")
     if data.startswith(b"\x7fELF"):
         check_flags(path)
         return Answer(path)
@@ -180,10 +180,10 @@ def _run(guest: Guest, limits: Limits) -> tuple[Stop | None, bool]:
     """Runs an answer to a stop; None where its ticks ran out; and whether it took more instructions than it may."""
     left = limits.instructions + 1 if limits.instructions < UNLIMITED else 0  # the last one may be that which stops it
     while left > 0:
-        stop, _ = guest.execute(min(left, MOST_STEPS))
+        stop, _ = guest.execute(min(left, MAX_STEPS))
         if stop:
             return stop, False
-        left -= MOST_STEPS
+        left -= MAX_STEPS
     return guest.go(limits.ticks), limits.instructions < UNLIMITED
 
 

@@ -29,7 +29,7 @@ from .outcome import outcome
 from .answer_cost import AnswerCost, answer_cost
 
 NAME = pathlib.Path("answer")
-MOST_SHOWN, BEFORE = 48, 4  # numbers of a row; and of them before the first wrong one
+MAX_SHOWN, BEFORE = 48, 4  # numbers of a row; and of them before the first wrong one
 CPU_SECONDS = 10
 UNCHECKED = "The answer couldn't be checked, which isn't your fault. Nothing was counted."
 NumberRow = TypedDict("NumberRow", {"where": str, "first": int, "numbers": list[str], "more": int, "wrong": list[int]})
@@ -171,15 +171,15 @@ def _compared(expected: Results, found: Results) -> tuple[list[NumberRow], list[
     pairs = []
     for (where, texts), (_, others) in zip(_strips(expected), _strips(found)):
         wrong = [place for place, pair in enumerate(zip(texts, others)) if pair[0] != pair[1]]
-        first = max(0, wrong[0] - BEFORE) if wrong and wrong[0] >= MOST_SHOWN - BEFORE else 0
-        marks = [place - first for place in wrong if place < first + MOST_SHOWN]
+        first = max(0, wrong[0] - BEFORE) if wrong and wrong[0] >= MAX_SHOWN - BEFORE else 0
+        marks = [place - first for place in wrong if place < first + MAX_SHOWN]
         pairs.append((_row(where, texts, first, []), _row(where, others, first, marks)))
     return [own for own, _ in pairs], [other for _, other in pairs]
 
 
 def _row(where: str, texts: Sequence[str], first: int = 0, wrong: Sequence[int] = ()) -> NumberRow:
     first = first if first < len(texts) else 0
-    shown = list(texts[first : first + MOST_SHOWN])
+    shown = list(texts[first : first + MAX_SHOWN])
     more = len(texts) - first - len(shown)
     return {"where": where, "first": first, "numbers": shown, "more": more, "wrong": list(wrong)}
 

@@ -213,8 +213,10 @@ def _numbers(where: str, entries: Mapping[object, object], by_reference: bool) -
             return kind, [0] * min(count, PLACE_BYTES + 1)
         case [(str(kind), list(numbers))] if not by_reference and kind in _FORMATS:
             bits = int(kind[1:])
-            least = -(1 << bits - 1) if kind[0] == "i" else 0
-            odd = [number for number in numbers if type(number) is not int or not least <= number < least + (1 << bits)]
+            minimum = -(1 << bits - 1) if kind[0] == "i" else 0
+            odd = [
+                number for number in numbers if type(number) is not int or not minimum <= number < minimum + (1 << bits)
+            ]
             if not odd:
                 return kind, numbers
             raise LabError(f"{where}: {odd[0]} is no {kind}")

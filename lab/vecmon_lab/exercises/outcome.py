@@ -25,8 +25,8 @@ def outcome(program: Vecmon, answer: Answer, exercise: Exercise, case: Case) -> 
         return str(error), None
     reason = difference(case.expected, done, case.registers)
     if done.is_long and not reason:
-        most = exercise.limits.instructions
-        reason = f"the results are right, but it takes more than {most:,} instructions: with vectors fewer will do"
+        limit = exercise.limits.instructions
+        reason = f"the results are right, but it takes more than {limit:,} instructions: with vectors fewer will do"
     return reason, done
 
 

@@ -13,7 +13,7 @@ import re
 
 from .. import LabError
 from ..arguments import add_program
-from ..assembler.commands import refusal_in_words
+from ..assembler.commands import explain_refusal
 from ..guest.guest import Guest, started
 from ..guest.runner import Reporter
 from ..guest.symbols import Symbols
@@ -87,14 +87,8 @@ class Target:
         if letter in "bMP":  # it goes back, or what is written may keep it from exiting
             self._exit = ""
         match letter, words:
-            case "q", ["Supported", *_]:
-                return f"PacketSize={PACKET_BYTES:x};{FEATURES}"
-            case "q", ["Xfer", "features", "read", "target.xml", offset, length]:
-                return _part(DESCRIPTION, offset, length)
-            case "q", ["Xfer", "exec-file", "read", _, offset, length]:
-                return _part(f"{self._image.absolute()}", offset, length)
-            case "q", ["Rcmd", digits]:
-                return self._monitor(bytes.fromhex(digits).decode("latin-1")).encode().hex()
+            case "q", _:
+                return self._answer_query(words)
             case ("Q", ["StartNoAckMode"]) | ("H", _):
                 return "OK"
             case "?", _:
@@ -114,10 +108,8 @@ class Target:
                 return self._register(int(number, 16))
             case "P", [number, digits]:
                 return self._write_register(int(number, 16), digits)
-            case "m", [address, length]:  # gdb asks again for what is left
-                most = LINE_BYTES - int(address, 16) % LINE_BYTES
-                (help_text,) = self._guest.ask(f"peek {address} {min(int(length, 16), most)}")
-                return help_text.data.hex() if isinstance(help_text, Memory) else str(help_text)
+            case "m", [address, length]:
+                return self._read_memory(address, int(length, 16))
             case "M", [address, _, digits]:
                 return self._do(f"poke {address} {digits}")
             case ("Z" | "z"), ["0" | "1", address, _]:
@@ -129,6 +121,25 @@ class Target:
                 return "OK"
             case "k", _:
                 raise EOFError
+        return ""
+
+    def _read_memory(self, address: str, length: int) -> str:
+        """The bytes from an address up to the end of its line at most; gdb asks again for the rest."""
+        limit = LINE_BYTES - int(address, 16) % LINE_BYTES
+        (answer,) = self._guest.ask(f"peek {address} {min(length, limit)}")
+        return answer.data.hex() if isinstance(answer, Memory) else str(answer)
+
+    def _answer_query(self, words: list[str]) -> str:
+        """The reply to a `q` packet; no text for an unsupported one."""
+        match words:
+            case ["Supported", *_]:
+                return f"PacketSize={PACKET_BYTES:x};{FEATURES}"
+            case ["Xfer", "features", "read", "target.xml", offset, length]:
+                return _part(DESCRIPTION, offset, length)
+            case ["Xfer", "exec-file", "read", _, offset, length]:
+                return _part(f"{self._image.absolute()}", offset, length)
+            case ["Rcmd", digits]:
+                return self._monitor(bytes.fromhex(digits).decode("latin-1")).encode().hex()
         return ""
 
     def _stopped(self, stop: Stop | None, signal: str) -> str:
@@ -186,8 +197,8 @@ class Target:
         if number == VCSR:
             control = self._guest.query("vcsr", ControlRegisters)
             return (control.vxrm << 1 | control.vxsat).to_bytes(8, "little").hex()
-        (help_text,) = self._guest.ask(f"vreg v{number - FIRST_VECTOR} 8")
-        return help_text.data.hex() if isinstance(help_text, VectorRegister) else REFUSED
+        (answer,) = self._guest.ask(f"vreg v{number - FIRST_VECTOR} 8")
+        return answer.data.hex() if isinstance(answer, VectorRegister) else REFUSED
 
     def _write_register(self, number: int, digits: str) -> str:
         """Writes a register; the control registers can't be written from outside."""
@@ -207,7 +218,7 @@ class Target:
         except BadLine as error:
             return f"{error}\n"
         answer, rows = read(lines), [part[2:] for part in lines]
-        return "\n".join([*(refusal_in_words(f"1 {line}", answer) if isinstance(answer, Refused) else rows), ""])
+        return "\n".join([*(explain_refusal(f"1 {line}", answer) if isinstance(answer, Refused) else rows), ""])
 
     def _do(self, command: str) -> str:
         """The answer after a command."""

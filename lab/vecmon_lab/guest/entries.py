@@ -8,12 +8,12 @@ if TYPE_CHECKING:
     from elftools.dwarf.die import DIE
     from elftools.dwarf.dwarfinfo import DWARFInfo
 
-NAME_LETTERS, MOST_ORIGINS = 100, 8
+NAME_LETTERS, MAX_ORIGINS = 100, 8
 
 
 def name_of(entry: "DIE") -> str:
     """The name of a function or a variable, by where it was declared."""
-    for _ in range(MOST_ORIGINS):
+    for _ in range(MAX_ORIGINS):
         if "DW_AT_name" not in entry.attributes and "DW_AT_abstract_origin" in entry.attributes:
             entry = entry.get_DIE_from_attribute("DW_AT_abstract_origin")
     name = entry.attributes.get("DW_AT_name")

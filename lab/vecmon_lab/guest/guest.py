@@ -31,8 +31,8 @@ from .runner import OUTPUT_BYTES, SAFE_STEPS, Report, Reporter, Runner
 
 IMAGE_BYTES, ARGUMENT_BYTES = 4_194_304, 8192  # of a file; of the stack's 16 KiB
 QUANTUM = 1000  # the ticks of the longest slices, as the program is alone
-MOST_STEPS, MOST_ROUNDS = 256, 1000  # of one line; and how many such lines are sent before their answers are looked at
-PACES = ((MOST_STEPS, OUTPUT_BYTES - 1), (SAFE_STEPS, OUTPUT_BYTES))
+MAX_STEPS, MAX_ROUNDS = 256, 1000  # of one line; and how many such lines are sent before their answers are looked at
+PACES = ((MAX_STEPS, OUTPUT_BYTES - 1), (SAFE_STEPS, OUTPUT_BYTES))
 """Steps at once, and with how many bytes of output all calls have found room behind them; the last ones always find it."""
 
 STACK_POINTER, STACK_END, STACK_BYTES = 0x7FFF_EFC0, 0x7FFF_F000, 0x4000  # as `load` leaves them
@@ -173,16 +173,16 @@ class Guest:
         self.pc = reply.pc
         return reply if isinstance(reply, Stop) else None, answers
 
-    def pass_over(self, instructions: int, at_once: int = MOST_STEPS, most: int = OUTPUT_BYTES) -> bool:
+    def pass_over(self, instructions: int, at_once: int = MAX_STEPS, limit: int = OUTPUT_BYTES) -> bool:
         """Execute a number of instructions, which don't stop the program, in groups, and empty the buffer after each.
 
         False if the program wrote more than this number of bytes: it stays there then.
         """
         while instructions:
-            part = min(instructions, MOST_ROUNDS * at_once)
+            part = min(instructions, MAX_ROUNDS * at_once)
             outputs = [answer.data for answer in self.ask(*stepping(part, at_once)) if isinstance(answer, Output)]
             self.emit_output(b"".join(outputs))
-            if max(map(len, outputs)) > most:
+            if max(map(len, outputs)) > limit:
                 return False
             instructions -= part
         self.pc = self.query("state", Position).pc
@@ -271,7 +271,7 @@ def runs_of(addresses: Iterable[int]) -> list[list[int]]:
     return runs
 
 
-def stepping(instructions: int, at_once: int = MOST_STEPS) -> Iterator[str]:
+def stepping(instructions: int, at_once: int = MAX_STEPS) -> Iterator[str]:
     """The commands that execute a number of instructions in groups, and fetch the output after each group.
 
     It is taken behind the same ones each time, so that calls that write find the same room in a replay.

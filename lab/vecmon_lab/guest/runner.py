@@ -20,9 +20,9 @@ if TYPE_CHECKING:
     from .guest import Guest
 
 OUTPUT_BYTES, WRITE_BYTES = 1024, 256  # that the buffer holds; and that a call writes at most
-MOST_BREAKPOINTS = 16  # that a user may have
-MOST_LOOKS = 1000  # at the registers of doubtful calls
-MOST_SLICES, MOST_TICKS = 1000, 1_000_000  # of one line; and between two looks at the output
+MAX_BREAKPOINTS = 16  # that a user may have
+MAX_LOOKS = 1000  # at the registers of doubtful calls
+MAX_SLICES, MAX_TICKS = 1000, 1_000_000  # of one line; and between two looks at the output
 LITTLE_BYTES, MUCH_BYTES = 256, 512  # of output: up to the one the next look comes later, above the other one earlier
 CALLS_OF_A_SLICE = 256  # stops at calls that count as a slice, as OUTPUT_BYTES of output do
 
@@ -65,7 +65,7 @@ class Runner:
         self.report = report
         self._guest, self._code = guest, Code()
         self.has_exact_ticks = True
-        self.looks_left = MOST_LOOKS
+        self.looks_left = MAX_LOOKS
         self._stops_at_calls = self._is_stepping = False
         self._places: Sequence[int] = ()  # of ECALLs with breakpoints that aren't the user's
         self._breaks: Sequence[int] = ()  # the user's
@@ -85,8 +85,8 @@ class Runner:
         while slices != 0 and stop is None and not is_interrupted():
             self.look(guest.pc)
             size, pc = guest.session.size, guest.pc
-            most = at_once if slices is None else min(at_once, slices)
-            stop, used, output = self._step_on() if self._is_stepping else self._run_on(most)
+            limit = at_once if slices is None else min(at_once, slices)
+            stop, used, output = self._step_on() if self._is_stepping else self._run_on(limit)
             if len(output) == OUTPUT_BYTES and not self._is_stepping:
                 self._go_back(size, pc)
                 stop = None
@@ -95,7 +95,7 @@ class Runner:
             if stop and stop.kind == "break" and stop.pc in self._places:
                 used, stop = used - 1 + self._count_call(len(output)), None
             if len(output) <= LITTLE_BYTES:
-                at_once = min(2 * at_once, MOST_TICKS // guest.session.quantum)
+                at_once = min(2 * at_once, MAX_TICKS // guest.session.quantum)
             elif len(output) > MUCH_BYTES:
                 at_once = max(1, at_once // 2)
             guest.ticks += used * guest.session.quantum
@@ -121,7 +121,7 @@ class Runner:
     def _choose_places(self) -> None:
         """Sets breakpoints at all ECALLs, where the output is taken there, else at the doubtful ones."""
         places = self._code.places if self._stops_at_calls else self._code.uncertain if self.looks_left else ()
-        free, own = MOST_BREAKPOINTS - len(self._breaks), [place for place in places if place not in self._breaks]
+        free, own = MAX_BREAKPOINTS - len(self._breaks), [place for place in places if place not in self._breaks]
         self._is_stepping = self._is_stepping or self._stops_at_calls and len(own) > free
         self._set_places(() if self._is_stepping else own[:free])
 
@@ -140,7 +140,7 @@ class Runner:
         guest, used = self._guest, 0
         guest.ask("go")
         while used < slices:
-            granted, stop = self._grant(min(MOST_SLICES, slices - used))
+            granted, stop = self._grant(min(MAX_SLICES, slices - used))
             used += granted
             if stop:
                 break

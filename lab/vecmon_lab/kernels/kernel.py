@@ -13,12 +13,12 @@ from dataclasses import dataclass
 from typing import Any, TypeAlias
 
 from .. import LabError, mistakes_in
-from ..assembler.commands import refusal_in_words
+from ..assembler.commands import explain_refusal
 from ..compilers.compiling import compile_c
 from ..compilers.compiler import choice_of, find_compiler
 from ..exercises.answer import Answer, read_answer
 from ..guest.changes import Stepper
-from ..guest.guest import MOST_STEPS, QUANTUM, STACK_END, Guest, peeks, pokes
+from ..guest.guest import MAX_STEPS, QUANTUM, STACK_END, Guest, peeks, pokes
 from ..guest.notebook import registers_html
 from ..guest.runner import Reporter
 from ..guest.symbols import Symbols
@@ -38,7 +38,7 @@ ARRAYS = 0x1_0000_0000
 """Where the first page of arrays is."""
 
 RETURN = STACK_END  # where there is no page: who returns is the one that can't be fetched there
-MOST_ARGUMENTS, FIRST_ARGUMENT = 8, 10  # in registers, x10 first
+MAX_ARGUMENTS, FIRST_ARGUMENT = 8, 10  # in registers, x10 first
 RENEWED_BYTES = 2_000_000  # of a session's script, behind which another session takes its place
 
 _MAIN = "\nint main(void) { return 0; }\n"
@@ -167,7 +167,7 @@ class Kernel(contextlib.AbstractContextManager["Kernel"]):
         return Result(value, [_like(data, each) for data, each in zip(given, found)], output, counts)
 
     def steps(
-        self, symbol: str, *arguments: "int | Array | Placed", policy: str = "keep", most: int = 100_000
+        self, symbol: str, *arguments: "int | Array | Placed", policy: str = "keep", limit: int = 100_000
     ) -> Iterator[Step]:
         """The instructions of a call, which is as `call` has it, one after another, up to its return or its stop.
 
@@ -178,7 +178,7 @@ class Kernel(contextlib.AbstractContextManager["Kernel"]):
         self._renew()
         self._begin_call(symbol, policy, [*(line for place in places for line in place.lines), *registers])
         guest, stepper, self._is_stopped = self._guest, Stepper(self._guest), True
-        for _ in range(most):
+        for _ in range(limit):
             before = stepper.registers.copy()
             retired = stepper.step()
             if guest.pc == retired.pc and retired.pc == RETURN:
@@ -212,7 +212,7 @@ class Kernel(contextlib.AbstractContextManager["Kernel"]):
         before = [*self._begin, f"policy {policy}", *lines, f"setpc {self._symbols.addresses[symbol]:x}"]
         for command, answer in zip(before, self._guest.ask(*before)):
             if isinstance(answer, Refused):
-                raise LabError(f"{symbol}: {command[:60]}: {refusal_in_words(f'1 {command}', answer)[-1]}")
+                raise LabError(f"{symbol}: {command[:60]}: {explain_refusal(f'1 {command}', answer)[-1]}")
         return before
 
     def _left(
@@ -226,7 +226,7 @@ class Kernel(contextlib.AbstractContextManager["Kernel"]):
         counts = None
         if counted:
             counts = record(initial_state_at(guest, self._images.get("image"), [f"1 {line}" for line in before]), ticks)
-        stop, found = guest.execute(MOST_STEPS, looks)
+        stop, found = guest.execute(MAX_STEPS, looks)
         if stop is None:
             stop = guest.go(ticks)
             found = guest.ask(*looks)
@@ -269,8 +269,8 @@ def _read(path: pathlib.Path, options: str, compiler: str | None) -> tuple[Answe
 
 def _placed(arguments: Sequence["int | Array | Placed"]) -> tuple[list[int], list[_Place], list[Array]]:
     """The values of arguments as registers have them; the places of arrays; and the arrays as they were given."""
-    if len(arguments) > MOST_ARGUMENTS:
-        raise LabError(f"a call has {MOST_ARGUMENTS} arguments at most, and this one has {len(arguments)}")
+    if len(arguments) > MAX_ARGUMENTS:
+        raise LabError(f"a call has {MAX_ARGUMENTS} arguments at most, and this one has {len(arguments)}")
     values, places, given, page = list[int](), list[_Place](), list[Array](), ARRAYS
     for number, argument in enumerate(arguments, 1):
         if isinstance(argument, int | numbers.Integral):

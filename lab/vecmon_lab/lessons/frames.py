@@ -19,7 +19,7 @@ from ..machine.session import Session
 from ..page.state import ABSENT, VisibleRows, WatchSet, State, look_at, registers_of, with_rows
 from .script import Script, Step, refused_statement
 
-MOST_NAMED = 40  # rows of memory that variables of a source in C have for certain
+MAX_NAMED = 40  # rows of memory that variables of a source in C have for certain
 
 
 @dataclass(frozen=True)
@@ -143,7 +143,7 @@ class _Maker:
         """The frames, with only the most relevant rows of memory."""
         for user, watch_set in self._watch_sets.items():
             if self._script.variables:  # and not what else the image has
-                watch_set.named = set(variable_rows(self._script.variables)[:MOST_NAMED])
+                watch_set.named = set(variable_rows(self._script.variables)[:MAX_NAMED])
             choice = VisibleRows()
             for frame in self._frames:
                 choice.add(frame.states.get(user, ABSENT))

@@ -19,7 +19,7 @@ from ..runs.profile import summary_of
 from ..runs.recorder import record
 from .script import send
 
-MOST_TICKS, MOST_WORDS = 50_000, 4000
+MAX_TICKS, MAX_WORDS = 50_000, 4000
 
 
 @dataclass(frozen=True)
@@ -37,18 +37,18 @@ class CompiledListing:
 
 
 def listing_of(program: CompiledProgram, name: str, machine: pathlib.Path) -> CompiledListing:
-    """The listing of a program, which runs on a machine of its own to its end, or until MOST_TICKS have run out.
+    """The listing of a program, which runs on a machine of its own to its end, or until MAX_TICKS have run out.
 
     Raises LabError where the machine refuses it.
     """
     lines = {address: (line, inlined) for address, line, inlined in program.rows}
     of_source = [(range(first, end, 4), lines[first]) for first, end in pairwise(lines) if lines[first][0]]
-    lines = dict(islice(((address, line) for run, line in of_source for address in run), MOST_WORDS))
+    lines = dict(islice(((address, line) for run, line in of_source for address in run), MAX_WORDS))
     with Session(machine) as session:
         guest = Guest(session)
         send(guest, ["enter", *program.lines, f"setpc {program.entry:x}"])
         words = guest.words(lines)
-        counts, stop = record(initial_state_at(guest), MOST_TICKS), guest.go(MOST_TICKS)
+        counts, stop = record(initial_state_at(guest), MAX_TICKS), guest.go(MAX_TICKS)
         end = f"status {stop.number}" if stop and stop.kind == "exit" else guest.tell(stop)
     by_address = {place.address: place for place in counts.places}
     places = [(word, by_address.get(word.address, CountedWord(word.address, word.word))) for word in words]

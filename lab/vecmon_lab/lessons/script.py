@@ -6,7 +6,7 @@ from dataclasses import dataclass, field, replace
 from typing import Any
 
 from .. import LabError
-from ..assembler.commands import refusal_in_words
+from ..assembler.commands import explain_refusal
 from ..assembler.source import Program, SourceError, Statement, assemble, refusal
 from ..compilers.compiled import CompiledProgram
 from ..guest.guest import Guest
@@ -67,8 +67,8 @@ def read_script(text: str) -> Script:
 
 def add_line(steps: list[Step], line: str, note: str = "") -> None:
     """Adds a line as a step, or to the last step: if it only looks, or both write instructions of one user."""
-    begins = _begins(line)
-    if steps and not note and (is_look(line) or "asm" in begins and begins == _begins(steps[-1].lines[-1])):
+    line_start = _line_start(line)
+    if steps and not note and (is_look(line) or "asm" in line_start and line_start == _line_start(steps[-1].lines[-1])):
         steps[-1].lines.append(line)
     else:
         steps.append(Step([line], note))
@@ -124,7 +124,7 @@ def send(guest: Guest, commands: Sequence[str], source: Script | None = None) ->
         if isinstance(answer, Refused):
             if source and f"1 {command}" in source.statements:
                 raise refused_statement(source, f"1 {command}", answer)
-            raise LabError(f"{command[:60]}: {refusal_in_words(f'1 {command}', answer)[-1]}")
+            raise LabError(f"{command[:60]}: {explain_refusal(f'1 {command}', answer)[-1]}")
 
 
 def _sentence(lines: list[str]) -> str:
@@ -132,7 +132,7 @@ def _sentence(lines: list[str]) -> str:
     return " ".join(filter(None, (line.lstrip("#").strip() for line in lines)))
 
 
-def _begins(line: str) -> str:
+def _line_start(line: str) -> str:
     """A line's user and command."""
     return " ".join([line[:1], *words_of(line)[:1]])
 

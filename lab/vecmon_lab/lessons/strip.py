@@ -7,7 +7,7 @@ from typing import TypedDict
 from ..page.state import ABSENT, State
 from .frames import Frame
 
-VLEN, MOST_CELLS, MOST_WORDS = 256, 16, 6
+VLEN, MAX_CELLS, MAX_WORDS = 256, 16, 6
 
 Strip = TypedDict("Strip", {"name": str, "text": str, "cells": list[tuple[str, str]]})
 """A register or `program`; the instruction that wrote it, or ""; and cells, each its digits and the form of an element:
@@ -21,7 +21,7 @@ def strip_of(frames: Sequence[Frame]) -> Strip:
         return max(reversed(strips), key=_rank)
     code = frames[-1].states.get(frames[-1].user, ABSENT).get("code", {})
     words = [line[:8] for _, line in sorted(code.items(), key=lambda item: int(item[0], 16))]
-    return {"name": "program", "text": "", "cells": [(word, "") for word in words if word.strip("0")][:MOST_WORDS]}
+    return {"name": "program", "text": "", "cells": [(word, "") for word in words if word.strip("0")][:MAX_WORDS]}
 
 
 def _rank(strip: Strip) -> tuple[bool, int, int]:
@@ -58,7 +58,7 @@ def _strip(state: State, number: int) -> Strip:
     width = (1 if bits == 1 else min(64, max(8, int(bits or part * sew)))) if is_set else 8
     register = int.from_bytes(bytes.fromhex(state["v"][f"{number}"]), "little")
     cells = []
-    for place in range(min(MOST_CELLS, VLEN // width)):
+    for place in range(min(MAX_CELLS, VLEN // width)):
         element = register >> place * width & (1 << width) - 1
         cells.append((f"{element:0{-(-width // 4)}x}", _kind(state, place, bool(is_masked)) if is_set else ""))
     return {"name": f"v{number}", "text": state["code"].get(address, "")[9:] if writes else "", "cells": cells}

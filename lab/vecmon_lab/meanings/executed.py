@@ -222,10 +222,10 @@ class Execution:
 
     def _clipped(self, has_sign: bool, value: int) -> int:
         """The nearest number of the destination's width."""
-        least = -(1 << self.width - 1) if has_sign else 0
-        most = least + (1 << self.width) - 1
-        self.is_saturated = self.is_saturated or not least <= value <= most
-        return min(max(value, least), most)
+        minimum = -(1 << self.width - 1) if has_sign else 0
+        limit = minimum + (1 << self.width) - 1
+        self.is_saturated = self.is_saturated or not minimum <= value <= limit
+        return min(max(value, minimum), limit)
 
 
 def execute(before: Before, formula: Formula | None = None) -> After:
@@ -363,7 +363,7 @@ def _control_value(control: ControlRegisters, number: int) -> int:
 def _with_control_value(control: ControlRegisters, number: int, value: int) -> ControlRegisters:
     """The control registers after one is written; those that can only be read are as they were."""
     fields = _CONTROL_FIELDS.get(number, {})
-    return replace(control, **{name: value >> low & most for name, (low, most) in fields.items()})
+    return replace(control, **{name: value >> low & limit for name, (low, limit) in fields.items()})
 
 
 def _requested(before: Before) -> dict[str, object]:

@@ -13,7 +13,7 @@ from ..instructions.words import OP_V
 from .executed import WORD, After, Before, Execution, ElementOutcome, agnostic, element_of, execute
 from .formula import CLIPS, FUNCTIONS, MEMORIES, OPERANDS, Assignment, elements_in, evaluate
 
-MOST_TERMS = 8  # of a list of elements that is shown whole
+MAX_TERMS = 8  # of a list of elements that is shown whole
 NO_STEP = "no instruction was executed by a single step: step first"
 _NAME = re.compile(r"(\w+)(?:\[(\d+)\]|\s+(\d+))?")
 _READS = (*OPERANDS, *MEMORIES, "x")
@@ -216,7 +216,7 @@ class _Shown(ast.NodeTransformer):
         for number in elements_in(loop, self._names):
             self._names["j"] = number
             terms.append(ast.unparse(self.visit(copy.deepcopy(node.elt))))
-        return terms if len(terms) <= MOST_TERMS else [*terms[: MOST_TERMS - 1], "...", terms[-1]]
+        return terms if len(terms) <= MAX_TERMS else [*terms[: MAX_TERMS - 1], "...", terms[-1]]
 
     def _constant(self, node: ast.expr) -> ast.expr:
         value = evaluate(node, self._names)

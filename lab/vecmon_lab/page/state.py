@@ -70,9 +70,9 @@ class State(TypedDict, total=False):
 
 
 ABSENT: State = {"run": "absent"}
-MOST_ROWS = 64
-MAPPED_PAGES, MOST_PAGES = 8, 32  # how many pages are looked at since they were mapped, and in all
-MOST_WORDS = 512
+MAX_ROWS = 64
+MAPPED_PAGES, MAX_PAGES = 8, 32  # how many pages are looked at since they were mapped, and in all
+MAX_WORDS = 512
 WORDS_AHEAD = 8
 
 _ADDRESS = re.compile(r"(-?\d+)?\(x(\d+)\)")
@@ -112,16 +112,16 @@ class WatchSet:
 
     def take_compiled(self, text: range, rows: Iterable[int]) -> None:
         """Set the instructions of a compiled program, and the rows of its variables in place of all pokes."""
-        self.code.update(text[: max(0, MOST_WORDS - len(self.code))])
+        self.code.update(text[: max(0, MAX_WORDS - len(self.code))])
         self.named, self.is_compiled = set(rows), True
 
     def _name(self, address: int, length: int) -> None:
         self.named.update(range(address // ROW_BYTES * ROW_BYTES, address + length, ROW_BYTES))
         self._add_pages(address, length)
 
-    def _add_pages(self, address: int, length: int, most: int = MOST_PAGES) -> None:
+    def _add_pages(self, address: int, length: int, limit: int = MAX_PAGES) -> None:
         pages = range(address // PAGE_BYTES * PAGE_BYTES, address + length, PAGE_BYTES)
-        self.pages.update(pages[: max(0, most - len(self.pages))])
+        self.pages.update(pages[: max(0, limit - len(self.pages))])
 
     def add_accessed(self, text: str, registers: dict[str, str]) -> None:
         """Takes up the page that an instruction with a base register begins its access in."""
@@ -165,25 +165,33 @@ def look_at(
     trace = guest.query("trace", Addresses).addresses
     stepped = any(isinstance(answer, Position) and answer.kind == "stepped" for answer in answers)
     may_store = not executed or _STORE.match(executed) is not None
-    code = _code(guest, watch_set, place.pc, trace, {} if may_store else state["code"])
-    if code != state.get("code"):
-        state["code"] = code
-        state["operands"] = {address: shown_operands(int(line[:8], 16)) for address, line in code.items()}
-    text = state["code"].get(state["pc"], "")
+    _set_code(state, _code(guest, watch_set, place.pc, trace, {} if may_store else state["code"]))
+    text, pages = state["code"].get(state["pc"], ""), len(watch_set.pages)
     _take_calls(state)
-    pages = len(watch_set.pages)
     watch_set.add_accessed(text[9:], state["x"])
     if may_store or len(watch_set.pages) > pages:
         state["memory"] = _memory(guest, watch_set)
     if trace and (stepped or trace != watch_set.trace):
         state["instruction"] = f"{trace[-1]:x}"
+    _set_stop(state, answers, text, control)
+    watch_set.trace = trace
+    return state
+
+
+def _set_code(state: State, code: dict[str, str]) -> None:
+    """Set the listing of a state, and the operands of its lines, if it has changed."""
+    if code != state.get("code"):
+        state["code"] = code
+        state["operands"] = {address: shown_operands(int(line[:8], 16)) for address, line in code.items()}
+
+
+def _set_stop(state: State, answers: Sequence[Answer], text: str, control: ControlRegisters) -> None:
+    """Set the description of the last stop among the answers. text: the line of the listing at the program counter"""
     stop = next((answer for answer in reversed(answers) if isinstance(answer, Stop)), None)
     if stop:
         state["stop"] = describe_stop(stop, int(text[:8], 16) if text else None, control, text[9:])
     if stop and stop.kind == "fault":
         state.update({"instruction": state["pc"], "faulted": True})
-    watch_set.trace = trace
-    return state
 
 
 def registers_of(state: State) -> Registers:
@@ -212,12 +220,12 @@ class VisibleRows:
             self._weights[row] = max(self._weights[row], 2 if has_changed else int(digits.strip("0") != ""))
         self._last = state["memory"]
 
-    def rows(self, watch_set: WatchSet, least: int = 1) -> set[str]:
+    def rows(self, watch_set: WatchSet, minimum: int = 1) -> set[str]:
         """The addresses of the most relevant rows; 2 is the least for rows that have changed."""
         listing = {f"{address // ROW_BYTES * ROW_BYTES:x}" for address in watch_set.code}
-        weights = Counter({row: it for row, it in self._weights.items() if it >= least and row not in listing})
+        weights = Counter({row: it for row, it in self._weights.items() if it >= minimum and row not in listing})
         weights.update({f"{row:x}": 3 for row in watch_set.named if f"{row:x}" in self._weights})
-        return {row for row, _ in weights.most_common(MOST_ROWS)}
+        return {row for row, _ in weights.most_common(MAX_ROWS)}
 
 
 def with_rows(state: State, rows: set[str]) -> State:
@@ -262,7 +270,7 @@ def _code(guest: Guest, watch_set: WatchSet, pc: int, trace: Sequence[int], know
 
     What is known of it is as it was.
     """
-    if len(watch_set.code) < MOST_WORDS:
+    if len(watch_set.code) < MAX_WORDS:
         watch_set.code.update(trace)
         watch_set.code.update(_ahead(guest, pc))
     new = {address for address in watch_set.code if f"{address:x}" not in known}

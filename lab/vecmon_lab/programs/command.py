@@ -136,13 +136,13 @@ def _write_image(path: pathlib.Path, environment: Environment, drawn: Drawn, sta
 def _state_json(block: bytes, base: int) -> dict[str, object]:
     """A state by the keys of golden vectors."""
     values = dict(zip(NAMES, LAYOUT.unpack(block)))
-    help_text: dict[str, object] = {name: values[name] for name in ("vl", "vstart", "vxrm", "vxsat")}
+    state: dict[str, object] = {name: values[name] for name in ("vl", "vstart", "vxrm", "vxsat")}
     v, memory = values["v"], values["memory"].hex()
-    help_text |= {
+    state |= {
         "vtype": f"{values['vtype']:x}",
         "x": {number: f"{values[f'x{number}']:x}" for number in range(1, 30)},
     }
-    return help_text | {
+    return state | {
         "v": {n: v[32 * n : 32 * n + 32].hex() for n in range(32)},
         "memory": {f"{base + MEMORY:x}": memory},
     }

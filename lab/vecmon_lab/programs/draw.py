@@ -204,15 +204,15 @@ class _Generator:
         """Sets a vector type, and a length which the standard fixes."""
         name = name or self._draws.choice(("vsetvli", "vsetivli", "vsetvl"))
         vtype = self._draws.choice(SUPPORTED) | self._draws.randrange(4) << 6
-        most = ControlRegisters(vtype=vtype).vlmax
-        length = self._draws.choice((most, most, min(most, 1), self._draws.randrange(most + 1), 2 * most))
+        limit = ControlRegisters(vtype=vtype).vlmax
+        length = self._draws.choice((limit, limit, min(limit, 1), self._draws.randrange(limit + 1), 2 * limit))
         if name == "vsetivli" and length > 31:
-            length = self._draws.randrange(min(most, 31) + 1)
+            length = self._draws.randrange(min(limit, 31) + 1)
         if self._has_choices:
             length = self._draws.choice((length, self._draws.randrange(32)))
         numbers = {"rs1": length if name == "vsetivli" else self._constant(length)}
         numbers |= {"rs2": self._constant(vtype)} if name == "vsetvl" else {}
-        self._control = ControlRegisters(min(length, most), vtype)
+        self._control = ControlRegisters(min(length, limit), vtype)
         return self._emit(name, vtype << 20, rd=self._registers.x_target(), **numbers)
 
     def _constant(self, value: int) -> int:
@@ -321,9 +321,9 @@ class _Generator:
             return False
         width = operands["vd"].eew // 8
         if kind == _STRIDED:
-            least = width * (int(row.bits[:3], 2) + 1)
+            minimum = width * (int(row.bits[:3], 2) + 1)
             stride = self._draws.randrange(-1024, 1025) // max(vl, 4)
-            stride = max(stride, least) if is_store and not self._has_choices else stride
+            stride = max(stride, minimum) if is_store and not self._has_choices else stride
             numbers["rs2"] = self._constant(self._aligned(stride, width))
         if index and offsets is not None:
             self._make_index(index, numbers["vs2"], offsets)

@@ -6,7 +6,7 @@ from dataclasses import dataclass, replace
 from ..machine.answers import Granted, Position, Refused, read
 from ..machine.lines import words_of
 
-MOST_TICKS = 256  # of an instruction: those of a load or store of 256 elements, and no group has more (e8, m8)
+MAX_TICKS = 256  # of an instruction: those of a load or store of 256 elements, and no group has more (e8, m8)
 
 
 @dataclass
@@ -63,7 +63,7 @@ class Intervals:
             case "step" if done or words == ["1"]:
                 self._steps(done)
             case "step":
-                self._slices(int(words[0]) * MOST_TICKS, True)
+                self._slices(int(words[0]) * MAX_TICKS, True)
             case "go" | "stop":
                 self._is_running = command == "go"
             case "break":

@@ -58,10 +58,10 @@ class Search:
         ticks: that they take, or fewer
         """
         ticks, done, changes = self._covering(ticks, count)
-        least = changes[-1][0] if changes else 1
+        minimum = changes[-1][0] if changes else 1
         size, last = FIRST_WINDOW, count if self._needs_log(done) else 0
-        while last >= least:
-            first = max(least, last - size + 1)
+        while last >= minimum:
+            first = max(minimum, last - size + 1)
             yield [*(halt for halt in changes if halt[0] >= first), *self._log(ticks, first, last)]
             size, last = GROWTH * size, first - 1
         yield changes

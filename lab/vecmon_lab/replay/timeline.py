@@ -9,7 +9,7 @@ from operator import itemgetter
 from .. import LabError
 from ..checkpoints.machine_state import pages_of, replay_script
 from ..compilers.compiled import maps
-from ..guest.guest import MOST_STEPS, Guest, stepping
+from ..guest.guest import MAX_STEPS, Guest, stepping
 from ..guest.runner import OUTPUT_BYTES, SAFE_STEPS
 from ..machine.answers import Addresses, Position, Stop
 from ..runs.initial_state import InitialState, initial_state_at
@@ -18,9 +18,9 @@ from .recorded import Halt, Search
 from .watches import Watch, accessed
 
 FEW = 16  # instructions that execute on the machine itself before the recorder runs
-FIRST_TICKS, MOST_TICKS, LEAST_TICKS = 256, 1 << 20, 4  # that the recorder is given; of the least, all output has room
-MOST_BACK = 200_000_000  # ticks of a leg: a script takes no more steps
-TOO_FAR = f"there is no way back into a run of more than {MOST_BACK:,} ticks"
+FIRST_TICKS, MAX_TICKS, MIN_TICKS = 256, 1 << 20, 4  # that the recorder is given; of the least, all output has room
+MAX_BACK = 200_000_000  # ticks of a leg: a script takes no more steps
+TOO_FAR = f"there is no way back into a run of more than {MAX_BACK:,} ticks"
 
 
 class Timeline:
@@ -52,7 +52,7 @@ class Timeline:
             search = Search(self._beginning(self._guest.session.script), self.watches, breaks)
             done, halts, written = search.first(ticks)
             if written > OUTPUT_BYTES:  # a call may find less room here than there
-                ticks = max(LEAST_TICKS, ticks // 4)
+                ticks = max(MIN_TICKS, ticks // 4)
                 continue
             end = done.instructions - (isinstance(done.end, Stop) and done.end.kind == "exit")
             count, self.hit = min([(number - 1, watch) for number, watch in halts] or [(end, None)], key=itemgetter(0))
@@ -61,7 +61,7 @@ class Timeline:
                 return Stop("break", self._guest.pc)
             if isinstance(done.end, Stop):
                 return self.step()
-            ticks = min(4 * ticks, MOST_TICKS)
+            ticks = min(4 * ticks, MAX_TICKS)
         return None
 
     def step(self) -> Stop | None:
@@ -137,7 +137,7 @@ class Timeline:
         """Goes back to an instant of the leg at a place. Breakpoints stay as they are."""
         guest, breaks = self._guest, self._breaks()
         full = f"{guest.user} out {OUTPUT_BYTES} ", f"{guest.user} outfull "
-        for at_once in (MOST_STEPS, SAFE_STEPS):
+        for at_once in (MAX_STEPS, SAFE_STEPS):
             session = guest.session.rewound(self._script(self._intervals.intervals[place]))
             answers = [answer[0] for _, answer in session.do_script(self._lines(*stepping(count, at_once), "out"))]
             if at_once == SAFE_STEPS or not any(answer.startswith(full) for answer in answers):
@@ -170,7 +170,7 @@ class Timeline:
 
     def _count(self, interval: Interval) -> int:
         """How many instructions a leg has. Raises LabError where they are too many."""
-        if (interval.count or interval.ticks) > MOST_BACK:
+        if (interval.count or interval.ticks) > MAX_BACK:
             raise LabError(TOO_FAR)
         if interval.count is None:
             search = Search(

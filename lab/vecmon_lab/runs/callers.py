@@ -4,7 +4,7 @@ from collections import Counter, defaultdict
 from collections.abc import Iterator, Mapping
 from dataclasses import dataclass
 
-LEAST_SHARE, MOST_FRAMES = 0.001, 100  # of all ticks, which a frame has; and one below the other
+MIN_SHARE, MAX_FRAMES = 0.001, 100  # of all ticks, which a frame has; and one below the other
 
 
 @dataclass(frozen=True)
@@ -54,7 +54,7 @@ class Callers:
     def frames(self) -> tuple[CallFrame, ...]:
         """The functions that none has called, with all that they have called: together, they have all ticks."""
         tops = {name: 1.0 for name in self._callees if not self._called[name]}
-        return self._frames(tops, LEAST_SHARE * sum(self._own.values()))
+        return self._frames(tops, MIN_SHARE * sum(self._own.values()))
 
     def _follow(self, first: str) -> None:
         """Takes in whom a function calls, and whom these call, without calls that lead back to one above."""
@@ -70,13 +70,13 @@ class Callers:
                 if callee not in self._callees:
                     above[callee] = iter(self._known[callee])
 
-    def _frames(self, shares: Mapping[str, float], least: float, room: int = MOST_FRAMES) -> tuple[CallFrame, ...]:
+    def _frames(self, shares: Mapping[str, float], minimum: float, room: int = MAX_FRAMES) -> tuple[CallFrame, ...]:
         """The frames of functions by such shares, except those with fewer ticks than this."""
-        shown = [name for name, share in shares.items() if room and self.total[name] * share >= least]
-        frames = (self._frame(name, shares[name], least, room - 1) for name in shown)
+        shown = [name for name, share in shares.items() if room and self.total[name] * share >= minimum]
+        frames = (self._frame(name, shares[name], minimum, room - 1) for name in shown)
         return tuple(sorted(frames, key=lambda frame: -frame.total))
 
-    def _frame(self, name: str, share: float, least: float, room: int) -> CallFrame:
+    def _frame(self, name: str, share: float, minimum: float, room: int) -> CallFrame:
         callees = {callee: share * times / self._called[callee] for callee, times in self._callees[name].items()}
         own = round(self._own.get(name, 0) * share)
-        return CallFrame(name, own, round(self.total[name] * share), self._frames(callees, least, room))
+        return CallFrame(name, own, round(self.total[name] * share), self._frames(callees, minimum, room))

@@ -25,14 +25,14 @@ POLICIES, QUANTUMS = ("keep", "ones"), (1000, 7, 1)
 LOADED, ONES = "as loaded", "under ones"  # names of runs
 FILLED = {"filled": 0, "filled anew": 0xFF}  # others, and which bits are turned round there
 SHOWN_BYTES = 40
-MOST_BYTES = 1 << 20  # of output, behind which a run in slices goes on no longer
+MAX_BYTES = 1 << 20  # of output, behind which a run in slices goes on no longer
 
 
 @dataclass(frozen=True)
 class Outcome:
     """How a run ended.
 
-    stop: none where its ticks ran out, or it wrote more than MOST_BYTES
+    stop: none where its ticks ran out, or it wrote more than MAX_BYTES
     end: that in words
     has_exact_ticks: whether it has used up as many ticks as another run that has no end
     """
@@ -111,17 +111,17 @@ def _find_dependence(runs: dict[str, InitialState], symbols: Symbols, ticks: int
     """
     with ThreadPoolExecutor(len(runs)) as pool:
         found = dict(zip(runs, pool.map(lambda initial_state: recorded(initial_state, ticks), runs.values())))
-    unlike, printed = [name for name, each in found.items() if each != found[LOADED]], set[str]()
+    differing, printed = [name for name, each in found.items() if each != found[LOADED]], set[str]()
     for name in FILLED:
         done, output = found[name]
-        print(f"{f'keep, {name}:':<22}  {_outcome_text(f'{done.end}', output) if name in unlike else 'the same'}")
-    for name in dict.fromkeys([*unlike[:1], *unlike[-1:]]) if ONES in unlike else unlike[:1]:
+        print(f"{f'keep, {name}:':<22}  {_outcome_text(f'{done.end}', output) if name in differing else 'the same'}")
+    for name in dict.fromkeys([*differing[:1], *differing[-1:]]) if ONES in differing else differing[:1]:
         names = (LOADED if name in FILLED else "under keep", name)
         lines = _reason((runs[LOADED], runs[name]), names, symbols, ticks)
         if lines[-1] not in printed:
             print(*lines, sep="\n")
         printed.add(lines[-1])
-    return found[LOADED][0].stop, bool(unlike)
+    return found[LOADED][0].stop, bool(differing)
 
 
 def _reason(pair: Pair, names: Sequence[str], symbols: Symbols, ticks: int) -> list[str]:
@@ -137,9 +137,9 @@ def _outcome(guest: Guest, ticks: int) -> Outcome:
     """A run of an image."""
     written, runner = bytearray(), guest.runner
     guest.write = written.extend
-    stop = guest.go(ticks, lambda: len(written) > MOST_BYTES)
+    stop = guest.go(ticks, lambda: len(written) > MAX_BYTES)
     end = f"{stop}" if stop else f"no end in {ticks:,} ticks, pc={guest.pc:016x}"
-    if len(written) > MOST_BYTES and not stop:
+    if len(written) > MAX_BYTES and not stop:
         return Outcome(None, f"no end in {len(written):,} bytes of output", bytes(written), False)
     return Outcome(stop, end, bytes(written), runner.has_exact_ticks)
 

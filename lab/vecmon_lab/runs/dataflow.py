@@ -148,10 +148,10 @@ def _made(step: Executed, instruction: VectorInstruction, active: set[int]) -> I
         first, width, _ = sources[0]
         made_of = bits_of_registers(first, width) | _VSTART if text.startswith("vmv.x.s") else whole
         yield bits_of_scalar(step.retired.word >> 7 & 31), made_of, "active"
-    most = REGISTER_BITS * target.group // target.eew if target.noun == "destination" else 0
+    limit = REGISTER_BITS * target.group // target.eew if target.noun == "destination" else 0
     agnostic = {"tail": control.vtype & 0x40 or target.eew == 1, "masked off": control.vtype & 0x80}
     agnostic |= {"active": step.retired.word & 0x7F == OP_V}
-    for element in range(control.vstart, most):
+    for element in range(control.vstart, limit):
         is_tail = element >= (1 if text.startswith(FIRST_ELEMENT) else control.vl)
         is_masked_off = not is_tail and element not in active and instruction.leaves_out
         kind = "masked off" if is_masked_off else "tail" if is_tail and element not in active else "active"

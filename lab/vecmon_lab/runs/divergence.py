@@ -23,7 +23,7 @@ from .recorder import record
 
 STEPPED = 1000  # instructions that are stepped together, backwards from the one to find
 EXACT_LEAPS = 2  # so often the last change of a value is looked for, and then the first one that made it differ
-MOST_WRITTEN, SHOWN = 256, 4
+MAX_WRITTEN, SHOWN = 256, 4
 _AGNOSTIC = {"tail": "the tail of", "masked off": "elements masked off by"}
 _CONTROLS = {(name, 0) for name in CONTROL}
 
@@ -64,14 +64,14 @@ def alike_until(pair: Pair, ticks: int) -> int:
     They diverge in the next address, a stop, the output, or the number of active elements.
     """
 
-    def are_unlike(most: int) -> bool:
-        one, other = _side_by_side(lambda initial_state: recorded(initial_state, most), pair)
+    def are_unlike(limit: int) -> bool:
+        one, other = _side_by_side(lambda initial_state: recorded(initial_state, limit), pair)
         return one != other
 
-    least, most = 0, 1024
-    while most < ticks and not are_unlike(most):
-        least, most = most, most * 4
-    alike = least + bisect.bisect_left(range(least + 1, most), True, key=are_unlike)
+    minimum, limit = 0, 1024
+    while limit < ticks and not are_unlike(limit):
+        minimum, limit = limit, limit * 4
+    alike = minimum + bisect.bisect_left(range(minimum + 1, limit), True, key=are_unlike)
     return recorded(pair[0], alike)[0].instructions if alike else 0
 
 
@@ -155,11 +155,11 @@ def _last_change(pair: Pair, number: int, places: set[Cell], is_exact: bool) -> 
 
     if holds(0):
         return 0
-    most, leap = number, 64
-    while most > leap and holds(most - leap):
-        most, leap = most - leap, leap * 4
-    least = max(0, most - leap) + 1
-    return least + bisect.bisect_left(range(least, most), True, key=holds)
+    limit, leap = number, 64
+    while limit > leap and holds(limit - leap):
+        limit, leap = limit - leap, leap * 4
+    minimum = max(0, limit - leap) + 1
+    return minimum + bisect.bisect_left(range(minimum, limit), True, key=holds)
 
 
 def _never_written(pair: Pair, number: int, places: set[Cell]) -> set[Cell]:
@@ -215,7 +215,7 @@ def _listed(places: set[Cell]) -> str:
 
 def _put_out_otherwise(guests: Sequence[Guest], before: Registers) -> Iterator[Cell]:
     """The bytes of a call's output that differ."""
-    address, length = before.x[11], min(before.x[12], MOST_WRITTEN)
+    address, length = before.x[11], min(before.x[12], MAX_WRITTEN)
     for at, pair in enumerate(zip(*(guest.peek(address, length) for guest in guests))):
         if pair[0] != pair[1]:
             yield "memory", address + at

@@ -94,6 +94,6 @@ def summary_of(counts: Counts, end: str) -> Iterator[str]:
 
 def _histogram(counts: Counts) -> Iterator[str]:
     """The vector lengths by vector type, with a bar each."""
-    most = max(counts.lengths.values(), default=1)
+    limit = max(counts.lengths.values(), default=1)
     for (kind, vl), times in sorted(counts.lengths.items()):
-        yield f"{kind:<14} vl={vl:<4} {times:>10,}  {'#' * -(-40 * times // most)}"
+        yield f"{kind:<14} vl={vl:<4} {times:>10,}  {'#' * -(-40 * times // limit)}"

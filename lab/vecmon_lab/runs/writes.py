@@ -1,13 +1,13 @@
 """Calls that are given more bytes than they write."""
 
 from ..guest.guest import Guest
-from ..guest.runner import MOST_BREAKPOINTS, WRITE_BYTES
+from ..guest.runner import MAX_BREAKPOINTS, WRITE_BYTES
 from ..guest.symbols import Symbols
 from ..instructions.calls import A0, A7, ECALL, STANDARD_OUTPUT, WRITE
 from ..machine.answers import ScalarRegisters
 from .counts import Counts
 
-MOST_CALLS = 1000  # that are looked at
+MAX_CALLS = 1000  # that are looked at
 WHY = "the most that one writes: a0 has how many"
 A1, A2 = 11, 12
 
@@ -19,9 +19,9 @@ def short_write(guest: Guest, counts: Counts, symbols: Symbols) -> str:
     It is looked for at as many addresses of calls as a user may have breakpoints.
     """
     calls = [place.address for place in counts.places if place.word == ECALL]
-    guest.ask(*(f"break {address:x}" for address in calls[:MOST_BREAKPOINTS]))
+    guest.ask(*(f"break {address:x}" for address in calls[:MAX_BREAKPOINTS]))
     found, rest = "", 0
-    for _ in range(MOST_CALLS):
+    for _ in range(MAX_CALLS):
         stop = guest.go(counts.ticks)
         if stop is None or stop.kind != "break":
             break

@@ -87,8 +87,10 @@ class _Draws(random.Random):
 
     def stride(self, vl: int) -> int:
         """A stride that keeps a number of elements within reach."""
-        most = _REACH // max(1, vl)
-        return self.choice((0, min(most, 8), self.randrange(-most, most + 1), self.randrange(-most, most + 1) & ~7))
+        limit = _REACH // max(1, vl)
+        return self.choice(
+            (0, min(limit, 8), self.randrange(-limit, limit + 1), self.randrange(-limit, limit + 1) & ~7)
+        )
 
     def field(self, row: Row, name: str, step: int) -> tuple[int, int]:
         """The mask of a field at its place, and a value for it."""
@@ -129,8 +131,8 @@ def draw_case(row: Row, number: int, seed: int) -> Case:
     kind = kinds[number % len(kinds)]
     word, view = _draw_word(row, kind, draws, (1, 2, 4, 8))
     policies = 0 if kind.vtype == VILL else draws.randrange(4) << 6
-    most = view.vlmax
-    vl = draws.choice((most, most, min(most, 1), draws.randrange(most + 1), draws.randrange(most + 1)))
+    limit = view.vlmax
+    vl = draws.choice((limit, limit, min(limit, 1), draws.randrange(limit + 1), draws.randrange(limit + 1)))
     case = Case(word, ControlRegisters(vl, kind.vtype | policies, view.vstart, draws.randrange(4), draws.randrange(2)))
     operands = _operands(row, word, view)
     _fill_scalars(case, row, draws)
