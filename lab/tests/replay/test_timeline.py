@@ -59,7 +59,7 @@ PLACE = Watch("watch", 0x11008, 4)
 
 
 @pytest.fixture
-def begin(tmp_path: pathlib.Path, program: pathlib.Path) -> Iterator[Callable[[str], tuple[Timeline, Guest]]]:
+def start(tmp_path: pathlib.Path, program: pathlib.Path) -> Iterator[Callable[[str], tuple[Timeline, Guest]]]:
     """Loads a source for a guest, with a timeline."""
     guests = list[Iterator[Guest]]()
 
