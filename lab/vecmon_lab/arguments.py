@@ -73,12 +73,12 @@ def check_output(output: pathlib.Path | None, *inputs: pathlib.Path) -> None:
         raise LabError(f"{output} would be overwritten, and it is read here: name another file")
 
 
-def between(minimum: int, limit: int) -> Callable[[str], int]:
+def between(minimum: int, maximum: int) -> Callable[[str], int]:
     """Return a function that reads a decimal number in these bounds from an argument."""
 
     def number(word: str) -> int:
-        if not word.isdecimal() or not minimum <= int(word) <= limit:
-            raise argparse.ArgumentTypeError(f"{word} is no number from {minimum} to {limit}")
+        if not word.isdecimal() or not minimum <= int(word) <= maximum:
+            raise argparse.ArgumentTypeError(f"{word} is no number from {minimum} to {maximum}")
         return int(word)
 
     return number

@@ -25,7 +25,7 @@ class Builds:
     def __init__(
         self, compiler: Compiler | None = None, no_c: str = "no compiler was named", limit: int = IMAGE_BYTES
     ) -> None:
-        """most: bytes of an image that aren't zeros"""
+        """limit: bytes of an image that aren't zeros"""
         self.compiler, self._limit = compiler, limit
         self.others: Sequence[Compiler] = ()
         self.no_c = "" if compiler else no_c

@@ -277,9 +277,9 @@ def _settings(message: JsonObject) -> Mapping[str, int]:
     """The settings of a clock in a message."""
     settings = {}
     for name in _LIMITS.keys() & message.keys():
-        (minimum, limit), value = _LIMITS[name], message[name]
-        if not isinstance(value, int) or not minimum <= value <= limit:
-            raise BadRequest(f"{name} of the clock is {minimum} to {limit}")
+        (minimum, maximum), value = _LIMITS[name], message[name]
+        if not isinstance(value, int) or not minimum <= value <= maximum:
+            raise BadRequest(f"{name} of the clock is {minimum} to {maximum}")
         settings[name] = bool(value) if name == "on" else value
     return settings
 

@@ -38,7 +38,7 @@ class Seat:
         instructions of its lines begin, the addresses of their breakpoints, and its variables
     stop, line, answer: the last stop, command and line of an answer, without the digit
     output: the last output of the program, in hexadecimal digits, in blocks by number
-    stands, is_stuck, since: its program's condition, in words besides the state's `run`; whether its student may need
+    condition, is_stuck, since: its program's condition, in words besides the state's `run`; whether its student may need
         somebody; and since when both are so, in seconds since 1970
     stepped: the state before the last line, if that stepped one instruction
     used: the bytes of the script that are the seat's

@@ -194,15 +194,15 @@ class SharedMachine:
         """A turn that grants slices to all programs that run."""
         return Turn(lambda turn: self.do(turn, f"* slices {slices}"))
 
-    def show(self, seat: Seat, why: str, role: str) -> Steps[None]:
+    def show(self, seat: Seat, why: str, stopped_by: str) -> Steps[None]:
         """Shows a running program, which stops for that, and goes on unless there is a reason why it mustn't.
 
-        who: stops it then: the server, or the page
+        stopped_by: the server, or the page
         """
         yield Turn(partial(self._show, seat, not why))
         if why and seat.state["run"] == "stopped":
             seat.set_condition(f"stopped, since {why}", True)
-            seat.add_log_entry(f"!The {role} stopped the program, since {why}. go lets it run on.")
+            seat.add_log_entry(f"!The {stopped_by} stopped the program, since {why}. go lets it run on.")
 
     def has_run_long(self, seat: Seat, limit: int) -> str:
         """Why a running program must stop: it has run for about this number of ticks; "" if it hasn't."""

@@ -71,7 +71,7 @@ class HandshakeServer:
         limit: int,
         seconds: float,
     ) -> None:
-        """make: returns the protocol of a connection; most, seconds: of handshakes at once, and the limit of one"""
+        """make: returns the protocol of a connection; limit: number of handshakes at once; seconds: time limit of each"""
         self.sockets = (listener,)
         self._make, self._context, self._limit, self._seconds = make, context, limit, seconds
         self._handshakes: deque[asyncio.Task[None]] = deque()  # the oldest first; some have ended
@@ -130,7 +130,7 @@ class TlsSite(web.SockSite):
     def __init__(
         self, runner: web.BaseRunner, listener: socket.socket, context: ssl.SSLContext, limit: int, seconds: float
     ) -> None:
-        """most, seconds: of handshakes at once, and the limit of one"""
+        """limit: number of handshakes at once; seconds: time limit of each"""
         super().__init__(runner, listener, ssl_context=context, shutdown_timeout=LAST_SECONDS)
         self._limits = limit, seconds
 

@@ -80,7 +80,7 @@ async def run_in_sandbox_async(words: Sequence[str], text: str) -> bytes:
 def answer_of_own(words: Sequence[str], text: str, headers: pathlib.Path, saved: pathlib.Path | None = None) -> bytes:
     """The output of `sandbox_main` for your own source, which includes headers of a folder. Raises LabError, and ToolError.
 
-    kept: the folder that keeps source and image; without it they are deleted
+    saved: the folder that keeps source and image; without it they are deleted
     """
     elftools()
     variables = os.environ | {"PYTHONPATH": f"{LAB}", "CPATH": f"{headers.absolute()}", "LC_ALL": "C.UTF-8"}

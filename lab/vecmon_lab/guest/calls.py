@@ -22,7 +22,7 @@ class Code:
     """The ECALLs of a guest's program, by the words in its executable pages. A program that writes code may have others.
 
     places: the addresses of all ECALLs
-    doubtful: those at which the instructions before don't show that the machine supports the call
+    uncertain: those at which the instructions before don't show that the machine supports the call
     """
 
     def __init__(self) -> None:

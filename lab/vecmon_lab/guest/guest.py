@@ -45,7 +45,7 @@ class Guest:
 
     pc: its place, from the answers to `start`, `go` and `step`, or from `regs` of a `Stepper`
     ticks: how many of them `go` has granted, in whole slices
-    laid: the commands that `start` gave behind `load`, without the policy
+    start_commands: the commands that `start` gave behind `load`, without the policy
     write: is given what the program writes
     runner: what `go` does
     """

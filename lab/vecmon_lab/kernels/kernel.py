@@ -167,7 +167,7 @@ class Kernel(contextlib.AbstractContextManager["Kernel"]):
         return Result(value, [_like(data, each) for data, each in zip(given, found)], output, counts)
 
     def steps(
-        self, symbol: str, *arguments: "int | Array | Placed", policy: str = "keep", limit: int = 100_000
+        self, symbol: str, *arguments: "int | Array | Placed", policy: str = "keep", most: int = 100_000
     ) -> Iterator[Step]:
         """The instructions of a call, which is as `call` has it, one after another, up to its return or its stop.
 
@@ -178,7 +178,7 @@ class Kernel(contextlib.AbstractContextManager["Kernel"]):
         self._renew()
         self._begin_call(symbol, policy, [*(line for place in places for line in place.lines), *registers])
         guest, stepper, self._is_stopped = self._guest, Stepper(self._guest), True
-        for _ in range(limit):
+        for _ in range(most):
             before = stepper.registers.copy()
             retired = stepper.step()
             if guest.pc == retired.pc and retired.pc == RETURN:

@@ -28,7 +28,7 @@ def check_line(line: str) -> None:
 
 
 def check_text(text: str, start: int = 0) -> None:
-    """Raises BadLine unless a text is 1,022 printable ASCII characters at most from `begin` on, behind the user."""
+    """Raises BadLine unless a text is 1,022 printable ASCII characters at most from `start` on, behind the user."""
     if not isinstance(text, str):
         raise BadLine("a line is a text")
     if odd := _ODD.search(text, start):

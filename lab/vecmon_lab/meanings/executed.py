@@ -223,9 +223,9 @@ class Execution:
     def _clipped(self, has_sign: bool, value: int) -> int:
         """The nearest number of the destination's width."""
         minimum = -(1 << self.width - 1) if has_sign else 0
-        limit = minimum + (1 << self.width) - 1
-        self.is_saturated = self.is_saturated or not minimum <= value <= limit
-        return min(max(value, minimum), limit)
+        maximum = minimum + (1 << self.width) - 1
+        self.is_saturated = self.is_saturated or not minimum <= value <= maximum
+        return min(max(value, minimum), maximum)
 
 
 def execute(before: Before, formula: Formula | None = None) -> After:

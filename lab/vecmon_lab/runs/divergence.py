@@ -64,14 +64,14 @@ def alike_until(pair: Pair, ticks: int) -> int:
     They diverge in the next address, a stop, the output, or the number of active elements.
     """
 
-    def are_unlike(limit: int) -> bool:
-        one, other = _side_by_side(lambda initial_state: recorded(initial_state, limit), pair)
+    def are_unlike(count: int) -> bool:
+        one, other = _side_by_side(lambda initial_state: recorded(initial_state, count), pair)
         return one != other
 
-    minimum, limit = 0, 1024
-    while limit < ticks and not are_unlike(limit):
-        minimum, limit = limit, limit * 4
-    alike = minimum + bisect.bisect_left(range(minimum + 1, limit), True, key=are_unlike)
+    low, high = 0, 1024
+    while high < ticks and not are_unlike(high):
+        low, high = high, high * 4
+    alike = low + bisect.bisect_left(range(low + 1, high), True, key=are_unlike)
     return recorded(pair[0], alike)[0].instructions if alike else 0
 
 
@@ -155,11 +155,11 @@ def _last_change(pair: Pair, number: int, places: set[Cell], is_exact: bool) -> 
 
     if holds(0):
         return 0
-    limit, leap = number, 64
-    while limit > leap and holds(limit - leap):
-        limit, leap = limit - leap, leap * 4
-    minimum = max(0, limit - leap) + 1
-    return minimum + bisect.bisect_left(range(minimum, limit), True, key=holds)
+    high, leap = number, 64
+    while high > leap and holds(high - leap):
+        high, leap = high - leap, leap * 4
+    low = max(0, high - leap) + 1
+    return low + bisect.bisect_left(range(low, high), True, key=holds)
 
 
 def _never_written(pair: Pair, number: int, places: set[Cell]) -> set[Cell]:

@@ -11,7 +11,7 @@ from ..guest.symbols import Symbols
 def trace(start: Callable[[], AbstractContextManager[Guest]], symbols: Symbols, window: range) -> Iterator[str]:
     """A line for each instruction of a run that is in a window; the first one of all has the number 1.
 
-    begin: a guest where the run begins. Instructions before the window execute in groups, and once more from the
+    start: a guest where the run begins. Instructions before the window execute in groups, and once more from the
     beginning, few at once, where a call could have found the output buffer without room.
     """
     for pace in PACES:
