@@ -67,10 +67,12 @@ def difference(printed: str, stored: str) -> str:
     """The first lines that differ from the stored text; empty if there are none."""
     if printed == stored:
         return ""
-    now, wanted = printed.split("\n"), stored.split("\n")
+    now, expected = printed.split("\n"), stored.split("\n")
     same = 0
-    while same < min(len(now), len(wanted)) and now[same] == wanted[same]:
+    while same < min(len(now), len(expected)) and now[same] == expected[same]:
         same += 1
     shown = [f"line {same + 1} differs:", *(f"  {line}" for line in now[max(0, same - CONTEXT) : same])]
-    shown += [f"- {line}" for line in wanted[same : same + SHOWN]] + [f"+ {line}" for line in now[same : same + SHOWN]]
+    shown += [f"- {line}" for line in expected[same : same + SHOWN]] + [
+        f"+ {line}" for line in now[same : same + SHOWN]
+    ]
     return "\n".join(shown)

@@ -90,5 +90,5 @@ def press(browser: "Chrome", *keys: str) -> None:
 
 def media(browser: "Chrome", **features: str) -> None:
     """The reader's preferences, by the names of media features."""
-    wanted = [{"name": name.replace("_", "-"), "value": value} for name, value in features.items()]
-    browser.execute_cdp_cmd("Emulation.setEmulatedMedia", {"features": wanted})
+    emulated = [{"name": name.replace("_", "-"), "value": value} for name, value in features.items()]
+    browser.execute_cdp_cmd("Emulation.setEmulatedMedia", {"features": emulated})

@@ -121,7 +121,7 @@ def differences(vector: Vector, before: Before, after: After, old: Callable[[int
         "vector registers": (v, after.v),
         "memory": tuple({at: it for at, it in each.items() if it != old(at)} for each in (memory, after.memory)),
     }
-    yield from (name for name, (wanted, found) in pairs.items() if wanted != found)
+    yield from (name for name, (expected_value, found) in pairs.items() if expected_value != found)
 
 
 def has_formula(vector: Vector) -> bool:

@@ -32,8 +32,8 @@ def test_command_line_equals_stored_record(line: str) -> None:
 @pytest.mark.parametrize("line, other", SAME_TICKS)
 def test_equal_ticks_in_other_slices_print_same_output(line: str, other: str) -> None:
     """However its ticks are divided, a user's lines are the same."""
-    reply, wanted = ([it for it in lines_of(record(built(), each)) if it.startswith("1 ")] for each in (line, other))
-    assert reply == wanted
+    reply, expected = ([it for it in lines_of(record(built(), each)) if it.startswith("1 ")] for each in (line, other))
+    assert reply == expected
 
 
 @pytest.mark.parametrize("line", [it for it in LINES if has_names(it)])

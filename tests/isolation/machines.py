@@ -137,8 +137,8 @@ class Machines:
         self.slices += granted
         self._add(line, [*answer, f"* granted {granted}\n"])
 
-    def _add(self, line: str, wanted: list[str]) -> None:
+    def _add(self, line: str, expected: list[str]) -> None:
         """A line of the script, and its answer."""
         self.commands += 1
         self._script.append(line)
-        self._wanted.append(wanted)
+        self._wanted.append(expected)

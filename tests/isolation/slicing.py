@@ -50,11 +50,11 @@ def compare_program(program: pathlib.Path, grammar: Grammar, name: str) -> str:
     counts = Counts()
     for seed in range(ROUNDS):
         before = grammar.text(Draws(seed), name).split("\n")
-        wanted = _runs(program, before, 1, counts)
+        reference = _runs(program, before, 1, counts)
         for quantum in range(2, LONGEST + 1):
             for place, expected in enumerate(_runs(program, before, quantum, counts)):
                 counts.runs += 1
-                differs = difference(expected, wanted[place * quantum])
+                differs = difference(expected, reference[place * quantum])
                 assert not differs, f"{name}, seed {seed}, {place} slices of {quantum} (0: all): {differs}"
     return f"{name}: {counts.runs} runs, {counts.slices} slices, {counts.stops} stops, {counts.faults} faults\n"
 

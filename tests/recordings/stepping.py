@@ -57,17 +57,17 @@ def stepped_changes(image: pathlib.Path, places: Sequence[Place], most: int) -> 
     ticks = 0
     with started(image) as guest:
         stepper = Stepper(guest)
-        held = [guest.peek(place.address, place.length) for place in places]
+        values = [guest.peek(place.address, place.length) for place in places]
         for number in range(1, most + 1):
             found, v0 = stepper.registers.control, bytes(stepper.registers.v[:REGISTER_BYTES])
             retired = stepper.step()
             ticks += _numbers(retired, found, stepper.registers.control.vl, v0)[0][1]
             for index, place in enumerate(places):
                 now = guest.peek(place.address, place.length)
-                if now != held[index]:
-                    change = f"{place.address:016x} {held[index].hex()} {now.hex()}"
+                if now != values[index]:
+                    change = f"{place.address:016x} {values[index].hex()} {now.hex()}"
                     lines.append(f"{number} {ticks} {retired.pc:016x} {change}")
-                held[index] = now
+                values[index] = now
             if retired.stop:
                 break
         return ticks, lines

@@ -339,8 +339,8 @@ async def test_answer_in_c_is_checked(tmp_path: pathlib.Path, sandboxed_clang: C
         (status, page) = await room.get(tab.view["exercises"]["square"]["lesson"])
         assert status == 200 and b"b / *(volatile long *)b" in page and b"The answer fails: line 4: " in page
         assert b'"variables":[["a","long a",' in page
-        odd = await check(tab, "square", RIGHT_IN_C.replace("return", "long c; return"), C)
-        assert odd["warnings"] == [{"line": 3, "column": 10, "message": "unused variable 'c' [-Wunused-variable]"}]
+        answer = await check(tab, "square", RIGHT_IN_C.replace("return", "long c; return"), C)
+        assert answer["warnings"] == [{"line": 3, "column": 10, "message": "unused variable 'c' [-Wunused-variable]"}]
         assert await check(tab, "square", RIGHT_IN_C, C) == {"cases": [True, True]}
         for number, (text, language) in [(2, (wrong, PLAIN_C)), (4, (RIGHT_IN_C, C))]:
             reply = await teacher.ask("answer", seat="A1", exercise="square", number=number)
@@ -416,7 +416,7 @@ async def test_failed_case_in_c_loads_at_desk(
     async with served(tmp_path / "class", exercises=[square], builds=Builds(sandboxed_clang)) as room:
         tab = await room.sit("A1")
         wrong = RIGHT_IN_C.replace("b * b", "b + b")
-        assert (await check(tab, "square", wrong, C))["reason"] == "a0: expected 36, found 12"
+        assert (await check(tab, "square", wrong, C))["reason"] == "a0: reply 36, found 12"
         assert (await tab.ask("case", exercise="square", text=wrong, language=C))["mistakes"] == []
         state = tab.view["state"]
         assert int(state["x"]["11"], 16) == 6 and state["labels"][state["pc"]] == ["answer"]

@@ -98,8 +98,8 @@ def test_desk_equals_server_for_random_requests(tmp_path: pathlib.Path) -> None:
     requests = list(drawn_requests(random.Random(1), 1300))
     server, desk = answered(tmp_path / "class", requests, ["doubles"], has_clock=False)
     assert [(number, requests[number - 1]) for number in differences(server, desk)] == []
-    said = [part[0] for messages in desk for part in messages[0].get("do", [])]
-    assert {line.partition(" ")[0] for line in said} >= {
+    answers = [part[0] for messages in desk for part in messages[0].get("do", [])]
+    assert {line.partition(" ")[0] for line in answers} >= {
         "E05",
         "E11",
         "E15",

@@ -62,8 +62,8 @@ async def test_seat_receives_no_exercise_secret(tmp_path: pathlib.Path) -> None:
             tab = RecordingTab((await room.open(room.codes[seat])).socket)
             await tab.receive()
             await ask_all(tab, name)
-            reply, wanted = "\n".join(tab.messages), secrets(name)
-            assert len(wanted) > 3 and "cases" in reply
-            assert [secret for secret in wanted if json.dumps(secret, ensure_ascii=False)[1:-1] in reply] == []
+            reply, expected = "\n".join(tab.messages), secrets(name)
+            assert len(expected) > 3 and "cases" in reply
+            assert [secret for secret in expected if json.dumps(secret, ensure_ascii=False)[1:-1] in reply] == []
             for path in (f"{name}/good.c", f"{name}/exercise.toml", "exercises.json", f"answers/{seat}.{name}.1.json"):
                 assert (await room.get(path, seat))[0] == 404

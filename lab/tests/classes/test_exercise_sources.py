@@ -80,8 +80,8 @@ async def test_exercises_have_separate_sources(tmp_path: pathlib.Path) -> None:
     for exercises in (TWO, TWO[:1]):
         async with served(folder, exercises=exercises) as room:
             tab = await room.sit("A1")
-            wanted = ("doubles", "# doubles, changed") if exercises != TWO else ("byte_sum", "// byte_sum")
-            assert (tab.view["source"]["exercise"], tab.view["source"]["text"]) == wanted
+            expected = ("doubles", "# doubles, changed") if exercises != TWO else ("byte_sum", "// byte_sum")
+            assert (tab.view["source"]["exercise"], tab.view["source"]["text"]) == expected
 
 
 async def test_late_draft_is_version_of_its_exercise(tmp_path: pathlib.Path) -> None:

@@ -31,8 +31,8 @@ async def test_seat_status_follows_program(tmp_path: pathlib.Path) -> None:
         tab, teacher = await room.sit("A1"), await room.sit("teacher")
 
         async def until(condition: str, is_stuck: bool) -> None:
-            wanted = (condition, is_stuck)
-            await teacher.until(lambda view: (seat(teacher, "1")["stands"], seat(teacher, "1")["stuck"]) == wanted)
+            expected = (condition, is_stuck)
+            await teacher.until(lambda view: (seat(teacher, "1")["stands"], seat(teacher, "1")["stuck"]) == expected)
 
         assert (seat(teacher, "2")["stands"], seat(teacher, "2")["stuck"]) == ("", False)
         assert started <= seat(teacher, "2")["since"] <= time.time()

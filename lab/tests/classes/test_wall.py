@@ -52,11 +52,11 @@ async def test_wall_frame_contains_no_code(room: Served) -> None:
     frames, before = list[str](), codes(room)
     wall = await room.open(before["wall"])
 
-    async def listen(wanted: Any) -> Message:
+    async def listen(condition: Any) -> Message:
         while True:
             reply = await wall.receive()
             frames.append(json.dumps(reply))
-            if wanted(reply):
+            if condition(reply):
                 return reply
 
     await listen(lambda reply: reply["kind"] == "hello")

@@ -72,9 +72,9 @@ def test_compiled_kernel_is_short_script(clang: Compiler) -> None:
 def test_instructions_have_source_lines(clang: Compiler) -> None:
     text = "int twice(int x)\n{\n    return 2 * x;\n}\n\nint main(void)\n{\n    return twice(4);\n}\n"
     program = compile_c(text, clang, 1, KERNELS)  # -O0
-    said = program.source_lines(text)
+    line_texts = program.source_lines(text)
     first = {number: address for address, number, _ in reversed(program.rows) if number}
-    assert said[f"{first[3]:x}"] == "3  return 2 * x;"
+    assert line_texts[f"{first[3]:x}"] == "3  return 2 * x;"
     assert program.labels["twice"] <= first[3] < program.labels["main"] <= first[8]
 
 
@@ -113,9 +113,9 @@ def test_line_breakpoints_have_addresses(clang: Compiler) -> None:
 
 def test_inlined_function_is_named(clang: Compiler) -> None:
     text = (KERNELS / "saxpy.c").read_text("ascii")
-    said = compile_c(text, clang, 0, KERNELS).source_lines(text)
+    line_texts = compile_c(text, clang, 0, KERNELS).source_lines(text)
     number = text[: text.index("sum = __riscv_vmacc")].count("\n") + 1
-    assert any(line.startswith(f"{number}  ") and line.endswith("(saxpy, inlined)") for line in said.values())
+    assert any(line.startswith(f"{number}  ") and line.endswith("(saxpy, inlined)") for line in line_texts.values())
 
 
 def test_compile_errors_have_locations(clang: Compiler) -> None:

@@ -89,7 +89,7 @@ def test_sandbox_starts(sandboxed_clang: Compiler, capsys: pytest.CaptureFixture
 
 
 @pytest.mark.parametrize(
-    "status, said, sentence",
+    "status, stderr, sentence",
     [
         (1, WORDS, f"the sandbox of compilers doesn't start: {WORDS}"),
         (137, "", "the compiler's process was ended by the signal SIGKILL"),
@@ -109,17 +109,17 @@ def test_sandbox_starts(sandboxed_clang: Compiler, capsys: pytest.CaptureFixture
     ],
 )
 def test_sandbox_exit_is_explained(
-    sandboxed_clang: Compiler, monkeypatch: pytest.MonkeyPatch, status: int, said: str, sentence: str
+    sandboxed_clang: Compiler, monkeypatch: pytest.MonkeyPatch, status: int, stderr: str, sentence: str
 ) -> None:
     """By its status and its standard error, which isn't thrown away."""
     command = ["/bin/sh", "-c", f'echo "$SAID" >&2; {"kill -9 $$" if status < 0 else f"exit {status}"}']
     with pytest.raises(ToolError) as raised:
-        asyncio.run(sandbox.run_inside(command, MAIN, pathlib.Path("/"), {"SAID": said}))
+        asyncio.run(sandbox.run_inside(command, MAIN, pathlib.Path("/"), {"SAID": stderr}))
     assert str(raised.value).startswith(sentence)
 
 
 @pytest.mark.parametrize(
-    "status, said, seconds, sentence",
+    "status, stderr, seconds, sentence",
     [
         (1, "", 9.9, "it took more than 10 s of processor time"),
         (-6, "LLVM ERROR: out of memory\nAllocation failed", 1, "it took more than 512 MB of memory"),
@@ -138,8 +138,8 @@ def test_sandbox_exit_is_explained(
         (1, "source.c:1:1: error: expected expression", 1, ""),
     ],
 )
-def test_compiler_exit_is_explained(status: int, said: str, seconds: float, sentence: str) -> None:
-    ending = ending_of(status, said, seconds)
+def test_compiler_exit_is_explained(status: int, stderr: str, seconds: float, sentence: str) -> None:
+    ending = ending_of(status, stderr, seconds)
     assert sentence in ending if sentence else not ending
 
 

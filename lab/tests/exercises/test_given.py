@@ -125,8 +125,8 @@ def test_course_is_written(lab: Lab, tmp_path: pathlib.Path) -> None:
     [data] = re.findall('id="data">(.*)</script>', (tmp_path / "course" / "index.html").read_text("utf-8"))
     lessons = [entry["lesson"] for entry in json.loads(data)]
     assert [lesson["name"] for lesson in lessons] == COURSE and all(lesson["sentence"] for lesson in lessons)
-    (odd,) = (lesson["strip"] for lesson in lessons if lesson["name"] == "filter")  # of 4 7 1 8 9 2 5 6
-    assert [*map(tuple, odd["cells"])] == [(bit, "active") for bit in "01101010"] + 8 * [("0", "tail")]
+    (strip,) = (lesson["strip"] for lesson in lessons if lesson["name"] == "filter")  # of 4 7 1 8 9 2 5 6
+    assert [*map(tuple, strip["cells"])] == [(bit, "active") for bit in "01101010"] + 8 * [("0", "tail")]
 
 
 @pytest.mark.by_command("exercise")

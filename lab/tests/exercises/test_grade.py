@@ -411,18 +411,18 @@ def test_non_file_is_refused(tmp_path: pathlib.Path) -> None:
 
 def test_reports_have_documented_formats(tmp_path: pathlib.Path) -> None:
     """JUnit's XML has all answers, and Gradescope's JSON one; of hidden cases both show only that they fail."""
-    odd = tmp_path / "=HYPERLINK(1)<&.s"
-    odd.write_bytes(b"\0")
+    answer_file = tmp_path / "=HYPERLINK(1)<&.s"
+    answer_file.write_bytes(b"\0")
     shutil.copy(answer("wraps.s"), tmp_path / "wraps.s")
     words = ("saturating_sum", "--junit", "report.xml")
-    completed = run_grade(*words, "--rows", "wraps.s", odd.name, folder=tmp_path)
+    completed = run_grade(*words, "--rows", "wraps.s", answer_file.name, folder=tmp_path)
     assert completed.stdout.splitlines()[1].startswith("'=HYPERLINK(1)<&.s,0,5,fails,")  # a text, and no formula
     suites = ElementTree.parse(tmp_path / "report.xml").getroot()
     assert [(suite.get("name"), suite.get("tests"), suite.get("failures")) for suite in suites] == [
-        ("wraps.s", "5", "3"), (odd.name, "5", "5")
+        ("wraps.s", "5", "3"), (answer_file.name, "5", "5")
     ]  # fmt: skip
     cases = [(case.get("name"), [failure.get("message") for failure in case]) for case in suites[0]]
-    wrong = "element 0, i16 at 0x20200: expected 32767, found -32768"
+    wrong = "element 0, i16 at 0x20200: answer_file 32767, found -32768"
     assert cases[:2] == [("small numbers", []), ("no room", [wrong])] and cases[3:] == [
         ("many", ["fails"]),
         ("none", []),
@@ -434,7 +434,7 @@ def test_reports_have_documented_formats(tmp_path: pathlib.Path) -> None:
     ]  # fmt: skip
     assert [test["visibility"] for test in tests] == ["visible"] * 3 + ["hidden"] * 2
     assert [test["output"] for test in tests if test["name"] != "forty"] == ["", wrong, "fails", ""]
-    several = run_grade("saturating_sum", "--gradescope", "results.json", "wraps.s", odd.name, folder=tmp_path)
+    several = run_grade("saturating_sum", "--gradescope", "results.json", "wraps.s", answer_file.name, folder=tmp_path)
     assert several.stderr == "vecmon-lab: --gradescope is for one answer, and here are several\n"
     over = run_grade("saturating_sum", "--junit", "wraps.s", "wraps.s", folder=tmp_path)
     assert over.returncode == 2 and "would be overwritten" in over.stderr

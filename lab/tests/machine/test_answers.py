@@ -25,9 +25,9 @@ def stored_answers() -> Iterator[list[str]]:
 def test_parsed_answers_print_unchanged() -> None:
     kinds = Counter[str]()
     for answer in stored_answers():
-        said = read(answer)
-        assert [f"{answer[0][0]} {part}" for part in printed(said).split("\n")] == answer
-        kinds[type(said).__name__] += 1
+        parsed = read(answer)
+        assert [f"{answer[0][0]} {part}" for part in printed(parsed).split("\n")] == answer
+        kinds[type(parsed).__name__] += 1
     assert kinds.total() > 100_000 and len(kinds) == 16
 
 

@@ -37,9 +37,9 @@ def tabs(browser: "Chrome") -> Iterator["Chrome"]:
     first = browser.current_window_handle
     browser.get_log("browser")
     yield browser
-    said = browser.get_log("browser")
+    shown = browser.get_log("browser")
     close_all(browser, [first])
-    assert [entry for entry in said if "/socket' failed: " not in entry["message"]] == []
+    assert [entry for entry in shown if "/socket' failed: " not in entry["message"]] == []
 
 
 @pytest.fixture

@@ -54,8 +54,8 @@ def test_c_kernel_is_built_and_shown(tabs: "Chrome", with_c: Served) -> None:
     assert "instruction __riscv_vsetvl_e32m2" in pieces and "unknown" not in str(pieces)
     tab.keys("#source", Keys.CONTROL, Keys.ENTER)
     tab.wait("id('editor').hidden && one('#listing .next')")
-    said = tab.run("all('#listing .source').map((cell) => cell.textContent).join()")
-    assert "__riscv_vmacc_vx_i32m2(sum, factor" in said and "(saxpy, inlined)" in said
+    shown = tab.run("all('#listing .source').map((cell) => cell.textContent).join()")
+    assert "__riscv_vmacc_vx_i32m2(sum, factor" in shown and "(saxpy, inlined)" in shown
     teacher.click("#seats tr button[aria-label='Look at seat A1']")
     teacher.wait("id('source').value === arguments[0] && id('language').selectedOptions[0].text === 'C, O2'", SAXPY)
     teacher.click("#show-source")

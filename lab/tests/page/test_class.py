@@ -443,8 +443,8 @@ def test_tab_reconnects_after_server_restart(tabs: "Chrome", own_class: Served) 
     own_class.kill()
     os.kill(machine, signal.SIGKILL)
     tab.wait("id('gone').textContent.includes('is gone')")
-    said = tab.text("#gone")
-    assert "step 1 was under way" in said and "set x7 1, set x8 2 weren't sent." in said
+    shown = tab.text("#gone")
+    assert "step 1 was under way" in shown and "set x7 1, set x8 2 weren't sent." in shown
     tab.click("#one")
     tab.wait("id('gone').textContent.includes(\"step 1 wasn't sent\")")
     own_class.begin()

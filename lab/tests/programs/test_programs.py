@@ -37,8 +37,8 @@ def test_faults_on_qemu(lab: Lab, tmp_path: pathlib.Path) -> None:
         assert lab("run", path)[0] == 139
         output = subprocess.run([*QEMU, path], stdout=subprocess.PIPE, text=True).stdout
         assert output == path.with_suffix(".reference").read_text("ascii") + "00000000\n", path
-    odd = "vecmon-lab: programs that fault want a handler of signals: --environment linux has one\n"
-    assert lab("programs", tmp_path, "--faults", "--environment", "bare") == (2, b"", odd)
+    expected = "vecmon-lab: programs that fault want a handler of signals: --environment linux has one\n"
+    assert lab("programs", tmp_path, "--faults", "--environment", "bare") == (2, b"", expected)
 
 
 def test_equal_seeds_give_equal_programs(lab: Lab, tmp_path: pathlib.Path) -> None:

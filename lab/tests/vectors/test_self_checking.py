@@ -80,10 +80,10 @@ def test_qemu_differs_in_known_cases(lab: Lab, tmp_path: pathlib.Path) -> None:
     assert lab("vectors", *NAMES, "--cases", "12", "--seed", "3", "--elf", tmp_path)[0] == 0
     for name in NAMES:
         cases = cases_of(tmp_path, name)
-        odd = [number for number, found in enumerate(on_qemu.differences(cases), 1) if found]
+        expected = [number for number, found in enumerate(on_qemu.differences(cases), 1) if found]
         status, lines = output_of([*on_qemu.QEMU, tmp_path / f"{name}.elf"])
-        assert differing(lines, tmp_path / f"{name}.reference") == odd, name
-        assert (status, int(lines[-1], 16)) == (odd[0] if odd else 0,) * 2
+        assert differing(lines, tmp_path / f"{name}.reference") == expected, name
+        assert (status, int(lines[-1], 16)) == (expected[0] if expected else 0,) * 2
 
 
 def test_planted_fault_is_reported_at_its_case(lab: Lab, program: pathlib.Path, tmp_path: pathlib.Path) -> None:

@@ -80,10 +80,10 @@ def explain_refusal(line: str, answer: Refused) -> list[str]:
 
 def refusal_on_pages(line: str, answer: Sequence[str]) -> str:
     """The meaning of a line's refusal, as pages show it, with code between backquotes; "" if it isn't refused."""
-    said = read(answer) if is_refusal(answer) else None
-    if not isinstance(said, Refused):
+    parsed = read(answer) if is_refusal(answer) else None
+    if not isinstance(parsed, Refused):
         return ""
-    *marked, sentence = explain_refusal(line, said)
+    *marked, sentence = explain_refusal(line, parsed)
     return "`{}\n{}`\n{}".format(*marked, sentence) if marked else sentence
 
 

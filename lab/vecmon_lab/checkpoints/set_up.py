@@ -151,8 +151,8 @@ class _SetUp:
     def _spoil(self, address: int, length: int) -> None:
         """Bytes, all in one page, aren't what they are to be."""
         page, first = address // PAGE_BYTES * PAGE_BYTES, address % PAGE_BYTES
-        wanted = self._shown.memory[page][first : first + length]
-        self._memory[page][first : first + length] = bytes(byte ^ 0xFF for byte in wanted)
+        target = self._shown.memory[page][first : first + length]
+        self._memory[page][first : first + length] = bytes(byte ^ 0xFF for byte in target)
         self._texts.clear()
 
     def _written(self) -> Iterator[str]:
@@ -165,15 +165,15 @@ class _SetUp:
 
     def _restored(self, page: int) -> Iterator[str]:
         """The bytes of a page that aren't so."""
-        have, wanted = self._memory[page], self._shown.memory[page]
+        have, target = self._memory[page], self._shown.memory[page]
         runs = list[list[int]]()  # the first and the last place of each
-        for place in range(PAGE_BYTES) if have != wanted else ():
-            if have[place] == wanted[place]:
+        for place in range(PAGE_BYTES) if have != target else ():
+            if have[place] == target[place]:
                 continue
             if runs and place - runs[-1][1] <= _GAP and place - runs[-1][0] < LINE_BYTES:
                 runs[-1][1] = place
             else:
                 runs.append([place, place])
         for first, last in runs:
-            yield f"poke {page + first:x} {wanted[first : last + 1].hex()}"
-        self._memory[page] = bytearray(wanted)
+            yield f"poke {page + first:x} {target[first : last + 1].hex()}"
+        self._memory[page] = bytearray(target)

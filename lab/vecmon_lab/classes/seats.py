@@ -147,12 +147,12 @@ class Seats:
     def look(self, session: Session, done: Sequence[Done], digits: Iterable[str]) -> dict[str, tuple[State, State]]:
         """The states of users after what was done: all that is known, and what pages show of it."""
         lines, states = [line for line, _ in done], {}
-        said = [each for _, answer in done for each in answers_by_user(answer)]
+        answers = [each for _, answer in done for each in answers_by_user(answer)]
         for digit in digits:
             seat = self.users[digit]
             anew = any(line[0] == digit and _restarts(line, answer) for line, answer in done)
             before = ABSENT if anew else seat.state
-            own = [each for whom, each in said if whom == digit]
+            own = [each for whom, each in answers if whom == digit]
             single = lines == [f"{digit} step 1"] and before["run"] == "stopped"
             executed = before["code"].get(before["pc"], "")[9:] if single else ""
             is_done = not all(map(is_look, lines))

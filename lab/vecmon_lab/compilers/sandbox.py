@@ -114,7 +114,7 @@ async def run_inside(command: Sequence[str], text: str, folder: pathlib.Path, va
         async with asyncio.timeout(SECONDS):
             answer = await _output(child, text.encode("utf-8", "replace"))
             status = await child.wait()
-            said = await errors
+            stderr = await errors
     except asyncio.TimeoutError as error:
         raise ToolError(f"the compiler was stopped: it took more than {SECONDS} s by the clock") from error
     finally:
@@ -123,7 +123,7 @@ async def run_inside(command: Sequence[str], text: str, folder: pathlib.Path, va
             os.killpg(child.pid, signal.SIGKILL)
         await child.wait()
     if status:
-        raise _failure(status, said)
+        raise _failure(status, stderr)
     return answer
 
 
@@ -149,9 +149,9 @@ async def _last_bytes(stream: asyncio.StreamReader) -> bytes:
     return last
 
 
-def _failure(status: int, said: bytes) -> ToolError:
+def _failure(status: int, stderr: bytes) -> ToolError:
     """The failure of the sandbox, or of the process in it, by its status and the last bytes of its standard error."""
-    lines = said.decode("utf-8", "replace").strip().splitlines()
+    lines = stderr.decode("utf-8", "replace").strip().splitlines()
     last = lines[-1] if lines else "it printed no message"
     if any(line.startswith("bwrap: ") for line in lines):
         return ToolError(f"the sandbox of compilers doesn't start: {last} ({REMEDIES})")

@@ -77,20 +77,20 @@ def compile_source(command: Sequence[str]) -> list[Diagnostic]:
         with Popen(command, stdin=DEVNULL, stdout=DEVNULL, stderr=PIPE) as child:
             assert child.stderr
             importlib.import_module("elftools.elf.elffile")  # for the image, meanwhile
-            said = child.stderr.read(COMPLAINT_BYTES).decode("utf-8", "replace")
+            stderr = child.stderr.read(COMPLAINT_BYTES).decode("utf-8", "replace")
             child.stderr.close()  # a compiler with more messages ends here
             status = child.wait()
     except ImportError as error:
         raise Failure(f"Python's package pyelftools can't be imported ({error})") from error
     except OSError as error:
         raise Failure(f"{command[0]} can't be started: {error.strerror}") from error
-    if status == 127 and "error while loading shared libraries" in said:
-        raise Failure(f"{command[0]} can't be started: {said.strip()[:MESSAGE_LETTERS]}")
-    messages = read_messages(said)
+    if status == 127 and "error while loading shared libraries" in stderr:
+        raise Failure(f"{command[0]} can't be started: {stderr.strip()[:MESSAGE_LETTERS]}")
+    messages = read_messages(stderr)
     if not status:
         return messages
     usage = resource.getrusage(resource.RUSAGE_CHILDREN)
-    ending = ending_of(status, said, usage.ru_utime + usage.ru_stime)
+    ending = ending_of(status, stderr, usage.ru_utime + usage.ru_stime)
     if ending:
         return [Diagnostic(0, 0, True, ending), *(message for message in messages if message.line)]
     if not any(message.is_error for message in messages):
@@ -98,26 +98,26 @@ def compile_source(command: Sequence[str]) -> list[Diagnostic]:
     return messages
 
 
-def ending_of(status: int, said: str, seconds: float) -> str:
+def ending_of(status: int, stderr: str, seconds: float) -> str:
     """Why a compiler ended that used so much processor time, or "" where its messages say that. Raises Failure.
 
     status: of its process, which is negative for a signal; said: the start of its standard error
     """
     if seconds > 0.95 * CPU_SECONDS:
         return f"the compiler was stopped: it took more than {CPU_SECONDS} s of processor time"
-    if _NO_MEMORY.search(said):
+    if _NO_MEMORY.search(stderr):
         return f"the compiler was stopped: {MEMORY}"
-    if status == -signal.SIGXFSZ or _NO_ROOM.search(said):
+    if status == -signal.SIGXFSZ or _NO_ROOM.search(stderr):
         return f"the compiler was stopped: it wrote a file of more than {FILE_BYTES >> 20} MB"
-    if len(said) >= COMPLAINT_BYTES:
+    if len(stderr) >= COMPLAINT_BYTES:
         return f"the compiler was stopped: it printed more than {COMPLAINT_BYTES >> 10} KB of messages"
     if status == -signal.SIGKILL:
         raise Failure("the compiler was killed from outside (SIGKILL), as by a system that has no memory left")
     if status < 0:
         return f"the compiler crashed ({signal.strsignal(-status)}): {CRASHED}"
-    if crash := _SIGNAL.search(said):
+    if crash := _SIGNAL.search(stderr):
         return f"the compiler crashed ({crash[1]}): {CRASHED}"
-    if _CRASH.search(said):
+    if _CRASH.search(stderr):
         return f"the compiler crashed (internal compiler error): {CRASHED}"
     return ""
 

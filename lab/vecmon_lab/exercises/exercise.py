@@ -214,12 +214,12 @@ def _numbers(where: str, entries: Mapping[object, object], by_reference: bool) -
         case [(str(kind), list(numbers))] if not by_reference and kind in _FORMATS:
             bits = int(kind[1:])
             minimum = -(1 << bits - 1) if kind[0] == "i" else 0
-            odd = [
+            invalid = [
                 number for number in numbers if type(number) is not int or not minimum <= number < minimum + (1 << bits)
             ]
-            if not odd:
+            if not invalid:
                 return kind, numbers
-            raise LabError(f"{where}: {odd[0]} is no {kind}")
+            raise LabError(f"{where}: {invalid[0]} is no {kind}")
     form = "how many numbers there are" if by_reference else "a text, or a list of numbers"
     listed = ", ".join(f"{key} = {value}" for key, value in entries.items()) or "nothing"
     raise LabError(f"{where} has {form}, by their type, i8 to u64, and not {listed}")

@@ -18,8 +18,8 @@ def registers_html(pc: int, x: Sequence[int], control: ControlRegisters, vectors
     scalars = [f"x{number}={value:x}" for number, value in enumerate(x) if value]
     rows = [scalars[at : at + IN_A_ROW] for at in range(0, len(scalars), IN_A_ROW)]
     digits = control.sew // 4
-    held = {f"v{number}": elements_in(data, control.sew) for number, data in enumerate(vectors) if any(data)}
-    elements = [[name, *(f"{value:0{digits}x}" for value in values)] for name, values in held.items()]
+    vectors_shown = {f"v{number}": elements_in(data, control.sew) for number, data in enumerate(vectors) if any(data)}
+    elements = [[name, *(f"{value:0{digits}x}" for value in values)] for name, values in vectors_shown.items()]
     head = [f"e{control.sew}", *range(256 // control.sew)]
     tables = [html_table([list(control_values), list(control_values.values())], 0)]
     tables += [html_table([[], *rows], IN_A_ROW)] if rows else []

@@ -91,8 +91,8 @@ def _joined(spans: Iterable[Span]) -> list[Span]:
     """Spans that hold these, one in each block of 256 bytes, which lies in one page."""
     ends = ((address // ROW_BYTES, (address + length - 1) // ROW_BYTES) for address, length in spans)
     rows = {row for first, last in ends for row in range(first, last + 1)}
-    held = [list(each) for _, each in itertools.groupby(sorted(rows), lambda row: row * ROW_BYTES // LINE_BYTES)]
-    return [(each[0] * ROW_BYTES, (each[-1] + 1 - each[0]) * ROW_BYTES) for each in held]
+    groups = [list(each) for _, each in itertools.groupby(sorted(rows), lambda row: row * ROW_BYTES // LINE_BYTES)]
+    return [(each[0] * ROW_BYTES, (each[-1] + 1 - each[0]) * ROW_BYTES) for each in groups]
 
 
 def bits_of(operand: Operand, vl: int) -> Iterator[int]:

@@ -103,9 +103,11 @@ def _operation(fields: Mapping[str, int]) -> tuple[str, list[str]]:
             vd, vs2, vs1, *traits = _SHAPES[shape]
             return name, [vd, vs2, vs1 if form == "V" else "-", *traits]
     if of_form:
-        wanted = ", ".join(f"{name} has {condition}" for name, _, condition in of_form)
-        found = " and ".join(f"{field} = {fields[field]}" for field in dict.fromkeys(re.findall(r"\w+(?= =)", wanted)))
-        raise NoInstruction(f"{wanted}, and this word has {found}.")
+        requirements = ", ".join(f"{name} has {condition}" for name, _, condition in of_form)
+        found = " and ".join(
+            f"{field} = {fields[field]}" for field in dict.fromkeys(re.findall(r"\w+(?= =)", requirements))
+        )
+        raise NoInstruction(f"{requirements}, and this word has {found}.")
     if there:
         raise NoInstruction(f"There is no form with {_FORM_NAMES[form]} of {listed(name for _, name, *_ in there)}.")
     raise NoInstruction(f"No vector instruction with funct3 {fields['funct3']:03b} has funct6 {funct6}.")

@@ -266,8 +266,8 @@ def read(answer: Sequence[str]) -> Answer:
 
 def answers_by_user(answer: Sequence[str]) -> list[tuple[str, Answer]]:
     """A whole answer, by users: those whose programs stopped, and the one who gets the answer."""
-    said = read(answer)
-    return [*(said.stops if isinstance(said, Granted) else ()), (answer[-1][0], said)]
+    parsed = read(answer)
+    return [*(parsed.stops if isinstance(parsed, Granted) else ()), (answer[-1][0], parsed)]
 
 
 def elements_in(data: bytes, width: int) -> list[int]:

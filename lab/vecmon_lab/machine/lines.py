@@ -31,8 +31,8 @@ def check_text(text: str, start: int = 0) -> None:
     """Raises BadLine unless a text is 1,022 printable ASCII characters at most from `start` on, behind the user."""
     if not isinstance(text, str):
         raise BadLine("a line is a text")
-    if odd := _ODD.search(text, start):
-        raise BadLine(f"character {odd.start() + 1} of a line, {odd[0]!a}, isn't printable ASCII")
+    if invalid := _ODD.search(text, start):
+        raise BadLine(f"character {invalid.start() + 1} of a line, {invalid[0]!a}, isn't printable ASCII")
     if len(text) - start > 1022:
         raise BadLine(f"a line has at most 1,022 characters after its user, and this one has {len(text) - start:,}")
 

@@ -41,10 +41,10 @@ class Script:
     def shorten(self, checkpoint: Checkpoint, spent: float) -> None:
         """Adds a checkpoint, of the script as it was when `spent` seconds were spent: a new process starts with it."""
         before, covered = self.base
-        gone = max(0, checkpoint.number - before.lines.count(b"\n"))
-        for _ in range(gone):
+        removed = max(0, checkpoint.number - before.lines.count(b"\n"))
+        for _ in range(removed):
             covered = self.text.index(b"\n", covered) + 1
-        self.base = Checkpoint(before.number + gone, checkpoint.lines), covered
+        self.base = Checkpoint(before.number + removed, checkpoint.lines), covered
         self.spent -= spent
 
     def record(self, lines: Sequence[str], answers: Sequence[str]) -> None:

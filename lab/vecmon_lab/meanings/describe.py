@@ -199,11 +199,11 @@ def text_of(record: Record) -> str:
 
 def found(words: str) -> list[Record]:
     """The records that have all words, those with them in their sentence or name first. Short words, as `with`, don't count."""
-    wanted = [word for word in re.findall(r"[\w.]+", words.lower()) if word not in _SHORT]
-    if not wanted:
+    search_words = [word for word in re.findall(r"[\w.]+", words.lower()) if word not in _SHORT]
+    if not search_words:
         return []
-    every = [it for it in records().values() if all(word in text_of(it) for word in wanted)]
-    first = [it for it in every if all(word in f"{it.name} {it.does}".lower() for word in wanted)]
+    every = [it for it in records().values() if all(word in text_of(it) for word in search_words)]
+    first = [it for it in every if all(word in f"{it.name} {it.does}".lower() for word in search_words)]
     return sorted(every, key=lambda it: (it not in first, it.kind != "instruction"))
 
 

@@ -370,9 +370,9 @@ def _requested(before: Before) -> dict[str, object]:
     """The request of a vset instruction."""
     word, x, control = before.word, before.x, before.control
     rd, rs1, has_immediate = word >> 7 & 31, word >> 15 & 31, word >> 30 == 3
-    wanted = word >> 20 & 0x3FF if has_immediate else word >> 20 & 0x7FF if not word >> 31 else x[word >> 20 & 31]
-    limit = ControlRegisters(vtype=wanted).vlmax if wanted & 0x3F in SUPPORTED and wanted < 256 else 0
+    requested = word >> 20 & 0x3FF if has_immediate else word >> 20 & 0x7FF if not word >> 31 else x[word >> 20 & 31]
+    limit = ControlRegisters(vtype=requested).vlmax if requested & 0x3F in SUPPORTED and requested < 256 else 0
     keeps_vl = not has_immediate and not rd and not rs1
     is_supported = limit > 0 and (not keeps_vl or limit == control.vlmax)
     avl = rs1 if has_immediate else x[rs1] if rs1 else control.vl if keeps_vl else WORD
-    return {"avl": avl, "type": wanted, "limit": limit, "is_supported": is_supported, "vill": VILL}
+    return {"avl": avl, "type": requested, "limit": limit, "is_supported": is_supported, "vill": VILL}

@@ -154,5 +154,5 @@ def _table(coverage: Coverage) -> Iterator[str]:
     for (name, vtype, is_masked, tail), count in sorted(coverage.items()):
         rows.append((name, vtype_text(vtype).partition(",t")[0], "masked" if is_masked else "-", tail, count))
     yield from table_lines(rows, 4)
-    met = {name for name, *_ in coverage}
-    yield f"not met: {' '.join(name for name in instruction_table() if name not in met) or 'none'}"
+    covered = {name for name, *_ in coverage}
+    yield f"not met: {' '.join(name for name in instruction_table() if name not in covered) or 'none'}"

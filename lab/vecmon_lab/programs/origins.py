@@ -35,24 +35,26 @@ def origin(
         {"memory", "v", *CONTROL} - last.commit.compared - ({*CONTROL} if "control" in last.commit.compared else set())
     )
     for step in reversed(steps):
-        met = [part for part in parts(step) if not part[0].isdisjoint(places)]
-        if met or step is last:
-            if sentence := _left_open(step, met, is_trap and step is last, is_part, last):
+        matching = [part for part in parts(step) if not part[0].isdisjoint(places)]
+        if matching or step is last:
+            if sentence := _left_open(step, matching, is_trap and step is last, is_part, last):
                 return step, sentence
-            made_of = (part[1] for part in met if step is last or step.retired.text.startswith("v"))
-            places = places.difference(*(part[0] for part in met)).union(*made_of)
+            made_of = (part[1] for part in matching if step is last or step.retired.text.startswith("v"))
+            places = places.difference(*(part[0] for part in matching)).union(*made_of)
             places = {place for place in places if place[0] in unseen}
     return None
 
 
-def _left_open(step: LoggedStep, met: Sequence[Part], is_trap: bool, is_part: bool, last: LoggedStep) -> str | None:
+def _left_open(
+    step: LoggedStep, matching: Sequence[Part], is_trap: bool, is_part: bool, last: LoggedStep
+) -> str | None:
     """The parts that the standard leaves open for an instruction, by the parts it wrote, or because it is refused."""
-    text, kinds = step.retired.text, {kind for _, _, kind in met} - {""}
+    text, kinds = step.retired.text, {kind for _, _, kind in matching} - {""}
     agnostic = sorted(kinds - {"active"})
     if agnostic and (is_part or len(agnostic) == len(kinds)):
         allowed = "perhaps allowed: some of" if is_part else "allowed:"
         return f"{allowed} these elements are {' and '.join(agnostic)}, and agnostic: each stays or becomes ones"
-    written = [place for places, _, _ in met for place in places]
+    written = [place for places, _, _ in matching for place in places]
     names = {name for name, _ in written}
     holds = {"trap": is_trap, "value": "v" in names, "vl": "vl" in names, "order": len(written) > len(set(written))}
     holds |= {"vstart": text.startswith("v") and step.before.control.vstart > 0}

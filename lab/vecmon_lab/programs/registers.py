@@ -50,22 +50,22 @@ class DrawnRegisters:
 
     def source(self, name: str, place: str, operand: Operand, vl: int) -> int | None:
         """The first register of an operand that an instruction reads, mostly one that nothing has read; None if there is none."""
-        wanted = list(needed(name, place, operand, vl))
-        fits = [first for first in self._firsts(operand) if self.is_fixed(first, wanted)]
-        unread = [first for first in fits if not self.v.isdisjoint(range(first, first + len(wanted)))]
+        needed_bits = list(needed(name, place, operand, vl))
+        fits = [first for first in self._firsts(operand) if self.is_fixed(first, needed_bits)]
+        unread = [first for first in fits if not self.v.isdisjoint(range(first, first + len(needed_bits)))]
         return self._draws.choice(unread if unread and self._draws.random() < 0.7 else fits) if fits else None
 
     def target(self, name: str, operand: Operand, vl: int, read: Iterable[int]) -> int | None:
         """The first register of a destination: nothing is lost there, where the instruction reads some registers as well."""
         accumulates, size = name.startswith(ACCUMULATES), len(operand.registers)
-        lost, wanted = (set[int](), list(bits_of(operand, vl))) if accumulates else (self.v - set(read), [])
-        fits = [first for first in self._firsts(operand) if self.is_fixed(first, wanted)]
+        lost, needed_bits = (set[int](), list(bits_of(operand, vl))) if accumulates else (self.v - set(read), [])
+        fits = [first for first in self._firsts(operand) if self.is_fixed(first, needed_bits)]
         fits = [first for first in fits if lost.isdisjoint(range(first, first + size))]
         return self._draws.choice(fits) if fits else None
 
-    def is_fixed(self, first: int, wanted: Sequence[int]) -> bool:
+    def is_fixed(self, first: int, needed_bits: Sequence[int]) -> bool:
         """Whether the standard fixes this number of bits in registers from one on."""
-        return self._has_choices or all(self.fixed[first + at] >= bits for at, bits in enumerate(wanted))
+        return self._has_choices or all(self.fixed[first + at] >= bits for at, bits in enumerate(needed_bits))
 
     def write(self, name: str, operand: Operand, control: ControlRegisters, is_masked: bool) -> bool:
         """An instruction writes its destination, which has its registers; whether the standard fixes all of these then."""

@@ -75,7 +75,7 @@ class Timeline:
     def back(self, number: int = 1) -> bool:
         """Go back by a number of instructions; return whether there were enough, else be at the first. Raises LabError."""
         self._catch_up()
-        before, intervals, self.hit = self._held(), self._intervals.intervals, None
+        before, intervals, self.hit = self._watched_values(), self._intervals.intervals, None
         for place in reversed(range(len(intervals))):
             count = self._count(intervals[place])
             if number <= count:
@@ -86,7 +86,7 @@ class Timeline:
             self._begin()
             return False
         if self.watches:
-            word, now = self._guest.word_at(self._guest.pc)[0], self._held()
+            word, now = self._guest.word_at(self._guest.pc)[0], self._watched_values()
             changed = next((watch for watch in before if before[watch] != now[watch]), None)
             if hit := changed or accessed([each for each in self.watches if each not in now], self._guest, word):
                 self._guest.step()
@@ -153,7 +153,7 @@ class Timeline:
         """The addresses of breakpoints."""
         return self._guest.query("breaks", Addresses).addresses
 
-    def _held(self) -> dict[Watch, bytes]:
+    def _watched_values(self) -> dict[Watch, bytes]:
         """The contents of the places watched for changes."""
         changes = [watch for watch in self.watches if watch.kind == "watch"]
         return {watch: self._guest.peek(watch.address, watch.length) for watch in changes}

@@ -42,9 +42,9 @@ def logged_access(watches: Sequence[Watch], line: bytes) -> Watch | None:
 
 def _met(watches: Sequence[Watch], word: int, spans: Callable[[], Iterable[Span]]) -> Watch | None:
     """The first place that an instruction, which is this word, accesses as watched for, by what it accesses."""
-    wanted = [watch for watch in watches if word & 0x7F in ACCESSES[watch.kind]]
-    found = list(spans()) if wanted else []
-    for watch in wanted:
+    candidates = [watch for watch in watches if word & 0x7F in ACCESSES[watch.kind]]
+    found = list(spans()) if candidates else []
+    for watch in candidates:
         if any(at < watch.address + watch.length and watch.address < at + length for at, length in found):
             return watch
     return None

@@ -127,8 +127,8 @@ def _followed(
 ) -> tuple[tuple[CommonStep, str] | None, set[Cell]]:
     """The instruction that left places open that differ behind some, and as what; or where it differed before them."""
     for step in reversed(steps):
-        met = [part for part in parts(step.runs[0]) if not places.isdisjoint(part[0])]
-        made = [part for part in met if not places.isdisjoint(part[0] - part[1].intersection(_CONTROLS))]
+        matching = [part for part in parts(step.runs[0]) if not places.isdisjoint(part[0])]
+        made = [part for part in matching if not places.isdisjoint(part[0] - part[1].intersection(_CONTROLS))]
         agnostic = {_AGNOSTIC[kind] for *_, kind in made if kind in _AGNOSTIC}
         if agnostic:
             return (step, " and ".join(sorted(agnostic))), set()

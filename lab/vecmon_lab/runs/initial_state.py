@@ -76,9 +76,9 @@ def _joined(memory: Iterable[PlacedBytes]) -> Sequence[PlacedBytes]:
     """The same, where what follows each other with the same permissions is one."""
     joined = list[PlacedBytes]()
     for address, permissions, data in memory:
-        first, before, held = joined[-1] if joined else (0, "", b"")
-        if (before, first + len(held)) == (permissions, address):
-            joined[-1] = first, permissions, held + data
+        first, before, content = joined[-1] if joined else (0, "", b"")
+        if (before, first + len(content)) == (permissions, address):
+            joined[-1] = first, permissions, content + data
         else:
             joined.append((address, permissions, data))
     return joined

@@ -59,8 +59,8 @@ def run(arguments: argparse.Namespace) -> int:
     names = list(table) if arguments.names == ["all"] else arguments.names
     if "all" in names:
         raise LabError("all means each instruction: give no other name")
-    if odd := [name for name in names if name not in table]:
-        raise LabError(f"there is no instruction {odd[0]}: docs/INSTRUCTIONS.md lists them, and all means each one")
+    if invalid := [name for name in names if name not in table]:
+        raise LabError(f"there is no instruction {invalid[0]}: docs/INSTRUCTIONS.md lists them, and all means each one")
     if arguments.cases is not None and arguments.cases < 1:
         raise LabError("--cases takes a number from 1 up")
     writer = Writer(arguments.elf, arguments.asm, arguments.environment) if arguments.elf or arguments.asm else None
@@ -100,13 +100,15 @@ def execute_case(session: Session, row: Row, case: Case, policy: str = "keep", b
     guest.ask(*_set_up(case, pages, policy))
     stepper = Stepper(guest)
     length = DATA_END - DATA if data in pages else 0
-    text, (before, held), old = stepper.fetch(pc)[1], _named(pc, stepper.registers), guest.peek(data, length)
+    text, (before, old_values), old = stepper.fetch(pc)[1], _named(pc, stepper.registers), guest.peek(data, length)
     stop = guest.step()
     stepper.look()
     (after, left), new, output = _named(guest.pc, stepper.registers), guest.peek(data, length), guest.output()
     guest.ask("leave")
     golden: dict[str, object] = {"name": row.name, "word": f"{case.word:08x}", "text": text, "policy": policy, **before}
-    golden |= {kind: {number: it for number, it in values.items() if it.strip("0")} for kind, values in held.items()}
+    golden |= {
+        kind: {number: it for number, it in values.items() if it.strip("0")} for kind, values in old_values.items()
+    }
     golden["pages"] = {f"{address:x}": permissions for address, permissions in pages.items()}
     golden["memory"] = {f"{address:x}": data.hex() for address, data in case.memory.items()}
     golden["end"] = stop.kind if stop else "ran"
@@ -114,7 +116,7 @@ def execute_case(session: Session, row: Row, case: Case, policy: str = "keep", b
         is_fault = stop.kind == "fault"
         golden |= {"cause": stop.cause, "value": f"{stop.value:x}"} if is_fault else {"status": stop.number}
     changes: dict[str, object] = {name: value for name, value in after.items() if value != before[name]}
-    changes |= {kind: {n: it for n, it in values.items() if it != held[kind][n]} for kind, values in left.items()}
+    changes |= {kind: {n: it for n, it in values.items() if it != old_values[kind][n]} for kind, values in left.items()}
     stored = {f"{data + first:x}": new[first:last].hex() for first, last in runs(old, new)}
     changes |= {"memory": stored, "output": output.hex()}
     return golden | {"after": {key: value for key, value in changes.items() if value not in ({}, "")}}

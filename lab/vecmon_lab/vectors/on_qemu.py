@@ -46,7 +46,7 @@ def image() -> bytes:
     return head.ljust(4096, b"\0") + body
 
 
-def held(case: Case, name: str) -> dict[str, str]:
+def object_in(case: Case, name: str) -> dict[str, str]:
     """An object in a case; an empty one where there is none."""
     value = case.get(name)
     return value if isinstance(value, dict) else {}
@@ -58,9 +58,11 @@ def state(*named: Case) -> State:
     for part in named:
         values |= {name: int(str(part[name]), 16) for name in ("pc", "vtype") if name in part}
         values |= {name: int(str(part[name])) for name in ("vl", "vxrm", "vxsat", "vstart") if name in part}
-        values |= {f"x{number}": int(digits, 16) for number, digits in held(part, "x").items()}
-        pieces = [(v, 32 * int(number), digits) for number, digits in held(part, "v").items()]
-        pieces += [(memory, int(address, 16) % 0x10000, digits) for address, digits in held(part, "memory").items()]
+        values |= {f"x{number}": int(digits, 16) for number, digits in object_in(part, "x").items()}
+        pieces = [(v, 32 * int(number), digits) for number, digits in object_in(part, "v").items()]
+        pieces += [
+            (memory, int(address, 16) % 0x10000, digits) for address, digits in object_in(part, "memory").items()
+        ]
         for room, place, digits in pieces:
             room[place : place + len(digits) // 2] = bytes.fromhex(digits)
     return {**values, "v": bytes(v), "memory": bytes(memory)}
@@ -75,7 +77,7 @@ def expected(case: Case) -> State:
     """The state after a case, and how it ends."""
     value = int(str(case["value"]), 16) if case.get("cause") in (5, 7) else 0
     end = f"fault {case['cause']}" if case["end"] == "fault" else str(case["end"])
-    return {**state(case, held(case, "after")), "end": end, "value": value}
+    return {**state(case, object_in(case, "after")), "end": end, "value": value}
 
 
 def found(case: Case, result: bytes | None) -> State:

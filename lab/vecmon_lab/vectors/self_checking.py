@@ -11,7 +11,7 @@ from ..harness.environments import BLOCK_BYTES, CODE, ENVIRONMENTS, LIST, MEMORY
 from ..harness.environments import harness, signature_text
 from ..instructions.accesses import PAGE_BYTES
 from ..machine.image import MARCH
-from .on_qemu import LAYOUT, Case, expected, held, state
+from .on_qemu import LAYOUT, Case, expected, object_in, state
 
 CASES_OF_A_PROGRAM = 200
 _HAS_MEMORY = 16
@@ -67,7 +67,7 @@ class Writer:
 
 def kind_of(golden: Case, base: int) -> str:
     """How a case ends, as environments name it."""
-    after = held(golden, "after")
+    after = object_in(golden, "after")
     pc = int(str(after.get("pc", golden["pc"])), 16)
     if golden["name"] == "ecall":
         return "call"
@@ -85,7 +85,7 @@ def kind_of(golden: Case, base: int) -> str:
 
 def case_words(golden: Case, environment: Environment) -> tuple[list[int], int]:
     """The 64-bit words for the code to execute a case, and the digest of the state after it."""
-    word, has_memory = int(str(golden["word"]), 16), f"{environment.base + MEMORY:x}" in held(golden, "pages")
+    word, has_memory = int(str(golden["word"]), 16), f"{environment.base + MEMORY:x}" in object_in(golden, "pages")
     named = {word >> 7 & 31, word >> 15 & 31, word >> 20 & 31}
     spare = next(number for number in SPARE if not {number, number - 1} & named)
     end = environment.ends[kind_of(golden, environment.base)]
