@@ -68,7 +68,7 @@ def test_programs_cover_most_instructions(lab: Lab, tmp_path: pathlib.Path) -> N
 
 
 def test_every_result_is_read() -> None:
-    """No scalar register is written twice between two digests without being read, by a second reading of the words."""
+    """No scalar register is written twice between two digests without being read, by an independent decoder of the words."""
     table = {
         row: (int(row.bits.replace("-", "0"), 2), int(row.bits.replace("0", "1").replace("-", "0"), 2))
         for row in instruction_table().values()
