@@ -68,7 +68,7 @@ class Flusher:
             return name not in self._waiting
 
     def flush(self) -> None:
-        """Brings to the disk now what waits, as far as the disk takes it: `troubles` has the rest."""
+        """Brings to the disk now what waits, as far as the disk takes it: `failures` has the rest."""
         with self._turn:
             with self._lock:
                 waiting, appended = dict(self._waiting), self._appended
