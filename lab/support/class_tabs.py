@@ -69,11 +69,11 @@ class Tab:
         message = await asyncio.wait_for(self._received.get(), SECONDS)
         if message.type is not aiohttp.WSMsgType.TEXT:
             self._received.put_nowait(message)  # for the next call
-            is_told = message.type is aiohttp.WSMsgType.CLOSE
-            raise EOFError(message.data if is_told else self.socket.close_code)
-        told: Message = json.loads(message.data)
-        self.view = patched(self.view, told.get("patch", {}))
-        for name, entries in told.get("logs", {}).items():
+            is_close = message.type is aiohttp.WSMsgType.CLOSE
+            raise EOFError(message.data if is_close else self.socket.close_code)
+        reply: Message = json.loads(message.data)
+        self.view = patched(self.view, reply.get("patch", {}))
+        for name, entries in reply.get("logs", {}).items():
             self.logs.setdefault(name, []).extend(entries)
         return reply
 

@@ -11,7 +11,7 @@ from collections.abc import Iterator
 from typing import TYPE_CHECKING
 
 from support.class_pages import Tab
-from support.left_out import NO_SITE, leave_out
+from support.skips import NO_SITE, leave_out
 
 if TYPE_CHECKING:
     from selenium.webdriver import Chrome
@@ -71,7 +71,7 @@ class SiteTab(Tab):
 
     def open(self, address: str) -> None:
         """Opens the page, and waits for its machine."""
-        self.front().get(address)
+        self.activate().get(address)
         self.wait("document.title === arguments[0] && id('gone').hidden", TITLE)
 
     def write(self, source: str) -> None:

@@ -13,7 +13,7 @@ from _pytest.terminal import TerminalReporter
 
 from support.browser import WINDOWS, browser_with
 from support.commands import Lab
-from support.left_out import (
+from support.skips import (
     NO_BINUTILS,
     NO_BROWSER,
     NO_CLANG,

@@ -9,7 +9,7 @@ from typing import Any
 
 import pytest
 
-from support.left_out import NO_NODE, leave_out
+from support.skips import NO_NODE, leave_out
 from support.places import TOP
 from vecmon_lab.page.pages import FILES
 

@@ -62,7 +62,7 @@ def tabs(browser: "Chrome") -> Iterator["Chrome"]:
 
 def forget(tab: SiteTab) -> None:
     """Deletes what the browser has stored of the page."""
-    tab.front().execute_async_script(
+    tab.activate().execute_async_script(
         "const done = arguments[0], request = indexedDB.deleteDatabase('vecmon playground');"
         "request.onblocked = request.onsuccess = request.onerror = () => done()"
     )
@@ -98,9 +98,9 @@ def test_work_comes_back_after_a_reload(tabs: "Chrome", server: tuple[str, list[
     tab.wait("id('run').textContent === 'stopped'")
     tab.command("step 3", "set x11 1f")
     answer = "a = indexedDB.open('vecmon playground'); a.onsuccess = () => { const all = a.result.transaction('texts').objectStore('texts').get('A.script');"
-    tab.front().set_script_timeout(30)
+    tab.activate().set_script_timeout(30)
     for _ in range(50):
-        kept = tab.front().execute_async_script(
+        kept = tab.activate().execute_async_script(
             f"const done = arguments[0], {answer} all.onsuccess = () => done(all.result?.text ?? ''); }}"
         )
         if "set x11 1f" in kept:
@@ -137,11 +137,11 @@ def test_nothing_is_sent(tabs: "Chrome", site: pathlib.Path) -> None:
         tab.write(LOOP)
         tab.click("#one")
         tab.command("regs")
-        told = tab.front().execute_async_script(
+        told = tab.activate().execute_async_script(
             f"fetch('{address}/index.html').then(() => arguments[0]('sent'), (error) => arguments[0](error.name))"
         )
         assert told == "TypeError" and set(asked) == {"/playground.html"}
-        assert any("Content Security Policy" in entry["message"] for entry in tab.front().get_log("browser"))
+        assert any("Content Security Policy" in entry["message"] for entry in tab.activate().get_log("browser"))
         forget(tab)
 
 
@@ -182,12 +182,12 @@ def test_links_carry_sources_and_no_markup(tabs: "Chrome", site: pathlib.Path) -
     tab.run("(id('show-source').click(), id('link').click())")
     link = tab.run("location.hash")
     tab.run("(id('source').value = 'nop', id('source').dispatchEvent(new Event('input')))")
-    tab.front().get("about:blank")
+    tab.activate().get("about:blank")
     tab.open(address + link)
     tab.wait("id('source').value.startsWith('# <img')")
     assert tab.run("all('img').length") == 0
     for hash in ("#source=%%%", "#source=" + "A" * 200_000, "#source=e30"):
-        tab.front().get("about:blank")
+        tab.activate().get("about:blank")
         tab.open(address + hash)
         tab.wait("id('stop').textContent.includes('this link can')")
 
@@ -206,7 +206,7 @@ def test_files_are_dropped(tabs: "Chrome", site: pathlib.Path) -> None:
         ("<b>.elf", b"\x7fELF", "<b>.elf: "),
         ("sum.elf", SUM.read_bytes(), "The image sum has"),
     ):
-        tab.front().execute_script(DROP, name, base64.b64encode(content).decode())
+        tab.activate().execute_script(DROP, name, base64.b64encode(content).decode())
         tab.wait("id('log').textContent.includes(arguments[0])", told)
     assert tab.run("all('#log img, #log b').length") == 0
     tab.wait("id('run').textContent === 'stopped'")

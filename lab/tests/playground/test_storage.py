@@ -47,7 +47,7 @@ def address(browser: "Chrome") -> Iterator[str]:
 
 def entries(tab: SiteTab) -> list[dict[str, Any]]:
     """The stored texts."""
-    found: list[dict[str, Any]] = tab.front().execute_async_script(READ)
+    found: list[dict[str, Any]] = tab.activate().execute_async_script(READ)
     return found
 
 
@@ -84,7 +84,7 @@ def test_damaged_texts_leave_the_others(browser: "Chrome", address: str, tmp_pat
     wait_for_text(tab, "set x11 1f")
     browser.get(f"{address}/index.html")
     damaged = [{"name": "A.script", "text": "1 enter\nno line\n", "time": 1}, {"name": "A1.note", "text": 5, "time": 1}]
-    tab.front().execute_async_script(CHANGE, damaged)
+    tab.activate().execute_async_script(CHANGE, damaged)
     tab.open(page)
     tab.wait("id('source').value === arguments[0]", LOOP)
     said = tab.text("#stored")
@@ -106,7 +106,7 @@ def test_another_version_of_the_storage(browser: "Chrome", address: str) -> None
     wait_for_text(tab, "A loop")
     later = SiteTab(browser, page, before=NEXT_VERSION)
     tab.wait("id('stored').textContent.startsWith('A newer playground has saved the work in this browser.')")
-    tab.front().get("about:blank")  # so that the later one is the tab that saves
+    tab.activate().get("about:blank")  # so that the later one is the tab that saves
     later.open(page)
     later.wait("id('source').value === arguments[0]", LOOP)
     later.command("set x11 1f")

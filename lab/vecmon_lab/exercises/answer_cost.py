@@ -10,7 +10,7 @@ AnswerCost = TypedDict("AnswerCost", {"instructions": int, "work": int})
 """The cost of an answer in all visible cases: instructions, and of 100 elements those that did work."""
 
 
-def taken_by(program: Vecmon, answer: Answer, exercise: Exercise) -> Taken:
+def answer_cost(program: Vecmon, answer: Answer, exercise: Exercise) -> AnswerCost:
     """The cost of an answer that passes. Raises LabError without a recorder."""
     from ..runs.initial_state import initial_state_at  # which is for answers that pass
     from ..runs.recorder import record

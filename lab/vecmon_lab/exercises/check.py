@@ -64,8 +64,8 @@ class CheckResult(TypedDict, total=False):
 
 
 def check_or_failure(
-    program: Vecmon, exercise: Exercise, text: str, compiled: CompiledProgram | None, good: Taken | None
-) -> Told:
+    program: Vecmon, exercise: Exercise, text: str, compiled: CompiledProgram | None, good: AnswerCost | None
+) -> CheckResult:
     """As `check`, once more where a tool fails; where one fails again, its failure instead of cases, so that it is no try."""
     with contextlib.suppress(ToolError):
         return check(program, exercise, text, compiled, good)
@@ -80,7 +80,9 @@ def failed_check(cause: str) -> CheckResult:
     return {"failure": cause, "unchecked": UNCHECKED}
 
 
-def check(program: Vecmon, exercise: Exercise, text: str, compiled: CompiledProgram | None, good: Taken | None) -> Told:
+def check(
+    program: Vecmon, exercise: Exercise, text: str, compiled: CompiledProgram | None, good: AnswerCost | None
+) -> CheckResult:
     """The result of a source, in an exercise with expected results. Raises ToolError.
 
     compiled: its compiled form, if it is in C; good: the cost of the exercise's good answer, if known

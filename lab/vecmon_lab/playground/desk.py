@@ -19,7 +19,7 @@ from ..classes.student import Student, text_of
 from ..classes.text_store import TextStore
 from ..exercises.check import check, lesson, lesson_before
 from ..exercises.exercise import Exercise
-from ..exercises.taken import Taken
+from ..exercises.answer_cost import AnswerCost
 from ..machine.process import Vecmon
 from ..machine.session import Session
 
@@ -64,7 +64,7 @@ class Desk:
         self.machine = SharedMachine("A", session, NoRecorder())
         self.seat = self.machine.seats.users["1"]
         self.student = Student(self.machine, self.seat, texts, self.exercises, self._begin_check)
-        self._sent, self._good = Updates(), dict[str, Taken]()
+        self._sent, self._good = Updates(), dict[str, AnswerCost]()
         self._checks: list[Callable[[], None]] = []
         self._looked = 0.0  # when a running program was looked at last
 
@@ -116,7 +116,9 @@ class Desk:
         if (answered := self.exercises.answered(ticket)) is None:
             raise LabError("this lesson is gone: check the answer once more")
         _, name, progress = answered
-        return lesson(self.program, self.exercises.by_name[name], progress.told["number"], progress.source.text, None)
+        return lesson(
+            self.program, self.exercises.by_name[name], progress.last_result["number"], progress.source.text, None
+        )
 
     def try_of(self, name: str, number: int) -> SourceText:
         """The source of a try at an exercise; the first try has number 1. Raises BadRequest."""
@@ -197,7 +199,7 @@ class Desk:
         exercise = self.exercises.exercise(name)
         if source.choice is not None:
             raise BadRequest(f"sources in C aren't compiled: {self.no_c}")
-        self.exercises.check_may_begin(seat, name)
+        self.exercises.check_may_start(seat, name)
         self.exercises.busy[seat] = name
 
         def finish() -> None:

@@ -32,7 +32,7 @@ class PageProcess:
             raise OutOfStep(f"after the answer to {lines[-1][:60]!r} there came {more[:60]!r}")
         return answers
 
-    def pour(self, script: bytes) -> Iterator[bytes]:
+    def stream(self, script: bytes) -> Iterator[bytes]:
         """Feeds lines that do, and gives their answers, in whole lines. Raises ProgramGone."""
         at = 0
         while at < len(script):

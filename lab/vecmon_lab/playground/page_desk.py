@@ -10,11 +10,11 @@ from functools import partial
 
 from .. import LabError, mistakes_in
 from ..checkpoints.checkpoint import checkpoint
-from ..classes.kept import attempt
+from ..classes.stored_files import attempt
 from ..classes.languages import SourceText
 from ..classes.messages import Message
-from ..classes.past import Past
-from ..classes.progress import MOST_TRIES, Start, Try, source_of
+from ..classes.history import History
+from ..classes.progress import MAX_TRIES, Start, Try, source_of
 from ..classes.requests import BadRequest, Lines
 from ..classes.shared_machine import LEAVING, Answers
 from ..classes.text_store import TextStore
@@ -72,7 +72,7 @@ class PageDesk(Desk):
 
     def keep(self) -> None:
         """Saves what has changed. Lines that would take long to execute again are replaced by a checkpoint's."""
-        self.student.keep()
+        self.student.save()
         if self.machine.session.weight >= 1 and not self.is_busy:
             with contextlib.suppress(LabError):  # the script is saved as it is
                 self._shorten()
@@ -86,7 +86,7 @@ class PageDesk(Desk):
                 own = self._add_image(name, content)
             self.lines(Lines("", [*LEAVING[self.seat.state["run"]], "enter", f"load {own}"], 0, []), [])
         except LabError as error:
-            self.seat.note(f"!{error}")
+            self.seat.add_log_entry(f"!{error}")
         news = self.news()
         news["kind"] = "news"
         return news
@@ -167,12 +167,12 @@ class PageDesk(Desk):
             with mistakes_in(name, ValueError, LabError):
                 program = program_of(image_of(ROOM / name), (), IMAGE_BYTES)
         except LabError as error:
-            self.seat.note(f"!{error}")
+            self.seat.add_log_entry(f"!{error}")
             return
         self.seat.take(SourceText(), program)
         self.seat.list_program(program)
         told = f"{len(program.labels)} symbols, {len(program.rows)} rows of lines, {len(program.variables)} variables"
-        self.seat.note(f"!The image {name} has {told}.")
+        self.seat.add_log_entry(f"!The image {name} has {told}.")
 
     def _shorten(self) -> None:
         """Replaces the lines of the machine by those of a checkpoint. Raises LabError where there is none."""
@@ -193,17 +193,17 @@ class PageDesk(Desk):
             self.lost.append(f"the machine's lines are damaged behind line {count}")
         kept_count = self.texts.read_text(SET_UP)
         self._set_up = int(kept_count) if re.fullmatch("[0-9]{1,9}", kept_count) else 0
-        past, session = Past(self._set_up), self.machine.session
+        history, session = History(self._set_up), self.machine.session
         try:
             for block in session.do_blocks(script):
-                past.add(*block)
+                history.add(*block)
         except LabError as error:
             _set_aside(self.texts, SCRIPT)
             self.lost.append(f"the machine's lines can't be executed again: {error}")
             session.close()
             self.machine.session, self._set_up = self._opening(session.images), 0
             return
-        past.tell(self.machine.seats)
+        history.tell(self.machine.seats)
         self.machine.seats.take(self.machine.seats.look(session, [], DIGITS))
         if (image := self.texts.read_text(IMAGE)) in session.images and self.seat.state["run"] != "absent":
             self._take_image(image)
@@ -212,9 +212,7 @@ class PageDesk(Desk):
         """Takes up the kept tries at exercises. One that is lost counts as a try in which nothing passes."""
         for name in self.exercises.by_name:
             files = {file for file, _ in self.texts.files(f"{ANSWERS}/{self.seat.name}.{name}.*.json")}
-            number = next(
-                (number for number in range(MOST_TRIES, 0, -1) if self._file_of_try(name, number) in files), 0
-            )
+            number = next((number for number in range(MAX_TRIES, 0, -1) if self._file_of_try(name, number) in files), 0)
             for each in range(1, number + 1):
                 self.exercises.progress(self.seat.name, name).add(self._kept_try(name, each))
 
