@@ -7,7 +7,7 @@ from typing import Any
 
 import pytest
 
-from support.left_out import NO_BINUTILS, NO_LLVM, NO_QEMU, leave_out
+from support.skips import NO_BINUTILS, NO_LLVM, NO_QEMU, leave_out
 from tests.peers import encodings, instructions, programs
 from tests.peers.__main__ import parsed
 from tests.peers.tally import Tally
