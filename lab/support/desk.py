@@ -24,6 +24,7 @@ class Desk(PageDesk):
     """
 
     no_c, stopper, own_slices = "no compiler was named", "server", True
+    refusal_of_c = "this class takes no C"
 
     def __init__(self, program: Vecmon, exercises: Mapping[str, Exercise], limit: int) -> None:
         """limit: the ticks that a program has without a stop, about"""

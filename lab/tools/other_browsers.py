@@ -137,7 +137,7 @@ def work(page: Page) -> list[str]:
     went = time.monotonic() - start
     time.sleep(1)
     page.open()
-    assert page.run("return document.getElementById('source').value") == LONG and page.run(f"return {RUN}") == "ebreak"
+    page.wait(f"document.getElementById('source').value === {json.dumps(LONG)} && {RUN} === 'stopped'")
     page.open("#exercise=doubles")
     for answer, told in (("        ret\n", "1 try"), (GOOD.read_text(), "2 tries, passed")):
         page.write(answer)

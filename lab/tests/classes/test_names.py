@@ -103,7 +103,7 @@ async def test_name_is_sent_to_seat_and_teacher_only(tmp_path: pathlib.Path) -> 
         assert [(await room.get("seats.csv", role))[0] for role in ("A3", "wall", None)] == [404] * 3
         packed = zipfile.ZipFile(io.BytesIO((await room.get("A3/home", "A3"))[1]))
         assert f"<title>Seat A3, {NAME.replace(chr(39), '&#x27;')}</title>" in packed.read("A3/A3.html").decode()
-        assert packed.namelist() == ["A3/A3.script", "A3/A3.html"]
+        assert packed.namelist() == ["A3/A3.script", "A3/A3.html", "A3/playground.json"]
         await other.do("enter")
         await wall.until(lambda view: view["state"].get("pc") == "10004")
         reply = json.dumps([other.view, other.logs, wall.view, tab.logs, teacher.logs], ensure_ascii=False)

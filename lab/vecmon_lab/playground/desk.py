@@ -41,13 +41,14 @@ class NoRecorder:
 class Desk:
     """A seat, its machine and the exercises.
 
-    no_c: the reason why sources in C are refused, for the page.
+    refusal_of_c, no_c: the refusal of sources in C, and its reason.
     stopper: the name in messages of the one that stops a program that runs too long.
     own_slices: whether the page offers slices of a running program.
     limit: the approximate number of ticks that a program may run without a stop.
     """
 
     no_c, stopper, own_slices = NO_C, "page", False
+    refusal_of_c = "sources in C aren't compiled"
 
     def __init__(
         self,
@@ -191,14 +192,14 @@ class Desk:
     def _make(self, source: SourceText) -> Program:
         """The program of a source. Raises BadRequest for one in C."""
         if source.choice is not None:
-            raise BadRequest(f"sources in C aren't compiled: {self.no_c}")
+            raise BadRequest(f"{self.refusal_of_c}: {self.no_c}")
         return read_whole_source(source.text, self.program)
 
     def _begin_check(self, seat: str, name: str, source: SourceText) -> None:
         """Queue the check of an answer for one of the next turns. Raises BadRequest."""
         exercise = self.exercises.exercise(name)
         if source.choice is not None:
-            raise BadRequest(f"sources in C aren't compiled: {self.no_c}")
+            raise BadRequest(f"{self.refusal_of_c}: {self.no_c}")
         self.exercises.check_may_start(seat, name)
         self.exercises.busy[seat] = name
 
