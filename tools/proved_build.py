@@ -1,5 +1,5 @@
 #!/usr/bin/env python3
-"""Proves and builds vecmon and vecmon-record, several crates at a time: tools/proved_build.py [--jobs N] [CRATE]...
+"""Proves and builds vecmon and vecmon-record, several crates at a time: tools/proved_build.py [--jobs N] [--calculate] [CRATE]...
 
 `rt run` proves the libraries below a program one after another. This tool copies the sources of both programs into a folder of their own
 and runs `rt all check --jobs N` there. N crates are proved at a time, each as soon as the libraries below it are built. Then `rt run`
@@ -26,6 +26,7 @@ TOP = os.path.dirname(os.path.dirname(os.path.realpath(__file__)))
 PROGRAMS = ("vecmon", "vecmon_record")
 PARTS = ("src", "specs", "proofs")
 JOB_BYTES = 4_000_000_000
+DEFAULT_SECONDS = 40  # of a crate that docs/MEASUREMENTS.md doesn't have
 
 
 def libraries(text):
@@ -63,6 +64,23 @@ def jobs_for(processors, memory):
     return max(1, min(processors, memory // JOB_BYTES))
 
 
+def seconds_of_proofs():
+    """Returns the seconds of each crate's proof in docs/MEASUREMENTS.md."""
+    with open(f"{TOP}/docs/MEASUREMENTS.md", encoding="utf-8") as file:
+        rows = re.findall(r"^\| \d+ to \d+ \| (`.*) \|$", file.read(), re.MULTILINE)
+    return {name: int(seconds) for row in rows for name, seconds in re.findall(r"`(\w+)` (\d+)", row)}
+
+
+def calculated_end(crates, used, seconds, jobs):
+    """Returns the second at which the last proof ends. As in rt, a crate takes a job in the order of what is below it, and waits there."""
+    free, ends = [0] * jobs, {}
+    for name in sorted(sorted(crates), key=lambda crate: len(crates_below([crate], used))):
+        free.sort()
+        ends[name] = max([free[0], *(ends[below] for below in crates_below([name], used)[1:])]) + seconds.get(name, DEFAULT_SECONDS)
+        free[0] = ends[name]
+    return max(ends.values())
+
+
 def digest():
     """Returns the digest of the sources."""
     return subprocess.run([f"{TOP}/tools/source_digest"], capture_output=True, text=True, check=True).stdout.strip()
@@ -87,6 +105,7 @@ def main(words):
     parser = argparse.ArgumentParser(prog="tools/proved_build.py", description="Prove and build vecmon and vecmon-record, several crates at a time.")
     memory = os.sysconf("SC_PAGE_SIZE") * os.sysconf("SC_PHYS_PAGES")
     parser.add_argument("--jobs", type=int, default=jobs_for(len(os.sched_getaffinity(0)), memory), help="crates at a time (default: %(default)s)")
+    parser.add_argument("--calculate", action="store_true", help="only print the clock seconds that docs/MEASUREMENTS.md lets expect, with the jobs and with one")
     parser.add_argument("crates", metavar="CRATE", nargs="*", help="prove this crate and those below it; build no program")
     arguments = parser.parse_args(words)
     with open(f"{TOP}/crates.txt", encoding="utf-8") as file:
@@ -96,9 +115,13 @@ def main(words):
         parser.error(f"crates.txt has no crate {unknown[0]}")
     if arguments.jobs < 1:
         parser.error("--jobs takes a number above 0")
+    crates = crates_below(arguments.crates or PROGRAMS, used)
+    if arguments.calculate:
+        print(*(calculated_end(crates, used, seconds_of_proofs(), jobs) for jobs in (arguments.jobs, 1)))
+        return 0
     sources = digest()
     folder = f"{cache()}/proved/{hashlib.sha256(TOP.encode()).hexdigest()[:16]}"
-    copy_sources(crates_below(arguments.crates or PROGRAMS, used), text, folder)
+    copy_sources(crates, text, folder)
     if digest() != sources:
         print("tools/proved_build.py: the sources changed while they were copied: run it again", file=sys.stderr)
         return 2
