@@ -26,17 +26,23 @@ CODE, DATA, PROGRAM, BLOCK, STACK = 0x10000, 0x20000, 0x60000000, 0x60010000, 0x
 CONTROL = ("vl", "vtype", "vxrm", "vxsat", "vstart")
 NAMES = ("end", *CONTROL, "value", "v", "pc", *(f"x{number}" for number in range(1, 32)), "memory")
 LAYOUT = struct.Struct("<7Q8x1024s32Q8192s")  # of these; a case has its word as the end, and a result its signal
+EBREAKS = b"\x73\0\x10\0" * 1024
+"""A page of code full of ebreaks: one ends a case that ran."""
 Case = Mapping[str, object]
 State = dict[str, int | bytes | str]
 SIGNALS = {4: "fault 2", 5: "ebreak", 7: "fault {}", 11: "fault {}"}
 
 
-def image() -> bytes:
-    """The program around the cases, as an ELF image. The page of the code is full of ebreaks: one ends a case that ran."""
+def program() -> list[int]:
+    """The words of the program around the cases."""
     listing = pathlib.Path(__file__).with_name("on_qemu.txt")
-    words = [int(line.split()[0], 16) for line in listing.read_text("ascii").splitlines() if not line.startswith("#")]
+    return [int(line.split()[0], 16) for line in listing.read_text("ascii").splitlines() if not line.startswith("#")]
+
+
+def image(words: Sequence[int], mapped: Mapping[int, bytes]) -> bytes:
+    """An ELF image of the program around the cases, and of what is mapped for these, by address."""
     block = bytes(0x700) + struct.pack("<QQQ8xQQQ", STACK, 0, 0x10000, PROGRAM + 18 * 4, 0x08000004, 0)
-    parts = {CODE: b"\x73\0\x10\0" * 1024, DATA: bytes(8192), PROGRAM: struct.pack(f"<{len(words)}I", *words)}
+    parts = {**mapped, PROGRAM: struct.pack(f"<{len(words)}I", *words)}
     parts |= {BLOCK: block.ljust(4096, b"\0"), STACK: bytes(0x10000)}
     head = struct.pack("<16s2HI3QI6H", b"\x7fELF\2\1\1", 2, 243, 1, PROGRAM, 64, 0, 0, 64, 56, len(parts), 0, 0, 0)
     body = b""
@@ -115,7 +121,7 @@ def _run(cases: bytes, policy: str) -> bytes:
     """The output of the program around cases. It reads them from a file, since a read from a pipe may be short."""
     with tempfile.TemporaryDirectory() as folder, tempfile.TemporaryFile() as feed:
         elf = pathlib.Path(folder, "image")
-        elf.write_bytes(image())
+        elf.write_bytes(image(program(), {CODE: EBREAKS, DATA: bytes(8192)}))
         elf.chmod(0o700)
         feed.write(cases)
         feed.seek(0)
