@@ -14,6 +14,7 @@ from collections.abc import Iterator
 from pathlib import Path
 
 import definitions as counted
+from kit_definitions import report
 
 
 def rows_of(page: str, title: str) -> Iterator[list[str]]:
@@ -79,6 +80,15 @@ def wrong_modules(page: str) -> Iterator[str]:
             yield f"the page doesn't say: {what}"
 
 
+def wrong_rest(page: str) -> Iterator[str]:
+    """The types of `src` and the kit's text behind the headline."""
+    for line in report():
+        if counted_lines := re.fullmatch(r" *([\d,]+)  in (\d+) files: .*", line):
+            what = f"{counted_lines[1]} lines in {counted_lines[2]} files of"
+            if what not in re.sub(r"\s+", " ", page):
+                yield f"the page doesn't say: {what}"
+
+
 def wrong_kit(page: str) -> Iterator[str]:
     section = page.partition("\n## Trusted\n")[2].partition("\n## ")[0]
     said = {
@@ -141,7 +151,7 @@ def main() -> int:
     output = Path(sys.argv[1]).read_text(encoding="utf-8") if len(sys.argv) > 1 else ""
     guide, guarantees = (Path("docs", it).read_text(encoding="utf-8") for it in ("DEFINITIONS.md", "GUARANTEES.md"))
     found = {
-        "DEFINITIONS.md": [*wrong_hour(guide), *wrong_modules(guide)],
+        "DEFINITIONS.md": [*wrong_hour(guide), *wrong_modules(guide), *wrong_rest(guide)],
         "GUARANTEES.md": [*wrong_contracts(guarantees), *wrong_kit(guarantees), *wrong_axioms(guarantees, output)],
     }
     for page, faults in found.items():

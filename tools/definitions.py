@@ -8,6 +8,11 @@ lines that the headline rests on, those that are read for one vector addition, a
 With names it prints, file by file, the definitions they rest on: `monitor_script::run` is a contract, `monitor_script::run.headline` one of
 its clauses, `step.Step.step` a definition of `rv_model`. With `--case`, clauses and rows for siblings of these variants are left out.
 
+`tools/definitions.py --print WORD` prints the lines themselves, in the reading order of docs/DEFINITIONS.md. WORD is `vadd.vv`, the hour's
+path from the headline to one vector addition, `headline`, or a clause as above.
+
+`tools/definitions.py --kit [WORD]` prints the types of `src` and the kit's declarations that the headline, or WORD, rests on.
+
 Blank lines, comments and `use` lines aren't counted; the lines that name a module's files are. Of `src` constants
 are counted, and types aren't: definitions name their variants and fields.
 """
@@ -478,6 +483,16 @@ def print_all() -> None:
 
 def main() -> None:
     words = sys.argv[1:]
+    if len(words) == 2 and words[0] == "--print":
+        from definition_texts import texts
+
+        print(texts(words[1]))
+        return
+    if words and words[0] == "--kit" and len(words) <= 2:
+        from kit_definitions import report
+
+        print(*report(*words[1:]), sep="\n")
+        return
     if words and words[0].startswith("-"):
         sys.exit(__doc__)
     if not words:
