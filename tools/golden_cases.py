@@ -78,6 +78,19 @@ class Vector:
         return opcode in (LOAD_FP, STORE_FP, OP_V) and not is_vset and not self.word >> 25 & 1
 
     @property
+    def active(self) -> int:
+        """The number of elements from vstart up to vl that the mask enables; 0 for a scalar instruction."""
+        if self.word & 0x7F not in (LOAD_FP, STORE_FP, OP_V):
+            return 0
+        mask = (
+            bytes.fromhex(v0)
+            if (v0 := self.keys.get("v", {}).get("0"))
+            else bytes((64 + 7 * k) % 256 for k in range(32))
+        )
+        body = range(self.keys["vstart"], self.keys["vl"])
+        return sum(not self.is_masked or mask[i // 8] >> i % 8 & 1 for i in body)
+
+    @property
     def registers(self) -> int:
         """The number of registers and runs of bytes that the states name, the measure of a case's size."""
         memory = sum(1 + len(digits) // 64 for digits in self.after.get("memory", {}).values())
@@ -214,6 +227,8 @@ def gate_cases(vectors: Sequence[Vector]) -> dict[str, list[Vector]]:
     for family, operations in sorted(kinds.items()):
         chosen = list[Vector]()
         for turn, (_, those) in enumerate(sorted(operations.items())):
-            chosen.append(min(those, key=lambda it: (_is_idle(it), it.registers > 6, _lacks(it, turn), it.order)))
+            chosen.append(
+                min(those, key=lambda it: (_is_idle(it), it.active < 3, it.registers > 6, _lacks(it, turn), it.order))
+            )
         found[family] = chosen
     return found

@@ -155,21 +155,26 @@ vle8ff_v_fault =
       after = s;
     }
 
--- vlm.v v5, (x31)
+-- vlm.v v22, (x3)
 abbrev pub vlm_v_fault : Case
 vlm_v_fault =
     let s : State = record start {
-      vl = 1;
-      vtype = typed E64 M4 false false;
-      x = (31, 0x22000) ∷ [];
-      v = (5, 0x3cb82d5729dbfed12cbbab6b58018aeef46ef7f866f3c5705befd471123b346e) ∷
+      vl = 47;
+      vtype = typed E32 M8 false false;
+      vxrm = Down;
+      x = (3, 0x21ffc) ∷ [];
+      v = (22, 0x100000000000000000000000000000000000000000000000000000000) ∷
           [];
     } in
     record {
-      word = 0x02bf8287;
+      word = 0x02b18b07;
       before = s;
       end = LoadFault 0x22000;
-      after = s;
+      after = record s {
+        vstart = 4;
+        v = (22, 0x100000000000000000000000000000000000000000000000012edc8a3) ∷
+            s.v;
+      };
     }
 
 -- vloxei16.v v10, (x13), v15, v0.t
@@ -196,20 +201,24 @@ vloxei16_v_fault =
       };
     }
 
--- vl2re8.v v4, (x1)
-abbrev pub vl2re8_v_fault : Case
-vl2re8_v_fault =
+-- vl4re8.v v28, (x15)
+abbrev pub vl4re8_v_fault : Case
+vl4re8_v_fault =
     let s : State = record start {
-      vtype = typed E8 Mf4 false true;
-      x = (1, 0x22000) ∷ [];
-      v = (4, 0xfbc53a86d0ae1e8d8f33c9e9f5d303d8121c053383cc8de38be61031c1a01974) ∷
-          (5, 0xebc96b6f5f50a199ba65132b67003747cd5d1ed70cc50a2adf430e456e51d907) ∷
+      vl = 15;
+      vtype = typed E64 M4 false false;
+      vxsat = true;
+      x = (15, 0x1ffdb) ∷ [];
+      v = (28, 0x6f7f9501cc2fdc347100acf5fe00b48c9acce755611e0c461964e2bd3e7088c4) ∷
+          (29, 0x2093d2bb5c83ce596ed10e9ac0c92d147ec06bbc84de66d1dc28cb7025ea68ba) ∷
+          (30, 0x59072fedeaa40d9f3dc6eb76149163c379997369b8cc775552927516ae3c09e9) ∷
+          (31, 0x860a48d93a7829e2b78b9fd64f16d7120c153837a2617ee6ee86ecd01dbfe022) ∷
           [];
     } in
     record {
-      word = 0x22808207;
+      word = 0x62878e07;
       before = s;
-      end = LoadFault 0x22000;
+      end = LoadFault 0x1ffdb;
       after = s;
     }
 
@@ -376,52 +385,53 @@ vsm_v_fault =
       ranges = (0x24fef, 17) ∷ [];
     }
 
--- vsoxei8.v v8, (x8), v22, v0.t
-abbrev pub vsoxei8_v_fault : Stored
-vsoxei8_v_fault =
+-- vsoxei16.v v24, (x22), v5, v0.t
+abbrev pub vsoxei16_v_fault : Stored
+vsoxei16_v_fault =
     let s : State = record start {
-      vl = 4;
-      vtype = typed E8 Mf4 true true;
-      x = (8, 0x22f36) ∷ [];
-      v = (0, 0x10000000000000000000000000000000000000000072) ∷
-          (8, 0x6f80b05548768102a40d679eaaf3649d81a581e9405dfe8d028e816a618181ff) ∷
-          (22, 0x9f9bb7ad8de478a2a25a37e1f022ed0256cc37d7320828c9a35ba1b3d9e17e10) ∷
+      vl = 15;
+      vtype = typed E64 M4 false false;
+      vxrm = Odd;
+      x = (22, 0x21ff1) ∷ [];
+      v = (0, 0xffffffffffffffffffffffffffffffffffffffffffffffffffffffffffffffff) ∷
+          (5, 0x848033b053212191c1b07ba0daf0f7f07d008920c1f164810241d470eee0a5f) ∷
+          (24, 0x5e5a1d90456fcd088430dc0cacf64d56f894bf27a9ce7b6c18ae180036789862) ∷
+          (25, 0xbb946261dc94bae7a7ed5eccc55f4b77c3b91a0859d28ff050093382e63e6ced) ∷
+          (26, 0x8aa4b5073447662199baeab3be550746c378672ef9c2b80d9abb63959c69fccb) ∷
+          (27, 0x908346dd0060fca1592a1892e5abf775830257dac45243418b654d13ddd2c70e) ∷
           [];
     } in
     record {
       case = record {
-        word = 0x0d640427;
+        word = 0x0c5b5c27;
         before = s;
-        end = StoreFault 0x22fb4;
-        after = record s { vstart = 1 };
+        end = StoreFault 0x22a50;
+        after = s;
       };
       bytes = [];
       ranges = [];
     }
 
--- vs4r.v v0, (x3)
-abbrev pub vs4r_v_fault : Stored
-vs4r_v_fault =
+-- vs1r.v v2, (x30)
+abbrev pub vs1r_v_fault : Stored
+vs1r_v_fault =
     let s : State = record start {
-      vl = 1;
-      vtype = typed E16 M2 false false;
-      vxrm = NearestEven;
-      x = (3, 0x22ff9) ∷ [];
-      v = (0, 0x1966fd6f7182bbef779ec1ce434012533d61f7391ff1ab5f9cea48ad3201e3f9) ∷
-          (1, 0x88635472f79d87c0eb62cb0418ca6cab3e2b63f97fa49779104c14a73a55bd15) ∷
-          (2, 0x5c8b5f4114db888de512db583caed66f90dd5b1919ef0a8d8bb7f0b046515c32) ∷
-          (3, 0x28adf3f2de9376fee77d4294f9b7d1f464f88e5ab358f0694c18458dc01e677e) ∷
+      vl = 16;
+      vtype = typed E64 M4 true false;
+      vxrm = Down;
+      x = (30, 0x23ff7) ∷ [];
+      v = (2, 0xc4573a12f0634da15d3f63b7a370af1b17cbd4b8b8cc647f10a294c55a0f18f5) ∷
           [];
     } in
     record {
       case = record {
-        word = 0x62818027;
+        word = 0x028f0127;
         before = s;
-        end = StoreFault 0x22ff9;
+        end = StoreFault 0x23ff7;
         after = s;
       };
       bytes = [];
-      ranges = (0x23000, 10) ∷ [];
+      ranges = (0x23fe7, 33) ∷ [];
     }
 
 -- vsse16.v v19, (x6), x0, v0.t
@@ -447,25 +457,25 @@ vsse16_v_fault =
       ranges = (0x23fef, 33) ∷ [];
     }
 
--- vsuxei64.v v4, (x13), v4
+-- vsuxei64.v v9, (x7), v11
 abbrev pub vsuxei64_v_fault : Stored
 vsuxei64_v_fault =
     let s : State = record start {
-      vl = 1;
-      vtype = typed E64 M2 false true;
+      vl = 3;
+      vtype = typed E32 Mf2 false false;
       vxrm = Down;
-      x = (13, 0x22f65) ∷ [];
-      v = (4, 0x7900000000000000d0000000000000003500000000000000ec) ∷
-          (5, 0x5800000000000000aa000000000000001800000000000000f3) ∷
+      x = (7, 0x23557) ∷ [];
+      v = (9, 0x42414cfa2d612030fd761fb1b88911ee228fc54dc7f4411a1f3d5790012b2290) ∷
+          (11, 0x569000000000000080300000000000005470000000000002f64) ∷
           [];
     } in
     record {
       case = record {
-        word = 0x0646f227;
+        word = 0x06b3f4a7;
         before = s;
-        end = StoreFault 0x23051;
+        end = StoreFault 0x264bb;
         after = s;
       };
       bytes = [];
-      ranges = (0x23041, 33) ∷ [];
+      ranges = [];
     }

@@ -6,25 +6,27 @@ use Rattle.rv_model.specs.declared.vector.types.Lmul.TheVariants.{M1, M2, Mf8, M
 use Rattle.rv_model.specs.declared.vector.types.Sew.TheVariants.{E8, E16, E32, E64}
 use Rattle.test_definitions.specs.States.{Case, State, start, typed, Retired}
 
--- vaadd.vv v10, v26, v26, v0.t
+-- vaadd.vv v24, v4, v12, v0.t
 abbrev pub vaadd_vv : Case
 vaadd_vv =
     let s : State = record start {
-      vl = 1;
-      vtype = typed E16 Mf4 true false;
-      vxrm = Down;
-      v = (0, 0xffffbfffffffffffffffffffffffffffffffffffffffffffff7ffffffdfbfff7) ∷
-          (10, 0xaaaaaaaa80017fff0000aaaa7fff00017fff00007ffffffe0000ffff00010000) ∷
-          (26, 0x100025555000080010002ffff7fff8001fffe00008001fffe800100020002) ∷
+      vl = 8;
+      vtype = typed E8 Mf2 true true;
+      vxrm = NearestEven;
+      vxsat = true;
+      v = (0, 0xfffffffffffffffffffffffffffffffffffffffffffffffffffffffffffdffff) ∷
+          (4, 0x10007010300030205ff070703030102ff03070300030703070305ff05) ∷
+          (12, 0xff05020007010000010300030201050705070705000207000207000702030705) ∷
+          (24, 0x2ff0502020203070200ff01ff07000501070103010507000307050500020707) ∷
           [];
     } in
     record {
-      word = 0x25ad2557;
+      word = 0x24462c57;
       before = s;
       end = Retired;
       after = record s {
         pc = 0x10000804;
-        v = (10, 0xaaaaaaaa80017fff0000aaaa7fff00017fff00007ffffffe0000ffff00010002) ∷
+        v = (24, 0x2ff0502020203070200ff01ff07000501070103010507000207020702040305) ∷
             s.v;
       };
     }
@@ -77,49 +79,47 @@ vasub_vv =
       };
     }
 
--- vasubu.vv v10, v10, v11
+-- vasubu.vv v29, v29, v29
 abbrev pub vasubu_vv : Case
 vasubu_vv =
     let s : State = record start {
-      vl = 16;
-      vtype = typed E16 M1 true false;
-      vstart = 15;
-      vxrm = NearestEven;
-      v = (10, 0x1ffff000200070000ffff000100050003ffff00010005ffffffffffff0000) ∷
-          (11, 0x500010007000200020007000300020005ffff00070003000200010007ffff) ∷
+      vl = 3;
+      vtype = typed E8 Mf8 false true;
+      vxrm = Odd;
+      vxsat = true;
+      v = (29, 0x8013022901aa55957f00aaff6c000c237ffead0740cc41736133fec192d34040) ∷
           [];
     } in
     record {
-      word = 0x2aa5a557;
+      word = 0x2bdeaed7;
       before = s;
       end = Retired;
       after = record s {
         pc = 0x10000804;
-        vstart = 0;
-        v = (10, 0xfffeffff000200070000ffff000100050003ffff00010005ffffffffffff0000) ∷
+        v = (29, 0x8013022901aa55957f00aaff6c000c237ffead0740cc41736133fec192000000) ∷
             s.v;
       };
     }
 
--- vnclip.wx v15, v7, x0, v0.t
+-- vnclip.wx v20, v15, x11, v0.t
 abbrev pub vnclip_wx : Case
 vnclip_wx =
     let s : State = record start {
-      policy = Ones;
-      vl = 1;
-      vtype = typed E16 Mf2 false false;
-      v = (0, 0x3bd538b55e80d93da666ae9b53f5622fbebdb5cef821090310fbca96fc7401db) ∷
-          (7, 0xffffffff00000001ffffffff800000007fffffff0000000200000002ffffffff) ∷
-          (15, 0x28000fffefffe4000000000020000fffe8001fffffffe00008001aaaa) ∷
+      vl = 16;
+      vtype = typed E8 Mf2 false true;
+      x = (11, 0xa6af289c670a109b) ∷ [];
+      v = (0, 0x8e8dbd3ebf65325e1d18b8f88932743899ac9437e312b206b7e2a230fdc3a2fd) ∷
+          (15, 0xffffffff5d6c26e1492b02630000d04e037d55557fff741b7035000040008000) ∷
+          (20, 0xc7e902b6ffcffe5102b6e501913236aa0987738100b1d0aa8400ff7f37aafb01) ∷
           [];
     } in
     record {
-      word = 0xbc7047d7;
+      word = 0xbcf5ca57;
       before = s;
       end = Retired;
       after = record s {
         pc = 0x10000804;
-        v = (15, 0x28000fffefffe4000000000020000fffe8001fffffffe00008001ffff) ∷
+        v = (20, 0xc7e902b6ffcffe5102b6e501913236aa00870c8100b100aa000b100f0e00fbf0) ∷
             s.v;
       };
     }
@@ -198,25 +198,25 @@ vnclipu_wv_2 =
       };
     }
 
--- vsadd.vi v26, v16, -6, v0.t
+-- vsadd.vi v29, v11, 1, v0.t
 abbrev pub vsadd_vi : Case
 vsadd_vi =
     let s : State = record start {
-      vl = 1;
-      vtype = typed E16 M1 false false;
+      vl = 8;
+      vtype = typed E32 M1 true false;
       vxrm = NearestEven;
-      v = (0, 0xe50570e80806950009f4b514bc399042939eb9ddb9d36323e4326a8ff96692ad) ∷
-          (16, 0x100028000aaaa8000ffff00028001aaaafffe4000fffefffe7fff40000000) ∷
-          (26, 0x20000fffe8000ffffaaaa8000aaaa00004000aaaa80000002aaaafffe0002) ∷
+      v = (0, 0xc267bf47f20f9dd35801aed6d7d2b2fd50175d67f15b5a8b70bc89c744cb9d61) ∷
+          (11, 0x2000000018000000000000002fffffffe800000000000000100000001) ∷
+          (29, 0xffffffff8000000100000000aaaaaaaaffffffff400000008000000180000001) ∷
           [];
     } in
     record {
-      word = 0x850d3d57;
+      word = 0x84b0bed7;
       before = s;
       end = Retired;
       after = record s {
         pc = 0x10000804;
-        v = (26, 0x20000fffe8000ffffaaaa8000aaaa00004000aaaa80000002aaaafffefffa) ∷
+        v = (29, 0xffffffff0000000280000001aaaaaaaaffffffff400000008000000100000002) ∷
             s.v;
       };
     }
@@ -244,25 +244,26 @@ vsadd_vv =
       };
     }
 
--- vsaddu.vx v15, v15, x29, v0.t
+-- vsaddu.vx v18, v21, x7
 abbrev pub vsaddu_vx : Case
 vsaddu_vx =
     let s : State = record start {
       policy = Ones;
-      vl = 1;
-      vtype = typed E16 Mf2 false true;
-      x = (29, 0xaaaaaaaaaaaaaaaa) ∷ [];
-      v = (0, 0xffffffffffffffffffffffffffff7fffffffffffffffffffffffffffffffbfbf) ∷
-          (15, 0x800040004000555500000000ffffffff40008001aaaa8000fffeffff80010000) ∷
+      vl = 7;
+      vtype = typed E16 M1 true false;
+      vxrm = Odd;
+      x = (7, 0x1) ∷ [];
+      v = (18, 0x2fffe00000002000055557fff40004000ffff80018001fffe4000aaaa8001) ∷
+          (21, 0xaaaa55555555ffff80004000800100007fff00027fff0001aaaa800180015555) ∷
           [];
     } in
     record {
-      word = 0x80fec7d7;
+      word = 0x8353c957;
       before = s;
       end = Retired;
       after = record s {
         pc = 0x10000804;
-        v = (15, 0x800040004000555500000000ffffffff40008001aaaa8000fffeffff8001aaaa) ∷
+        v = (18, 0xffffffffffffffffffffffffffffffffffff000380000002aaab800280025556) ∷
             s.v;
       };
     }
@@ -340,55 +341,55 @@ vssra_vx =
       };
     }
 
--- vssrl.vi v13, v29, 22, v0.t
+-- vssrl.vi v29, v12, 0, v0.t
 abbrev pub vssrl_vi : Case
 vssrl_vi =
     let s : State = record start {
-      vl = 2;
-      vtype = typed E64 M1 true false;
-      vxrm = Down;
+      vl = 8;
+      vtype = typed E32 M1 false false;
       v = (0, 0xffffffffffffffffffffffffffffffffffffffffffffffffffffffffffffffff) ∷
-          (13, 0xaaaaaaaaaaaaaaaa7fffffffffffffff13afc14b122defed4000000000000000) ∷
-          (29, 0x696505f903db40c800000000000000029dc403b743152027abb60a25a458f568) ∷
+          (12, 0xe516a7ac86682b4aa1fb705803ffd2f33d175dbfddcec8cdc8a97411a9a2bf2a) ∷
+          (29, 0x5d5c8635ae8632b2be10db125af0db414b169730fbb8869ba0605b8ad36a4a0b) ∷
           [];
     } in
     record {
-      word = 0xa9db36d7;
+      word = 0xa8c03ed7;
       before = s;
       end = Retired;
       after = record s {
         pc = 0x10000804;
-        v = (13, 0xaaaaaaaaaaaaaaaa7fffffffffffffff00000277100edd0c000002aed8289691) ∷
+        v = (29, 0xe516a7ac86682b4aa1fb705803ffd2f33d175dbfddcec8cdc8a97411a9a2bf2a) ∷
             s.v;
       };
     }
 
--- vssub.vv v17, v15, v0
-abbrev pub vssub_vv : Case
-vssub_vv =
+-- vssub.vx v20, v8, x13
+abbrev pub vssub_vx : Case
+vssub_vx =
     let s : State = record start {
-      vl = 1;
-      vtype = typed E8 Mf2 false false;
-      vxrm = NearestEven;
-      v = (0, 0x5500fe55aa7f817f000180ff55aaaa55407faa8101550040fe0000ff80fefe01) ∷
-          (15, 0x2fe00aa7f4040557f55ff40000101aafefefeffff80ff800201ff0080ff81aa) ∷
-          (17, 0x817fffaa40ff01017f408101fe01ff7fff81aa7f020100ff010000024055fefe) ∷
+      vl = 8;
+      vtype = typed E16 Mf2 false true;
+      vxrm = Odd;
+      vxsat = true;
+      x = (13, 0x7fffffffffffffff) ∷ [];
+      v = (8, 0x80008000ffff0000ffffffff800180017ffffffffffe8000ffff800040008001) ∷
+          (20, 0x80018001ffff00017fff555580007fff0001000200025555fffe0002aaaafffe) ∷
           [];
     } in
     record {
-      word = 0x8ef008d7;
+      word = 0x8e86ca57;
       before = s;
       end = Retired;
       after = record s {
         pc = 0x10000804;
-        v = (17, 0x817fffaa40ff01017f408101fe01ff7fff81aa7f020100ff010000024055fea9) ∷
+        v = (20, 0x80018001ffff00017fff555580007fff7fff0000ffff80010000800140018002) ∷
             s.v;
       };
     }
 
 -- vssub.vx v2, v2, x9
-abbrev pub vssub_vx : Case
-vssub_vx =
+abbrev pub vssub_vx_2 : Case
+vssub_vx_2 =
     let s : State = record start {
       vl = 7;
       vtype = typed E64 M2 true true;
@@ -411,32 +412,32 @@ vssub_vx =
       };
     }
 
--- vssubu.vv v21, v24, v23
-abbrev pub vssubu_vv : Case
-vssubu_vv =
+-- vssubu.vx v0, v1, x6
+abbrev pub vssubu_vx : Case
+vssubu_vx =
     let s : State = record start {
-      vl = 2;
-      vtype = typed E32 Mf2 false true;
-      vxrm = NearestEven;
-      v = (21, 0x7ffffffffffffffe23eee29f8000000197b6d86c0000000280000000b28bc25d) ∷
-          (23, 0xe1c3fe08000000025d0cbbc9aaa72655d8b9291800000016692dbbf73d99e95) ∷
-          (24, 0xe86b27d3aaaaaaaa7fffffff000000015726ce4dffffffffddc83010a0072f30) ∷
+      vl = 21;
+      vtype = typed E8 M1 false false;
+      vxsat = true;
+      x = (6, 0x8000000000000000) ∷ [];
+      v = (0, 0x5581cb80014055aafe34c51d81810d5500445d553b27786a3cc9557fa1000234) ∷
+          (1, 0xfefca8bd4001a4a2e641aad98f8140d440ff01a554aa75965b0e80a17f023701) ∷
           [];
     } in
     record {
-      word = 0x8b8b8ad7;
+      word = 0x8a134057;
       before = s;
       end = Retired;
       after = record s {
         pc = 0x10000804;
-        v = (21, 0x7ffffffffffffffe23eee29f8000000197b6d86c00000002773554512c2d909b) ∷
+        v = (0, 0x5581cb80014055aafe34c5d98f8140d440ff01a554aa75965b0e80a17f023701) ∷
             s.v;
       };
     }
 
 -- vssubu.vv v24, v29, v7, v0.t
-abbrev pub vssubu_vv_2 : Case
-vssubu_vv_2 =
+abbrev pub vssubu_vv : Case
+vssubu_vv =
     let s : State = record start {
       vl = 6;
       vtype = typed E32 M1 false false;

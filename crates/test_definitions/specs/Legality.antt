@@ -6,22 +6,20 @@ use Rattle.rv_model.specs.declared.vector.types.Lmul.TheVariants.{M1, M2, M4, M8
 use Rattle.rv_model.specs.declared.vector.types.Sew.TheVariants.{E8, E16, E32, E64}
 use Rattle.test_definitions.specs.States.{Case, State, start, typed, Illegal}
 
--- vrgather.vv v13, v13, v12, v0.t
--- The destination of vrgather may not overlap its source: v13 is in both.
-abbrev pub vrgather_vv_illegal : Case
-vrgather_vv_illegal =
+-- vrgatherei16.vv v28, v28, v29, v0.t
+-- The destination of vrgatherei16 may not overlap its source: v28 is in both.
+abbrev pub vrgatherei16_vv_illegal : Case
+vrgatherei16_vv_illegal =
     let s : State = record start {
-      vl = 4;
-      vtype = typed E8 Mf8 true false;
-      vxrm = Odd;
-      vxsat = true;
-      v = (0, 0x5de167c73865890fb37cb2ab6cc220e9e3b18d62bac0ff8e6d13b013253133ba) ∷
-          (12, 0x408020703080105010503060208000400020402050171018d00040505070708) ∷
-          (13, 0x40007f7340fe690080fe45aa4efeaab5acff80ff6d0088017a0001bb02ff5507) ∷
+      vl = 3;
+      vtype = typed E8 Mf8 false false;
+      v = (0, 0xffffffffffffffffffffffffffffffffffffffffffffffffffffffffffffffff) ∷
+          (28, 0x5020705010501000202020107ff01010307ff07ffffff0301ff0502070003) ∷
+          (29, 0x28f480003000500060008000700000007cc64000500060007000800020001) ∷
           [];
     } in
     record {
-      word = 0x30d606d7;
+      word = 0x39ce8e57;
       before = s;
       end = Illegal;
       after = s;
@@ -73,44 +71,47 @@ vssseg8e16_v_illegal =
       after = s;
     }
 
--- vlseg3e64ff.v v27, (x3)
+-- vlseg3e32.v v28, (x7), v0.t
 -- 3 fields of 4 registers each are 12, and 8 is the most.
-abbrev pub vlseg3e64ff_v_illegal : Case
-vlseg3e64ff_v_illegal =
+abbrev pub vlseg3e32_v_illegal : Case
+vlseg3e32_v_illegal =
     let s : State = record start {
-      vl = 4;
-      vtype = typed E16 M1 true true;
-      vstart = 142;
-      x = (3, 0x1ffe6) ∷ [];
-      v = (27, 0x7c713dbe65ef84aeaef092d838f01c983c9aaa801bf1ac61b6dde8732e81a31b) ∷
-          (28, 0x3af3b5260fe929c03dc2dacc54f98004d6e09c6722025f547a974d948f298266) ∷
-          (29, 0xbbb4884711145821d9b404ce74fd08e09bad35f99a6a7deda4a08006cb8f25fe) ∷
-          (30, 0xe59067d439e139d212f3d8700ec3fb46d2e7af92f6d83f7875f5d4fdbe7796a6) ∷
-          (31, 0x802af8371179706552cafa895fde10a2c49fe64af8dbfc051f63701d2d8f6d50) ∷
+      vl = 11;
+      vtype = typed E8 M1 true true;
+      vstart = 4;
+      vxrm = Down;
+      x = (7, 0x21fae) ∷ [];
+      v = (0, 0xfffffffffffffffffffffffffffffffffffffffffffffffffffffffffffff6bf) ∷
+          (28, 0x2d2576fe9287254f610b6add470755826a25fe7181ea90f16e2b7fbfe2b75a26) ∷
+          (29, 0x78a383671bc066ffc3c83fc953e0c9441635aa9689a48badcaaa5fd3f8d03723) ∷
+          (30, 0xdc083e8c48391a8febe71e8237fbf9cfb8aa443d51330f099f5cd49fd0872744) ∷
+          (31, 0x584f4803a149aca7aa255f7dcf3e5daf8b8e5c38b1fca15d12c97f0cde7f4813) ∷
           [];
     } in
     record {
-      word = 0x4301fd87;
+      word = 0x4003ee07;
       before = s;
       end = Illegal;
       after = s;
     }
 
--- vwmulu.vx v4, v4, x30, v0.t
--- The destination v4 (16 bits) has wider elements than the source v4 (8 bits), which has EMUL 1/4: they may not overlap.
-abbrev pub vwmulu_vx_illegal : Case
-vwmulu_vx_illegal =
+-- vwsub.vv v8, v8, v7, v0.t
+-- The destination v8 (32 bits) has wider elements than the source v8 (16 bits), which has EMUL 1/2: they may not overlap.
+abbrev pub vwsub_vv_illegal : Case
+vwsub_vv_illegal =
     let s : State = record start {
-      vl = 3;
-      vtype = typed E8 Mf4 true false;
-      vxrm = NearestEven;
-      x = (30, 0xfffffffffffffffe) ∷ [];
-      v = (0, 0xd3ce716f3dbf2b3f8381f8aa7d7fba0eb8047fcf34496fb7a2406e717996e3d9) ∷
-          (4, 0xf7a744c527c47824e0fe46e3aaa568da4b26c728224aa00802792f604021b52e) ∷
+      policy = Ones;
+      vl = 6;
+      vtype = typed E16 Mf2 true true;
+      vxrm = Down;
+      vxsat = true;
+      v = (0, 0x468f2afa4038b8a4a31ffd807889db2d702807bf3719411a66582c8662053e72) ∷
+          (7, 0x1a7d9a5293d257ebc9c9373b8a5c3b187248cf0402f994cb70f524a80acdb846) ∷
+          (8, 0x3568c370d68822c8500317b476bb0ef3390e293757bb8549d049814bcf5272a5) ∷
           [];
     } in
     record {
-      word = 0xe04f6257;
+      word = 0xcc83a457;
       before = s;
       end = Illegal;
       after = s;
@@ -209,21 +210,31 @@ vsse64_v_illegal =
       after = s;
     }
 
--- vwmacc.vx v27, x0, v7
--- The destination has EMUL 2 (EEW 16 / SEW 8 x LMUL 1), so register groups begin at even registers: v27 is odd.
-abbrev pub vwmacc_vx_illegal : Case
-vwmacc_vx_illegal =
+-- vsext.vf2 v8, v23, v0.t
+-- The source has EMUL 4 (EEW 16 / SEW 32 x LMUL 8), so register groups begin at registers divisible by 4: v23 is not.
+abbrev pub vsext_vf2_illegal : Case
+vsext_vf2_illegal =
     let s : State = record start {
-      vl = 1;
-      vtype = typed E8 M1 false false;
+      vl = 64;
+      vtype = typed E32 M8 true true;
       vxrm = NearestEven;
-      v = (7, 0xaaaa000200ff028155ff80feaa557f0255005500fe805580fffe80aa005580aa) ∷
-          (27, 0x2aaaa000000000002aaaa0002000200028000400080018001400000008000) ∷
-          (28, 0xfffeaaaa4000400080010000ffff80007fff80017fffffff8000ffff80010000) ∷
+      v = (0, 0xffffffffffffffffffffffffffffffffffffffffffffffffffffffffffffffff) ∷
+          (8, 0x36f69cd87fffffff5555555555555555dc71909800000001555555559529fde0) ∷
+          (9, 0x80000000d3a0270006e84198f4be9858ac430a5afffffffe65e7497e6ac521f8) ∷
+          (10, 0x10000000180000001000000028ef553b580000000bd3cf189b1932b22) ∷
+          (11, 0xa89d9fbfcc0ccd724000000009219a770000000280000000eceefcff40000000) ∷
+          (12, 0x4000000000d79a5feb8dcddbfd749a590000000042a5222956bb116b27e51361) ∷
+          (13, 0x6c72d6aca18bc84f9f905a7bd5801c8e7b2740141bf64193b239d5062e7542d6) ∷
+          (14, 0x956181dffffffff2560d34588a82cc2555555557fffffff8000000080000000) ∷
+          (15, 0x146adcb3a7fffffff86bf5199400000006f5acce7ffffffffb2776857) ∷
+          (23, 0x602d699b8000a5f1555533aff7f4470a7e35587fd81e3b160000000280005555) ∷
+          (24, 0x8000680f9eeeffff0001ffff40009ee7fffe00020001cfa6ac9baaaa7b9af8cc) ∷
+          (25, 0x400055552789716bc7ecfffec16cdb194000b1dd6d8a00000002ffffffff4000) ∷
+          (26, 0x4000ffffd7110000ffff00014000c122e1945555af4c00010001af980002a507) ∷
           [];
     } in
     record {
-      word = 0xf6706dd7;
+      word = 0x4973a457;
       before = s;
       end = Illegal;
       after = s;
@@ -252,43 +263,41 @@ vlseg2e64_v_illegal =
       after = s;
     }
 
--- vssseg7e16.v v29, (x22), x21
--- The data takes 7 registers from v29 on, and v31 is the last.
-abbrev pub vssseg7e16_v_illegal : Case
-vssseg7e16_v_illegal =
+-- vssseg6e8.v v31, (x29), x0, v0.t
+-- The data takes 6 registers from v31 on, and v31 is the last.
+abbrev pub vssseg6e8_v_illegal : Case
+vssseg6e8_v_illegal =
     let s : State = record start {
-      vl = 2;
-      vtype = typed E16 Mf4 true false;
+      vl = 8;
+      vtype = typed E32 M1 true true;
       vxrm = NearestEven;
-      x = (21, 0x2) ∷ (22, 0x21ff8) ∷ [];
-      v = (29, 0x8d5e3337b33c08c2a0eaeb240fab57ea4b5e6e0abc5cc116489083b8d8d869d5) ∷
-          (30, 0x53e002e1579d681ee0a0966a9fd06d1822ae12eca21ac83fa868fd315dda0d77) ∷
-          (31, 0x90d7dbbbf1766bf3bcac7e678a7e0b29edeb650dfb1bc8d17ec9c6a75f047b0b) ∷
+      x = (29, 0x21ab5) ∷ [];
+      v = (0, 0xffffffffffffffffffffffffffffffffffffffffffffffffffffffffffffffff) ∷
+          (31, 0xe96237ca0156c28ccbc78737d3a0740c9b877088c25c2bdcd9fa23e6ab613d76) ∷
           [];
     } in
     record {
-      word = 0xcb5b5ea7;
+      word = 0xa80e8fa7;
       before = s;
       end = Illegal;
       after = s;
     }
 
--- vlseg8e32.v v30, (x18), v0.t
--- The destination takes 8 registers from v30 on, and v31 is the last.
-abbrev pub vlseg8e32_v_illegal : Case
-vlseg8e32_v_illegal =
+-- vloxseg4ei8.v v31, (x23), v0, v0.t
+-- The destination takes 4 registers from v31 on, and v31 is the last.
+abbrev pub vloxseg4ei8_v_illegal : Case
+vloxseg4ei8_v_illegal =
     let s : State = record start {
-      vl = 1;
-      vtype = typed E8 Mf4 true true;
-      vxrm = NearestEven;
-      x = (18, 0x219f0) ∷ [];
-      v = (0, 0xfffffffffffffffffffffffffffffffffffffffffffffffffffefffffffffe7b) ∷
-          (30, 0xb7cbb9183595c0c006af37a8dd8344ec68db099d3b6baaf5b440f0701fad736e) ∷
-          (31, 0x81a04b841d2a8befb27747d51501dcd47b8989afeea90ab7d493e04b40f6ad3a) ∷
+      vl = 4;
+      vtype = typed E64 M1 true false;
+      vxrm = Down;
+      x = (23, 0x215b7) ∷ [];
+      v = (0, 0xffffffffffffffffffffffffffffffffffffffffbffffffdffffffff77ffffdf) ∷
+          (31, 0x2aaaaaaaaaaaaaaaac4ac435274cc00757fe0e78a81d3bbb0) ∷
           [];
     } in
     record {
-      word = 0xe0096f07;
+      word = 0x6c0b8f87;
       before = s;
       end = Illegal;
       after = s;
@@ -315,25 +324,27 @@ vmulhu_vx_illegal =
       after = s;
     }
 
--- vluxseg5ei8.v v0, (x22), v7, v0.t
+-- vlseg7e8.v v0, (x31), v0.t
 -- It reads a mask from v0, so v0 can't be its destination.
-abbrev pub vluxseg5ei8_v_illegal : Case
-vluxseg5ei8_v_illegal =
+abbrev pub vlseg7e8_v_illegal : Case
+vlseg7e8_v_illegal =
     let s : State = record start {
-      vl = 1;
-      vtype = typed E16 M1 false false;
-      vxrm = Down;
-      x = (22, 0x24f9b) ∷ [];
-      v = (0, 0x0) ∷
-          (1, 0xc47f000287b223c9d7e3ffff0002154205a20000eea0fffe8000ffff044f0001) ∷
-          (2, 0x80012d2d55557fff710effffe844aba07fffded32bdc956957d43094aaaaad79) ∷
-          (3, 0xccefaaaaffff00020000800100015555783eaaaa65e955554d550002318570eb) ∷
-          (4, 0xbef41eeff3b5170c92cef200000000027fff40005b487fff00023fc52fde121f) ∷
-          (7, 0x33233519904d99fb5f931cb7e760f8548f056bb9139b81da01bda52be4118301) ∷
+      vl = 16;
+      vtype = typed E32 M2 false false;
+      vxrm = NearestEven;
+      vxsat = true;
+      x = (31, 0x2013b) ∷ [];
+      v = (0, 0xfffffffffffffffffffffffffffffffffffffffffffffffffffffffffffff7fc) ∷
+          (1, 0x8e836b09a93b8327fe01cc8c66a5108fb523808cd91a33951348d52cd8c9d5fd) ∷
+          (2, 0xde5822c8446162c6c0a7a0b6b33f988f3d2edeb1d6c594658ffbb706051b8e66) ∷
+          (3, 0xa794adc6e69284db50e39b8213c9b636f1b499ea7d2143d870868a9b932a706e) ∷
+          (4, 0x9b4f80f66c9794fa33cf0bb4bf41522bd0314f54c382163e99960d7632550c77) ∷
+          (5, 0x8740740c3532ea1665e02084256abb48a261977a7ab78ba4cff7dc6686d212d2) ∷
+          (6, 0xa3d116513f382a9f5d8106c20eacf747d45be9df63e69bc799e094b11cd52553) ∷
           [];
     } in
     record {
-      word = 0x847b0007;
+      word = 0xc00f8007;
       before = s;
       end = Illegal;
       after = s;
@@ -443,21 +454,33 @@ vzext_vf8_illegal =
       after = s;
     }
 
--- vmsgtu.vi v18, v16, -12
--- The destination v18 (1 bit) has narrower elements than the source v16 to v19 (32 bits): they may overlap only where both begin with the same register.
-abbrev pub vmsgtu_vi_illegal : Case
-vmsgtu_vi_illegal =
+-- vmsbc.vv v13, v16, v8
+-- The destination v13 (1 bit) has narrower elements than the source v8 to v15 (8 bits): they may overlap only where both begin with the same register.
+abbrev pub vmsbc_vv_illegal : Case
+vmsbc_vv_illegal =
     let s : State = record start {
-      vl = 1;
-      vtype = typed E32 M4 true true;
-      v = (16, 0x300000007000000010000000500000007000000010000000200000005) ∷
-          (17, 0x30000000700000000ffffffff000000020000000500000007ffffffff) ∷
-          (18, 0xffffffffffffffffffffffffffffffffffffffffffffffffffffffffffffffff) ∷
-          (19, 0xffffffffffffffff000000020000000500000007ffffffffffffffff00000007) ∷
+      vl = 179;
+      vtype = typed E8 M8 true true;
+      v = (8, 0x8e3752f924135172b0506ba8df471dbac1f7ee8126d784323db76521b87e9287) ∷
+          (9, 0x2320ca3e37909e41a84bd6cbd56634e6d9ddd81b6ff1bc71e12764f928e2de98) ∷
+          (10, 0x4421d356fa9ae8865e858f35cd8e2e2144e0e11ac83af4fcfcc7c46f7ac22fcc) ∷
+          (11, 0x33e9b64b7d9a5dcb582a6c76bb3e8a62b1d6e76c91c3f108be363f043b585354) ∷
+          (12, 0x4abd5b4b1c588a679234cd9289a1d99fee7e42cac4b4d410c9017a06f34a619b) ∷
+          (13, 0x0) ∷
+          (14, 0x8d35a4ed85951a2be7d827406545e6ff2b35e0268b30d663d9d7fee04631e423) ∷
+          (15, 0xd6836a96fa93cafead2257aeb25b503f7de4154652e8511044c05f007acc263) ∷
+          (16, 0xae1a678e99af7a704eaea35c03a9c8429ae75edddec7cba1914ced22dc386fc5) ∷
+          (17, 0xd6f9b89481efa64bb2e80b948d434c60f1593ee4141b41737cefc338852566a9) ∷
+          (18, 0x4aa103ffdfb14da289ddc2880f3a0b1de306ad5bc651fa62d0cd2883f5ccea1a) ∷
+          (19, 0xf48c781e81c0e93370ace54ea9ee455f6afdb7edc009176f639a6199cbe6a9d1) ∷
+          (20, 0xaf62495681c7ec7a929606b9efd3ce5c90663205c88087416f6c4b78ed68a66c) ∷
+          (21, 0x198f397fd902be0445060c63f0124ca15ee10a462056f5d9dcb700b28737d291) ∷
+          (22, 0x275ed9b44351a99817ffd5d69430928ccb3a6896c07abf4acff80854e1fbe107) ∷
+          (23, 0xd4b444eee70556cb206fd0e7e704677412c1869808124ee7aa0db355534ad30c) ∷
           [];
     } in
     record {
-      word = 0x7b0a3957;
+      word = 0x4f0406d7;
       before = s;
       end = Illegal;
       after = s;
@@ -538,23 +561,25 @@ vsse64_v_illegal_2 =
       after = s;
     }
 
--- vnsrl.wv v16, v15, v17, v0.t
--- The source has EMUL 2 (EEW 16 / SEW 8 x LMUL 1), so register groups begin at even registers: v15 is odd.
--- The destination v16 (8 bits) has narrower elements than the source v15 to v16 (16 bits): they may overlap only where both begin with the same register.
-abbrev pub vnsrl_wv_illegal : Case
-vnsrl_wv_illegal =
+-- vwadd.vv v28, v28, v28, v0.t
+-- The destination has EMUL 8 (EEW 32 / SEW 16 x LMUL 4), so register groups begin at registers divisible by 8: v28 is not.
+-- The destination takes 8 registers from v28 on, and v31 is the last.
+-- The destination v28 to v35 (32 bits) has wider elements than the source v28 to v31 (16 bits): they may overlap only where both end with the same register.
+abbrev pub vwadd_vv_illegal : Case
+vwadd_vv_illegal =
     let s : State = record start {
-      vl = 21;
-      vtype = typed E8 M1 true true;
-      vxrm = NearestEven;
-      v = (0, 0x40000000000000000000000000000000000000900) ∷
-          (15, 0x40000001fffeaaaa40960002897f6d16800140030000800080010002fffe1484) ∷
-          (16, 0x1edcf84037fff00020001a5b5390f00021a76fffe000192840002d9947f3c) ∷
-          (17, 0x920256815150d9004000b4577aaa5580ca96e501c1b6729df7fe5540aa0216d4) ∷
+      vl = 64;
+      vtype = typed E16 M4 false false;
+      vxrm = Down;
+      v = (0, 0xffffffffffffffffffffffffffffffffffffffffffffffffffffffffffffffff) ∷
+          (28, 0x37f4aaaa40007fffe29100025698b90280007fff383ed23f00005555650fc742) ∷
+          (29, 0x4000fffeaaaa8001a5ad93230002208fa1642e185cec244a769d4e6b900dde8b) ∷
+          (30, 0x80010000522debb08d74ffff05748d4d00004000800102806cfee45a29bb6621) ∷
+          (31, 0x99f080007fff4bfca91c0f4bfffe108cfa8100027fff48ca0002400000015555) ∷
           [];
     } in
     record {
-      word = 0xb0f88857;
+      word = 0xc5ce2e57;
       before = s;
       end = Illegal;
       after = s;
@@ -584,19 +609,22 @@ vlse32_v_illegal =
       after = s;
     }
 
--- vmulhsu.vv v28, v29, v29
--- Zve64x has no vmulhsu at SEW 64.
-abbrev pub vmulhsu_vv_illegal : Case
-vmulhsu_vv_illegal =
+-- vmulhu.vx v21, v22, x6
+-- Zve64x has no vmulhu at SEW 64.
+abbrev pub vmulhu_vx_illegal_2 : Case
+vmulhu_vx_illegal_2 =
     let s : State = record start {
-      vtype = typed E64 M1 true false;
-      vxrm = Odd;
-      v = (28, 0x700000000000000050000000000000002ffffffffffffffff) ∷
-          (29, 0x1000000000000000100000000000000020000000000000005) ∷
+      vl = 4;
+      vtype = typed E64 M1 true true;
+      vxrm = NearestEven;
+      vxsat = true;
+      x = (6, 0x5555555555555555) ∷ [];
+      v = (21, 0x23ca8e0ae32dc6c2f9355919e6643be646103e74d32bc50412f24e69d01794ed) ∷
+          (22, 0x74e2d16584bab766d3e3a496112bcc5e2e5194dfb1786c23f18625677ef8ba) ∷
           [];
     } in
     record {
-      word = 0x9bdeae57;
+      word = 0x93636ad7;
       before = s;
       end = Illegal;
       after = s;
@@ -703,44 +731,48 @@ vl2re32_v_illegal =
       after = s;
     }
 
--- vnsra.wx v26, v29, x29, v0.t
+-- vnclip.wi v16, v0, 2
 -- The source would have elements of 128 bits (2 x SEW 64), and ELEN is 64.
-abbrev pub vnsra_wx_illegal : Case
-vnsra_wx_illegal =
+abbrev pub vnclip_wi_illegal : Case
+vnclip_wi_illegal =
     let s : State = record start {
-      vl = 7;
+      policy = Ones;
+      vl = 8;
       vtype = typed E64 M2 false false;
-      vxrm = Down;
-      x = (29, 0x7fffffffffffffff) ∷ [];
-      v = (0, 0x0) ∷
-          (26, 0x2faa21012cbe952f386a3d6117628b0ac71ffcc7cfd60b1cffa9e2eddc786a39) ∷
-          (27, 0x191e3010ae76b57bc7fffffffffffffffffffffffffffffff) ∷
-          (29, 0x12c3ff1e375c0001405502407fff8100ffff5caa4080aa0036deffb6ed40617f) ∷
-          (30, 0x208ff80dd800b5546bb401b4f07fe40dd80e2237f7380bffe7f401b60bb55bd) ∷
-          (31, 0x853be44001aaaa010200fefc1bbdc68355ca85fe14e60286008101e6b7818001) ∷
+      vxrm = Odd;
+      v = (0, 0xaaaa02aa818102fe01fe00550140800040558040aafe02aa40aafe017f7f8080) ∷
+          (1, 0x55fefeff00810281ff7faaaa7faa407f557f02807fff0102aa4040fefe0001fe) ∷
+          (2, 0x4040fe407f818002fefefe4000ff81807f40fe7f7fff0155558080ffaa017f40) ∷
+          (3, 0xfe40fe02800102550200028080817f028140ff7ffe0140014081407f5502fe81) ∷
+          (16, 0x40000000000000005555555555555555fffffffffffffffe8000000000000000) ∷
+          (17, 0x55555555555555550000000000000001aaaaaaaaaaaaaaaaaaaaaaaaaaaaaaaa) ∷
           [];
     } in
     record {
-      word = 0xb5decd57;
+      word = 0xbe013857;
       before = s;
       end = Illegal;
       after = s;
     }
 
--- vwsub.vv v4, v4, v5
--- The destination v4 to v5 (16 bits) has wider elements than the source v4 (8 bits): they may overlap only where both end with the same register.
-abbrev pub vwsub_vv_illegal : Case
-vwsub_vv_illegal =
+-- vwmacc.vx v16, x18, v16
+-- The destination v16 to v19 (64 bits) has wider elements than the source v16 to v17 (32 bits): they may overlap only where both end with the same register.
+abbrev pub vwmacc_vx_illegal : Case
+vwmacc_vx_illegal =
     let s : State = record start {
-      vl = 26;
-      vtype = typed E8 M1 true false;
-      vstart = 129;
-      v = (4, 0x4055018102400002554000817f557ffefe00018100aa55aa80ff0255fe555500) ∷
-          (5, 0x17f80020281aa028100fefe40fe817f0255ff4081fffeaa8140ff7f00fe8040) ∷
+      vl = 16;
+      vtype = typed E32 M2 false false;
+      vstart = 12;
+      vxrm = Odd;
+      x = (18, 0x1) ∷ [];
+      v = (16, 0x5555555555555555da2bfbb97b218cbbaaaaaaaaaaaaaaaa04649a3b31eebef1) ∷
+          (17, 0x7fffffffffffffffffffffffffffffff44f9261be2df36967fffffffffffffff) ∷
+          (18, 0x345a39ddb529bf7455555555555555550000000000000000d78134109962d85c) ∷
+          (19, 0xaaaaaaaaaaaaaaaa4a3a564f2696a499c948d4b9559220964000000000000000) ∷
           [];
     } in
     record {
-      word = 0xce42a257;
+      word = 0xf7096857;
       before = s;
       end = Illegal;
       after = s;

@@ -2,8 +2,8 @@
 use Rattle.std.specs.Prelude.{[], ◌∷◌, true, false}
 use Rattle.rv_model.specs.declared.vector.policy.Policy.TheVariants.{Ones}
 use Rattle.rv_model.specs.declared.vector.state.RoundingMode.TheVariants.{NearestEven, Down, Odd}
-use Rattle.rv_model.specs.declared.vector.types.Lmul.TheVariants.{M1, M2, M4, Mf8, Mf4, Mf2}
-use Rattle.rv_model.specs.declared.vector.types.Sew.TheVariants.{E8, E16, E32, E64}
+use Rattle.rv_model.specs.declared.vector.types.Lmul.TheVariants.{M2, M4, M8, Mf8, Mf4, Mf2}
+use Rattle.rv_model.specs.declared.vector.types.Sew.TheVariants.{E8, E16, E64}
 use Rattle.test_definitions.specs.States.{Case, State, start, typed, Retired}
 
 -- vl1re8.v v18, (x24)
@@ -54,62 +54,60 @@ vl2re8_v =
       };
     }
 
--- vl4re64.v v8, (x18)
+-- vl4re64.v v4, (x27)
 abbrev pub vl4re64_v : Case
 vl4re64_v =
     let s : State = record start {
-      vl = 5;
-      vtype = typed E32 M1 false false;
+      vl = 44;
+      vtype = typed E16 M4 true false;
       vstart = 15;
-      vxrm = Odd;
-      x = (18, 0x2145d) ∷ [];
-      v = (8, 0x9f9353526c480ca474e918a9dbf776612aa4bc7fb4c1ec4259d7acffba423d9b) ∷
-          (9, 0x17c122d46416a39ccd1991e63a77c56a618ba04fb9e7a9ace690b739e16ff7be) ∷
-          (10, 0x16a068f79f037a5167542da937723460f989b449019e619a48655b28605a3d49) ∷
-          (11, 0xd05fcf247173df732121435ff96199adf8d0c7aed204ce6d8288d26e7679637c) ∷
+      x = (27, 0x20476) ∷ [];
+      v = (4, 0x617c3269f9d73054fe2d288f8e88266e7e782706d36d78223354af71a474e6c8) ∷
+          (5, 0xd8f782a42ea02ac5c5c34c6529486620bf40d59a6ae32ecd33baee3580021489) ∷
+          (6, 0x1d89ee40e372c0e229d061755b3e0e942a9fdd8ec78fd195d5bed8cda487bfb1) ∷
+          (7, 0xadefc31f3096849a272fca520db25359beaf5a19be7e953318eb7fd90f7abb82) ∷
           [];
     } in
     record {
-      word = 0x62897407;
+      word = 0x628df207;
       before = s;
       end = Retired;
       after = record s {
         pc = 0x10000804;
         vstart = 0;
-        v = (11, 0xd9b48f6a4520fbd62121435ff96199adf8d0c7aed204ce6d8288d26e7679637c) ∷
+        v = (7, 0xb18c67421df8d3ae272fca520db25359beaf5a19be7e953318eb7fd90f7abb82) ∷
             s.v;
       };
     }
 
--- vl8re64.v v8, (x14)
+-- vl8re64.v v16, (x18)
 abbrev pub vl8re64_v : Case
 vl8re64_v =
     let s : State = record start {
-      vstart = 16;
-      vxrm = Odd;
+      vl = 115;
+      vtype = typed E16 M8 false true;
+      vstart = 31;
+      vxrm = Down;
       vxsat = true;
-      x = (14, 0x2149c) ∷ [];
-      v = (8, 0xc64e01ff429aaaf893b833f216711b7719f4930bd2e9941b28fa03782e7e0a82) ∷
-          (9, 0x536b2b142af2c7db8c40cf89eb6780d87d87aecf16f358ac44ba0daf6c4382f6) ∷
-          (10, 0x12bdd747e1912b58e4438a2f9b5eadb4a3d30a44c4e90122884325bb4f29262d) ∷
-          (11, 0xda33c79cfa669ba32548c3af2f5aa7da797584c72030d6e8e6efa8c12637d17b) ∷
-          (12, 0xca02fc81880a61dbe52c8b7357d07f08977148363b807c3aaf7249f7b004607) ∷
-          (13, 0x7f63c9539c19120779ecab690e9401cd6709bb582e72cdc010287c3d7674d34d) ∷
-          (14, 0x39cad905a4f6c2928dace3378acd332798aa0f79224e6761fcac7a9fc29f0548) ∷
-          (15, 0xca38fe7801962ca44a868bf3689165066059c549919cd51818347755222d8f7f) ∷
+      x = (18, 0x205e2) ∷ [];
+      v = (16, 0x112305036788fab218b034caf4922b14e477e85d388c079af791899a02e0cd79) ∷
+          (17, 0x9e01ed0d5e2680716ac2aa9bf9648f23a8328412868e6f21a74a1174aa49c5ae) ∷
+          (18, 0x5bc2091b4e2483088398408125756b55b25163c40451f92e57006baa2f38c4a6) ∷
+          (19, 0xecbf7608740b4979cf529d9032d1a16aca55ff85f203be1cfab0ec25889d47c7) ∷
+          (20, 0x219706e2afdc2181d1181f2db20d44b833ea6fbfa1a3738d3d053e113c8f093c) ∷
+          (21, 0xdc1105e0db2214405b8432e14df47412a738653e05576bb325e35ebf55307715) ∷
+          (22, 0x2b3c646829fb86ccbd77d0cee71a5e6d332727ca409344f1df5e5f47af5c46db) ∷
+          (23, 0x8fcbcb50c5b447dd558956f289f78d9853a283996adb84d44cdd1bc409439e44) ∷
           [];
     } in
     record {
-      word = 0xe2877407;
+      word = 0xe2897807;
       before = s;
       end = Retired;
       after = record s {
         pc = 0x10000804;
         vstart = 0;
-        v = (12, 0x1af5d0ab86613c17f2cda8835e3914efcaa5805b3611ecc7a27d583303deb994) ∷
-            (13, 0xc5a07b56310ce7c29d78532e09e4bf9a75502b06e1bc97724d2803deae89643f) ∷
-            (14, 0x704b2601dcb7926d4823fed9b48f6a4520fbd6b18c67421df8d3ae8959340fea) ∷
-            (15, 0x1bf6d1ac87623d18f3cea9845f3a15f0cba6815c3712edc8a37e593404dfba95) ∷
+        v = (23, 0x4722f2cda8835e39558956f289f78d9853a283996adb84d44cdd1bc409439e44) ∷
             s.v;
       };
     }
@@ -139,25 +137,26 @@ vle16_v =
       };
     }
 
--- vle16ff.v v26, (x27)
+-- vle16ff.v v11, (x25)
 abbrev pub vle16ff_v : Case
 vle16ff_v =
     let s : State = record start {
-      vl = 2;
-      vtype = typed E8 Mf4 false true;
+      policy = Ones;
+      vl = 4;
+      vtype = typed E8 Mf8 false false;
       vxrm = NearestEven;
       vxsat = true;
-      x = (27, 0x20a72) ∷ [];
-      v = (26, 0xa3490b3f7f865ec37cd5f109076eb7ad2c7faf004aace1ec77e6b67c694fa4fc) ∷
+      x = (25, 0x20c5d) ∷ [];
+      v = (11, 0x6d49c41f5552b960888cc0c245152e781190f627feaa1a33866c987e84188171) ∷
           [];
     } in
     record {
-      word = 0x030ddd07;
+      word = 0x030cd587;
       before = s;
       end = Retired;
       after = record s {
         pc = 0x10000804;
-        v = (26, 0xa3490b3f7f865ec37cd5f109076eb7ad2c7faf004aace1ec77e6b67c734e2904) ∷
+        v = (11, 0x6d49c41f5552b960888cc0c245152e781190f627feaa1a3378532e09e4b48f6a) ∷
             s.v;
       };
     }
@@ -209,92 +208,100 @@ vle32ff_v =
       };
     }
 
--- vle64.v v23, (x31), v0.t
+-- vle64.v v26, (x8), v0.t
 abbrev pub vle64_v : Case
 vle64_v =
     let s : State = record start {
-      vl = 4;
-      vtype = typed E8 Mf8 false true;
-      x = (31, 0x2043c) ∷ [];
-      v = (0, 0x20000000008000048) ∷
-          (23, 0x8113d7a0858d178357e0f5a7bcb089052f2b8d255092c7b3b1d2f3a9f6fa952e) ∷
+      policy = Ones;
+      vl = 8;
+      vtype = typed E16 Mf2 false false;
+      vxrm = NearestEven;
+      x = (8, 0x23fcc) ∷ [];
+      v = (0, 0x8af37fed134c72457889fdad71f2dffdd91352cc5530620ac08232c3b5949b4b) ∷
+          (26, 0xe7ec1f66cc48fae3b94c71830b67f3910bcda57a7a952dcd268b30f7141b854a) ∷
+          (27, 0xc97380b120c88628fff6c9fab502d5382aa537feba0cd8962dc83ca481b9d027) ∷
           [];
     } in
     record {
-      word = 0x000ffb87;
+      word = 0x00047d07;
       before = s;
       end = Retired;
       after = record s {
         pc = 0x10000804;
-        v = (23, 0x3813eec9a47f5a3557e0f5a7bcb089052f2b8d255092c7b3b1d2f3a9f6fa952e) ∷
+        v = (26, 0xcea9845f3a15f0cbb94c71830b67f391734e2904dfba95704b2601dcb7926d48) ∷
+            (27, 0xc97380b120c88628b6916c47b28d68432aa537feba0cd8962dc83ca481b9d027) ∷
             s.v;
       };
     }
 
--- vle64ff.v v24, (x28)
+-- vle64ff.v v30, (x2), v0.t
 abbrev pub vle64ff_v : Case
 vle64ff_v =
     let s : State = record start {
-      vl = 2;
-      vtype = typed E16 Mf4 false false;
+      vl = 8;
+      vtype = typed E16 Mf2 true true;
       vxrm = NearestEven;
-      x = (28, 0x21b6d) ∷ [];
-      v = (24, 0xa61e71b400774fe92915953904b2bad9201fa73c91432408744adb69ddc49376) ∷
+      x = (2, 0x21c5a) ∷ [];
+      v = (0, 0xfd3d2c2cc89acaee9e38526334e1052176c0edd3209b752720757b411f34db62) ∷
+          (30, 0xfb632a0f07de58de5f4fb1ee1c3d62cc2032f23afaf01d7385fe3aa75890aee3) ∷
+          (31, 0x7de934a20569e7addcc31b81837eb1e5e982bec1403380aff22356b9c50c08e5) ∷
           [];
     } in
     record {
-      word = 0x030e7c07;
+      word = 0x01017f07;
       before = s;
       end = Retired;
       after = record s {
         pc = 0x10000804;
-        v = (24, 0xa61e71b400774fe92915953904b2bad903deb9946f4a2500dbb6916c4722fdd8) ∷
+        v = (30, 0xfb632a0f07de58de5f4fb1ee1c3d62cc01dcb7926d4823fe85fe3aa75890aee3) ∷
+            (31, 0x7de934a20569e7add4af8a65401bf6d1ac87623d18f3cea9f22356b9c50c08e5) ∷
             s.v;
       };
     }
 
--- vle8.v v21, (x7), v0.t
+-- vle8.v v30, (x21), v0.t
 abbrev pub vle8_v : Case
 vle8_v =
     let s : State = record start {
-      policy = Ones;
-      vl = 1;
-      vtype = typed E16 M1 true true;
-      vxrm = Odd;
-      x = (7, 0x24fff) ∷ [];
-      v = (0, 0x3b77d855d9ab73dc5d226a2d2cc8ca9a7804d2f40bc0564825a6cb77fbb4f1fb) ∷
-          (21, 0xfbdf9baab97b93fd015fcbe94d32e95dff65db0bb79505d6c158f188428f0582) ∷
+      vl = 4;
+      vtype = typed E64 M4 true true;
+      vxrm = NearestEven;
+      x = (21, 0x23ffc) ∷ [];
+      v = (0, 0xffffffffffffffffffffffffffffffffffffffffffffffffffffffffdf7fffff) ∷
+          (30, 0x650c7d305ef0559df972a2ffb41c30685ed3d3717253b4e7415ae96cf225db93) ∷
           [];
     } in
     record {
-      word = 0x00038a87;
+      word = 0x000a8f07;
       before = s;
       end = Retired;
       after = record s {
         pc = 0x10000804;
-        v = (21, 0xffffffffffffffffffffffffffffffffffffffffffffffffffffffffffffff82) ∷
+        v = (30, 0x650c7d305ef0559df972a2ffb41c30685ed3d3717253b4e7415ae96cb28d6843) ∷
             s.v;
       };
     }
 
--- vle8ff.v v7, (x4)
+-- vle8ff.v v10, (x5)
 abbrev pub vle8ff_v : Case
 vle8ff_v =
     let s : State = record start {
-      vl = 1;
-      vtype = typed E16 M2 false false;
+      vl = 46;
+      vtype = typed E16 M4 false false;
       vxrm = Odd;
-      x = (4, 0x20b6d) ∷ [];
-      v = (7, 0x26c8e5b6c713968dd41d22630b968cd2490d9fc5859fcc37f1f25edf982ec099) ∷
+      x = (5, 0x2147c) ∷ [];
+      v = (10, 0xa79ca87df85f41d1a754d3a88e4d0cba76ca289116a53eda677af094aeb3118e) ∷
+          (11, 0x68a66d60ec49e42f3973e36e3c1761ca833791ed6f47ae6c265eae6450f30124) ∷
           [];
     } in
     record {
-      word = 0x03020387;
+      word = 0x03028507;
       before = s;
       end = Retired;
       after = record s {
         pc = 0x10000804;
-        v = (7, 0x26c8e5b6c713968dd41d22630b968cd2490d9fc5859fcc37f1f25edf982ec008) ∷
+        v = (10, 0x5e3914efcaa5805b3611ecc7a27d58330ee9c49f7a55300be6c19c774722fdd8) ∷
+            (11, 0x68a66d60ec49e42f3973e36e3c1761ca83376f4a2500dbb6916c4722f2cda883) ∷
             s.v;
       };
     }
@@ -322,73 +329,75 @@ vlm_v =
       };
     }
 
--- vloxei16.v v12, (x1), v13
+-- vloxei16.v v26, (x21), v25
 abbrev pub vloxei16_v : Case
 vloxei16_v =
     let s : State = record start {
       policy = Ones;
-      vl = 1;
-      vtype = typed E64 M1 true false;
-      x = (1, 0x21a2d) ∷ [];
-      v = (12, 0xaec8d2bc79c5f84a8acfbcd4b2bd3266db5a8003ed858104da04629d5f77fa4e) ∷
-          (13, 0x179e2328199c1b4c0d4407cd0b8607ee059009c414a404b92f8611830a621f60) ∷
+      vl = 8;
+      vtype = typed E16 Mf2 false true;
+      vxrm = Odd;
+      vxsat = true;
+      x = (21, 0x20ac2) ∷ [];
+      v = (25, 0xd1000f00d200140090009a0009000100a300f1004e0004003b00b800110039) ∷
+          (26, 0x40008001ffff8001ffffaaaa80010000a15b5c5b42e1800080002491bccaffff) ∷
           [];
     } in
     record {
-      word = 0x0ed0d607;
+      word = 0x0f9add07;
       before = s;
       end = Retired;
       after = record s {
         pc = 0x10000804;
-        v = (12, 0xffffffffffffffffffffffffffffffffffffffffffffffffac87623d18f3cea9) ∷
+        v = (26, 0x40008001ffff8001ffffaaaa8001000005e0613c9b766e496c470ee94f2a22fd) ∷
             s.v;
       };
     }
 
--- vloxei32.v v21, (x20), v18, v0.t
+-- vloxei32.v v18, (x18), v28, v0.t
 abbrev pub vloxei32_v : Case
 vloxei32_v =
     let s : State = record start {
-      vl = 3;
-      vtype = typed E8 Mf8 true true;
+      vl = 15;
+      vtype = typed E8 Mf2 false false;
       vxrm = Down;
-      vxsat = true;
-      x = (20, 0x21bca) ∷ [];
-      v = (0, 0x708274861c13a13520e2baa799ddb4b85b31c1fe9fe5830a1ccca58c6119d281) ∷
-          (18, 0x370000002b000000c7000000590000005100000041000000d80000007b) ∷
-          (21, 0xc7dd3a6dfaa46354657daa7dc351a93840894218cd3b6d6edd7d33ec088e84d3) ∷
+      x = (18, 0x2168f) ∷ [];
+      v = (0, 0xffffffffffffffffbfffffffffffffffffefffffffffffffffffffffbfffff7d) ∷
+          (18, 0x65417a10a032fd953d6f627545d40210a17db3b7c197be0453e0ec3eff2692b9) ∷
+          (28, 0x44000000800000003000000090000000fc00000085000000d60000008c) ∷
+          (29, 0x800000005f000000ba0000007c000000b9000000f9000000800000004a) ∷
           [];
     } in
     record {
-      word = 0x0d2a6a87;
+      word = 0x0dc96907;
       before = s;
       end = Retired;
       after = record s {
         pc = 0x10000804;
-        v = (21, 0xc7dd3a6dfaa46354657daa7dc351a93840894218cd3b6d6edd7d33ec088e84c2) ∷
+        v = (18, 0x65417a10a032fd953d6f627545d40210a1f8a59980d62de4532d177d45e692e9) ∷
             s.v;
       };
     }
 
--- vloxei64.v v1, (x9), v10
+-- vloxei64.v v0, (x6), v0
 abbrev pub vloxei64_v : Case
 vloxei64_v =
     let s : State = record start {
-      vl = 1;
-      vtype = typed E16 Mf2 false false;
-      x = (9, 0x21ddb) ∷ [];
-      v = (1, 0xe745fd4b8e224f1023d157c99d4fa0fa805e252c305c8141f5899c04eecee56b) ∷
-          (10, 0x347000000000000196700000000000014d100000000000014e2) ∷
-          (11, 0xecb00000000000009ae0000000000004a9900000000000000be) ∷
+      vl = 4;
+      vtype = typed E64 M2 false false;
+      vxrm = Odd;
+      x = (6, 0x20482) ∷ [];
+      v = (0, 0x1774000000000000194300000000000010ce0000000000000e4f) ∷
+          (1, 0x83c0000000000000fec00000000000001570000000000000910) ∷
           [];
     } in
     record {
-      word = 0x0ea4f087;
+      word = 0x0e037007;
       before = s;
       end = Retired;
       after = record s {
         pc = 0x10000804;
-        v = (1, 0xe745fd4b8e224f1023d157c99d4fa0fa805e252c305c8141f5899c04eece9e79) ∷
+        v = (0, 0xd4af8a65401bf6d12e09e4bf9a75502b310ce7c29d78532ecba6815c3712edc8) ∷
             s.v;
       };
     }
@@ -543,29 +552,28 @@ vlsseg3e16_v =
       };
     }
 
--- vluxei16.v v19, (x30), v10, v0.t
+-- vluxei16.v v20, (x20), v25, v0.t
 abbrev pub vluxei16_v : Case
 vluxei16_v =
     let s : State = record start {
-      policy = Ones;
-      vl = 2;
-      vtype = typed E8 M1 false true;
-      vxrm = NearestEven;
+      vl = 6;
+      vtype = typed E64 M2 false true;
       vxsat = true;
-      x = (30, 0x2091e) ∷ [];
-      v = (0, 0x3b1b9cd7caa796c9df6b3af5905f8cc5089e32f4d6cc11d5fa0b00c4f94ecf18) ∷
-          (10, 0x10000f000e000d000c000b000a000900080007000600050004000300020001) ∷
-          (11, 0x20001f001e001d001c001b001a001900180017001600150014001300120011) ∷
-          (19, 0x10a70021c102800107277f0281017f33f2b6feaa01f770007f4088025502c880) ∷
+      x = (20, 0x20000) ∷ [];
+      v = (0, 0xf0831b9da6bd46fab525a45049c3ce5fd02689650a14bb3ab6435accfd0d71fa) ∷
+          (20, 0xb863cad8cc9de3bc88750adb3621307da2a23d42e9fdd5553a32551ca3ef8608) ∷
+          (21, 0xa7621fdd1f21af4738363ca309d2f2c817dc53d4f7982a08cdcc58880c2e6577) ∷
+          (25, 0x14f62dd30720048a2cc12c89164b08ac2f5d238804350ac81eb61615066a2fb2) ∷
           [];
     } in
     record {
-      word = 0x04af5987;
+      word = 0x059a5a07;
       before = s;
       end = Retired;
       after = record s {
         pc = 0x10000804;
-        v = (19, 0x10a70021c102800107277f0281017f33f2b6feaa01f770007f4088025502ffff) ∷
+        v = (20, 0xb5906b4621fcd7b288750adb3621307debc6a17c57320de83a32551ca3ef8608) ∷
+            (21, 0xa7621fdd1f21af4738363ca309d2f2c8b28d68431ef9d4af96714c2702ddb893) ∷
             s.v;
       };
     }
@@ -639,27 +647,27 @@ vluxei8_v =
       };
     }
 
--- vluxseg2ei32.v v20, (x17), v17
-abbrev pub vluxseg2ei32_v : Case
-vluxseg2ei32_v =
+-- vluxseg2ei64.v v8, (x7), v7
+abbrev pub vluxseg2ei64_v : Case
+vluxseg2ei64_v =
     let s : State = record start {
-      vl = 1;
-      vtype = typed E64 M1 true false;
-      vxrm = Odd;
-      x = (17, 0x20147) ∷ [];
-      v = (17, 0x1aab00001783000001f3000019a6000016e1000004e600001c7200001221) ∷
-          (20, 0x8000000000000000ffffffffffffffff7fffffffffffffffb6587dbab339d13d) ∷
-          (21, 0x928f8bb04c535e655555555555555558000000000000001af0294faffd1940a) ∷
+      vl = 4;
+      vtype = typed E8 Mf8 false false;
+      vxsat = true;
+      x = (7, 0x220b4) ∷ [];
+      v = (7, 0xfffffffffffffc08fffffffffffffc06fffffffffffffc04fffffffffffffc02) ∷
+          (8, 0xb600fe3b603255e10855230001027081019240808a51ffbee0021edb40feaa02) ∷
+          (9, 0x55aa555502401851004a02fe020000884a801a4002dfb6aaaa4001ad40802d7f) ∷
           [];
     } in
     record {
-      word = 0x2718ea07;
+      word = 0x2673f407;
       before = s;
       end = Retired;
       after = record s {
         pc = 0x10000804;
-        v = (20, 0x8000000000000000ffffffffffffffff7fffffffffffffff3a15f0cba6815c37) ∷
-            (21, 0x928f8bb04c535e655555555555555558000000000000001623d18f3cea9845f) ∷
+        v = (8, 0xb600fe3b603255e10855230001027081019240808a51ffbee0021edb16cc8238) ∷
+            (9, 0x55aa555502401851004a02fe020000884a801a4002dfb6aaaa4001ad3bf1a75d) ∷
             s.v;
       };
     }

@@ -5,25 +5,24 @@ use Rattle.rv_model.specs.declared.vector.types.Lmul.TheVariants.{M1, M2, M4, M8
 use Rattle.rv_model.specs.declared.vector.types.Sew.TheVariants.{E8, E16, E32, E64}
 use Rattle.test_definitions.specs.States.{Case, State, start, typed, Retired}
 
--- vcpop.m x4, v30, v0.t
+-- vcpop.m x13, v2, v0.t
 abbrev pub vcpop_m : Case
 vcpop_m =
     let s : State = record start {
-      vl = 1;
-      vtype = typed E64 M1 true true;
-      vxrm = Odd;
-      x = (4, 0x83a3f2e02f10882b) ∷ [];
-      v = (0, 0xfffffffffdffffffffffffeffffffffffffffffdffffffffffffffffeffbffff) ∷
-          (30, 0x81fda1db1fcab8bc3ff8d3860fc134fcbfc340159cdfa76d3fcd3fcdc76f15ef) ∷
+      vl = 32;
+      vtype = typed E8 M1 false false;
+      x = (13, 0xfa853afb1645cb78) ∷ [];
+      v = (0, 0x10000000080041) ∷
+          (2, 0x5b60f4a656ca0771cdb3a2fa7d1610d9f4053dbd36bbcc09428d312a403e3f63) ∷
           [];
     } in
     record {
-      word = 0x41e82257;
+      word = 0x402826d7;
       before = s;
       end = Retired;
       after = record s {
         pc = 0x10000804;
-        x = (4, 0x1) ∷ s.x;
+        x = (13, 0x3) ∷ s.x;
       };
     }
 
@@ -96,25 +95,25 @@ viota_m =
       };
     }
 
--- vmadc.vx v5, v28, x25
+-- vmadc.vx v19, v28, x3
 abbrev pub vmadc_vx : Case
 vmadc_vx =
     let s : State = record start {
-      vl = 1;
-      vtype = typed E64 M1 true false;
+      vl = 15;
+      vtype = typed E8 Mf2 false false;
       vxrm = NearestEven;
-      x = (25, 0x0) ∷ [];
-      v = (5, 0xfffffffffffffffffffffffffffffffffffffffffffffffffffffffffffff7d3) ∷
-          (28, 0xfffffffffffffffe6e826209b132428896674cb3b60c12748000000000000001) ∷
+      x = (3, 0x2) ∷ [];
+      v = (19, 0x47306bcc5f4ea11013c252ecfa0afc73ddf03ac82caf5d8fa7edcf6a244803ab) ∷
+          (28, 0xffff0302ff0201ff0705030500050101ff050001030305ff02ffff0705070707) ∷
           [];
     } in
     record {
-      word = 0x47ccc2d7;
+      word = 0x47c1c9d7;
       before = s;
       end = Retired;
       after = record s {
         pc = 0x10000804;
-        v = (5, 0xfffffffffffffffffffffffffffffffffffffffffffffffffffffffffffff7d2) ∷
+        v = (19, 0x47306bcc5f4ea11013c252ecfa0afc73ddf03ac82caf5d8fa7edcf6a24480160) ∷
             s.v;
       };
     }
@@ -189,26 +188,25 @@ vmandn_mm =
       };
     }
 
--- vmnand.mm v19, v19, v19
+-- vmnand.mm v1, v11, v18
 abbrev pub vmnand_mm : Case
 vmnand_mm =
     let s : State = record start {
-      vl = 6;
-      vtype = typed E32 M1 false true;
-      vstart = 5;
-      vxrm = NearestEven;
-      v = (19, 0xffffffffffffffffffffffffffffffffffffffffffffffffffffffffffffeffb) ∷
+      vl = 4;
+      vtype = typed E8 Mf2 false false;
+      vxrm = Odd;
+      v = (1, 0x0) ∷
+          (11, 0xffffffffffffffffffffffffffffffffffffffffffffffffffffffffffffffff) ∷
+          (18, 0x591d89f3648b582ae9ba2e65aec0027e3dc3d0231f488652e7a988014b6baefb) ∷
           [];
     } in
     record {
-      word = 0x7739a9d7;
+      word = 0x76b920d7;
       before = s;
       end = Retired;
       after = record s {
         pc = 0x10000804;
-        vstart = 0;
-        v = (19, 0xffffffffffffffffffffffffffffffffffffffffffffffffffffffffffffefdb) ∷
-            s.v;
+        v = (1, 0x4) ∷ s.v;
       };
     }
 
@@ -352,51 +350,49 @@ vmsbf_m =
       };
     }
 
--- vmseq.vv v27, v5, v13
+-- vmseq.vv v22, v7, v9, v0.t
 abbrev pub vmseq_vv : Case
 vmseq_vv =
     let s : State = record start {
-      vl = 1;
-      vtype = typed E32 Mf2 true false;
-      vxrm = NearestEven;
-      vxsat = true;
-      v = (5, 0x555555557fffffffffffffff8000000000000000fffffffe0000000080000000) ∷
-          (13, 0x7fffffffaaaaaaaa8000000100000000fffffffe000000017fffffff80000001) ∷
-          (27, 0x870762cca6c08be80fcc8be39b1f14fa66f32e273d58198b8ee329d710d64e9) ∷
+      vl = 12;
+      vtype = typed E16 M1 false false;
+      v = (0, 0xffffffffffffffffffffffffffffffffffffffffffffffffffffffffffffffff) ∷
+          (7, 0xffff296ffffebb1f031310600001d081000063be270bea925ba9c25e8001015e) ∷
+          (9, 0xd61180007fffe3918000add88d55aaaa169100000e5a36f3538780004faa68bd) ∷
+          (22, 0xfffffffffffffffffffffffffffffffffffffffffffffffffffffffffffbefde) ∷
           [];
     } in
     record {
-      word = 0x62568dd7;
+      word = 0x60748b57;
       before = s;
       end = Retired;
       after = record s {
         pc = 0x10000804;
-        v = (27, 0x870762cca6c08be80fcc8be39b1f14fa66f32e273d58198b8ee329d710d64e8) ∷
+        v = (22, 0xfffffffffffffffffffffffffffffffffffffffffffffffffffffffffffbe000) ∷
             s.v;
       };
     }
 
--- vmsgt.vx v31, v6, x19, v0.t
+-- vmsgt.vx v0, v8, x16, v0.t
 abbrev pub vmsgt_vx : Case
 vmsgt_vx =
     let s : State = record start {
-      vl = 6;
-      vtype = typed E8 M2 false false;
-      vxrm = Down;
-      x = (19, 0x2) ∷ [];
-      v = (0, 0x434d41c28f628cc4829330100ef05a9526092a9e61b2be7637b93b8885b37fd1) ∷
-          (6, 0xfffefeff7f40aafe7f02ff8180fe7fff55817fff01807f81807f804002aa81ff) ∷
-          (7, 0xfe010000aa0101fe7f027faa7f55aa01aa7ffeaa40027f807f808100aa7f7f40) ∷
-          (31, 0xe62626a802909c4b47bf3c1f5c48e349b4c6feacd26f34805e8fa661eb69daf) ∷
+      vl = 15;
+      vtype = typed E32 M2 false false;
+      vxrm = NearestEven;
+      x = (16, 0xfe) ∷ [];
+      v = (0, 0x1786c0e773eab5ca54d3f13f1a888397335d86704aa8890c9276132f60a687cd) ∷
+          (8, 0xffffffff54be0e02800000015f31e54e7fffffff00000001ef1f69c6) ∷
+          (9, 0x6e5ac93d7fffffff80000000ffdac18f55555555ffffffff1d9ffa7069cb8a57) ∷
           [];
     } in
     record {
-      word = 0x7c69cfd7;
+      word = 0x7c884057;
       before = s;
       end = Retired;
       after = record s {
         pc = 0x10000804;
-        v = (31, 0xe62626a802909c4b47bf3c1f5c48e349b4c6feacd26f34805e8fa661eb69dbe) ∷
+        v = (0, 0x1786c0e773eab5ca54d3f13f1a888397335d86704aa8890c9276132f60a6830c) ∷
             s.v;
       };
     }

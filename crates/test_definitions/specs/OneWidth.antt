@@ -55,26 +55,25 @@ vadd_vx =
       };
     }
 
--- vand.vi v27, v16, -4, v0.t
-abbrev pub vand_vi : Case
-vand_vi =
+-- vand.vv v14, v16, v16, v0.t
+abbrev pub vand_vv : Case
+vand_vv =
     let s : State = record start {
-      vl = 1;
-      vtype = typed E32 M1 true false;
-      vxrm = Down;
-      vxsat = true;
-      v = (0, 0xe1fa046fd69ae35d05a0a5650beb0dd5a5b6c1314e60f78d6f8b5306d0c21209) ∷
-          (16, 0x40000000fffffffe7ffffffff56bdb2855555555dbe854251fe11ca0f6ff8a9b) ∷
-          (27, 0x2aaaaaaaaa0a2035e5bb1cd71d5c7abb600000001ffffffffec1abcdd) ∷
+      vl = 10;
+      vtype = typed E16 M1 false false;
+      vxrm = NearestEven;
+      v = (0, 0x64f5e218aa37ddd5f07dcb9159731e6ac5ac867fef089b0d0ed0b3447c41e0fe) ∷
+          (14, 0x4000000280010000400055558000555580008000aaaaaaaa5555000055550000) ∷
+          (16, 0xfffeaaaaaaaa555555557fffffff0000fffffffffffe0001aaaa800180000001) ∷
           [];
     } in
     record {
-      word = 0x250e3dd7;
+      word = 0x25080757;
       before = s;
       end = Retired;
       after = record s {
         pc = 0x10000804;
-        v = (27, 0x2aaaaaaaaa0a2035e5bb1cd71d5c7abb600000001fffffffff6ff8a98) ∷
+        v = (14, 0x40000002800100004000555580005555fffffffffffe0001aaaa800180000000) ∷
             s.v;
       };
     }
@@ -102,26 +101,28 @@ vdiv_vv =
       };
     }
 
--- vdivu.vx v12, v18, x0, v0.t
+-- vdivu.vx v2, v28, x23
 abbrev pub vdivu_vx : Case
 vdivu_vx =
     let s : State = record start {
       policy = Ones;
-      vl = 8;
-      vtype = typed E8 Mf4 false false;
-      vxrm = NearestEven;
-      v = (0, 0x8) ∷
-          (12, 0xd2251d233225ac984c8dc084e3ff096dff5f45f9c3ba527ebf894fff23b2efb6) ∷
-          (18, 0xd8084391bf2c1693d6cf147ffb4b4a52e6113ba999eb1a2ab62b3e0e1a487730) ∷
+      vl = 26;
+      vtype = typed E8 M2 true true;
+      x = (23, 0x8000000000000001) ∷ [];
+      v = (2, 0x4d8855ff8c52996dff0240c78b0ea7d90180120255ff00aafefeaa5d55807c02) ∷
+          (3, 0x7f2be6eb80b5161bffb3a8aa4319e1ef7ffe88ff008bdc7ffa01a4a481d05293) ∷
+          (28, 0xaa7fe11b81400840ff7b1495923f32fe81401101e71854982600e6810240734d) ∷
+          (29, 0x807f6701dd4062838b24aa409a80745595405502d102fffff5a421d385cb95ff) ∷
           [];
     } in
     record {
-      word = 0x81206657;
+      word = 0x83cbe157;
       before = s;
       end = Retired;
       after = record s {
         pc = 0x10000804;
-        v = (12, 0xd2251d233225ac984c8dc084e3ff096dff5f45f9c3ba527ebf894fffffb2efb6) ∷
+        v = (2, 0xffffffffffff0840ff7b1495923f32fe81401101e71854982600e6810240734d) ∷
+            (3, 0xffffffffffffffffffffffffffffffffffffffffffffffffffffffffffffffff) ∷
             s.v;
       };
     }
@@ -246,25 +247,27 @@ vmerge_vim =
       };
     }
 
--- vmin.vx v2, v14, x8, v0.t
-abbrev pub vmin_vx : Case
-vmin_vx =
+-- vmin.vv v13, v31, v4, v0.t
+abbrev pub vmin_vv : Case
+vmin_vv =
     let s : State = record start {
-      vl = 8;
-      vtype = typed E32 M1 true false;
-      x = (8, 0xfffffffffffffffe) ∷ [];
-      v = (0, 0x1000000000000000040000000000040000000000000000000004) ∷
-          (2, 0x4ccd13dd5f1dbcba3d6913a79e07b86519198a6f6ed0dc892fb1da430026a1c0) ∷
-          (14, 0x2a490bec45d90fa40609df4ee93c969bc4405070dc698b22b727463f2a09ad9c) ∷
+      policy = Ones;
+      vl = 11;
+      vtype = typed E8 Mf2 false true;
+      vxrm = Down;
+      v = (0, 0xffffffffffffffffffffffffffffffffffffffffffffffffffffffffffffffff) ∷
+          (4, 0xff0701020202050502000203ff0207000303000303ff050200070302ff050007) ∷
+          (13, 0x7ff010300010705ff0702010005020303010505ff02ff05ff01050205020201) ∷
+          (31, 0x500010207070305ff010001050303ff07010000020002020105ff0505030702) ∷
           [];
     } in
     record {
-      word = 0x14e44157;
+      word = 0x15f206d7;
       before = s;
       end = Retired;
       after = record s {
         pc = 0x10000804;
-        v = (2, 0x4ccd13dd5f1dbcba3d6913a79e07b86519198a6fdc698b222fb1da430026a1c0) ∷
+        v = (13, 0x7ff010300010705ff0702010005020303010505ffff02020005ff02ff030002) ∷
             s.v;
       };
     }
@@ -366,24 +369,25 @@ vmulhsu_vx =
       };
     }
 
--- vmulhu.vv v9, v11, v5
+-- vmulhu.vv v2, v1, v7
 abbrev pub vmulhu_vv : Case
 vmulhu_vv =
     let s : State = record start {
-      vl = 1;
-      vtype = typed E16 Mf4 false true;
-      v = (5, 0xaaaa7fff7fff000100025555aaaa00015555ffff0001aaaaffff00020001aaaa) ∷
-          (9, 0x8000000180007fff0002800140000000fffffffe80010001ffffaaaa7fff) ∷
-          (11, 0xaaaa00014000fffefffffffe55550000ffff800080000001000155550000) ∷
+      vl = 31;
+      vtype = typed E8 M1 true true;
+      vxrm = Odd;
+      v = (1, 0xaecc3d841c213922ca763cb1d0ba2f5fbafaa12c1786913fe9894599b8e24767) ∷
+          (2, 0xc17cb4f873a6740728900de1b6483ade19e6c3d2c1f44bc4e0e42f508ac694d) ∷
+          (7, 0xe13c594e864744231d652fdbd744b57f3f4e69efa9f423600dbec3bfd9fb22fe) ∷
           [];
     } in
     record {
-      word = 0x92b2a4d7;
+      word = 0x9213a157;
       before = s;
       end = Retired;
       after = record s {
         pc = 0x10000804;
-        v = (9, 0x8000000180007fff0002800140000000fffffffe80010001ffffaaaa0000) ∷
+        v = (2, 0xc2f15280e090f04162e0b97ae31212f2d4c42290f7f13170b6534729bdd0966) ∷
             s.v;
       };
     }
@@ -527,54 +531,53 @@ vremu_vv =
       };
     }
 
--- vrsub.vx v2, v9, x24, v0.t
+-- vrsub.vx v14, v11, x28, v0.t
 abbrev pub vrsub_vx : Case
 vrsub_vx =
     let s : State = record start {
       policy = Ones;
-      vl = 4;
-      vtype = typed E32 Mf2 true true;
-      vxrm = NearestEven;
-      x = (24, 0x55555555) ∷ [];
-      v = (0, 0x400000000000000000002000000000000000000000000000000040000000) ∷
-          (2, 0x80000001aaaaaaaa000000008000000140000000b5ba71da7829cbfeed03406f) ∷
-          (9, 0x272a8bb000000002472da33009057ddf0a1c573c4a3cd3b87ff1c3b6bbd2c23d) ∷
+      vl = 15;
+      vtype = typed E8 Mf2 false true;
+      vxrm = Odd;
+      x = (28, 0x2) ∷ [];
+      v = (0, 0xffffffffffffffffffffffffffffffffffffffffffffffffffffffffffffffff) ∷
+          (11, 0x3385c98c579df851ee8e4fba853c4b5a2b1a18fbf4e54704100607563a7f499e) ∷
+          (14, 0x6dabc1711747d48d33a873dd2073b5cfc47fd70cb64708ed0ef4dd0cb3389046) ∷
           [];
     } in
     record {
-      word = 0x0c9c4157;
+      word = 0x0cbe4757;
       before = s;
       end = Retired;
       after = record s {
         pc = 0x10000804;
-        v = (2, 0xffffffffffffffffffffffffffffffffffffffffffffffffffffffffffffffff) ∷
+        v = (14, 0x6dabc1711747d48d33a873dd2073b5cfc4e8ea070e1dbbfef2fcfbacc883b964) ∷
             s.v;
       };
     }
 
--- vsbc.vvm v2, v22, v22, v0
+-- vsbc.vvm v28, v14, v27, v0
 abbrev pub vsbc_vvm : Case
 vsbc_vvm =
     let s : State = record start {
-      vl = 64;
-      vtype = typed E8 M2 true true;
-      vstart = 63;
-      vxrm = Odd;
-      v = (0, 0x200000000000000000000000000000000000000000000000100000004) ∷
-          (2, 0x5fdf040f047bdfbcb76eba263449f547be6444a87964dff1700b3a75ec3204f1) ∷
-          (3, 0x327b6a2c4e972bda865770843b328f465f43424bc96acdb272d1c379f53c164d) ∷
-          (22, 0xe68e6c3ea3d1291c4484139788744081e305231949981741fd45eacc45c696dd) ∷
-          (23, 0x873bc96e124662daedc6423f449acf28a6bbc3661e67f9e1db0c27089f0cf540) ∷
+      vl = 8;
+      vtype = typed E32 M1 true true;
+      vstart = 3;
+      vxsat = true;
+      v = (0, 0x3a1de6a46c2d64f675161c9b315c8f03083e7bfe667350d3a30d41b2fc3573b4) ∷
+          (14, 0x23d09e20a000000020b2de311720a6c53480462804000000000000000) ∷
+          (27, 0xeb8fd90183df1258000000040000000aaaaaaaa20b2bf304f078c525483fc40) ∷
+          (28, 0x2ec6778effffffff80000001000000020000000040000000fffffffeff7b4598) ∷
           [];
     } in
     record {
-      word = 0x496b0157;
+      word = 0x48ed8e57;
       before = s;
       end = Retired;
       after = record s {
         pc = 0x10000804;
         vstart = 0;
-        v = (3, 0x7b6a2c4e972bda865770843b328f465f43424bc96acdb272d1c379f53c164d) ∷
+        v = (28, 0xf147027124cbf0e580000001cb2de310c75fc1a940000000fffffffeff7b4598) ∷
             s.v;
       };
     }
@@ -627,25 +630,26 @@ vsra_vx =
       };
     }
 
--- vsrl.vi v5, v21, 7, v0.t
+-- vsrl.vi v27, v22, 0, v0.t
 abbrev pub vsrl_vi : Case
 vsrl_vi =
     let s : State = record start {
-      vl = 9;
-      vtype = typed E8 Mf2 true true;
-      vxrm = Odd;
-      v = (0, 0x21000804) ∷
-          (5, 0xbcb1ddff0001774002aaff557902190180005f4000e9fe0c818b80fe8c6d7f23) ∷
-          (21, 0x7ffe55aae603ff9aff0001805e7faca45510d5010104aaaa6e02fe7f00fe8054) ∷
+      vl = 15;
+      vtype = typed E16 M1 true false;
+      vxrm = NearestEven;
+      vxsat = true;
+      v = (0, 0xffffffffffffffffffffffffffffffffffffffffffffffffffffffffffffffff) ∷
+          (22, 0x40006582800178f41b17aaaa8000000190738001308d0eb90bdc5555e593fffe) ∷
+          (27, 0x8430fffe15a780010000633b800016abbc9e0001ffff40009a507295ffff04b4) ∷
           [];
     } in
     record {
-      word = 0xa153b2d7;
+      word = 0xa1603dd7;
       before = s;
       end = Retired;
       after = record s {
         pc = 0x10000804;
-        v = (5, 0xbcb1ddff0001774002aaff557902190180005f4000e9fe0c818b80fe8c017f23) ∷
+        v = (27, 0x84306582800178f41b17aaaa8000000190738001308d0eb90bdc5555e593fffe) ∷
             s.v;
       };
     }

@@ -3,48 +3,49 @@ use Rattle.std.specs.Prelude.{[], ◌∷◌, true, false}
 use Rattle.rv_model.specs.declared.vector.policy.Policy.TheVariants.{Ones}
 use Rattle.rv_model.specs.declared.vector.state.RoundingMode.TheVariants.{NearestEven, Down, Odd}
 use Rattle.rv_model.specs.declared.vector.types.Lmul.TheVariants.{M1, M2, M8, Mf4, Mf2}
-use Rattle.rv_model.specs.declared.vector.types.Sew.TheVariants.{E8, E16, E32}
+use Rattle.rv_model.specs.declared.vector.types.Sew.TheVariants.{E8, E16, E32, E64}
 use Rattle.test_definitions.specs.States.{Case, State, start, typed, Retired}
 
--- vmv.s.x v13, x10
+-- vmv.s.x v15, x5
 abbrev pub vmv_s_x : Case
 vmv_s_x =
     let s : State = record start {
-      vl = 2;
-      vtype = typed E8 M1 true false;
-      x = (10, 0xb4) ∷ [];
-      v = (13, 0x7800aa010137ff80004e00aacf40410202ff530200fe5581505793fefe1720) ∷
+      vl = 127;
+      vtype = typed E16 M8 true true;
+      vxrm = NearestEven;
+      x = (5, 0x6b44) ∷ [];
+      v = (15, 0xfffeffffaaaaaaaa8001000000008000ffff800000007fff8000aaaa0000ffff) ∷
           [];
     } in
     record {
-      word = 0x420566d7;
+      word = 0x4202e7d7;
       before = s;
       end = Retired;
       after = record s {
         pc = 0x10000804;
-        v = (13, 0x7800aa010137ff80004e00aacf40410202ff530200fe5581505793fefe17b4) ∷
+        v = (15, 0xfffeffffaaaaaaaa8001000000008000ffff800000007fff8000aaaa00006b44) ∷
             s.v;
       };
     }
 
--- vmv.x.s x11, v2
+-- vmv.x.s x14, v29
 abbrev pub vmv_x_s : Case
 vmv_x_s =
     let s : State = record start {
-      vl = 1;
-      vtype = typed E32 Mf2 false false;
+      vl = 7;
+      vtype = typed E32 M1 true false;
       vxrm = Down;
-      x = (11, 0x2de0d8be38742334) ∷ [];
-      v = (2, 0xdde8dba755555555000000028000000055555555203b58295e5c15feb0af8c3a) ∷
+      x = (14, 0xf579414defb7f877) ∷ [];
+      v = (29, 0x18af0965ba653013c07e4fc8104c3e42d235a6c023aed338685e01309a008cd) ∷
           [];
     } in
     record {
-      word = 0x422025d7;
+      word = 0x43d02757;
       before = s;
       end = Retired;
       after = record s {
         pc = 0x10000804;
-        x = (11, 0xffffffffb0af8c3a) ∷ s.x;
+        x = (14, 0x9a008cd) ∷ s.x;
       };
     }
 
@@ -96,33 +97,34 @@ vmv2r_v =
       };
     }
 
--- vmv4r.v v4, v0
+-- vmv4r.v v20, v8
 abbrev pub vmv4r_v : Case
 vmv4r_v =
     let s : State = record start {
       policy = Ones;
-      vl = 1;
-      vtype = typed E16 Mf2 true true;
-      v = (0, 0xf5f4910ffffe5e10948d0001faeaf4d028c5aaaa7fff5bd1aaaaef9f8001b8d3) ∷
-          (1, 0x7a25fffe8000ffff5bf67787d60cf7f2d04172fdcda6ffff7fff11af0566b45f) ∷
-          (2, 0xd9a3fffee6a7d5c687eb7fff375d400000010002109107d2902fffffaaaa0917) ∷
-          (3, 0x92468001ff0acc0eb59300011b2e4000400080010002800080012354fcf8723b) ∷
-          (4, 0x80008000b4867f97c23500019407fffefffe8001800038d14dcd24904000) ∷
-          (5, 0x58a2ef1e0000fffe8334ffffa45d861d0001d0ef872667efc8f4fffef9f60000) ∷
-          (6, 0xbd390000aaaa0abfd62e205f55550002b224fe7a0001fffee3b45555086585e1) ∷
-          (7, 0xbfefffffce305c9f000123b36742ec0880011a3b0002800144165b42ffe901a0) ∷
+      vl = 15;
+      vtype = typed E32 M2 false false;
+      vxrm = Odd;
+      v = (8, 0x7000000020000000300000003000000000000000700000001) ∷
+          (9, 0x200000005000000000000000700000002000000050000000100000007) ∷
+          (10, 0x7000000000000000100000005000000010000000200000005) ∷
+          (11, 0x7000000010000000500000000ffffffffffffffff0000000000000002) ∷
+          (20, 0x5ffffffff0000000200000003ffffffff000000020000000200000007) ∷
+          (21, 0x200000005000000050000000000000003000000070000000300000007) ∷
+          (22, 0x700000005ffffffff000000050000000500000005) ∷
+          (23, 0x1ffffffff000000070000000200000002000000020000000200000007) ∷
           [];
     } in
     record {
-      word = 0x9e01b257;
+      word = 0x9e81ba57;
       before = s;
       end = Retired;
       after = record s {
         pc = 0x10000804;
-        v = (4, 0xf5f4910ffffe5e10948d0001faeaf4d028c5aaaa7fff5bd1aaaaef9f8001b8d3) ∷
-            (5, 0x7a25fffe8000ffff5bf67787d60cf7f2d04172fdcda6ffff7fff11af0566b45f) ∷
-            (6, 0xd9a3fffee6a7d5c687eb7fff375d400000010002109107d2902fffffaaaa0917) ∷
-            (7, 0x92468001ff0acc0eb59300011b2e4000400080010002800080012354fcf8723b) ∷
+        v = (20, 0x7000000020000000300000003000000000000000700000001) ∷
+            (21, 0x200000005000000000000000700000002000000050000000100000007) ∷
+            (22, 0x7000000000000000100000005000000010000000200000005) ∷
+            (23, 0x7000000010000000500000000ffffffffffffffff0000000000000002) ∷
             s.v;
       };
     }
@@ -191,25 +193,28 @@ vcompress_vm =
       };
     }
 
--- vrgather.vx v28, v29, x4
+-- vrgather.vx v10, v4, x3
 abbrev pub vrgather_vx : Case
 vrgather_vx =
     let s : State = record start {
-      policy = Ones;
-      vl = 2;
-      vtype = typed E16 Mf2 false false;
-      x = (4, 0x661d6931a4fcfe72) ∷ [];
-      v = (28, 0x50001000000070002ffffffff000300000003000200030002000300000005) ∷
-          (29, 0xffff000100000005000100070002000700010000000500070000000500010003) ∷
+      vl = 6;
+      vtype = typed E64 M2 true true;
+      vxrm = Odd;
+      x = (3, 0x100000001) ∷ [];
+      v = (4, 0xffffffffffffffff00000000000000015555555555555555) ∷
+          (5, 0x4000000000000000d56d0e2d1561728f957686a5e8652e619d4f0f59a099e1d3) ∷
+          (10, 0x4827a7e1852b0743d263b5f959b48f42639765e52aec517ab4f65cd5a4474b3d) ∷
+          (11, 0x79381c6cc73fa55c000000000000000040000000000000000000000000000000) ∷
           [];
     } in
     record {
-      word = 0x33d24e57;
+      word = 0x3241c557;
       before = s;
       end = Retired;
       after = record s {
         pc = 0x10000804;
-        v = (28, 0x50001000000070002ffffffff000300000003000200030002000300000000) ∷
+        v = (10, 0x0) ∷
+            (11, 0x79381c6cc73fa55c000000000000000000000000000000000000000000000000) ∷
             s.v;
       };
     }
@@ -308,27 +313,25 @@ vslidedown_vi =
       };
     }
 
--- vslideup.vi v28, v6, 0, v0.t
-abbrev pub vslideup_vi : Case
-vslideup_vi =
+-- vslideup.vx v21, v15, x21
+abbrev pub vslideup_vx : Case
+vslideup_vx =
     let s : State = record start {
-      vl = 3;
-      vtype = typed E32 M2 false false;
-      vxrm = NearestEven;
-      v = (0, 0x31) ∷
-          (6, 0x3cc13bc8800000008000000164a520f9aaaaaaaaed53352e0000000000000001) ∷
-          (7, 0x466133563fa84db461fdcdd2c634e7be5555555500c72912710ded87346f673e) ∷
-          (28, 0x5158420b6cde94ba0000000000000002ba5f05cd000000022f618876ba75b64e) ∷
-          (29, 0xdfed4f4effffffff3c60d7ed4000000040000000089f791f0cf62bcb24b668be) ∷
+      vl = 31;
+      vtype = typed E8 M1 true false;
+      vxrm = Odd;
+      x = (21, 0x2) ∷ [];
+      v = (15, 0xff3a559755fe02813955007fa3ff7faa014f86cf40fffe4cfe80b4aa000e00ff) ∷
+          (21, 0x55cf558aaa7faa7faa685500401d4040ff3602018001087fc13031fefe73aa80) ∷
           [];
     } in
     record {
-      word = 0x38603e57;
+      word = 0x3afacad7;
       before = s;
       end = Retired;
       after = record s {
         pc = 0x10000804;
-        v = (28, 0x5158420b6cde94ba0000000000000002ba5f05cd000000022f61887600000001) ∷
+        v = (21, 0x559755fe02813955007fa3ff7faa014f86cf40fffe4cfe80b4aa000e00ffaa80) ∷
             s.v;
       };
     }

@@ -2,31 +2,30 @@
 use Rattle.std.specs.Prelude.{[], ◌∷◌, true, false}
 use Rattle.rv_model.specs.declared.vector.policy.Policy.TheVariants.{Ones}
 use Rattle.rv_model.specs.declared.vector.state.RoundingMode.TheVariants.{NearestEven, Down, Odd}
-use Rattle.rv_model.specs.declared.vector.types.Lmul.TheVariants.{M1, M2, M4, Mf8, Mf2}
+use Rattle.rv_model.specs.declared.vector.types.Lmul.TheVariants.{M1, M2, M4, Mf8, Mf4, Mf2}
 use Rattle.rv_model.specs.declared.vector.types.Sew.TheVariants.{E8, E16, E32, E64}
 use Rattle.test_definitions.specs.States.{Case, State, start, typed, Retired}
 
--- vredand.vs v20, v22, v26, v0.t
+-- vredand.vs v6, v9, v20, v0.t
 abbrev pub vredand_vs : Case
 vredand_vs =
     let s : State = record start {
-      vl = 15;
-      vtype = typed E8 Mf2 true true;
-      vxrm = NearestEven;
-      vxsat = true;
-      v = (0, 0x0) ∷
-          (20, 0xaa7f55ff81400255feff0181ffaaffaafe55010202817f4040ff0055ff550081) ∷
-          (22, 0x810255aa01027f0000fefe80fffe01feff02aa40550081027f0180fe00aa55ff) ∷
-          (26, 0xfeff4002ff02aafffe7fff4055fe4000ff0040feaa817f8002aa0140558081aa) ∷
+      vl = 4;
+      vtype = typed E16 Mf4 false false;
+      vxrm = Odd;
+      v = (0, 0xffffffffffffffffffffffffffffffffffffffffffffffffffffffffffdeffef) ∷
+          (6, 0x7ffffffe0001000280005555555500007fff40000002400000014000ffff4000) ∷
+          (9, 0xfffe00015555fffffffeaaaa00028000800140000001aaaa0001aaaa4000ffff) ∷
+          (20, 0xaaaa80010002aaaa4000800155557ffffffe00028001fffeffff7ffffffffffe) ∷
           [];
     } in
     record {
-      word = 0x056d2a57;
+      word = 0x049a2357;
       before = s;
       end = Retired;
       after = record s {
         pc = 0x10000804;
-        v = (20, 0xaa7f55ff81400255feff0181ffaaffaafe55010202817f4040ff0055ff5500aa) ∷
+        v = (6, 0x7ffffffe0001000280005555555500007fff40000002400000014000ffff0000) ∷
             s.v;
       };
     }
@@ -56,27 +55,24 @@ vredmax_vs =
       };
     }
 
--- vredmaxu.vs v10, v8, v7, v0.t
+-- vredmaxu.vs v25, v1, v19
 abbrev pub vredmaxu_vs : Case
 vredmaxu_vs =
     let s : State = record start {
-      vl = 2;
+      vl = 3;
       vtype = typed E8 Mf8 true false;
-      vxrm = Down;
-      vxsat = true;
-      v = (0, 0xbd1005a7bb67c64e424a6a7575a7c89a4106077c4d86c3ce1c5e53002936ccae) ∷
-          (7, 0x7b1c4f7cfe806bfec8e240ff000202b340a57faa0bb6aa12957f8080fefe5efe) ∷
-          (8, 0x27f000bfeaa40fee4f3df2c199900027780557f40fe02ff937200307d576d53) ∷
-          (10, 0x95174462fe5555f57f551b7fd3df0c40555a40fe8001025573010040f1ff0eaa) ∷
+      v = (1, 0xaa0102017f7f7f40aa5581554055ff80554001fe0200feff000155018140027f) ∷
+          (19, 0xffff7faa00fffe017f5501ff02ffff02fe810000aa02550200550081ff807ffe) ∷
+          (25, 0x8040aafe02fe01ff40808100017f558002024081aa7f55020100fefffe00fe80) ∷
           [];
     } in
     record {
-      word = 0x1883a557;
+      word = 0x1a19acd7;
       before = s;
       end = Retired;
       after = record s {
         pc = 0x10000804;
-        v = (10, 0x95174462fe5555f57f551b7fd3df0c40555a40fe8001025573010040f1ff0efe) ∷
+        v = (25, 0x8040aafe02fe01ff40808100017f558002024081aa7f55020100fefffe00fefe) ∷
             s.v;
       };
     }
@@ -152,25 +148,27 @@ vredor_vs =
       };
     }
 
--- vredsum.vs v16, v16, v25, v0.t
+-- vredsum.vs v1, v26, v22, v0.t
 abbrev pub vredsum_vs : Case
 vredsum_vs =
     let s : State = record start {
       vl = 5;
-      vtype = typed E16 M1 false false;
-      v = (0, 0x0) ∷
-          (16, 0x55550000800080017fff0000ffff0001000155554000555580017fff8001) ∷
-          (25, 0xffff80010001ffff8001fffe8000800000020002fffffffffffe7fff0000ffff) ∷
+      vtype = typed E64 M2 true true;
+      vxrm = NearestEven;
+      v = (0, 0x141d6dea87e490f11ca4435f83fa803f7ed23cacfb68461211273e9739cc7e67) ∷
+          (1, 0x2ffffffffffffffff40000000000000004000000000000000) ∷
+          (22, 0xfffffffffffffffe800000000000000140000000000000004000000000000000) ∷
+          (26, 0x255555555555555550000000000000001) ∷
+          (27, 0xaaaaaaaaaaaaaaaa800000000000000100000000000000020000000000000002) ∷
           [];
     } in
     record {
-      word = 0x010ca857;
+      word = 0x01ab20d7;
       before = s;
       end = Retired;
       after = record s {
         pc = 0x10000804;
-        v = (16, 0x55550000800080017fff0000ffff0001000155554000555580017fffffff) ∷
-            s.v;
+        v = (1, 0x2ffffffffffffffff40000000000000009555555555555558) ∷ s.v;
       };
     }
 

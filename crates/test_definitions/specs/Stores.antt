@@ -27,93 +27,92 @@ vs1r_v =
       ranges = (0x20d1b, 64) ∷ [];
     }
 
--- vs2r.v v26, (x14)
+-- vs2r.v v10, (x4)
 abbrev pub vs2r_v : Stored
 vs2r_v =
     let s : State = record start {
-      vtype = typed E64 M1 false false;
-      vxrm = NearestEven;
-      x = (14, 0x20c7b) ∷ [];
-      v = (26, 0x7c2bdd451ce4a1cb322cb250afba6e399d696ccdd8285a947d031332db124406) ∷
-          (27, 0xfafb32923e38747c674fc798bded3fa6fb1a502735fca3793d7415334fe82857) ∷
+      vl = 7;
+      vtype = typed E16 M2 false false;
+      x = (4, 0x210b1) ∷ [];
+      v = (10, 0xe62e1a39150a59980131a46e46e2af6a4570afb489c6189cfa223cd51f76a381) ∷
+          (11, 0x1f1f606913840fa7505cca55870a378f826bba91725a06e6b50e1582082d5fd6) ∷
           [];
     } in
     record {
       case = record {
-        word = 0x22870d27;
+        word = 0x22820527;
         before = s;
         end = Retired;
         after = record s { pc = 0x10000804 };
       };
-      bytes = run 0x20c7b 32 0x7c2bdd451ce4a1cb322cb250afba6e399d696ccdd8285a947d031332db124406 ++
-          run 0x20c9b 32 0xfafb32923e38747c674fc798bded3fa6fb1a502735fca3793d7415334fe82857;
-      ranges = (0x20c6b, 96) ∷ [];
+      bytes = run 0x210b1 23 0x31a46e46e2af6a4570afb489c6189cfa223cd51f76a381 ++
+          run 0x210c9 32 0x505cca55870a378f826bba91725a06e6b50e1582082d5fd6e62e1a39150a5998 ++
+          run 0x210e9 8 0x1f1f606913840fa7;
+      ranges = (0x210a1, 96) ∷ [];
     }
 
--- vs4r.v v8, (x17)
+-- vs4r.v v24, (x30)
 abbrev pub vs4r_v : Stored
 vs4r_v =
     let s : State = record start {
-      vstart = 127;
-      vxrm = Odd;
-      x = (17, 0x2006f) ∷ [];
-      v = (8, 0xe9bad68102c4bde342b02166cdf53f05f72da117f8930537101f0b9e8b44204f) ∷
-          (9, 0x2a2b0f49525ec67fc3a480a544c0b8337602ca6b9740fec582b5270c2064be78) ∷
-          (10, 0x2b5e5fa30203b0501c5edad59bf5e7256697fd99fc7d434a7a2aa38387cfdc30) ∷
-          (11, 0xe079712e3524988e0d96693432d0bf6f454029bc66a527dcde11c7eb31c7ac3d) ∷
+      vl = 27;
+      vtype = typed E8 M4 true true;
+      vxrm = Down;
+      x = (30, 0x21d81) ∷ [];
+      v = (24, 0xd1f6fd4ce9f742f7a27b8662ae924d5479740b46d06ff48d923b21ae01afe736) ∷
+          (25, 0x5b5799d34f5ff982acffd4a8d69fc4afecd057859c614d74065d3ac47adc1d12) ∷
+          (26, 0xd4873d34a3037c510f99e5039b51b84a5f28b012a5d175fa39c313e950c8d89b) ∷
+          (27, 0x7306b2d13fa660b8d19a10cbda17da7309b08d91ceb1a04f911467a15b823b8f) ∷
           [];
     } in
     record {
       case = record {
-        word = 0x62888427;
+        word = 0x628f0c27;
         before = s;
         end = Retired;
-        after = record s {
-          pc = 0x10000804;
-          vstart = 0;
-        };
+        after = record s { pc = 0x10000804 };
       };
-      bytes = run 0x200ee 1 0xe0;
-      ranges = (0x200de, 33) ∷ [];
+      bytes = run 0x21d81 32 0xd1f6fd4ce9f742f7a27b8662ae924d5479740b46d06ff48d923b21ae01afe736 ++
+          run 0x21da1 32 0x5b5799d34f5ff982acffd4a8d69fc4afecd057859c614d74065d3ac47adc1d12 ++
+          run 0x21dc1 32 0xd4873d34a3037c510f99e5039b51b84a5f28b012a5d175fa39c313e950c8d89b ++
+          run 0x21de1 32 0x7306b2d13fa660b8d19a10cbda17da7309b08d91ceb1a04f911467a15b823b8f;
+      ranges = (0x21d71, 160) ∷ [];
     }
 
--- vs8r.v v8, (x5)
+-- vs8r.v v16, (x29)
 abbrev pub vs8r_v : Stored
 vs8r_v =
     let s : State = record start {
-      vl = 6;
-      vtype = typed E32 M1 true false;
-      vstart = 42;
+      vl = 7;
+      vtype = typed E64 M2 false true;
       vxrm = NearestEven;
-      x = (5, 0x21e83) ∷ [];
-      v = (8, 0xa1aaf0188f4316b556a6285c985ecfeed802d33009ec95f2f7dc2b4def423644) ∷
-          (9, 0x5ee591821ff275b8a8a04f9dde8098fa2110e49cf03e683cbea946dfc2afa412) ∷
-          (10, 0xc9d72f23724cd36328bb0d1d1f604753083e94c5affa6d0829cfb386b130676d) ∷
-          (11, 0x739bd4d46dd1705befd030546102a4abc7f1b176bac777525955023071999dd6) ∷
-          (12, 0xf1a062b92436745721c8eed6fc2ad16722304f039013c143a7c19986f3c186f4) ∷
-          (13, 0x4d722524d044a0e586438e9da6384b62667ae4a32479f1c1c95dddfda5810c86) ∷
-          (14, 0xeac2452ee50fee257d0fc93a091bb4622e70bc7273e558df3542c92c95d2502d) ∷
-          (15, 0xf134aad974172c659ddb987677a9639079031e39887bd4603a2f0b9f171fa6a8) ∷
+      x = (29, 0x21ae4) ∷ [];
+      v = (16, 0xf8173cd0c82951b4a321f1e0cd23b516c97f1abf3f74a9634a4028e196ce588f) ∷
+          (17, 0x3f4537df4dcc15ac2b510da94ae66ea8deb3441fb85afc3f1636e9cddddeb534) ∷
+          (18, 0xe24d117b94e98a122ac000ce395749fc437612ff5bf13a344c4401b574f4666b) ∷
+          (19, 0x75330a963df2268331640ec6dbd77ca71a89b55d5d2a4fed38f19e09782321f2) ∷
+          (20, 0x5220fe04e180f9e01d040a56434c1ec3301129210e5b321bedc75491bc2ad281) ∷
+          (21, 0x8243246b9d84dd98d16e525ac7f6c26c58c1beb2bea95c54aed557109c9d51ba) ∷
+          (22, 0xa316f0b11ad4a06f094a9ed5d3f7b3a8a8eba9ac99216cc85c48b1f0983ecbc5) ∷
+          (23, 0xc98fb7aede911e6e7b66786e84428cf88ef0f160f0e238046a42493ef158575d) ∷
           [];
     } in
     record {
       case = record {
-        word = 0xe2828427;
+        word = 0xe28e8827;
         before = s;
         end = Retired;
-        after = record s {
-          pc = 0x10000804;
-          vstart = 0;
-        };
+        after = record s { pc = 0x10000804 };
       };
-      bytes = run 0x21ead 32 0x6d0829cfb386b130676d5ee591821ff275b8a8a04f9dde8098fa2110e49cf03e ++
-          run 0x21ecd 27 0x3071999dd6c9d72f23724cd36328bb0d1d1f604753083e94c5affa ++
-          run 0x21ee9 32 0x9986f3c186f4739bd4d46dd1705befd030546102a4abc7f1b176bac777525955 ++
-          run 0x21f09 32 0xddfda5810c86f1a062b92436745721c8eed6fc2ad16722304f039013c143a7c1 ++
-          run 0x21f29 32 0xc92c95d2502d4d722524d044a0e586438e9da6384b62667ae4a32479f1c1c95d ++
-          run 0x21f49 32 0xb9f171fa6a8eac2452ee50fee257d0fc93a091bb4622e70bc7273e558df3542 ++
-          run 0x21f69 26 0xf134aad974172c659ddb987677a9639079031e39887bd4603a2f;
-      ranges = (0x21e9d, 246) ∷ [];
+      bytes = run 0x21ae4 32 0xf8173cd0c82951b4a321f1e0cd23b516c97f1abf3f74a9634a4028e196ce588f ++
+          run 0x21b04 32 0x3f4537df4dcc15ac2b510da94ae66ea8deb3441fb85afc3f1636e9cddddeb534 ++
+          run 0x21b24 32 0xe24d117b94e98a122ac000ce395749fc437612ff5bf13a344c4401b574f4666b ++
+          run 0x21b44 32 0x75330a963df2268331640ec6dbd77ca71a89b55d5d2a4fed38f19e09782321f2 ++
+          run 0x21b64 32 0x5220fe04e180f9e01d040a56434c1ec3301129210e5b321bedc75491bc2ad281 ++
+          run 0x21b84 32 0x8243246b9d84dd98d16e525ac7f6c26c58c1beb2bea95c54aed557109c9d51ba ++
+          run 0x21ba4 32 0xa316f0b11ad4a06f094a9ed5d3f7b3a8a8eba9ac99216cc85c48b1f0983ecbc5 ++
+          run 0x21bc4 32 0xc98fb7aede911e6e7b66786e84428cf88ef0f160f0e238046a42493ef158575d;
+      ranges = (0x21ad4, 288) ∷ [];
     }
 
 -- vse16.v v11, (x13), v0.t
@@ -139,29 +138,26 @@ vse16_v =
       ranges = (0x204b0, 46) ∷ [];
     }
 
--- vse32.v v4, (x16)
+-- vse32.v v26, (x18)
 abbrev pub vse32_v : Stored
 vse32_v =
     let s : State = record start {
-      vl = 1;
-      vtype = typed E32 M4 false false;
+      vl = 7;
+      vtype = typed E8 Mf4 true false;
       vxrm = Down;
-      x = (16, 0x20c01) ∷ [];
-      v = (4, 0x442e0b521a940d873317eb87f5fd8d721ea6c97f5fb30a020c1e532d5254c745) ∷
-          (5, 0xd7f1d075fffe94405952835cc62ba6f963338520432c231edbe4a571df2a7b2) ∷
-          (6, 0x9c97eada5539b530ca2d052cf1aa4d1e95eafba7d47f6702ac823027776b74b1) ∷
-          (7, 0x6c1efeabd778b86dd7fa655d94000d58b995a6ca992da635e2e0892de252bd06) ∷
+      x = (18, 0x20f0d) ∷ [];
+      v = (26, 0xe19ebf7f72e7028b91cf5e788fa95acf29df10732f18360702450c252458cb98) ∷
           [];
     } in
     record {
       case = record {
-        word = 0x02086227;
+        word = 0x02096d27;
         before = s;
         end = Retired;
         after = record s { pc = 0x10000804 };
       };
-      bytes = run 0x20c01 4 0x5254c745;
-      ranges = (0x20bf1, 36) ∷ [];
+      bytes = run 0x20f0d 28 0x72e7028b91cf5e788fa95acf29df10732f18360702450c252458cb98;
+      ranges = (0x20efd, 60) ∷ [];
     }
 
 -- vse64.v v13, (x30), v0.t
@@ -187,26 +183,26 @@ vse64_v =
       ranges = (0x21f8b, 64) ∷ [];
     }
 
--- vse8.v v1, (x23)
+-- vse8.v v6, (x24)
 abbrev pub vse8_v : Stored
 vse8_v =
     let s : State = record start {
-      vl = 2;
-      vtype = typed E8 Mf8 false true;
+      vl = 31;
+      vtype = typed E32 M4 false false;
       vxrm = NearestEven;
-      x = (23, 0x24ffe) ∷ [];
-      v = (1, 0x3f6a9beb1267a3438ece9efb3b034878fcb7d64cf2989d5394c2d77f4e458fba) ∷
+      x = (24, 0x21598) ∷ [];
+      v = (6, 0xa37c9e06520eaa4346d0481d906ce4cc485e12d6e09f421db7635565feb81bf2) ∷
           [];
     } in
     record {
       case = record {
-        word = 0x020b80a7;
+        word = 0x020c0327;
         before = s;
         end = Retired;
         after = record s { pc = 0x10000804 };
       };
-      bytes = run 0x24ffe 2 0x8fba;
-      ranges = (0x24fee, 18) ∷ [];
+      bytes = run 0x21598 31 0x7c9e06520eaa4346d0481d906ce4cc485e12d6e09f421db7635565feb81bf2;
+      ranges = (0x21588, 63) ∷ [];
     }
 
 -- vsm.v v3, (x24)
@@ -235,29 +231,27 @@ vsm_v =
       ranges = (0x20b32, 35) ∷ [];
     }
 
--- vsoxei16.v v24, (x4), v21
+-- vsoxei16.v v16, (x2), v0
 abbrev pub vsoxei16_v : Stored
 vsoxei16_v =
     let s : State = record start {
-      vl = 2;
-      vtype = typed E64 M2 false false;
+      vl = 3;
+      vtype = typed E8 Mf8 false false;
       vxrm = Odd;
-      vxsat = true;
-      x = (4, 0x24f3d) ∷ [];
-      v = (21, 0x80007800700068006000580050004800400038003000280020001800100008) ∷
-          (24, 0x71b4d32b38bd68ec13d10ca987dc73f240da5894c0865cd57c6077135bfc0c3e) ∷
-          (25, 0x66c9e9fda89cdef1839792d191f495c950f543de43e09e8c018042766d763937) ∷
+      x = (2, 0x24fac) ∷ [];
+      v = (0, 0x10000f000e000d000c000b000a000900080007000600050004000300020001) ∷
+          (16, 0x5706657c6a7771d4d546347e4f60115ddacff454c63bd66226017bc09a2d1f3b) ∷
           [];
     } in
     record {
       case = record {
-        word = 0x0f525c27;
+        word = 0x0e015827;
         before = s;
         end = Retired;
         after = record s { pc = 0x10000804 };
       };
-      bytes = run 0x24f45 16 0x40da5894c0865cd57c6077135bfc0c3e;
-      ranges = (0x24f35, 48) ∷ [];
+      bytes = run 0x24fad 3 0x2d1f3b;
+      ranges = (0x24f9d, 35) ∷ [];
     }
 
 -- vsoxei32.v v5, (x25), v17
@@ -286,152 +280,212 @@ vsoxei32_v =
       ranges = (0x20bcf, 77) ∷ (0x20d69, 40) ∷ (0x20fce, 40) ∷ [];
     }
 
--- vsoxei64.v v14, (x20), v10
+-- vsoxei64.v v27, (x14), v15
 abbrev pub vsoxei64_v : Stored
 vsoxei64_v =
     let s : State = record start {
-      vl = 1;
-      vtype = typed E8 Mf4 true true;
+      vl = 3;
+      vtype = typed E8 Mf8 false true;
       vxrm = Odd;
-      vxsat = true;
-      x = (20, 0x20931) ∷ [];
-      v = (10, 0x9200000000000000c8000000000000001800000000000000b7) ∷
-          (11, 0xdf00000000000000190000000000000037000000000000006a) ∷
-          (14, 0xfd8d469b6b4fd9a674d5d18fff5eb3a7d03bca70efdca2b8585fa68d4e8db055) ∷
+      x = (14, 0x20597) ∷ [];
+      v = (15, 0xca700000000000013e3fffffffffffffc1700000000000004ab) ∷
+          (27, 0x66687e83a5aff30ab8cc0e72dd48c9cf26f448cccbd285bbe05e2991cd0ec0d3) ∷
           [];
     } in
     record {
       case = record {
-        word = 0x0eaa7727;
+        word = 0x0ef77da7;
         before = s;
         end = Retired;
         after = record s { pc = 0x10000804 };
       };
-      bytes = run 0x209e8 1 0x55;
-      ranges = (0x209d8, 33) ∷ [];
+      bytes = run 0x201ae 1 0xc0 ++ run 0x20a42 1 0xd3 ++ run 0x2197a 1 0xe;
+      ranges = (0x2019e, 33) ∷ (0x20a32, 33) ∷ (0x2196a, 33) ∷ [];
     }
 
--- vsoxei8.v v30, (x2), v15, v0.t
+-- vsoxei8.v v28, (x12), v4, v0.t
 abbrev pub vsoxei8_v : Stored
 vsoxei8_v =
     let s : State = record start {
-      vl = 3;
-      vtype = typed E16 Mf4 true false;
-      vxrm = Odd;
-      x = (2, 0x207f0) ∷ [];
-      v = (0, 0xec10dfb49eaac307494241f36549180eca8da8903fdebf63c7d70d31e0cc7422) ∷
-          (15, 0x403e3c3a38363432302e2c2a28262422201e1c1a18161412100e0c0a08060402) ∷
-          (30, 0x17fffce415555fd3810ec565e800180007fffde148573ffff4000fffefd63) ∷
+      vl = 64;
+      vtype = typed E8 M2 false false;
+      x = (12, 0x20374) ∷ [];
+      v = (0, 0x74620fbdf07afc281f107443da87ed531acf8bacbb98b6d80c0e5be4f15a3dd4) ∷
+          (4, 0x62e8c87254f36feb4a56d87d0995865f0c4140e660ef32efe881968d07237de) ∷
+          (5, 0xddb096ec01c80e4ad2e2e780a711584cb991010da856285ed8e5357a4460021a) ∷
+          (28, 0xc022c103fdd33310d366c1f92c8c1d8adfa03c9e9ca01b78c6804b560a84886f) ∷
+          (29, 0xc1e9eaed1ba38ad6be2d975666d6d5d4c495883adb0d50a649bc48614f9dbac5) ∷
           [];
     } in
     record {
       case = record {
-        word = 0x0cf10f27;
+        word = 0x0c460e27;
         before = s;
         end = Retired;
         after = record s { pc = 0x10000804 };
       };
-      bytes = run 0x207f4 2 0xfffe;
-      ranges = (0x207e4, 34) ∷ [];
+      bytes = run 0x20375 1 0x1b ++
+          run 0x2037a 1 0xc0 ++
+          run 0x20381 2 0x9e3a ++
+          run 0x20385 1 0xd6 ++
+          run 0x20388 1 0x3c ++
+          run 0x2039c 1 0x50 ++
+          run 0x203a2 1 0x22 ++
+          run 0x203a9 1 0x48 ++
+          run 0x203cc 1 0xd5 ++
+          run 0x203d2 1 0xa6 ++
+          run 0x203d4 1 0x9d ++
+          run 0x203da 1 0x9c ++
+          run 0x203dc 1 0x56 ++
+          run 0x203e6 1 0x84 ++
+          run 0x203fb 2 0x8003 ++
+          run 0x20400 1 0xc1 ++
+          run 0x20405 1 0x95 ++
+          run 0x20419 1 0x66 ++
+          run 0x2041b 2 0xdb66 ++
+          run 0x2043c 1 0xa3 ++
+          run 0x20444 1 0x2c ++
+          run 0x2044c 1 0x49 ++
+          run 0x20459 1 0xbc ++
+          run 0x20472 1 0x10;
+      ranges = (0x20365, 85) ∷ (0x203bc, 199) ∷ [];
     }
 
--- vsoxseg2ei64.v v2, (x26), v16
-abbrev pub vsoxseg2ei64_v : Stored
-vsoxseg2ei64_v =
+-- vsoxseg7ei64.v v9, (x2), v4
+abbrev pub vsoxseg7ei64_v : Stored
+vsoxseg7ei64_v =
     let s : State = record start {
-      vl = 1;
-      vtype = typed E8 Mf8 false false;
-      vxrm = Down;
-      x = (26, 0x20ff1) ∷ [];
-      v = (2, 0x286683f1bf333d94080d8b9b68488434cbd9467699515973fc265a45b4287980) ∷
-          (3, 0x4dc257b00c716a93b8092f7f051e844b6eaf72d1ac1620026df8f4932c543de) ∷
-          (16, 0x26f000000000000072300000000000000f30000000000000493) ∷
-          [];
-    } in
-    record {
-      case = record {
-        word = 0x2f0d7127;
-        before = s;
-        end = Retired;
-        after = record s { pc = 0x10000804 };
-      };
-      bytes = run 0x21484 2 0xde80;
-      ranges = (0x21474, 34) ∷ [];
-    }
-
--- vsse64.v v16, (x22), x23, v0.t
-abbrev pub vsse64_v : Stored
-vsse64_v =
-    let s : State = record start {
-      vl = 1;
-      vtype = typed E16 M1 false false;
-      vxrm = NearestEven;
-      x = (22, 0x20a48) ∷ (23, 0x8) ∷ [];
-      v = (0, 0x5cf2c66dc07cd46f5c292678f3dac47b20c0937f770247b89a4576237e65552f) ∷
-          (16, 0xeada6b352d93c5cd5f10b0dc35a3e1bce2a4059f12539439b7e38d4d813edde0) ∷
-          (17, 0x635f2fdfecc6a456bcaaef70b9dda8e5180ccbcda79b3b6a92f2dfe816c03fbe) ∷
-          (18, 0xcfc0775c27cf05953eaf7d4867120e20be335ede9066c68f7ee3903f408f5983) ∷
-          (19, 0xc88f0e5104def73e2119e8f4913c0a1abc6d43cb65204b85f9b6d4ccac3486ad) ∷
-          [];
-    } in
-    record {
-      case = record {
-        word = 0x097b7827;
-        before = s;
-        end = Retired;
-        after = record s { pc = 0x10000804 };
-      };
-      bytes = run 0x20a48 8 0xb7e38d4d813edde0;
-      ranges = (0x20a38, 40) ∷ [];
-    }
-
--- vsseg3e16.v v3, (x8)
-abbrev pub vsseg3e16_v : Stored
-vsseg3e16_v =
-    let s : State = record start {
-      vl = 1;
-      vtype = typed E8 Mf4 false false;
-      vxrm = Odd;
-      x = (8, 0x21585) ∷ [];
-      v = (3, 0xf86ce040e71ea50245b55d5591a44bde2242fde7c95b27e6e0c3f392cd67eff0) ∷
-          (4, 0x2290c73b7eadfa4d1ef0c5e4d8e4c3910a079b2ecc5643bcd74108f1e9233efd) ∷
-          (5, 0x2a4b0e69afa3822c4cfbad7c0fe758daab0a7e0b67b480471e7e27e523a267e8) ∷
-          [];
-    } in
-    record {
-      case = record {
-        word = 0x420451a7;
-        before = s;
-        end = Retired;
-        after = record s { pc = 0x10000804 };
-      };
-      bytes = run 0x21585 6 0x67e83efdeff0;
-      ranges = (0x21575, 38) ∷ [];
-    }
-
--- vssseg2e32.v v14, (x14), x0, v0.t
-abbrev pub vssseg2e32_v : Stored
-vssseg2e32_v =
-    let s : State = record start {
-      vl = 3;
-      vtype = typed E64 M2 false false;
+      vl = 16;
+      vtype = typed E8 Mf2 true false;
+      vstart = 1;
       vxrm = NearestEven;
       vxsat = true;
-      x = (14, 0x20566) ∷ [];
-      v = (0, 0x4000000000000000000000000000001c1) ∷
-          (14, 0x2ee4a5750f7c3b0d5edf54969379b6983dc0a82183d0e69bb24595dba8aa31c8) ∷
-          (15, 0x2a4ce3ed5a0b6550853b35e57e0118f976f0b61a244dd013dd0fcf35ca2f7b1a) ∷
+      x = (2, 0x2009b) ∷ [];
+      v = (4, 0x131a0000000000001449000000000000074700000000000008c3) ∷
+          (5, 0x1cd70000000000000598000000000000088d00000000000007a7) ∷
+          (6, 0xdce00000000000000a300000000000019860000000000001426) ∷
+          (7, 0x1d4000000000000180a0000000000001c0b000000000000186e) ∷
+          (9, 0x40ff7f0101fe80aa22fe00f93fb77fff40a0fc67b6e1b29f409f010002f5af81) ∷
+          (10, 0xbc4254cbaa55aa70aa8051c7aa00817faa408102aad2d240622309aab71f0153) ∷
+          (11, 0x7ffc1c02cf400264ffeefe0193fe8100012e19401659e560ffb865018b00fc6e) ∷
+          (12, 0xf28efe5509800847fe02025f52231c4c5e6d0904fefffe4a00fa01ffff78a0) ∷
+          (13, 0x1e28e700ff7fe8ff3bfe3d810e4064fe558001ee804e8102a99681cf4cd05cc3) ∷
+          (14, 0x140200a3b71bb5812ffa8c5233b47f29ffc3aa4f149f070155480281aafaeb00) ∷
+          (15, 0x1ffe8aa6802018180007faab00040fe01e4d337e5d8f02bd97f9740fe802191) ∷
           [];
     } in
     record {
       case = record {
-        word = 0x28076727;
+        word = 0xce4174a7;
+        before = s;
+        end = Retired;
+        after = record s {
+          pc = 0x10000804;
+          vstart = 0;
+        };
+      };
+      bytes = run 0x2013e 7 0xd89f4efe59d2e1 ++
+          run 0x2026f 7 0x1ff554c01aa40 ++
+          run 0x20633 7 0x7f489600b8239f ++
+          run 0x207e2 7 0x21eb5c78fc01af ++
+          run 0x20842 7 0x4081cf0101aa00 ++
+          run 0x20928 7 0x970281fa650901 ++
+          run 0x20e69 7 0xe514800416aab6 ++
+          run 0x213b5 7 0xfeaa4cff8bb702 ++
+          run 0x214c1 7 0x2b0102fe60409f ++
+          run 0x214e4 7 0x80fad0ff001ff5 ++
+          run 0x218a5 7 0xe4c3805e2e40a0 ++
+          run 0x21909 7 0x374fee09400267 ++
+          run 0x21a21 7 0xf00781ffe5d2b2 ++
+          run 0x21ca6 7 0xd3aa016d1981fc ++
+          run 0x21d72 7 0xd955a94aff6240;
+      ranges = (0x2012e, 39) ∷
+          (0x2025f, 39) ∷
+          (0x20623, 39) ∷
+          (0x207d2, 39) ∷
+          (0x20832, 39) ∷
+          (0x20918, 39) ∷
+          (0x20e59, 39) ∷
+          (0x213a5, 39) ∷
+          (0x214b1, 74) ∷
+          (0x21895, 39) ∷
+          (0x218f9, 39) ∷
+          (0x21a11, 39) ∷
+          (0x21c96, 39) ∷
+          (0x21d62, 39) ∷
+          [];
+    }
+
+-- vsse16.v v15, (x15), x23, v0.t
+abbrev pub vsse16_v : Stored
+vsse16_v =
+    let s : State = record start {
+      vl = 4;
+      vtype = typed E16 Mf4 false false;
+      vxrm = Odd;
+      x = (15, 0x21ff7) ∷ (23, 0xffffffffffffffff) ∷ [];
+      v = (0, 0xc2b50dabc39a0155b1495a51cbf005fff0593300c9bd491766c7fb4f976ca16e) ∷
+          (15, 0xee14bb369b5644be0996225cf9125f33945416aa5ebe7084074e8e84fdb50cba) ∷
+          [];
+    } in
+    record {
+      case = record {
+        word = 0x0977d7a7;
         before = s;
         end = Retired;
         after = record s { pc = 0x10000804 };
       };
-      bytes = run 0x20566 8 0xca2f7b1aa8aa31c8;
-      ranges = (0x20556, 40) ∷ [];
+      bytes = run 0x21ff4 4 0xfd8e074e;
+      ranges = (0x21fe4, 28) ∷ [];
+    }
+
+-- vsseg3e32.v v14, (x22)
+abbrev pub vsseg3e32_v : Stored
+vsseg3e32_v =
+    let s : State = record start {
+      vl = 3;
+      vtype = typed E8 Mf8 false true;
+      vxsat = true;
+      x = (22, 0x21bea) ∷ [];
+      v = (14, 0xf3c5b824666e745cc3c41d001ff4af76a8e084f77bd6165652e449be5f52e128) ∷
+          (15, 0xeafda4c615fd2f5b22516499b6d342cfb79469a956430a7c05dddc73dbbebb7a) ∷
+          (16, 0x66f45427b5c7df738abdf1b383b636f88ebf331b90f7ef7e39f02f596d84f8b1) ∷
+          [];
+    } in
+    record {
+      case = record {
+        word = 0x420b6727;
+        before = s;
+        end = Retired;
+        after = record s { pc = 0x10000804 };
+      };
+      bytes = run 0x21bea 32 0x56430a7c7bd6165639f02f5905dddc7352e449be6d84f8b1dbbebb7a5f52e128 ++
+          run 0x21c0a 4 0x90f7ef7e;
+      ranges = (0x21bda, 68) ∷ [];
+    }
+
+-- vssseg3e8.v v24, (x28), x22, v0.t
+abbrev pub vssseg3e8_v : Stored
+vssseg3e8_v =
+    let s : State = record start {
+      vl = 3;
+      vtype = typed E32 Mf2 false false;
+      x = (22, 0xfffffffffffffffd) ∷ (28, 0x21286) ∷ [];
+      v = (0, 0x7ffffffffffffffffffffffffffffffffffffffffffffffffffffffffffffff7) ∷
+          (24, 0xf5c201b262e06f4b6ac1757c7aa33f2a5bc29e9b0c2e5ddcf44806850f9d10d3) ∷
+          (25, 0x35f16dc9cddf518e1e8722e121f5e90ef80fac01ff582e0a0820c3eb5292bfac) ∷
+          (26, 0x909f7d90131d19aa831feaa5b4cee83bb7b5278a4199e3f3b5610631a3c7efd8) ∷
+          [];
+    } in
+    record {
+      case = record {
+        word = 0x496e0c27;
+        before = s;
+        end = Retired;
+        after = record s { pc = 0x10000804 };
+      };
+      bytes = run 0x21280 9 0xd8acd3efbf10c7929d;
+      ranges = (0x21270, 41) ∷ [];
     }
 
 -- vsuxei16.v v17, (x25), v21
@@ -457,53 +511,79 @@ vsuxei16_v =
       ranges = (0x20a7e, 48) ∷ [];
     }
 
--- vsuxei32.v v12, (x7), v16
+-- vsuxei32.v v30, (x4), v30, v0.t
 abbrev pub vsuxei32_v : Stored
 vsuxei32_v =
     let s : State = record start {
-      vl = 8;
-      vtype = typed E32 M2 true true;
-      vstart = 6;
-      vxrm = Odd;
-      x = (7, 0x20000) ∷ [];
-      v = (12, 0xc11b60f40c746bf7baefc2317e092cc9cdfcba1bf11c2b425808b09ba372630c) ∷
-          (13, 0xa785ce4612037c9da2e4da479b18c6ec5c6d90949ac015d459d31a4bdbaaacb7) ∷
-          (16, 0x200000001c0000001800000014000000100000000c0000000800000004) ∷
-          (17, 0x14140000003c0000003800000034000000300000002c0000002800000024) ∷
+      vl = 4;
+      vtype = typed E32 Mf2 false false;
+      vxrm = Down;
+      x = (4, 0x21b37) ∷ [];
+      v = (0, 0xffffffffffffffffffffffffffffffffffffdfffffffffffffffbffffffeffbb) ∷
+          (30, 0x200000001c0000001800000014000000100000000c0000000800000004) ∷
           [];
     } in
     record {
       case = record {
-        word = 0x0703e627;
-        before = s;
-        end = Retired;
-        after = record s {
-          pc = 0x10000804;
-          vstart = 0;
-        };
-      };
-      bytes = run 0x2001c 8 0xc11b60f40c746bf7;
-      ranges = (0x2000c, 40) ∷ [];
-    }
-
--- vsuxei64.v v28, (x19), v28
-abbrev pub vsuxei64_v : Stored
-vsuxei64_v =
-    let s : State = record start {
-      vl = 1;
-      vtype = typed E64 M1 false false;
-      x = (19, 0x20bf1) ∷ [];
-      v = (28, 0x3b00000000000000ed00000000000000f0000000000000000f) ∷ [];
-    } in
-    record {
-      case = record {
-        word = 0x07c9fe27;
+        word = 0x05e26f27;
         before = s;
         end = Retired;
         after = record s { pc = 0x10000804 };
       };
-      bytes = run 0x20c00 8 0xf;
-      ranges = (0x20bf0, 40) ∷ [];
+      bytes = run 0x21b3b 8 0x800000004 ++ run 0x21b47 4 0x10;
+      ranges = (0x21b2b, 48) ∷ [];
+    }
+
+-- vsuxei64.v v18, (x18), v24
+abbrev pub vsuxei64_v : Stored
+vsuxei64_v =
+    let s : State = record start {
+      vl = 16;
+      vtype = typed E16 M1 true true;
+      vxrm = NearestEven;
+      x = (18, 0x20d6f) ∷ [];
+      v = (18, 0x56112ea601a1c16722b00fa0120d6800b5ef52dc8fc9b3454b806d0ecdb894cb) ∷
+          (24, 0xfffffffffffffebffffffffffffffffa0000000000000388000000000000037b) ∷
+          (25, 0x91000000000000001afffffffffffffe49fffffffffffffeeb) ∷
+          (26, 0xfffffffffffffe8100000000000003be000000000000033900000000000001f0) ∷
+          (27, 0x32b000000000000006100000000000000ad00000000000000a2) ∷
+          [];
+    } in
+    record {
+      case = record {
+        word = 0x07897927;
+        before = s;
+        end = Retired;
+        after = record s { pc = 0x10000804 };
+      };
+      bytes = run 0x20bb8 2 0x8fc9 ++
+          run 0x20bf0 2 0x22b0 ++
+          run 0x20c2e 2 0x4b80 ++
+          run 0x20c5a 2 0xb345 ++
+          run 0x20d69 2 0x6d0e ++
+          run 0x20d89 2 0x52dc ++
+          run 0x20dd0 2 0x2ea6 ++
+          run 0x20e00 2 0xb5ef ++
+          run 0x20e11 2 0xc167 ++
+          run 0x20e1c 2 0x1a1 ++
+          run 0x20f5f 2 0x6800 ++
+          run 0x2109a 2 0x5611 ++
+          run 0x210a8 2 0x120d ++
+          run 0x210ea 2 0x94cb ++
+          run 0x210f7 2 0xcdb8 ++
+          run 0x2112d 2 0xfa0;
+      ranges = (0x20ba8, 34) ∷
+          (0x20be0, 34) ∷
+          (0x20c1e, 34) ∷
+          (0x20c4a, 34) ∷
+          (0x20d59, 66) ∷
+          (0x20dc0, 34) ∷
+          (0x20df0, 62) ∷
+          (0x20f4f, 34) ∷
+          (0x2108a, 48) ∷
+          (0x210da, 47) ∷
+          (0x2111d, 34) ∷
+          [];
     }
 
 -- vsuxei8.v v4, (x8), v24, v0.t
@@ -545,27 +625,25 @@ vsuxei8_v =
       ranges = (0x20ce4, 181) ∷ (0x20db8, 33) ∷ (0x20de1, 33) ∷ [];
     }
 
--- vsuxseg4ei16.v v13, (x7), v28
-abbrev pub vsuxseg4ei16_v : Stored
-vsuxseg4ei16_v =
+-- vsuxseg2ei16.v v1, (x19), v1
+abbrev pub vsuxseg2ei16_v : Stored
+vsuxseg2ei16_v =
     let s : State = record start {
-      vl = 1;
-      vtype = typed E16 Mf4 false false;
-      x = (7, 0x2027e) ∷ [];
-      v = (13, 0x92a2fcc28339c3c6a832993b604f6ef3757acd75cded208858124d8ce8227ff1) ∷
-          (14, 0x49e51770cb231b497ade3cab54a4216e41535b26b59e12555cd66a2e3937f073) ∷
-          (15, 0x762fa7decefa707cdb75747d6f1292280085f21616dc3abde2a89d4f52625cb5) ∷
-          (16, 0x993d9e0b43f5be57f6524b5a8fbdbd4060ccdc215567a7f23c4329eb6d3f5727) ∷
-          (28, 0xe000b100760049005700e8002500b700b400e40011007b00a9004a008000d7) ∷
+      vl = 7;
+      vtype = typed E16 Mf2 true false;
+      vxrm = NearestEven;
+      x = (19, 0x212d9) ∷ [];
+      v = (1, 0x40003c003800340030002c002800240020001c001800140010000c00080004) ∷
+          (2, 0x9a940940987b91edd5eb00015bb5eb5abef40002fffe1dfacfdd1c32002805ea) ∷
           [];
     } in
     record {
       case = record {
-        word = 0x67c3d6a7;
+        word = 0x2619d0a7;
         before = s;
         end = Retired;
         after = record s { pc = 0x10000804 };
       };
-      bytes = run 0x20355 8 0x57275cb5f0737ff1;
-      ranges = (0x20345, 40) ∷ [];
+      bytes = run 0x212dd 28 0x2001cfffe00181dfa0014cfdd00101c32000c0028000805ea0004;
+      ranges = (0x212cd, 60) ∷ [];
     }

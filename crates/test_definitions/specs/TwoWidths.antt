@@ -2,7 +2,7 @@
 use Rattle.std.specs.Prelude.{[], ◌∷◌, true, false}
 use Rattle.rv_model.specs.declared.vector.policy.Policy.TheVariants.{Ones}
 use Rattle.rv_model.specs.declared.vector.state.RoundingMode.TheVariants.{NearestEven, Down, Odd}
-use Rattle.rv_model.specs.declared.vector.types.Lmul.TheVariants.{M1, Mf4, Mf2}
+use Rattle.rv_model.specs.declared.vector.types.Lmul.TheVariants.{M1, M2, Mf4, Mf2}
 use Rattle.rv_model.specs.declared.vector.types.Sew.TheVariants.{E8, E16, E32, E64}
 use Rattle.test_definitions.specs.States.{Case, State, start, typed, Retired}
 
@@ -52,118 +52,121 @@ vsext_vf4 =
       };
     }
 
--- vsext.vf8 v13, v4, v0.t
+-- vsext.vf8 v22, v16, v0.t
 abbrev pub vsext_vf8 : Case
 vsext_vf8 =
     let s : State = record start {
-      vl = 4;
-      vtype = typed E64 M1 true true;
+      vl = 8;
+      vtype = typed E64 M2 true true;
       vxrm = NearestEven;
-      vxsat = true;
-      v = (0, 0xf4f71a3453c880ec7e14db2662cec618230524ce11dbff1a4712507c8fa62f78) ∷
-          (4, 0xf3dc515501d57f800fea81806a945981a0ff81018a05ff009700ffb955b58101) ∷
-          (13, 0x3246cc45c2475e52bd612fdf4db92c4d0000000000000000a4ff87bafbf91e2b) ∷
+      v = (0, 0x279e34059285bf7e0f5230bbef7c288f09c80809cf1f3db106ad3ddd2d9a6085) ∷
+          (16, 0x808155008100aaaa01007fffff80018100fe81aa01ffaafeaa7faaaaff7f0000) ∷
+          (22, 0xffffffffffffffff5555555555555555fffffffffffffffefffffffffffffffe) ∷
+          (23, 0x20000000000000002ffffffffffffffff5555555555555555) ∷
           [];
     } in
     record {
-      word = 0x4841a6d7;
+      word = 0x4901ab57;
       before = s;
       end = Retired;
       after = record s {
         pc = 0x10000804;
-        v = (13, 0x55bd612fdf4db92c4d0000000000000000a4ff87bafbf91e2b) ∷ s.v;
+        v = (22, 0xffffffffffffffff000000000000007ffffffffffffffffe0000000000000000) ∷
+            (23, 0xffffffffffffffaa0000000000000002ffffffffffffffff5555555555555555) ∷
+            s.v;
       };
     }
 
--- vzext.vf2 v20, v2
+-- vzext.vf2 v31, v22
 abbrev pub vzext_vf2 : Case
 vzext_vf2 =
     let s : State = record start {
-      vl = 3;
-      vtype = typed E64 M1 false false;
+      vl = 4;
+      vtype = typed E16 Mf4 false false;
       vstart = 1;
-      vxrm = Odd;
-      v = (2, 0xaaaaaaaaaaaaaaaa000000028000000000000002000000020000000180000001) ∷
-          (20, 0x55555555555555557fffffffffffffff80000000000000000000000000000000) ∷
+      v = (22, 0x55010181fe55ffaa55aaaa7faaaafefe407faa8002ff55fefe01028002aa7f40) ∷
+          (31, 0xfffe0001000200010000ffffaaaa8001800100017fff4000555540007fff7fff) ∷
           [];
     } in
     record {
-      word = 0x4a232a57;
+      word = 0x4b632fd7;
       before = s;
       end = Retired;
       after = record s {
         pc = 0x10000804;
         vstart = 0;
-        v = (20, 0x5555555555555555000000000000000200000000000000010000000000000000) ∷
+        v = (31, 0xfffe0001000200010000ffffaaaa8001800100017fff4000000200aa007f7fff) ∷
             s.v;
       };
     }
 
--- vzext.vf4 v20, v10, v0.t
+-- vzext.vf4 v18, v15, v0.t
 abbrev pub vzext_vf4 : Case
 vzext_vf4 =
     let s : State = record start {
       policy = Ones;
-      vl = 4;
-      vtype = typed E32 M1 true false;
-      vxrm = Odd;
-      v = (0, 0xaeca3c4e17ed9f3b29cd5c0f6b03c07c7cf8d44aa794fda52ebc63db8cf47bd4) ∷
-          (10, 0x2ffa0fe51147faa5520aaff81aad7aa8002808bfe2d7fe902b47a79027f0184) ∷
-          (20, 0xfffffffe1fb5a6ca800000003e764354ffffffff00000002aaaaaaaa) ∷
+      vl = 8;
+      vtype = typed E64 M2 true true;
+      vxrm = Down;
+      v = (0, 0xffffffffffffffffffffffffffffffffffffffffffffffffffffffffffffffff) ∷
+          (15, 0x30002000300050002000700000007000700070000ffff0005000700000000) ∷
+          (18, 0x5ffffffffffffffff00000000000000010000000000000000) ∷
+          (19, 0x700000000000000010000000000000001) ∷
           [];
     } in
     record {
-      word = 0x48a22a57;
+      word = 0x48f22957;
       before = s;
       end = Retired;
       after = record s {
         pc = 0x10000804;
-        v = (20, 0xffffffffffffffffffffffffffffffff3e7643540000007f00000002aaaaaaaa) ∷
+        v = (18, 0x5000000000000000700000000000000000000000000000000) ∷
+            (19, 0x700000000000000070000000000000000000000000000ffff) ∷
             s.v;
       };
     }
 
--- vzext.vf8 v5, v4
+-- vzext.vf8 v27, v23
 abbrev pub vzext_vf8 : Case
 vzext_vf8 =
     let s : State = record start {
-      vl = 2;
-      vtype = typed E64 M1 false false;
-      v = (4, 0xb37e76487b3fee55ed13eddc72d35ae75785fc792f7108ac46e1735898688639) ∷
-          (5, 0xd5d98bfc1865decd29805b5a6c8c8555df32e6faef4b2e0e43c0eb711835592) ∷
+      vl = 3;
+      vtype = typed E64 M1 true true;
+      vxrm = Down;
+      v = (23, 0x1010205070100ffff0005ff00ff0100030707ff050307070300010103030201) ∷
+          (27, 0x5000000000000000300000000000000020000000000000000) ∷
           [];
     } in
     record {
-      word = 0x4a4122d7;
+      word = 0x4b712dd7;
       before = s;
       end = Retired;
       after = record s {
         pc = 0x10000804;
-        v = (5, 0xd5d98bfc1865decd29805b5a6c8c85500000000000000860000000000000039) ∷
-            s.v;
+        v = (27, 0x5000000000000000300000000000000020000000000000001) ∷ s.v;
       };
     }
 
--- vnsra.wv v22, v11, v26, v0.t
+-- vnsra.wv v28, v20, v13, v0.t
 abbrev pub vnsra_wv : Case
 vnsra_wv =
     let s : State = record start {
-      vl = 4;
-      vtype = typed E8 Mf2 true false;
-      vxrm = NearestEven;
-      v = (0, 0x5d387b942412e142f586baa304c732fa3519fff9093832fe0a78c8be29825f03) ∷
-          (11, 0x80018000fffefffeaaaaaaaa8000ffff7fffaaaa80010001aaaafffeffff0002) ∷
-          (22, 0x808155ffaaaa0000fe00ff7f02aa810140ff7f0202400040feaafefe00800001) ∷
-          (26, 0xffaa800200028080aa0100ff0281ff81fe017fffaa8081014081ffffffff0055) ∷
+      vl = 31;
+      vtype = typed E8 M1 false false;
+      v = (0, 0xffffffffffffffffffffffffffffffffffffffffffffffffffffffffffffffff) ∷
+          (13, 0xfe7f0201fe7f8040ff7f020102ff8000004080017f81aa7ffefefeff55810101) ∷
+          (20, 0x40008001ffff80000000000100000001aaaaffff000000027fff000180005555) ∷
+          (21, 0xaaaaffff7fff4000fffe800080007fff000000000001aaaa8001aaaa40008000) ∷
+          (28, 0xfefe55018101ff5540fefe8002feff01aa8101550002ff8001ff55aaff5501) ∷
           [];
     } in
     record {
-      word = 0xb4bd0b57;
+      word = 0xb5468e57;
       before = s;
       end = Retired;
       after = record s {
         pc = 0x10000804;
-        v = (22, 0x808155ffaaaa0000fe00ff7f02aa810140ff7f0202400040feaafefe0080ff00) ∷
+        v = (28, 0xffff00ffff00ff0000005500ff00000001ff0000000000feff0000ff0000aa) ∷
             s.v;
       };
     }
@@ -239,27 +242,28 @@ vwadd_wv =
       };
     }
 
--- vwaddu.vv v5, v11, v6, v0.t
-abbrev pub vwaddu_vv : Case
-vwaddu_vv =
+-- vwaddu.vx v28, v25, x30
+abbrev pub vwaddu_vx : Case
+vwaddu_vx =
     let s : State = record start {
       policy = Ones;
-      vl = 4;
-      vtype = typed E16 Mf4 true true;
-      vxrm = Down;
-      v = (0, 0x65d88b1ed03bb2a4adde4e615e2b983a22cc76deb7cdc7cae6bafcdbce9864da) ∷
-          (5, 0xffffffffffffffff000000000000000200000001000000010000000000000001) ∷
-          (6, 0x50005ffffffff00070001000500000007000300070003ffff0003) ∷
-          (11, 0xffffffff00000003ffff0003000100020001000700020003000300030001ffff) ∷
+      vl = 29;
+      vtype = typed E8 M1 false true;
+      vxrm = NearestEven;
+      x = (30, 0x8000000000000000) ∷ [];
+      v = (25, 0x1ff8155814080ff80fe404040807f8181010055007f40fe01ff0255ff80407f) ∷
+          (28, 0x800080007fff40007ffffffeaaaa000080015555fffe7fff800155550002) ∷
+          (29, 0xffffffff00027fff0002fffe000280007fff5555aaaafffe80018001fffe5555) ∷
           [];
     } in
     record {
-      word = 0xc0b322d7;
+      word = 0xc39f6e57;
       before = s;
       end = Retired;
       after = record s {
         pc = 0x10000804;
-        v = (5, 0xffffffffffffffffffffffffffffffff0000000affffffff00010000ffffffff) ∷
+        v = (28, 0x810001000000550000007f004000fe000100ff0002005500ff00800040007f) ∷
+            (29, 0xffffffff0002005500810040008000ff008000fe0040004000400080007f0081) ∷
             s.v;
       };
     }
@@ -289,75 +293,76 @@ vwaddu_wx =
       };
     }
 
--- vwmacc.vv v24, v28, v19, v0.t
+-- vwmacc.vv v14, v20, v4, v0.t
 abbrev pub vwmacc_vv : Case
 vwmacc_vv =
     let s : State = record start {
-      vl = 3;
-      vtype = typed E16 Mf4 false false;
-      vxrm = Odd;
-      vxsat = true;
-      v = (0, 0xdfffffffffffffffffffffffffffffffffffffffffffffffffffffffffffffed) ∷
-          (19, 0xd6768000ffff47fefffe8000a87b555540008001c35e000140000001912bebf5) ∷
-          (24, 0xc7629f1b9939edf2ec6dc3bda02d1b80800000016b7ce68640000000aaaaaaaa) ∷
-          (28, 0xfffed29980000000aaaa5555e08c65528000a891dd9c00024000aaaaae6fffff) ∷
+      vl = 8;
+      vtype = typed E8 Mf4 false false;
+      vxrm = NearestEven;
+      v = (0, 0xf3a2a103867cbdd3e8c0f8598691433621837eaf3f2bbfd3b8b0a664afe39eaf) ∷
+          (4, 0x817f78f2672b1394aa00af7f8040cf0aec55bf80188480555555405b7f7f5501) ∷
+          (14, 0x10eb50000000200025555bacd35adaaaa285f092edf050000800080009827) ∷
+          (20, 0x817fbc4f9780f90088b755024313401f896b7f558fcdaad7fafeab1cb302) ∷
           [];
     } in
     record {
-      word = 0xf53e2c57;
+      word = 0xf44a2757;
       before = s;
       end = Retired;
       after = record s {
         pc = 0x10000804;
-        v = (24, 0xc7629f1b9939edf2ec6dc3bda02d1b80800000016b7c913040000000aaaabeb5) ∷
+        v = (14, 0x10eb50000000200025555bacd35ad8e1c285f07aedf05d5d58de4666f9829) ∷
             s.v;
       };
     }
 
--- vwmaccsu.vx v10, x8, v28
+-- vwmaccsu.vx v2, x12, v31
 abbrev pub vwmaccsu_vx : Case
 vwmaccsu_vx =
     let s : State = record start {
-      policy = Ones;
-      vl = 2;
-      vtype = typed E32 Mf2 true true;
-      x = (8, 0x1) ∷ [];
-      v = (10, 0x96cd4e4aa2e148e80000000000000016d19d518b63e365f) ∷
-          (28, 0x7fffffff4000000035c992900000000240000000c729f096afedb66b) ∷
+      vl = 4;
+      vtype = typed E16 M1 false false;
+      vstart = 1;
+      vxrm = NearestEven;
+      x = (12, 0xfffffffffffffffe) ∷ [];
+      v = (2, 0x798ae85c9d5700df379840502983d1f9863401e4876d25ec5ede3df0201ff158) ∷
+          (3, 0x8edf8582d25478f63c4662451584cbae510d7c3b4098eb6d738d005793903297) ∷
+          (31, 0x176662b02eca1d8d27f32fffe28b0561e13eb930e46be894c928c62a9bf61239) ∷
           [];
     } in
     record {
-      word = 0xffc46557;
+      word = 0xfff66157;
       before = s;
       end = Retired;
       after = record s {
         pc = 0x10000804;
-        v = (10, 0xffffffffffffffffffffffffffffffff80000000c729f0976d19d519662becca) ∷
+        vstart = 0;
+        v = (2, 0x798ae85c9d5700df379840502983d1f986326f94876b99985edd0604201ff158) ∷
             s.v;
       };
     }
 
--- vwmaccu.vv v17, v3, v16, v0.t
-abbrev pub vwmaccu_vv : Case
-vwmaccu_vv =
+-- vwmaccu.vx v24, x20, v9
+abbrev pub vwmaccu_vx : Case
+vwmaccu_vx =
     let s : State = record start {
-      vl = 4;
-      vtype = typed E16 Mf4 true true;
-      vxrm = NearestEven;
-      vxsat = true;
-      v = (0, 0x2) ∷
-          (3, 0xaaaa00008001fffeaaaaaaaa7fff00000001fffe00018000ffff80008000) ∷
-          (16, 0x200004000ffff800000025555fffe4000400000027fff800180010001) ∷
-          (17, 0xffffffff8000000040000000400000007fffffff400000000000000080000000) ∷
+      vl = 32;
+      vtype = typed E8 M1 true true;
+      x = (20, 0x6) ∷ [];
+      v = (9, 0x55004a557fff970281550240ad8023aa026e55feff40c1c902be42aa7f406b02) ∷
+          (24, 0x9848001cefc8d4c070b29a3a7a4fbeb151b9fd97fff0000aaaa99180ed0ffff) ∷
+          (25, 0x83aefffe7e704bf893f1fffffffeafc0644300018000728e5555000100028fb4) ∷
           [];
     } in
     record {
-      word = 0xf101a8d7;
+      word = 0xf29a6c57;
       before = s;
       end = Retired;
       after = record s {
         pc = 0x10000804;
-        v = (17, 0xffffffff8000000040000000400000007fffffff400000004000800080000000) ∷
+        v = (24, 0x9908295d0fa93400d052b23ac2a00a11527a44d818b03fcada49a981152000b) ∷
+            (25, 0x85acfffe802c4df696eb05f90388afcc674901ff800c740e5963030100d493b0) ∷
             s.v;
       };
     }
@@ -506,51 +511,50 @@ vwsub_wv =
       };
     }
 
--- vwsubu.vv v20, v2, v19
+-- vwsubu.vv v20, v19, v19
 abbrev pub vwsubu_vv : Case
 vwsubu_vv =
     let s : State = record start {
-      vl = 1;
-      vtype = typed E8 Mf2 false true;
-      vxrm = Down;
-      v = (2, 0xfe55feff4001fe7f40010101558002ff4040aa01aaffaa0202ff00aaffaa7ffe) ∷
-          (19, 0xfe55ff557f7fff55ff80810201408100807ffe80400202810080027f7f558080) ∷
-          (20, 0x55558001aaaa0001555500014000fffefffe0002800040007fff8001fffe5555) ∷
+      vl = 4;
+      vtype = typed E16 Mf4 false false;
+      vxrm = NearestEven;
+      vxsat = true;
+      v = (19, 0xa7273aa28080007fff556cfffe000155553a04ec1a5b96d3380001e53eaaaa) ∷
+          (20, 0xfffffffe555555550000000280000000aaaaaaaa8000000180000001452d5704) ∷
           [];
     } in
     record {
-      word = 0xca29aa57;
+      word = 0xcb39aa57;
       before = s;
       end = Retired;
       after = record s {
         pc = 0x10000804;
-        v = (20, 0x55558001aaaa0001555500014000fffefffe0002800040007fff8001fffe007e) ∷
+        v = (20, 0xfffffffe55555555000000028000000000000000000000000000000000000000) ∷
             s.v;
       };
     }
 
--- vwsubu.wx v18, v18, x31, v0.t
+-- vwsubu.wx v30, v31, x25, v0.t
 abbrev pub vwsubu_wx : Case
 vwsubu_wx =
     let s : State = record start {
       policy = Ones;
-      vl = 2;
-      vtype = typed E16 M1 true true;
-      vxrm = Down;
-      x = (31, 0x7fffffffffffffff) ∷ [];
-      v = (0, 0x3fbc8d61ab6b6f722025d704a847bcd8365f12785531506ecec293243c709279) ∷
-          (18, 0x500000007000000020000000700000005000000030000000100000000) ∷
-          (19, 0x2ffffffffffffffff000000020000000300000005ffffffff00000002) ∷
+      vl = 6;
+      vtype = typed E8 Mf4 false true;
+      vxrm = Odd;
+      x = (25, 0x4000000000000000) ∷ [];
+      v = (0, 0x122afa8edb7f61980fc23398cfcb234b68777a19df0ac65ea777150a88f4a599) ∷
+          (30, 0xc3be9c60c1c332364f6b9af249717e2b17310978e3ffd8b659294ece5cabedde) ∷
+          (31, 0x35c0a93797ac8cebb7fe2d28b0c7be858c209cf1d195129458e64e8c4b9eff23) ∷
           [];
     } in
     record {
-      word = 0xd92fe957;
+      word = 0xd9fcef57;
       before = s;
       end = Retired;
       after = record s {
         pc = 0x10000804;
-        v = (18, 0xffffffffffffffffffffffffffffffffffffffffffffffffffffffffffff0001) ∷
-            (19, 0xffffffffffffffffffffffffffffffffffffffffffffffffffffffffffffffff) ∷
+        v = (30, 0xc3be9c60c1c332364f6b9af249717e2b17310978ffff129458e6ffffffffff23) ∷
             s.v;
       };
     }

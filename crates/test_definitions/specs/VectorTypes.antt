@@ -5,21 +5,23 @@ use Rattle.rv_model.specs.declared.vector.types.Lmul.TheVariants.{M1, M2, M4, M8
 use Rattle.rv_model.specs.declared.vector.types.Sew.TheVariants.{E8, E16, E32, E64}
 use Rattle.test_definitions.specs.States.{Case, State, start, typed, Retired}
 
--- vsetivli x0, 31, e64, m2, ta, mu
+-- vsetivli x27, 0, e8, m1, tu, mu
 abbrev pub vsetivli : Case
 vsetivli =
     let s : State = record start {
-      vl = 1;
-      vtype = typed E8 M4 true true;
+      vl = 30;
+      vtype = typed E64 M8 false false;
+      vxrm = Odd;
     } in
     record {
-      word = 0xc59ff057;
+      word = 0xc0007dd7;
       before = s;
       end = Retired;
       after = record s {
         pc = 0x10000804;
-        vl = 8;
-        vtype = typed E64 M2 true false;
+        vl = 0;
+        vtype = typed E8 M1 false false;
+        x = (27, 0x0) ∷ s.x;
       };
     }
 
@@ -44,43 +46,43 @@ vsetivli_2 =
       };
     }
 
--- vsetvl x9, x28, x0
+-- vsetvl x3, x11, x21
 abbrev pub vsetvl : Case
 vsetvl =
     let s : State = record start {
-      vl = 1;
-      vtype = typed E16 Mf4 false false;
-      vxrm = Down;
-      vxsat = true;
-      x = (28, 0x498e1a8bf3b8736b) ∷ [];
+      vl = 15;
+      vtype = typed E32 M2 true true;
+      vxrm = NearestEven;
+      x = (11, 0xd6c72bf86676e97f) ∷ (21, 0xd1) ∷ [];
     } in
     record {
-      word = 0x800e74d7;
+      word = 0x8155f1d7;
       before = s;
       end = Retired;
       after = record s {
         pc = 0x10000804;
-        vl = 32;
-        vtype = typed E8 M1 false false;
-        x = (9, 0x20) ∷ s.x;
+        vl = 16;
+        x = (3, 0x10) ∷ s.x;
       };
     }
 
--- vsetvl x0, x20, x26
+-- vsetvl x15, x15, x22
 abbrev pub vsetvl_2 : Case
 vsetvl_2 =
     let s : State = record start {
-      vtype = typed E8 Mf8 true false;
-      vstart = 141;
-      vxrm = Odd;
-      x = (20, 0x101) ∷ (26, 0x1000000002b) ∷ [];
+      vl = 9;
+      vtype = typed E16 M8 true true;
+      vstart = 3;
+      vxrm = Down;
+      x = (15, 0x0) ∷ (22, 0x1000000015b) ∷ [];
     } in
     record {
-      word = 0x81aa7057;
+      word = 0x8167f7d7;
       before = s;
       end = Retired;
       after = record s {
         pc = 0x10000804;
+        vl = 0;
         vtype = None;
         vstart = 0;
       };
@@ -124,44 +126,44 @@ vsetvl_4 =
       };
     }
 
--- vsetvl x3, x0, x28
+-- vsetvl x25, x0, x1
 abbrev pub vsetvl_5 : Case
 vsetvl_5 =
     let s : State = record start {
-      vtype = typed E8 M8 true true;
-      vxrm = Down;
-      x = (28, 0xd7) ∷ [];
+      vl = 15;
+      vtype = typed E16 M1 true false;
+      vxrm = Odd;
+      x = (1, 0xda) ∷ [];
     } in
     record {
-      word = 0x81c071d7;
+      word = 0x80107cd7;
       before = s;
       end = Retired;
       after = record s {
         pc = 0x10000804;
-        vl = 4;
-        vtype = typed E32 Mf2 true true;
-        x = (3, 0x4) ∷ s.x;
+        vl = 16;
+        vtype = typed E64 M4 true true;
+        x = (25, 0x10) ∷ s.x;
       };
     }
 
--- vsetvl x31, x0, x22
+-- vsetvl x28, x0, x10
 abbrev pub vsetvl_6 : Case
 vsetvl_6 =
     let s : State = record start {
-      vl = 1;
-      vtype = typed E32 M1 true true;
-      vxrm = NearestEven;
-      x = (22, 0x1d0) ∷ [];
+      vl = 6;
+      vtype = typed E8 Mf2 true true;
+      x = (10, 0x80000000000000c7) ∷ [];
     } in
     record {
-      word = 0x81607fd7;
+      word = 0x80a07e57;
       before = s;
       end = Retired;
       after = record s {
         pc = 0x10000804;
         vl = 0;
         vtype = None;
-        x = (31, 0x0) ∷ s.x;
+        x = (28, 0x0) ∷ s.x;
       };
     }
 
@@ -209,21 +211,22 @@ vsetvli_2 =
       };
     }
 
--- vsetvli x0, x0, e32, m8, ta, mu
+-- vsetvli x0, x0, e32, m8, tu, mu
 abbrev pub vsetvli_3 : Case
 vsetvli_3 =
     let s : State = record start {
-      vl = 34;
-      vtype = typed E8 M2 false true;
-      vstart = 88;
+      vl = 7;
+      vtype = typed E16 M4 false true;
+      vstart = 3;
+      vxrm = Down;
     } in
     record {
-      word = 0x05307057;
+      word = 0x01307057;
       before = s;
       end = Retired;
       after = record s {
         pc = 0x10000804;
-        vtype = typed E32 M8 true false;
+        vtype = typed E32 M8 false false;
         vstart = 0;
       };
     }
@@ -266,22 +269,23 @@ vsetvli_5 =
       };
     }
 
--- vsetvli x4, x0, 791
+-- vsetvli x28, x0, 62
 abbrev pub vsetvli_6 : Case
 vsetvli_6 =
     let s : State = record start {
-      vtype = typed E64 M2 true true;
-      vstart = 3;
-      vxrm = NearestEven;
+      vl = 6;
+      vtype = typed E8 Mf4 true true;
+      vxrm = Odd;
+      vxsat = true;
     } in
     record {
-      word = 0x31707257;
+      word = 0x03e07e57;
       before = s;
       end = Retired;
       after = record s {
         pc = 0x10000804;
+        vl = 0;
         vtype = None;
-        vstart = 0;
-        x = (4, 0x0) ∷ s.x;
+        x = (28, 0x0) ∷ s.x;
       };
     }

@@ -2,8 +2,8 @@
 ghost use Rattle.test_definitions.specs.States.{Agrees};
 ghost use Rattle.test_definitions.specs.FixedPoint.{vaadd_vv, vaaddu_vx, vasub_vv, vasubu_vv, vnclip_wx, vnclip_wi};
 ghost use Rattle.test_definitions.specs.FixedPoint.{vnclipu_wv, vnclipu_wv_2, vsadd_vi, vsadd_vv, vsaddu_vx, vsaddu_vi};
-ghost use Rattle.test_definitions.specs.FixedPoint.{vsmul_vv, vssra_vx, vssrl_vi, vssub_vv, vssub_vx, vssubu_vv};
-ghost use Rattle.test_definitions.specs.FixedPoint.{vssubu_vv_2};
+ghost use Rattle.test_definitions.specs.FixedPoint.{vsmul_vv, vssra_vx, vssrl_vi, vssub_vx, vssub_vx_2, vssubu_vx};
+ghost use Rattle.test_definitions.specs.FixedPoint.{vssubu_vv};
 
 /// The definition of a step agrees with QEMU on each of these cases.
 pub fn fixed_point_agree()
@@ -22,8 +22,8 @@ pub fn fixed_point_agree()
     ensures vsmul_vv { Agrees vsmul_vv }
     ensures vssra_vx { Agrees vssra_vx }
     ensures vssrl_vi { Agrees vssrl_vi }
-    ensures vssub_vv { Agrees vssub_vv }
     ensures vssub_vx { Agrees vssub_vx }
+    ensures vssub_vx_2 { Agrees vssub_vx_2 }
+    ensures vssubu_vx { Agrees vssubu_vx }
     ensures vssubu_vv { Agrees vssubu_vv }
-    ensures vssubu_vv_2 { Agrees vssubu_vv_2 }
 {}

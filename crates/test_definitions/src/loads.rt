@@ -4,7 +4,7 @@ ghost use Rattle.test_definitions.specs.Loads.{vl1re8_v, vl2re8_v, vl4re64_v, vl
 ghost use Rattle.test_definitions.specs.Loads.{vle32_v, vle32ff_v, vle64_v, vle64ff_v, vle8_v, vle8ff_v};
 ghost use Rattle.test_definitions.specs.Loads.{vlm_v, vloxei16_v, vloxei32_v, vloxei64_v, vloxei8_v, vloxseg2ei64_v};
 ghost use Rattle.test_definitions.specs.Loads.{vlse16_v, vlseg2e32_v, vlseg2e16ff_v, vlsseg3e16_v, vluxei16_v, vluxei32_v};
-ghost use Rattle.test_definitions.specs.Loads.{vluxei64_v, vluxei8_v, vluxseg2ei32_v};
+ghost use Rattle.test_definitions.specs.Loads.{vluxei64_v, vluxei8_v, vluxseg2ei64_v};
 
 /// The definition of a step agrees with QEMU on each of these cases.
 pub fn loads_agree()
@@ -34,5 +34,5 @@ pub fn loads_agree()
     ensures vluxei32_v { LoadAgrees vluxei32_v }
     ensures vluxei64_v { LoadAgrees vluxei64_v }
     ensures vluxei8_v { LoadAgrees vluxei8_v }
-    ensures vluxseg2ei32_v { LoadAgrees vluxseg2ei32_v }
+    ensures vluxseg2ei64_v { LoadAgrees vluxseg2ei64_v }
 {}

@@ -1,7 +1,7 @@
 //! Vector integer arithmetic with operands of one width. tools/golden_theorems writes this file from lab/tests/data/golden_vectors.
 ghost use Rattle.test_definitions.specs.States.{Agrees};
-ghost use Rattle.test_definitions.specs.OneWidth.{vadc_vxm, vadd_vx, vand_vi, vdiv_vv, vdivu_vx, vmacc_vx};
-ghost use Rattle.test_definitions.specs.OneWidth.{vmadd_vv, vmax_vx, vmaxu_vv, vmerge_vim, vmin_vx, vminu_vx};
+ghost use Rattle.test_definitions.specs.OneWidth.{vadc_vxm, vadd_vx, vand_vv, vdiv_vv, vdivu_vx, vmacc_vx};
+ghost use Rattle.test_definitions.specs.OneWidth.{vmadd_vv, vmax_vx, vmaxu_vv, vmerge_vim, vmin_vv, vminu_vx};
 ghost use Rattle.test_definitions.specs.OneWidth.{vmul_vv, vmulh_vx, vmulhsu_vx, vmulhu_vv, vmv_v_v, vnmsac_vv};
 ghost use Rattle.test_definitions.specs.OneWidth.{vnmsub_vv, vor_vx, vrem_vv, vremu_vv, vrsub_vx, vsbc_vvm};
 ghost use Rattle.test_definitions.specs.OneWidth.{vsll_vv, vsra_vx, vsrl_vi, vsub_vv, vxor_vx};
@@ -10,7 +10,7 @@ ghost use Rattle.test_definitions.specs.OneWidth.{vsll_vv, vsra_vx, vsrl_vi, vsu
 pub fn one_width_agree()
     ensures vadc_vxm { Agrees vadc_vxm }
     ensures vadd_vx { Agrees vadd_vx }
-    ensures vand_vi { Agrees vand_vi }
+    ensures vand_vv { Agrees vand_vv }
     ensures vdiv_vv { Agrees vdiv_vv }
     ensures vdivu_vx { Agrees vdivu_vx }
     ensures vmacc_vx { Agrees vmacc_vx }
@@ -18,7 +18,7 @@ pub fn one_width_agree()
     ensures vmax_vx { Agrees vmax_vx }
     ensures vmaxu_vv { Agrees vmaxu_vv }
     ensures vmerge_vim { Agrees vmerge_vim }
-    ensures vmin_vx { Agrees vmin_vx }
+    ensures vmin_vv { Agrees vmin_vv }
     ensures vminu_vx { Agrees vminu_vx }
     ensures vmul_vv { Agrees vmul_vv }
     ensures vmulh_vx { Agrees vmulh_vx }

@@ -2,7 +2,7 @@
 ghost use Rattle.test_definitions.specs.States.{Agrees};
 ghost use Rattle.test_definitions.specs.Permutations.{vmv_s_x, vmv_x_s, vmv1r_v, vmv2r_v, vmv4r_v, vmv8r_v};
 ghost use Rattle.test_definitions.specs.Permutations.{vcompress_vm, vrgather_vx, vrgatherei16_vv, vslide1down_vx, vslide1up_vx, vslidedown_vi};
-ghost use Rattle.test_definitions.specs.Permutations.{vslideup_vi};
+ghost use Rattle.test_definitions.specs.Permutations.{vslideup_vx};
 
 /// The definition of a step agrees with QEMU on each of these cases.
 pub fn permutations_agree()
@@ -18,5 +18,5 @@ pub fn permutations_agree()
     ensures vslide1down_vx { Agrees vslide1down_vx }
     ensures vslide1up_vx { Agrees vslide1up_vx }
     ensures vslidedown_vi { Agrees vslidedown_vi }
-    ensures vslideup_vi { Agrees vslideup_vi }
+    ensures vslideup_vx { Agrees vslideup_vx }
 {}

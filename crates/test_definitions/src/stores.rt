@@ -2,8 +2,8 @@
 ghost use Rattle.test_definitions.specs.Memories.{StoreAgrees};
 ghost use Rattle.test_definitions.specs.Stores.{vs1r_v, vs2r_v, vs4r_v, vs8r_v, vse16_v, vse32_v};
 ghost use Rattle.test_definitions.specs.Stores.{vse64_v, vse8_v, vsm_v, vsoxei16_v, vsoxei32_v, vsoxei64_v};
-ghost use Rattle.test_definitions.specs.Stores.{vsoxei8_v, vsoxseg2ei64_v, vsse64_v, vsseg3e16_v, vssseg2e32_v, vsuxei16_v};
-ghost use Rattle.test_definitions.specs.Stores.{vsuxei32_v, vsuxei64_v, vsuxei8_v, vsuxseg4ei16_v};
+ghost use Rattle.test_definitions.specs.Stores.{vsoxei8_v, vsoxseg7ei64_v, vsse16_v, vsseg3e32_v, vssseg3e8_v, vsuxei16_v};
+ghost use Rattle.test_definitions.specs.Stores.{vsuxei32_v, vsuxei64_v, vsuxei8_v, vsuxseg2ei16_v};
 
 /// The definition of a step agrees with QEMU on each of these cases.
 pub fn stores_agree()
@@ -20,13 +20,13 @@ pub fn stores_agree()
     ensures vsoxei32_v { StoreAgrees vsoxei32_v }
     ensures vsoxei64_v { StoreAgrees vsoxei64_v }
     ensures vsoxei8_v { StoreAgrees vsoxei8_v }
-    ensures vsoxseg2ei64_v { StoreAgrees vsoxseg2ei64_v }
-    ensures vsse64_v { StoreAgrees vsse64_v }
-    ensures vsseg3e16_v { StoreAgrees vsseg3e16_v }
-    ensures vssseg2e32_v { StoreAgrees vssseg2e32_v }
+    ensures vsoxseg7ei64_v { StoreAgrees vsoxseg7ei64_v }
+    ensures vsse16_v { StoreAgrees vsse16_v }
+    ensures vsseg3e32_v { StoreAgrees vsseg3e32_v }
+    ensures vssseg3e8_v { StoreAgrees vssseg3e8_v }
     ensures vsuxei16_v { StoreAgrees vsuxei16_v }
     ensures vsuxei32_v { StoreAgrees vsuxei32_v }
     ensures vsuxei64_v { StoreAgrees vsuxei64_v }
     ensures vsuxei8_v { StoreAgrees vsuxei8_v }
-    ensures vsuxseg4ei16_v { StoreAgrees vsuxseg4ei16_v }
+    ensures vsuxseg2ei16_v { StoreAgrees vsuxseg2ei16_v }
 {}

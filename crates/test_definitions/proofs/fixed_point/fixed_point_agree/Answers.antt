@@ -1,5 +1,5 @@
 use Rattle.std.proofs.Common.{refl}
-use Rattle.test_definitions.specs.FixedPoint.{vaadd_vv, vaaddu_vx, vasub_vv, vasubu_vv, vnclip_wx, vnclip_wi, vnclipu_wv, vnclipu_wv_2, vsadd_vi, vsadd_vv, vsaddu_vx, vsaddu_vi, vsmul_vv, vssra_vx, vssrl_vi, vssub_vv, vssub_vx, vssubu_vv, vssubu_vv_2}
+use Rattle.test_definitions.specs.FixedPoint.{vaadd_vv, vaaddu_vx, vasub_vv, vasubu_vv, vnclip_wx, vnclip_wi, vnclipu_wv, vnclipu_wv_2, vsadd_vi, vsadd_vv, vsaddu_vx, vsaddu_vi, vsmul_vv, vssra_vx, vssrl_vi, vssub_vx, vssub_vx_2, vssubu_vx, vssubu_vv}
 use Rattle.test_definitions.proofs.Steps.{agrees, execution}
 use Rattle.test_definitions.proofs.fixed_point.fixed_point_agree.Goals as goal
 
@@ -22,8 +22,8 @@ returns c =
       vsmul_vv = agrees vsmul_vv refl (λ m. refl);
       vssra_vx = agrees vssra_vx refl (λ m. refl);
       vssrl_vi = agrees vssrl_vi refl (λ m. refl);
-      vssub_vv = agrees vssub_vv refl (λ m. refl);
       vssub_vx = agrees vssub_vx refl (λ m. refl);
+      vssub_vx_2 = agrees vssub_vx_2 refl (λ m. refl);
+      vssubu_vx = agrees vssubu_vx refl (λ m. refl);
       vssubu_vv = agrees vssubu_vv refl (λ m. refl);
-      vssubu_vv_2 = agrees vssubu_vv_2 refl (λ m. refl);
     }

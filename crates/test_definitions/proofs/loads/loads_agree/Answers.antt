@@ -1,5 +1,5 @@
 use Rattle.std.proofs.Common.{refl}
-use Rattle.test_definitions.specs.Loads.{vl1re8_v, vl2re8_v, vl4re64_v, vl8re64_v, vle16_v, vle16ff_v, vle32_v, vle32ff_v, vle64_v, vle64ff_v, vle8_v, vle8ff_v, vlm_v, vloxei16_v, vloxei32_v, vloxei64_v, vloxei8_v, vloxseg2ei64_v, vlse16_v, vlseg2e32_v, vlseg2e16ff_v, vlsseg3e16_v, vluxei16_v, vluxei32_v, vluxei64_v, vluxei8_v, vluxseg2ei32_v}
+use Rattle.test_definitions.specs.Loads.{vl1re8_v, vl2re8_v, vl4re64_v, vl8re64_v, vle16_v, vle16ff_v, vle32_v, vle32ff_v, vle64_v, vle64ff_v, vle8_v, vle8ff_v, vlm_v, vloxei16_v, vloxei32_v, vloxei64_v, vloxei8_v, vloxseg2ei64_v, vlse16_v, vlseg2e32_v, vlseg2e16ff_v, vlsseg3e16_v, vluxei16_v, vluxei32_v, vluxei64_v, vluxei8_v, vluxseg2ei64_v}
 use Rattle.test_definitions.proofs.Accesses.{execution_defined, load_agrees}
 use Rattle.test_definitions.proofs.loads.loads_agree.Goals as goal
 
@@ -33,5 +33,5 @@ returns c =
       vluxei32_v = load_agrees vluxei32_v refl refl (λ m. refl) (λ m. refl);
       vluxei64_v = load_agrees vluxei64_v refl refl (λ m. refl) (λ m. refl);
       vluxei8_v = load_agrees vluxei8_v refl refl (λ m. refl) (λ m. refl);
-      vluxseg2ei32_v = load_agrees vluxseg2ei32_v refl refl (λ m. refl) (λ m. refl);
+      vluxseg2ei64_v = load_agrees vluxseg2ei64_v refl refl (λ m. refl) (λ m. refl);
     }

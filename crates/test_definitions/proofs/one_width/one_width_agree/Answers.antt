@@ -1,5 +1,5 @@
 use Rattle.std.proofs.Common.{refl}
-use Rattle.test_definitions.specs.OneWidth.{vadc_vxm, vadd_vx, vand_vi, vdiv_vv, vdivu_vx, vmacc_vx, vmadd_vv, vmax_vx, vmaxu_vv, vmerge_vim, vmin_vx, vminu_vx, vmul_vv, vmulh_vx, vmulhsu_vx, vmulhu_vv, vmv_v_v, vnmsac_vv, vnmsub_vv, vor_vx, vrem_vv, vremu_vv, vrsub_vx, vsbc_vvm, vsll_vv, vsra_vx, vsrl_vi, vsub_vv, vxor_vx}
+use Rattle.test_definitions.specs.OneWidth.{vadc_vxm, vadd_vx, vand_vv, vdiv_vv, vdivu_vx, vmacc_vx, vmadd_vv, vmax_vx, vmaxu_vv, vmerge_vim, vmin_vv, vminu_vx, vmul_vv, vmulh_vx, vmulhsu_vx, vmulhu_vv, vmv_v_v, vnmsac_vv, vnmsub_vv, vor_vx, vrem_vv, vremu_vv, vrsub_vx, vsbc_vvm, vsll_vv, vsra_vx, vsrl_vi, vsub_vv, vxor_vx}
 use Rattle.test_definitions.proofs.Steps.{agrees, execution}
 use Rattle.test_definitions.proofs.one_width.one_width_agree.Goals as goal
 
@@ -9,7 +9,7 @@ returns c =
     record {
       vadc_vxm = agrees vadc_vxm refl (λ m. refl);
       vadd_vx = agrees vadd_vx refl (λ m. refl);
-      vand_vi = agrees vand_vi refl (λ m. refl);
+      vand_vv = agrees vand_vv refl (λ m. refl);
       vdiv_vv = agrees vdiv_vv refl (λ m. refl);
       vdivu_vx = agrees vdivu_vx refl (λ m. refl);
       vmacc_vx = agrees vmacc_vx refl (λ m. refl);
@@ -17,7 +17,7 @@ returns c =
       vmax_vx = agrees vmax_vx refl (λ m. refl);
       vmaxu_vv = agrees vmaxu_vv refl (λ m. refl);
       vmerge_vim = agrees vmerge_vim refl (λ m. refl);
-      vmin_vx = agrees vmin_vx refl (λ m. refl);
+      vmin_vv = agrees vmin_vv refl (λ m. refl);
       vminu_vx = agrees vminu_vx refl (λ m. refl);
       vmul_vv = agrees vmul_vv refl (λ m. refl);
       vmulh_vx = agrees vmulh_vx refl (λ m. refl);

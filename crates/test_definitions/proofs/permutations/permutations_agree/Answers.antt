@@ -1,5 +1,5 @@
 use Rattle.std.proofs.Common.{refl}
-use Rattle.test_definitions.specs.Permutations.{vmv_s_x, vmv_x_s, vmv1r_v, vmv2r_v, vmv4r_v, vmv8r_v, vcompress_vm, vrgather_vx, vrgatherei16_vv, vslide1down_vx, vslide1up_vx, vslidedown_vi, vslideup_vi}
+use Rattle.test_definitions.specs.Permutations.{vmv_s_x, vmv_x_s, vmv1r_v, vmv2r_v, vmv4r_v, vmv8r_v, vcompress_vm, vrgather_vx, vrgatherei16_vv, vslide1down_vx, vslide1up_vx, vslidedown_vi, vslideup_vx}
 use Rattle.test_definitions.proofs.Steps.{agrees, execution}
 use Rattle.test_definitions.proofs.permutations.permutations_agree.Goals as goal
 
@@ -19,5 +19,5 @@ returns c =
       vslide1down_vx = agrees vslide1down_vx refl (λ m. refl);
       vslide1up_vx = agrees vslide1up_vx refl (λ m. refl);
       vslidedown_vi = agrees vslidedown_vi refl (λ m. refl);
-      vslideup_vi = agrees vslideup_vi refl (λ m. refl);
+      vslideup_vx = agrees vslideup_vx refl (λ m. refl);
     }

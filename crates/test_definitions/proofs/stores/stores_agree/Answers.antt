@@ -1,5 +1,5 @@
 use Rattle.std.proofs.Common.{refl}
-use Rattle.test_definitions.specs.Stores.{vs1r_v, vs2r_v, vs4r_v, vs8r_v, vse16_v, vse32_v, vse64_v, vse8_v, vsm_v, vsoxei16_v, vsoxei32_v, vsoxei64_v, vsoxei8_v, vsoxseg2ei64_v, vsse64_v, vsseg3e16_v, vssseg2e32_v, vsuxei16_v, vsuxei32_v, vsuxei64_v, vsuxei8_v, vsuxseg4ei16_v}
+use Rattle.test_definitions.specs.Stores.{vs1r_v, vs2r_v, vs4r_v, vs8r_v, vse16_v, vse32_v, vse64_v, vse8_v, vsm_v, vsoxei16_v, vsoxei32_v, vsoxei64_v, vsoxei8_v, vsoxseg7ei64_v, vsse16_v, vsseg3e32_v, vssseg3e8_v, vsuxei16_v, vsuxei32_v, vsuxei64_v, vsuxei8_v, vsuxseg2ei16_v}
 use Rattle.test_definitions.proofs.Accesses.{execution_defined, store_agrees}
 use Rattle.test_definitions.proofs.stores.stores_agree.Goals as goal
 
@@ -20,13 +20,13 @@ returns c =
       vsoxei32_v = store_agrees vsoxei32_v refl refl (λ m. refl) (λ m. refl) (λ m. refl) (λ m. refl);
       vsoxei64_v = store_agrees vsoxei64_v refl refl (λ m. refl) (λ m. refl) (λ m. refl) (λ m. refl);
       vsoxei8_v = store_agrees vsoxei8_v refl refl (λ m. refl) (λ m. refl) (λ m. refl) (λ m. refl);
-      vsoxseg2ei64_v = store_agrees vsoxseg2ei64_v refl refl (λ m. refl) (λ m. refl) (λ m. refl) (λ m. refl);
-      vsse64_v = store_agrees vsse64_v refl refl (λ m. refl) (λ m. refl) (λ m. refl) (λ m. refl);
-      vsseg3e16_v = store_agrees vsseg3e16_v refl refl (λ m. refl) (λ m. refl) (λ m. refl) (λ m. refl);
-      vssseg2e32_v = store_agrees vssseg2e32_v refl refl (λ m. refl) (λ m. refl) (λ m. refl) (λ m. refl);
+      vsoxseg7ei64_v = store_agrees vsoxseg7ei64_v refl refl (λ m. refl) (λ m. refl) (λ m. refl) (λ m. refl);
+      vsse16_v = store_agrees vsse16_v refl refl (λ m. refl) (λ m. refl) (λ m. refl) (λ m. refl);
+      vsseg3e32_v = store_agrees vsseg3e32_v refl refl (λ m. refl) (λ m. refl) (λ m. refl) (λ m. refl);
+      vssseg3e8_v = store_agrees vssseg3e8_v refl refl (λ m. refl) (λ m. refl) (λ m. refl) (λ m. refl);
       vsuxei16_v = store_agrees vsuxei16_v refl refl (λ m. refl) (λ m. refl) (λ m. refl) (λ m. refl);
       vsuxei32_v = store_agrees vsuxei32_v refl refl (λ m. refl) (λ m. refl) (λ m. refl) (λ m. refl);
       vsuxei64_v = store_agrees vsuxei64_v refl refl (λ m. refl) (λ m. refl) (λ m. refl) (λ m. refl);
       vsuxei8_v = store_agrees vsuxei8_v refl refl (λ m. refl) (λ m. refl) (λ m. refl) (λ m. refl);
-      vsuxseg4ei16_v = store_agrees vsuxseg4ei16_v refl refl (λ m. refl) (λ m. refl) (λ m. refl) (λ m. refl);
+      vsuxseg2ei16_v = store_agrees vsuxseg2ei16_v refl refl (λ m. refl) (λ m. refl) (λ m. refl) (λ m. refl);
     }
