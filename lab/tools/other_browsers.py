@@ -137,7 +137,8 @@ def work(page: Page) -> list[str]:
     went = time.monotonic() - start
     time.sleep(1)
     page.open()
-    page.wait(f"document.getElementById('source').value === {json.dumps(LONG)} && {RUN} === 'stopped'")
+    page.wait(f"document.getElementById('source').value === {json.dumps(LONG)}")
+    page.wait(f"['ebreak', 'stopped'].includes({RUN})")
     page.open("#exercise=doubles")
     for answer, told in (("        ret\n", "1 try"), (GOOD.read_text(), "2 tries, passed")):
         page.write(answer)
