@@ -31,7 +31,9 @@ DEFAULT_SECONDS = 40  # of a crate that docs/MEASUREMENTS.md doesn't have
 
 def libraries(text):
     """Returns the crates that each crate of a crates.txt uses, by name, without those of the kit."""
-    named = {name: words.split("#")[0].split() for name, words in re.findall(r"^([a-z]\w*)[^:\n]*:(.*)$", text, re.MULTILINE)}
+    named = {
+        name: words.split("#")[0].split() for name, words in re.findall(r"^([a-z]\w*)[^:\n]*:(.*)$", text, re.MULTILINE)
+    }
     return {name: [word for word in words if word in named] for name, words in named.items()}
 
 
@@ -76,7 +78,9 @@ def calculated_end(crates, used, seconds, jobs):
     free, ends = [0] * jobs, {}
     for name in sorted(sorted(crates), key=lambda crate: len(crates_below([crate], used))):
         free.sort()
-        ends[name] = max([free[0], *(ends[below] for below in crates_below([name], used)[1:])]) + seconds.get(name, DEFAULT_SECONDS)
+        ends[name] = max([free[0], *(ends[below] for below in crates_below([name], used)[1:])]) + seconds.get(
+            name, DEFAULT_SECONDS
+        )
         free[0] = ends[name]
     return max(ends.values())
 
@@ -102,11 +106,24 @@ def build_programs(folder, sources):
 
 def main(words):
     """Proves, and builds if no crate is named."""
-    parser = argparse.ArgumentParser(prog="tools/proved_build.py", description="Prove and build vecmon and vecmon-record, several crates at a time.")
+    parser = argparse.ArgumentParser(
+        prog="tools/proved_build.py", description="Prove and build vecmon and vecmon-record, several crates at a time."
+    )
     memory = os.sysconf("SC_PAGE_SIZE") * os.sysconf("SC_PHYS_PAGES")
-    parser.add_argument("--jobs", type=int, default=jobs_for(len(os.sched_getaffinity(0)), memory), help="crates at a time (default: %(default)s)")
-    parser.add_argument("--calculate", action="store_true", help="only print the clock seconds that docs/MEASUREMENTS.md lets expect, with the jobs and with one")
-    parser.add_argument("crates", metavar="CRATE", nargs="*", help="prove this crate and those below it; build no program")
+    parser.add_argument(
+        "--jobs",
+        type=int,
+        default=jobs_for(len(os.sched_getaffinity(0)), memory),
+        help="crates at a time (default: %(default)s)",
+    )
+    parser.add_argument(
+        "--calculate",
+        action="store_true",
+        help="only print the clock seconds that docs/MEASUREMENTS.md lets expect, with the jobs and with one",
+    )
+    parser.add_argument(
+        "crates", metavar="CRATE", nargs="*", help="prove this crate and those below it; build no program"
+    )
     arguments = parser.parse_args(words)
     with open(f"{TOP}/crates.txt", encoding="utf-8") as file:
         text = file.read()
