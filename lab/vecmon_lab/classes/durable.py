@@ -23,7 +23,7 @@ class Appended(Protocol):
 class Flusher:
     """Replaces files of a folder, by names relative to it, in a thread of its own; the last text of a name counts.
 
-    troubles: by name, why a file isn't saved; each batch tries it again
+    failures: by name, why a file isn't saved; each batch tries it again
     """
 
     def __init__(self, folder: pathlib.Path) -> None:

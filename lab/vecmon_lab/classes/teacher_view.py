@@ -91,7 +91,7 @@ def teacher_view(members: Class, tab: Tab) -> TeacherView:
         "share": SEAT_BYTES,
         "images": list(members.store.images),
         "quantum": members.store.quantum,
-        "trouble": " ".join(filter(None, [members.store.warning, members.store.loss])),
+        "trouble": " ".join(filter(None, [members.warning, members.store.loss])),
         "shoulder": tab.shoulder.name if tab.shoulder else "",
         "state": shown(tab.shoulder) if tab.shoulder else {},
         "wall": members.wall.name if members.wall else "",

@@ -72,7 +72,7 @@ class Class:
         self.rooms: dict[str, Room] = {}
         self.students: dict[str, Student] = {}
         self._kept: dict[str, tuple[Notes, float]] = {}  # and when they were kept
-        self._trouble = ""  # as pages have it
+        self.warning = ""  # why something isn't saved, as pages have it
         makers, self._packers, self._packing = WorkerPool(1), WorkerPool(2), set[str]()
         try:
             self.checks = Checks(store, exercises, self.tell, self.builds)
@@ -122,8 +122,8 @@ class Class:
                 self.store.write(f"{room.letter}.json", asdict(notes))
                 self._kept[room.letter] = notes, time.monotonic()
         self.checks.save()
-        if self.store.warning != self._trouble:
-            self._trouble = self.store.warning
+        if self.store.warning != self.warning:
+            self.warning = self.store.warning
             self.tell([])
 
     async def take_home(self, seat: str) -> bytes:
