@@ -53,7 +53,7 @@ pub(crate) fn length_number(word: &[u8]) -> Option<usize>
     }
 }
 
-/// Return the policy of `--policy`; the default is `after_step`.
+/// Return the policy of `--policy`; the default is `keep`.
 pub(crate) fn policy<'a>(word: Option<&str>) -> Result<Policy, ProgramFault<'a>>
     ensures { MatchResult result
         (λ policy. policy_or_default (option_map (λ word. word.now) word.entry) ≡ Some policy)
