@@ -416,7 +416,7 @@ async def test_failed_case_in_c_loads_at_desk(
     async with served(tmp_path / "class", exercises=[square], builds=Builds(sandboxed_clang)) as room:
         tab = await room.sit("A1")
         wrong = RIGHT_IN_C.replace("b * b", "b + b")
-        assert (await check(tab, "square", wrong, C))["reason"] == "a0: reply 36, found 12"
+        assert (await check(tab, "square", wrong, C))["reason"] == "a0: expected 36, found 12"
         assert (await tab.ask("case", exercise="square", text=wrong, language=C))["mistakes"] == []
         state = tab.view["state"]
         assert int(state["x"]["11"], 16) == 6 and state["labels"][state["pc"]] == ["answer"]

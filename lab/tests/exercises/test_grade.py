@@ -422,7 +422,7 @@ def test_reports_have_documented_formats(tmp_path: pathlib.Path) -> None:
         ("wraps.s", "5", "3"), (answer_file.name, "5", "5")
     ]  # fmt: skip
     cases = [(case.get("name"), [failure.get("message") for failure in case]) for case in suites[0]]
-    wrong = "element 0, i16 at 0x20200: answer_file 32767, found -32768"
+    wrong = "element 0, i16 at 0x20200: expected 32767, found -32768"
     assert cases[:2] == [("small numbers", []), ("no room", [wrong])] and cases[3:] == [
         ("many", ["fails"]),
         ("none", []),
