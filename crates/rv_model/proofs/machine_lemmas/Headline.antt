@@ -148,7 +148,7 @@ solo-append : (s : Setup) (p : Private) (a b : List Event) → solo_from s p (a 
 solo-append s p [] b = refl
 solo-append s p (e ∷ a) b = ap (λ (x : List (List ℕ)). (event s p e).lines ++ x) (solo-append s (event s p e).next a b) ∙ sym (append_assoc (event s p e).lines (solo_from s (event s p e).next a) (solo_from s (end_of s (event s p e).next a) b))
 
-mine-append : (u : ℕ) (a b : List UserEvent) → mine u (a ++ b) ≡ mine u a ++ mine u b
+pub mine-append : (u : ℕ) (a b : List UserEvent) → mine u (a ++ b) ≡ mine u a ++ mine u b
 mine-append u [] b = refl
 mine-append u (h ∷ a) b =
     of_bool (eqb h.user u) (λ t. cond t (h.event ∷ mine u (a ++ b)) (mine u (a ++ b)) ≡ cond t (h.event ∷ mine u a) (mine u a) ++ mine u b)
@@ -158,7 +158,7 @@ pub length-after : (s : Setup) (w : World) (line : List ℕ) → length (world_a
 unfolding world_after
 length-after s w line = length-after_events s w (events_of s w (kind_of line))
 
-part_after : (s : Setup) (u : ℕ) (w : World) (line : List ℕ) → 1 ≤ u → u ≤ 8 → length w.parts ≡ 8 → user_machine u (world_after s w line) ≡ end_of s (user_machine u w) (mine u (events_of s w (kind_of line)))
+pub part_after : (s : Setup) (u : ℕ) (w : World) (line : List ℕ) → 1 ≤ u → u ≤ 8 → length w.parts ≡ 8 → user_machine u (world_after s w line) ≡ end_of s (user_machine u w) (mine u (events_of s w (kind_of line)))
 unfolding world_after
 part_after s u w line low high eight = part_after_events s u w (events_of s w (kind_of line)) low high eight (users_of s w line)
 
@@ -195,7 +195,7 @@ pub length-after_all : (s : Setup) (w : World) (ls : List (List ℕ)) → length
 length-after_all s w [] = refl
 length-after_all s w (l ∷ ls) = length-after_all s (world_after s w l) ls ∙ length-after s w l
 
-end_of-append : (s : Setup) (p : Private) (a b : List Event) → end_of s p (a ++ b) ≡ end_of s (end_of s p a) b
+pub end_of-append : (s : Setup) (p : Private) (a b : List Event) → end_of s p (a ++ b) ≡ end_of s (end_of s p a) b
 end_of-append s p [] b = refl
 end_of-append s p (e ∷ a) b = end_of-append s (event s p e).next a b
 

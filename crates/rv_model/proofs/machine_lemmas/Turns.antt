@@ -69,7 +69,7 @@ next_comes_first cursor u x flags low user set found =
     omega (arith, low, user.0, user.1, i.1, i.2, turn_at cursor i.0 low (omega (arith, i.1, small)))
 
 -- the flag of a user is set if the user's program is running
-flag_of : (parts : List Private) (i : ℕ) → get_or (map runs parts) i false ≡ runs (get_or parts i None)
+pub flag_of : (parts : List Private) (i : ℕ) → get_or (map runs parts) i false ≡ runs (get_or parts i None)
 flag_of [] i = refl
 flag_of (p ∷ ps) zero = refl
 flag_of (p ∷ ps) (suc i) = flag_of ps i
