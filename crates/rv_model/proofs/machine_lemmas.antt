@@ -1,5 +1,5 @@
--- Laws about machines and scripts: `EventLines` and `Grants` first, then `Headline`, then `Refusals`, `AbsentUsers` and
--- `ConfiguredUsers`.
+-- Laws about machines and scripts: `EventLines` and `Grants` first, then `Headline`, then `Refusals`, `AbsentUsers`,
+-- `ConfiguredUsers` and `Purge`.
 pub mod AbsentUsers
 pub mod Configurations
 pub mod ConfiguredUsers
@@ -7,6 +7,7 @@ pub mod Cuts
 pub mod EventLines
 pub mod Grants
 pub mod Headline
+pub mod Purge
 pub mod Refusals
 pub mod Slices
 pub mod Turns

@@ -7,6 +7,7 @@
 -- `Grants`: the slices that the operator grants.
 -- `Script`: the whole output of a script.
 -- `Laws`: the laws that a user's output depends on that user's machine alone.
+-- `Purge`: the law that the lines of other users can be removed from a script.
 -- `Turns`: the law that slices in turn are fair.
 -- `Refusals`: the law that a refusal changes nothing.
 -- `AbsentUsers`: the law that absent users have no state in the vector unit.
@@ -18,6 +19,7 @@ pub mod Cuts
 pub mod Examples
 pub mod Grants
 pub mod Laws
+pub mod Purge
 pub mod Refusals
 pub mod Script
 pub mod Setup

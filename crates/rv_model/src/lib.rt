@@ -25,8 +25,8 @@ pub use instructions::{
 pub use legality::{Content, Operand, Role, Shape};
 pub use machine::{
     RunState, Stats, USER_COUNT, User, absent_users_have_nothing, each_user_alone,
-    output_only_grows, preserved_configurations, preserved_registers, refusals_change_nothing,
-    slices_add_up, small_scripts_print, turns_are_fair,
+    others_can_be_purged, output_only_grows, preserved_configurations, preserved_registers,
+    refusals_change_nothing, slices_add_up, small_scripts_print, turns_are_fair,
 };
 pub use memory::{
     ADDRESS_END, Access, FRAME_COUNT, Fault, MapRefusal, PAGE_QUOTA, PAGE_SIZE, Permissions,

@@ -5,9 +5,9 @@ mod stats;
 mod user;
 
 pub use laws::{
-    absent_users_have_nothing, each_user_alone, output_only_grows, preserved_configurations,
-    preserved_registers, refusals_change_nothing, slices_add_up, small_scripts_print,
-    turns_are_fair,
+    absent_users_have_nothing, each_user_alone, others_can_be_purged, output_only_grows,
+    preserved_configurations, preserved_registers, refusals_change_nothing, slices_add_up,
+    small_scripts_print, turns_are_fair,
 };
 pub use run_state::RunState;
 pub use stats::Stats;

@@ -19,6 +19,6 @@ pub use program_fault::{
     STATUS_USAGE,
 };
 pub use rv_model::{
-    absent_users_have_nothing, each_user_alone, preserved_configurations, refusals_change_nothing,
-    slices_add_up, steps_take_ticks, turns_are_fair,
+    absent_users_have_nothing, each_user_alone, others_can_be_purged, preserved_configurations,
+    refusals_change_nothing, slices_add_up, steps_take_ticks, turns_are_fair,
 };

@@ -6,6 +6,9 @@ ghost use Rattle.rv_model.specs.machine.ConfiguredUsers.{SlicesAddUpAfterScripts
 ghost use Rattle.rv_model.specs.machine.Cuts.{CutsAreInvisible, SliceKeepsConfiguration, SlicesAddUp};
 ghost use Rattle.rv_model.specs.machine.Laws.{EachUserAlone, EachNewUserAlone, EachUserEndsAlone, OthersChangeNothing};
 ghost use Rattle.rv_model.specs.machine.Laws.{EqualPartsAnswerAlike, MachinesStayEight};
+ghost use Rattle.rv_model.specs.machine.Purge.{OthersCanBePurged, OthersCanBeReplaced, OthersCanBePurgedFromAll};
+ghost use Rattle.rv_model.specs.machine.Purge.{RunsReplaceSlices, OnlySlicesAreReplaced};
+ghost use Rattle.rv_model.specs.machine.Purge.{SmallScriptsArePurged, SmallScriptsGetRuns};
 ghost use Rattle.rv_model.specs.machine.Refusals.{ReasonsAreRefusals, RefusedUserEventsChangeNothing};
 ghost use Rattle.rv_model.specs.machine.Refusals.{RefusedLinesChangeNothing};
 ghost use Rattle.rv_model.specs.step.Effects.{FaultsWriteNoRegister, X0Unchanged, OutputGrowsWithin};
@@ -24,6 +27,19 @@ pub fn each_user_alone()
     ensures others { OthersChangeNothing }
     ensures equal { EqualPartsAnswerAlike }
     ensures eight { MachinesStayEight }
+{}
+
+/// If a script has no `slices`, a user's lines don't change if the lines of all other users, and the operator's lines
+/// `run` for them, are removed. In any script, lines `run` can replace each `slices` first, one for each slice that it
+/// grants.
+pub fn others_can_be_purged()
+    ensures without_slices { OthersCanBePurged }
+    ensures others { OthersCanBeReplaced }
+    ensures runs { RunsReplaceSlices }
+    ensures replaced { OnlySlicesAreReplaced }
+    ensures any_script { OthersCanBePurgedFromAll }
+    ensures examples { SmallScriptsArePurged }
+    ensures example_runs { SmallScriptsGetRuns }
 {}
 
 /// A small script prints the expected lines, and an empty script prints nothing.
