@@ -13,4 +13,4 @@ pub use inputs::Inputs;
 pub use process::{ArgumentFault, arguments};
 pub use reading::{ReadFault, read_file};
 pub use streams::{ReaderSource, WriterSink};
-pub use writing::write_all;
+pub use writing::{TextFault, write_all, write_text};

@@ -1,7 +1,7 @@
 //! Files read into memory.
 ghost use Rattle.std.specs.Prelude.{◌≡◌, ◌≤◌, ◌<◌, IfErr, IfOk, length};
 ghost use Rattle.std.specs.Io.KnownBytes.{Consumes, IsAtEnd};
-ghost use Rattle.devices.specs.KnownBytes.{AreKnownAs};
+ghost use Rattle.devices.specs.KnownBytes.{AreFirstKnown, AreKnownAs};
 
 use crate::inputs::Inputs;
 use std::alloc::{AllocError, Allocator};
@@ -58,8 +58,8 @@ fn read_bytes<F: Read, A: Allocator>(
     Ok(bytes)
 }
 
-/// Return the bytes of the file at `path`, at most the first `most`. It fails if the file can't be opened or read, or
-/// if memory runs out.
+/// Return the first `most` bytes of the file at `path`, or all of them if it has fewer. It fails if the file can't be
+/// opened or read, or if memory runs out.
 pub fn read_file<I: Inputs, A: Allocator>(
     inputs: &I,
     alloc: A,
@@ -68,6 +68,7 @@ pub fn read_file<I: Inputs, A: Allocator>(
 ) -> Result<Vec<u8, A>, ReadFault>
     ensures bytes { IfOk result (λ bytes.
         length bytes.items < most → AreKnownAs (I.file_bytes inputs.now path.now) bytes.items) }
+    ensures first { IfOk result (λ bytes. AreFirstKnown most (I.file_bytes inputs.now path.now) bytes.items) }
     ensures most { IfOk result (λ bytes. length bytes.items ≤ most) }
 {
     let Ok(mut file) = inputs.open(path) else {
