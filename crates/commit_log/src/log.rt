@@ -1,5 +1,5 @@
 //! Log of a run.
-ghost use Rattle.std.specs.Prelude.{ℕ, ◌≡◌, ◌+◌, ◌≤◌, ◌∷◌, ◌&&◌, [], Some, true, length, IfOk, OnOk};
+ghost use Rattle.std.specs.Prelude.{ℕ, ◌≡◌, ◌+◌, ◌<◌, ◌≤◌, ◌∷◌, ◌&&◌, [], Some, true, length, IfOk, OnErr, OnOk};
 ghost use Rattle.recording.specs.Machines.{state_of};
 ghost use Rattle.recording.specs.Runs.{is_counted, word_of};
 ghost use Rattle.rv_model.specs.declared.memory.Access.TheVariants.{Fetch};
@@ -74,6 +74,7 @@ impl<K: Sink + Drop> Log<K> {
 fn write_gathered<K: Sink>(sink: &mut K, text: &mut Text) -> Result<(), RecordFault>
     ensures printed { OnOk result (K.took sink.old text.old sink.new) }
     ensures none { OnOk result (text.new ≡ []) }
+    ensures failed { OnErr result (0 < K.failures sink.new) }
 {
     let Ok(()) = write_all(sink, text.as_slice()) else {
         return Err(RecordFault::Write("log"));
@@ -85,7 +86,8 @@ fn write_gathered<K: Sink>(sink: &mut K, text: &mut Text) -> Result<(), RecordFa
 impl<K: Sink> Log<K> {
     /// Write the lines that are still buffered, after the last instruction. Return `Write` if the sink fails.
     pub fn finish(&mut self) -> Result<(), RecordFault>
-        ensures { OnOk result (K.took self.old.sink self.old.text self.new.sink) }
+        ensures printed { OnOk result (K.took self.old.sink self.old.text self.new.sink) }
+        ensures failed { OnErr result (0 < K.failures self.new.sink) }
     {
         write_gathered(&mut self.sink, &mut self.text)
     }
@@ -104,6 +106,7 @@ fn has_room(text: &Text) -> bool
 fn make_room<K: Sink>(sink: &mut K, text: &mut Text) -> Result<(), RecordFault>
     ensures printed { OnOk result (Gathered K.took sink.old text.old [] sink.new text.new) }
     ensures room { OnOk result (length text.new + LINE_SIZE ≤ TEXT_SIZE) }
+    ensures failed { OnErr result (0 < K.failures sink.new) }
 {
     if has_room(text) {
         return Ok(());
@@ -120,10 +123,11 @@ fn add_line<M: UserBytes, K: Sink>(
     found: &PreState,
     machine: &SingleUserMachine<M>,
 ) -> Result<(), RecordFault>
-    ensures { OnOk result ((instr : Instr) (word : ℕ) (s : HartState)
+    ensures printed { OnOk result ((instr : Instr) (word : ℕ) (s : HartState)
         → Finds word (Some instr) s.scalar s.vector found.now
         → Retires instr s.vector machine.now.vectors.seat.state.conf.vl → Gathered K.took sink.old text.old
         (line_text (instruction_line instr word s machine.now.scalar machine.now.vectors.seat.state)) sink.new text.new) }
+    ensures failed { OnErr result (0 < K.failures sink.new) }
 {
     make_room(sink, text)?;
     push_line(text, found, &machine.scalar, &machine.vectors.seat.state);
@@ -173,9 +177,10 @@ fn log_instruction<M: UserBytes, K: Sink>(
     machine: &SingleUserMachine<M>,
     end: StepEnd,
 ) -> Result<(), RecordFault>
-    ensures { OnOk result ((before : Log K) (found : HartState) (ticks : ℕ) → IsNoted before found log.old
+    ensures logged { OnOk result ((before : Log K) (found : HartState) (ticks : ℕ) → IsNoted before found log.old
         → step 256 found ≡ ends_after ticks end (state_of M.memory machine.now)
         → IsLogged K.took before (found ∷ []) log.new) }
+    ensures failed { OnErr result (0 < K.failures log.new.sink) }
 {
     if !has_line(end, log.window, log.number) {
         return Ok(());
@@ -190,6 +195,8 @@ impl<M: UserBytes, K: Sink> Recorder<M> for Log<K> {
     ghost recorded = { IsLogged K.took };
 
     ghost prepared = { IsNoted };
+
+    ghost failed = { λ log _. 0 < K.failures log.sink };
 
     #[inline(always)]
     fn before_step(&mut self, machine: &SingleUserMachine<M>) -> Result<(), RecordFault> {

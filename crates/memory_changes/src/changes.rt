@@ -1,5 +1,5 @@
 //! Changes of watched places in a run.
-ghost use Rattle.std.specs.Prelude.{◌≡◌, IfOk};
+ghost use Rattle.std.specs.Prelude.{◌≡◌, ◌⊎◌, ◌<◌, IfOk};
 
 use crate::lines::{Moment, write_changes};
 use crate::place::{MAX_LENGTH, Place};
@@ -44,11 +44,14 @@ impl<K: Sink + Drop, A: Allocator> Changes<K, A> {
 
 impl<M: UserBytes, K: Sink, A: Allocator> Recorder<M> for Changes<K, A> {
     ghost use Rattle.memory_changes.specs.Recorded.{IsNoted, IsRecorded};
+    ghost use Rattle.recording.specs.declared.fault.RecordFault.TheVariants.{Unmapped};
     ghost use Rattle.memory_changes.specs.RecordLaws.{none_changed, more_changed};
 
     ghost recorded = { IsRecorded K.took };
 
     ghost prepared = { IsNoted };
+
+    ghost failed = { λ changes fault. (fault ≡ Unmapped) ⊎ (0 < K.failures changes.sink) };
 
     #[inline(always)]
     fn before_step(&mut self, machine: &SingleUserMachine<M>) -> Result<(), RecordFault> {

@@ -1,5 +1,6 @@
 //! Lines of changes.
-ghost use Rattle.std.specs.Prelude.{◌≡◌, ◌++◌, ◌+◌, ◌≤◌, length, flat_map, OnOk};
+ghost use Rattle.std.specs.Prelude.{◌≡◌, ◌⊎◌, ◌++◌, ◌+◌, ◌<◌, ◌≤◌, length, flat_map, IfErr, OnErr, OnOk};
+ghost use Rattle.recording.specs.declared.fault.RecordFault.TheVariants.{Unmapped};
 ghost use Rattle.hex.specs.Hex.{encode_lower};
 ghost use Rattle.rv_model.specs.commands.Printing.{hex16};
 ghost use Rattle.rv_model.specs.memory.Memory.{Memory};
@@ -71,8 +72,9 @@ fn write_change<K: Sink>(
 ) -> Result<(), RecordFault>
     requires few { length old.now ≤ 256 }
     requires few_new { length new.now ≤ 256 }
-    ensures { OnOk result (K.took sink.old
+    ensures line { OnOk result (K.took sink.old
         (change_line moment.now.number moment.now.ticks moment.now.pc addr old.now new.now) sink.new) }
+    ensures failed { OnErr result (0 < K.failures sink.new) }
 {
     let mut reply = Reply::new();
     push_change(&mut reply, moment, addr, old, new);
@@ -94,8 +96,9 @@ fn compare_bytes<M: UserBytes, K: Sink>(
 ) -> Result<(), RecordFault>
     requires small { length old.now ≤ 256 }
     requires within { place.now.len ≤ length buffer.old }
-    ensures { OnOk result (K.took sink.old (change moment.now.number moment.now.ticks moment.now.pc
+    ensures line { OnOk result (K.took sink.old (change moment.now.number moment.now.ticks moment.now.pc
         place.now.addr old.now (held (M.memory memory.now) place.now)) sink.new) }
+    ensures failed { IfErr result (λ fault. (fault ≡ Unmapped) ⊎ (0 < K.failures sink.new)) }
 {
     let new = &mut buffer[..place.len];
     read_bytes(memory, place.addr, new)?;
@@ -115,8 +118,9 @@ fn compare_place<M: UserBytes, K: Sink>(
     old: &[u8],
 ) -> Result<(), RecordFault>
     requires { length old.now ≤ 256 }
-    ensures { OnOk result (K.took sink.old (change moment.now.number moment.now.ticks moment.now.pc
+    ensures line { OnOk result (K.took sink.old (change moment.now.number moment.now.ticks moment.now.pc
         place.now.addr old.now (held (M.memory memory.now) place.now)) sink.new) }
+    ensures failed { IfErr result (λ fault. (fault ≡ Unmapped) ⊎ (0 < K.failures sink.new)) }
 {
     if place.len <= SMALL_LENGTH {
         return compare_bytes(sink, memory, moment, place, old, &mut [0; SMALL_LENGTH]);
@@ -133,9 +137,10 @@ pub(crate) fn write_changes<M: UserBytes, K: Sink>(
     places: &[Place],
     old: &[u8],
 ) -> Result<(), RecordFault>
-    ensures { OnOk result ((m : Memory) → old.now ≡ flat_map (held m) places.now
+    ensures lines { OnOk result ((m : Memory) → old.now ≡ flat_map (held m) places.now
         → K.took sink.old (changes_at moment.now.number moment.now.ticks moment.now.pc m (M.memory memory.now)
         places.now) sink.new) }
+    ensures failed { IfErr result (λ fault. (fault ≡ Unmapped) ⊎ (0 < K.failures sink.new)) }
 {
     let mut rest = old;
     for place in places {

@@ -1,5 +1,6 @@
 //! Reads the bytes of places.
-ghost use Rattle.std.specs.Prelude.{◌≡◌, ◌≤◌, ◌++◌, flat_map, length, OnOk};
+ghost use Rattle.std.specs.Prelude.{◌≡◌, ◌≤◌, ◌++◌, flat_map, length, IfErr, OnOk};
+ghost use Rattle.recording.specs.declared.fault.RecordFault.TheVariants.{Unmapped};
 ghost use Rattle.rv_model.specs.declared.memory.Access.TheVariants.{Monitor};
 ghost use Rattle.rv_model.specs.memory.Memory.{bytes_at, can_access};
 ghost use Rattle.memory_changes.specs.Changes.{held};
@@ -18,7 +19,8 @@ pub(crate) fn read_bytes<M: UserBytes>(
     addr: u64,
     bytes: &mut [u8],
 ) -> Result<(), RecordFault>
-    ensures { OnOk result (bytes.new ≡ bytes_at (M.memory memory.now) addr (length bytes.old)) }
+    ensures bytes { OnOk result (bytes.new ≡ bytes_at (M.memory memory.now) addr (length bytes.old)) }
+    ensures unmapped { IfErr result (λ fault. fault ≡ Unmapped) }
 {
     if memory.try_read(addr, Access::Monitor, bytes) {
         return Ok(());
@@ -38,7 +40,8 @@ fn add_bytes<M: UserBytes, A: Allocator>(
     bytes: &mut Vec<u8, A>,
 ) -> Result<(), RecordFault>
     requires { place.now.len ≤ length buffer.old }
-    ensures { OnOk result (bytes.new.items ≡ bytes.old.items ++ held (M.memory memory.now) place.now) }
+    ensures bytes { OnOk result (bytes.new.items ≡ bytes.old.items ++ held (M.memory memory.now) place.now) }
+    ensures unmapped { IfErr result (λ fault. fault ≡ Unmapped) }
 {
     let part = &mut buffer[..place.len];
     read_bytes(memory, place.addr, part)?;
@@ -56,7 +59,8 @@ fn add_place<M: UserBytes, A: Allocator>(
     place: &Place,
     bytes: &mut Vec<u8, A>,
 ) -> Result<(), RecordFault>
-    ensures { OnOk result (bytes.new.items ≡ bytes.old.items ++ held (M.memory memory.now) place.now) }
+    ensures bytes { OnOk result (bytes.new.items ≡ bytes.old.items ++ held (M.memory memory.now) place.now) }
+    ensures unmapped { IfErr result (λ fault. fault ≡ Unmapped) }
 {
     if place.len <= SMALL_LENGTH {
         return add_bytes(memory, place, &mut [0; SMALL_LENGTH], bytes);
@@ -72,7 +76,8 @@ pub(crate) fn read_places<M: UserBytes, A: Allocator>(
     places: &[Place],
     bytes: &mut Vec<u8, A>,
 ) -> Result<(), RecordFault>
-    ensures { OnOk result (bytes.new.items ≡ flat_map (held (M.memory memory.now)) places.now) }
+    ensures bytes { OnOk result (bytes.new.items ≡ flat_map (held (M.memory memory.now)) places.now) }
+    ensures unmapped { IfErr result (λ fault. fault ≡ Unmapped) }
 {
     bytes.clear();
     for place in places {

@@ -1,7 +1,10 @@
 -- The first instruction of a run, and the others.
-use Rattle.std.proofs.Common.{◌≡◌, refl, ℕ, suc, zero, ◌-◌, Bool, true, false, List, [], ◌∷◌, ◌++◌, is_none, ap, ◌∙◌, sym, subst, append-nil, append_assoc, flat_map, take, drop, arith}
+use Rattle.std.proofs.Common.{◌≡◌, refl, ℕ, suc, zero, ◌-◌, Bool, true, false, List, [], ◌∷◌, ◌++◌, is_none, ap, ◌∙◌, sym, subst, append-nil, append_assoc, flat_map, take, drop, arith, inl, inr, Result, Ok, Err, IfErr, IsErrAnd}
 use Rattle.std.proofs.lemmas.List.{take-append-drop}
 use Rattle.std.proofs.lemmas.List.Concat.{flat_map-append}
+use Rattle.std.specs.Prelude.{◌⊎◌}
+use Rattle.devices.specs.Device.{Rose}
+use Rattle.recording.specs.declared.fault.RecordFault.{RecordFault}
 use Rattle.rv_model.specs.declared.step.step_end.StepEnd.{StepEnd}
 use Rattle.rv_model.specs.machine.UserMachine.{stop_of}
 use Rattle.rv_model.specs.step.Hart.{HartState, Stepped, ends_after}
@@ -148,3 +151,13 @@ advanced s mid new end ticks made is =
       end_is = ap (λ (o : Stepped). o.end) made;
       ticks_are = ap (λ (o : Stepped). o.ticks) made;
     }
+
+-- a fault of a later instruction is a fault of the run
+pub failed_since : {T R : Type 0} (r : Result T RecordFault) (old mid new : ℕ) (stopped : RecordFault) (Failed : R → RecordFault → Type 0) (recorder : R) → mid ≡ old
+    → Rose mid new ⊎ Failed recorder stopped → IsErrAnd r (λ fault. fault ≡ stopped) → IfErr r (λ fault. Rose old new ⊎ Failed recorder fault)
+failed_since (Ok x) old mid new stopped Failed recorder same cause is = tt
+failed_since (Err fault) old mid new stopped Failed recorder same cause is =
+    elim cause [
+      | inl rose ↦ inl (subst (λ (n : ℕ). Rose n new) same rose)
+      | inr failed ↦ inr (subst (Failed recorder) (sym is) failed)
+    ]

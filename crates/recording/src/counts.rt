@@ -36,6 +36,7 @@ impl<A: Allocator + Copy> Counts<A> {
 
 impl<M: UserBytes, A: Allocator> Recorder<M> for Counts<A> {
     ghost use Rattle.recording.specs.PreState.{IsRowFor};
+    ghost use Rattle.recording.specs.declared.fault.RecordFault.TheVariants.{TableFull};
     ghost use Rattle.recording.specs.Runs.{shares};
     ghost use Rattle.recording.specs.Sums.{HasMore, no_more};
     ghost use Rattle.recording.specs.CountLaws.{none_shared, more_shared};
@@ -44,6 +45,8 @@ impl<M: UserBytes, A: Allocator> Recorder<M> for Counts<A> {
 
     ghost prepared = { λ a state b. HasMore no_more a.table.rows.items b.table.rows.items
         × IsRowFor state b.index b.found b.table.rows.items };
+
+    ghost failed = { λ _ fault. fault ≡ TableFull };
 
     #[inline(always)]
     fn before_step(&mut self, machine: &SingleUserMachine<M>) -> Result<(), RecordFault> {

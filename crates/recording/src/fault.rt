@@ -1,4 +1,6 @@
 //! Errors of a recorder.
+ghost use Rattle.std.specs.Prelude.{◌≡◌};
+ghost use Rattle.recording.specs.declared.fault.RecordFault.TheVariants as record_fault;
 
 /// The table of counts has no row left.
 #[derive(Debug, Drop)]
@@ -16,6 +18,8 @@ pub enum RecordFault {
 }
 
 impl From<TableFull> for RecordFault {
+    ghost from_gives = { λ _ fault. fault ≡ record_fault.TableFull };
+
     fn from(_full: TableFull) -> Self {
         RecordFault::TableFull
     }

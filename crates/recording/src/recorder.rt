@@ -1,8 +1,9 @@
 //! Recorders of a run, instruction by instruction.
-ghost use Rattle.std.specs.Prelude.{◌≡◌, ◌∷◌, ◌++◌, [], List, OnOk};
+ghost use Rattle.std.specs.Prelude.{◌≡◌, ◌∷◌, ◌++◌, [], List, IfErr, OnOk};
 ghost use Rattle.rv_model.specs.step.Hart.{HartState, ends_after};
 ghost use Rattle.rv_model.specs.step.Step.{step};
 ghost use Rattle.recording.specs.Machines.{state_of};
+ghost use Rattle.recording.specs.declared.fault.RecordFault.{RecordFault};
 
 use crate::fault::RecordFault;
 use crate::machine::SingleUserMachine;
@@ -17,9 +18,13 @@ pub trait Recorder<M: UserBytes> {
     // The state before an instruction was saved between them.
     ghost prepared: { Self → HartState → Self → Type 0 };
 
+    // A call that left the recorder in this state may have failed with this fault.
+    ghost failed: { Self → RecordFault → Type 0 };
+
     /// Save the state before an instruction. Fails if the recorder can't record it.
     fn before_step(&mut self, machine: &SingleUserMachine<M>) -> Result<(), RecordFault>
-        ensures { OnOk result (prepared self.old (state_of M.memory machine.now) self.new) };
+        ensures prepared { OnOk result (prepared self.old (state_of M.memory machine.now) self.new) }
+        ensures failed { IfErr result (failed self.new) };
 
     /// Record the instruction since the last saved state, from the state after it, its end and its ticks. Fails if the
     /// recorder can't record it.
@@ -29,9 +34,10 @@ pub trait Recorder<M: UserBytes> {
         end: StepEnd,
         ticks: usize,
     ) -> Result<(), RecordFault>
-        ensures { OnOk result ((before : Self) (found : HartState) → prepared before found self.old
+        ensures recorded { OnOk result ((before : Self) (found : HartState) → prepared before found self.old
             → step 256 found ≡ ends_after ticks end (state_of M.memory machine.now)
-            → recorded before (found ∷ []) self.new) };
+            → recorded before (found ∷ []) self.new) }
+        ensures failed { IfErr result (failed self.new) };
 
     // A law: an unchanged recorder has recorded no instruction.
     ghost recorded_none: { (r : Self) → recorded r [] r };

@@ -1,4 +1,6 @@
 //! Two records of one run.
+ghost use Rattle.std.specs.Prelude.{◌⊎◌};
+
 use crate::fault::RecordFault;
 use crate::machine::SingleUserMachine;
 use crate::recorder::Recorder;
@@ -17,6 +19,8 @@ impl<M: UserBytes, A: Recorder<M>, B: Recorder<M>> Recorder<M> for RecorderPair<
     ghost recorded = { λ a states b. A.recorded a.first states b.first × B.recorded a.second states b.second };
 
     ghost prepared = { λ a state b. A.prepared a.first state b.first × B.prepared a.second state b.second };
+
+    ghost failed = { λ r fault. A.failed r.first fault ⊎ B.failed r.second fault };
 
     #[inline(always)]
     fn before_step(&mut self, machine: &SingleUserMachine<M>) -> Result<(), RecordFault> {

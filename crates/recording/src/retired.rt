@@ -33,6 +33,8 @@ impl<M: UserBytes> Recorder<M> for Retired {
 
     ghost prepared = { λ a _ b. b ≡ a };
 
+    ghost failed = { λ _ _. ⊥ };
+
     #[inline(always)]
     fn before_step(&mut self, _machine: &SingleUserMachine<M>) -> Result<(), RecordFault> {
         Ok(())

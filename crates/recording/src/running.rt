@@ -1,5 +1,6 @@
 //! A run, recorded or not.
-ghost use Rattle.std.specs.Prelude.{◌≡◌, ◌∷◌, [], flat_map, is_none, IfOk, OnErr, OnOk};
+ghost use Rattle.std.specs.Prelude.{◌≡◌, ◌⊎◌, ◌∷◌, [], flat_map, is_none, IfErr, IfOk, OnErr, OnOk};
+ghost use Rattle.devices.specs.Device.{Rose};
 ghost use Rattle.rv_model.specs.machine.UserMachine.{stop_of};
 ghost use Rattle.recording.specs.Machines.{Advances, state_of, taken};
 ghost use Rattle.recording.specs.Runs.{TakesFirst, output_of, ran};
@@ -27,6 +28,8 @@ fn take_output<M: UserBytes, K: Sink>(
 ) -> Result<(), RecordFault>
     ensures output { OnOk result (K.took sink.old machine.old.output.items sink.new) }
     ensures part { OnErr result (TakesFirst K.took sink.old machine.old.output.items sink.new) }
+    ensures unfailed { OnOk result (K.failures sink.new ≡ K.failures sink.old) }
+    ensures failed { OnErr result (Rose (K.failures sink.old) (K.failures sink.new)) }
     ensures state { OnOk result (state_of M.memory machine.new ≡ taken (state_of M.memory machine.old)) }
     ensures memory { machine.new.memory ≡ machine.old.memory }
 {
@@ -49,6 +52,8 @@ fn advance<M: UserBytes, R: Recorder<M>, K: Sink>(
     ensures recorded { OnOk result (R.recorded recorder.old (state_of M.memory machine.old ∷ []) recorder.new) }
     ensures output { OnOk result (K.took sink.old (output_of (state_of M.memory machine.old)) sink.new) }
     ensures part { OnErr result (TakesFirst K.took sink.old (output_of (state_of M.memory machine.old)) sink.new) }
+    ensures unfailed { OnOk result (K.failures sink.new ≡ K.failures sink.old) }
+    ensures failed { IfErr result (λ fault. Rose (K.failures sink.old) (K.failures sink.new) ⊎ R.failed recorder.new fault) }
     ensures memory { machine.new.memory ≡ M.with_memory machine.old.memory (M.memory machine.new.memory) }
 {
     recorder.before_step(machine)?;
@@ -78,6 +83,9 @@ pub fn run<M: UserBytes, R: Recorder<M>, K: Sink>(
     // After an error, the sink has the first bytes of the whole run's output.
     ensures part { OnErr result (TakesFirst K.took sink.old
         (flat_map output_of (ran ticks (state_of M.memory machine.old)).found) sink.new) }
+
+    // It is an error only if the sink or the recorder failed.
+    ensures failed { IfErr result (λ fault. Rose (K.failures sink.old) (K.failures sink.new) ⊎ R.failed recorder.new fault) }
 
     // All other contents of the user's bytes are unchanged.
     ensures memory { machine.new.memory ≡ M.with_memory machine.old.memory (M.memory machine.new.memory) }

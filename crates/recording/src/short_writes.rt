@@ -44,6 +44,8 @@ impl<M: UserBytes> Recorder<M> for ShortWrites {
 
     ghost prepared = { λ a _ b. b ≡ a };
 
+    ghost failed = { λ _ _. ⊥ };
+
     #[inline(always)]
     fn before_step(&mut self, _machine: &SingleUserMachine<M>) -> Result<(), RecordFault> {
         Ok(())

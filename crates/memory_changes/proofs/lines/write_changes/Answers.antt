@@ -25,5 +25,5 @@ loop-place-preserved g c = λ m is.
       took = moved g.K.Sink.took _ _ _ _
           (ap (λ (l : List ℕ). flat_map lines (take i places) ++ change moment.number moment.ticks moment.pc place.addr l (held n place)) front
           ∙ (ap (λ (p : Place). flat_map lines (take i places) ++ lines p) c.place-item.is ∙ first_more lines places i place below))
-          (g.met.K.Sink.took_more _ _ _ _ _ before.took c.in_ok-compare_place.ensures);
+          (g.met.K.Sink.took_more _ _ _ _ _ before.took c.in_ok-compare_place.ensures.line);
     }

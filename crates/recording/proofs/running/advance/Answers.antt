@@ -10,7 +10,7 @@ returns-clause-machine g c = advanced _ _ _ _ _ c.step-end.ensures.model c.in_ok
 
 pub returns-clause-recorded : goal.returns-clause-recorded
 returns-clause-recorded g c =
-    c.in_ok-after_step.ensures c.args.recorder.now (state_of g.M.UserBytes.memory c.args.machine.now) c.in_ok-before_step.ensures c.step-end.ensures.model
+    c.in_ok-after_step.ensures.recorded c.args.recorder.now (state_of g.M.UserBytes.memory c.args.machine.now) c.in_ok-before_step.ensures.prepared c.step-end.ensures.model
 
 pub returns-clause-output : goal.returns-clause-output
 returns-clause-output g c =

@@ -3,7 +3,7 @@ use Rattle.devices.proofs.Moves.{moved, on_err}
 use Rattle.rv_model.specs.step.Hart.{HartState}
 use Rattle.recording.specs.Machines.{state_of}
 use Rattle.recording.specs.Runs.{Run, begins, ran, run}
-use Rattle.recording.proofs.Runs.{SoFar, all_recorded, all_put_out, first_put_out, more_put_out, nothing_yet, one_more, run_begins, run_is, without_fuel, without_ticks}
+use Rattle.recording.proofs.Runs.{SoFar, all_recorded, all_put_out, failed_since, first_put_out, more_put_out, nothing_yet, one_more, run_begins, run_is, without_fuel, without_ticks}
 use Rattle.recording.proofs.running.run.Goals as goal
 
 pub loop-init : goal.loop-init
@@ -13,6 +13,7 @@ loop-init g c = (
     so_far = nothing_yet g.R.Recorder.recorded (c.args.ticks - 0) c.args.ticks (state_of g.M.UserBytes.memory c.args.machine.now) c.args.recorder.now (omega arith)
         (g.met.R.Recorder.recorded_none c.args.recorder.now);
     took = g.met.K.Sink.took_none c.args.sink.now;
+    count = refl;
     memory = sym (g.met.M.UserBytes.with_memory_same c.args.machine.now.memory);
   },
 )
@@ -31,6 +32,7 @@ loop-preserved g c =
         so_far = one_more g.R.Recorder.recorded g.met.R.Recorder.recorded_more _ _ (run n c.saturating_sub-left.result next) seen s c.args.recorder.now c.loop.recorder c.advance.new.recorder
             (is ∙ ap (λ (l : ℕ). begins s true c.in_ok-end.end next (run n l next)) (sym c.saturating_sub-left.ensures)) c.in_ok-end.ensures.recorded before.so_far;
         took = moved g.K.Sink.took _ _ _ _ (more_put_out seen s) (g.met.K.Sink.took_more _ _ _ _ _ before.took c.in_ok-end.ensures.output);
+        count = c.in_ok-end.ensures.unfailed ∙ before.count;
         memory = c.advance.ensures.memory
             ∙ ap (λ m. g.M.UserBytes.with_memory m (g.M.UserBytes.memory c.advance.new.machine.memory)) before.memory
             ∙ g.met.M.UserBytes.with_memory_twice _ _ _;
@@ -56,6 +58,7 @@ returns-then-not-goes_on g c =
       output = moved g.K.Sink.took _ _ _ _ (more_put_out seen s ∙ all_put_out g.R.Recorder.recorded _ _ _ _ _ so_far refl)
           (g.met.K.Sink.took_more _ _ _ _ _ before.took c.in_ok-end.ensures.output);
       part = tt;
+      failed = tt;
       memory = c.advance.ensures.memory
           ∙ ap (λ m. g.M.UserBytes.with_memory m (g.M.UserBytes.memory c.advance.new.machine.memory)) before.memory
           ∙ g.met.M.UserBytes.with_memory_twice _ _ _;
@@ -72,6 +75,11 @@ returns-in_err-end-clause-part g c =
     (first_put_out g.K.Sink.took g.met.K.Sink.took_more seen begun.0 _ s _ _ _ (ap (λ (l : List HartState). seen ++ l) (sym begun.1) ∙ before.so_far.found)
     before.took c.in_err-end.ensures.part)
 
+pub returns-in_err-end-clause-failed : goal.returns-in_err-end-clause-failed
+returns-in_err-end-clause-failed g c =
+    let before = c.loop.invariant.1 in
+    failed_since c.from_residual.result _ _ _ c.in_err-end.field-0.0 g.R.Recorder.failed c.advance.new.recorder before.count c.in_err-end.ensures.failed c.from_residual.ensures.1
+
 -- return when no ticks are left
 pub returns-then-left-eq0 : goal.returns-then-left-eq0
 returns-then-left-eq0 g c =
@@ -85,6 +93,7 @@ returns-then-left-eq0 g c =
       machine = so_far.state;
       output = moved g.K.Sink.took _ _ _ _ (all_put_out g.R.Recorder.recorded _ _ _ _ _ so_far refl) before.took;
       part = tt;
+      failed = tt;
       memory = before.memory;
     }
 
@@ -100,5 +109,6 @@ returns g c =
       machine = so_far.state;
       output = moved g.K.Sink.took _ _ _ _ (all_put_out g.R.Recorder.recorded _ _ _ _ _ so_far refl) before.took;
       part = tt;
+      failed = tt;
       memory = before.memory;
     }

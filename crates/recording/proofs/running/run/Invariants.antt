@@ -10,5 +10,6 @@ abbrev pub invariant-loop : goal.invariant-loop
 invariant-loop g l = (seen : List HartState) × (record {
   so_far : SoFar g.R.Recorder.recorded (ran l.ticks (state_of g.M.UserBytes.memory l.fn.machine)) (run (l.ticks - l.counter) l.left (state_of g.M.UserBytes.memory l.machine)) seen l.fn.recorder l.recorder;
   took : g.K.Sink.took l.fn.sink (flat_map output_of seen) l.sink;
+  count : g.K.Sink.failures l.sink ≡ g.K.Sink.failures l.fn.sink;
   memory : l.machine.memory ≡ g.M.UserBytes.with_memory l.fn.machine.memory (g.M.UserBytes.memory l.machine.memory);
 })

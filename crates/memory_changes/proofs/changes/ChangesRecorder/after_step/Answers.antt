@@ -5,8 +5,8 @@ use Rattle.memory_changes.specs.Changes.{changes_at, one_more}
 use Rattle.memory_changes.proofs.Kept.{kept, of_slices}
 use Rattle.memory_changes.proofs.changes.ChangesRecorder.after_step.Goals as goal
 
-pub returns : goal.returns
-returns g c =
+pub returns-clause-recorded : goal.returns-clause-recorded
+returns-clause-recorded g c =
     let now = c.args.self.now in
     let memory = g.M.UserBytes.memory c.args.machine.now.memory in
     on_ok_weaker c.write_changes.result
@@ -14,4 +14,4 @@ returns g c =
     (of_slices g.K.Sink.took now.sink c.write_changes.new.sink
     (λ m places. changes_at (one_more now.number) ((now.ticks + c.args.ticks) % 2 ^ 64) now.pc m memory places)
     c.as_slice-before.result.now now.before.items c.as_slice-places.result.now now.places.items c.as_slice-before.ensures.value c.as_slice-places.ensures.value printed))
-    c.write_changes.ensures
+    c.write_changes.ensures.lines

@@ -16,15 +16,15 @@ class_noted : (row : Row) (s : HartState) (index : ℕ) (found : PreState) (rows
     → row.class ≡ class_of (scan table prepared.word)
 class_noted row s index found rows prepared is = row.class_is s.scalar.pc prepared.word (ap (λ (r : Row). r.key) is ∙ prepared.row.of row)
 
-pub returns-then-not-is_counted : goal.returns-then-not-is_counted
-returns-then-not-is_counted g c =
+pub returns-then-not-is_counted-clause-recorded : goal.returns-then-not-is_counted-clause-recorded
+returns-then-not-is_counted-clause-recorded g c =
     let rows : List Row = c.args.self.now.table.rows.items in
     λ before found prepared made.
     one_shared found before.table.rows.items rows rows prepared.0
     (share_not_counted found (state_of g.M.UserBytes.memory c.args.machine.now) c.args.ticks c.args.end rows made (sym c.is_counted.ensures ∙ c.if-not-is_counted.true))
 
-pub returns-then-is_plain : goal.returns-then-is_plain
-returns-then-is_plain g c =
+pub returns-then-is_plain-clause-recorded : goal.returns-then-is_plain-clause-recorded
+returns-then-is_plain-clause-recorded g c =
     let rows : List Row = c.args.self.now.table.rows.items in
     λ before found prepared made.
     one_shared found before.table.rows.items rows c.count_at.new.self.rows.items prepared.0
@@ -33,8 +33,8 @@ returns-then-is_plain g c =
     (class_noted c.index-row.result.now found c.args.self.now.index c.args.self.now.found rows prepared.1 c.index-row.ensures) made (sym c.is_counted.ensures ∙ c.if-not-is_counted.false)
     (sym c.is_plain.ensures ∙ c.if-is_plain.true) c.plain.ensures (c.count_at.ensures (Word found.scalar.pc prepared.1.word) prepared.1.row))
 
-pub returns : goal.returns
-returns g c =
+pub returns-clause-recorded : goal.returns-clause-recorded
+returns-clause-recorded g c =
     let rows : List Row = c.args.self.now.table.rows.items in
     λ before found prepared made.
     one_shared found before.table.rows.items rows c.count_second_key.new.table.rows.items prepared.0

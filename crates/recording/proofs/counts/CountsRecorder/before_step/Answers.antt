@@ -5,8 +5,8 @@ use Rattle.recording.specs.Sums.{Row}
 use Rattle.recording.proofs.Counted.{row_for}
 use Rattle.recording.proofs.counts.CountsRecorder.before_step.Goals as goal
 
-pub returns : goal.returns
-returns g c =
+pub returns-clause-prepared : goal.returns-clause-prepared
+returns-clause-prepared g c =
     let s : HartState = state_of g.M.UserBytes.memory c.args.machine.now in
     let row = c.in_ok-index.ensures.row in
     let here = ap (λ (r : Row). r.key) c.index-row.ensures ∙ row.of c.index-row.result.now in (
