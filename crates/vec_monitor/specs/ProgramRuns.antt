@@ -4,7 +4,8 @@ use Rattle.std.specs.Prelude.{◌≡◌, ◌≤◌, ℕ, List, [], Option, None,
 use Rattle.std.specs.Io.{StartsWith}
 use Rattle.std.specs.List.{AllZip}
 use Rattle.std.specs.Option.{option_map_or}
-use Rattle.clap.specs.Words.{Text}
+use Rattle.clap.specs.Words.{IsAmong, Text}
+use Rattle.clap.specs.declared.error.kind.ErrorKind.TheVariants.{DisplayHelp}
 use Rattle.monitor_machine.specs.NewFaults.{new_fault}
 use Rattle.rv_model.specs.machine.World.{solo}
 use Rattle.rv_model.specs.machine.Script.{lines, own, whole}
@@ -50,3 +51,9 @@ pub record RanArguments (file_bytes : Text → Option (List ℕ)) (input_bytes :
   pub quantum : ℕ
   pub ticks : IsQuantum (quantum_word arguments) quantum
   pub run : RanOptions file_bytes input_bytes quantum (script_word arguments) (image_arguments arguments) Ran
+
+-- The arguments ask for help, and the output took a text.
+pub record IsHelped (arguments : List Text) (took : List ℕ → Type 0) : Type 0 where
+  pub asked : IsAmong DisplayHelp (arguments_fault arguments)
+  pub text : List ℕ
+  pub taken : took text

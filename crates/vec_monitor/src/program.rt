@@ -8,7 +8,7 @@ ghost use Rattle.clap.specs.declared.error.kind.ErrorKind.TheVariants.{DisplayHe
 ghost use Rattle.rv_model.specs.machine.Script.{new_world};
 ghost use Rattle.vec_monitor.specs.CommandLine.{image_arguments, arguments_fault};
 ghost use Rattle.vec_monitor.specs.ImageArguments.{LacksEqualsSign};
-ghost use Rattle.vec_monitor.specs.ProgramRuns.{OutputPrefix, RanOptions, RanScript, RanArguments};
+ghost use Rattle.vec_monitor.specs.ProgramRuns.{IsHelped, OutputPrefix, RanOptions, RanScript, RanArguments};
 ghost use Rattle.vec_monitor.specs.Statuses.{program_status, AreRefused, MayBeRefused};
 ghost use Rattle.vec_monitor.specs.declared.program_fault.ProgramFault.TheVariants.{ImageArgument, NoMemory};
 
@@ -17,7 +17,7 @@ use crate::command_line::{Options, UsageFault};
 use crate::image_arguments::image_paths;
 use crate::image_files::{borrowed_images, read_images};
 use crate::program_fault::{ProgramFault, STATUS_DONE};
-use devices::Inputs;
+use devices::{Inputs, TextFault, write_text};
 use monitor_machine::Machine;
 use monitor_script::{ReaderSource, RunFault, Sink, WriterSink, run};
 use std::alloc::{Allocator, Global};
@@ -96,19 +96,21 @@ fn run_options<'a, I: Inputs, K: Sink, A: Allocator + Clone>(
     Ok(())
 }
 
-/// Run the program with its arguments: print help, or execute a script.
-fn run_arguments<'a, R: Inputs + Print, K: Sink>(
+/// Run the program with its arguments: write help, or execute a script.
+fn run_arguments<'a, R: Inputs, K: Sink>(
     rt: &R,
     alloc: Global,
     arguments: &'a [&'a str],
     output: &mut K,
 ) -> Result<(), ProgramFault<'a>>
-    ensures ran { OnOk result (IsAmong DisplayHelp (arguments_fault (texts arguments.now))
+    ensures ran { OnOk result (
+        IsHelped (texts arguments.now) (λ printed. K.took output.old printed output.new)
         ⊎ RanArguments (R.file_bytes rt.now) (R.input_bytes rt.now) (texts arguments.now)
         (RanScript (λ printed. K.took output.old printed output.new))) }
     ensures printed { K.took output.old [] output.new
+        ⊎ (IsHelped (texts arguments.now) (λ printed. K.took output.old printed output.new)
         ⊎ RanArguments (R.file_bytes rt.now) (R.input_bytes rt.now) (texts arguments.now)
-        (OutputPrefix (λ printed. K.took output.old printed output.new)) }
+        (OutputPrefix (λ printed. K.took output.old printed output.new))) }
     ensures nothing { IfErr result (λ fault. (program_status fault ≡ 2)
         ⊎ ((program_status fault ≡ 4) ⊎ (program_status fault ≡ 6)) → K.took output.old [] output.new) }
     ensures usage { IfErr result (λ fault.
@@ -120,9 +122,10 @@ fn run_arguments<'a, R: Inputs + Print, K: Sink>(
 {
     match options(alloc, arguments) {
         Ok(options) => run_options(rt, alloc, &options, output),
-        Err(UsageFault::Help(text)) => match print!(rt; "{text}") {
+        Err(UsageFault::Help(text)) => match write_text(alloc, output, text) {
             Ok(()) => Ok(()),
-            Err(_) => Err(ProgramFault::Run(RunFault::Write)),
+            Err(TextFault::Unwritten) => Err(ProgramFault::Run(RunFault::Write)),
+            Err(TextFault::NoMemory) => Err(ProgramFault::NoMemory),
         },
         Err(UsageFault::Usage(text)) => Err(ProgramFault::Usage(text)),
         Err(UsageFault::NoMemory) => Err(ProgramFault::NoMemory),
@@ -138,9 +141,9 @@ pub fn report<R: Eprint>(rt: &R, fault: &ProgramFault<'_>) -> u8
 }
 
 /// Run the program. `arguments` are the command-line arguments; the first is the program's name. The replies to the
-/// script's lines are written to `output`; help is printed to standard output, and error messages to standard error.
-/// Return the exit status.
-pub fn vecmon_into<R: Inputs + Print + Eprint, K: Sink>(
+/// script's lines, or the help text, are written to `output`, and error messages are printed to standard error. Return
+/// the exit status.
+pub fn vecmon_into<R: Inputs + Eprint, K: Sink>(
     rt: &R,
     alloc: Global,
     arguments: &[&str],
@@ -148,16 +151,18 @@ pub fn vecmon_into<R: Inputs + Print + Eprint, K: Sink>(
 ) -> u8
     ensures statuses { (result ≡ 0) ⊎ ((result ≡ 2) ⊎ ((result ≡ 3) ⊎ ((result ≡ 4)
         ⊎ ((result ≡ 5) ⊎ (result ≡ 6))))) }
-    // The exit status is 0 if the arguments ask for help, or if the machine that they describe executed the script that
-    // they name.
-    ensures ran { result ≡ 0 → IsAmong DisplayHelp (arguments_fault (texts arguments.now))
+    // The exit status is 0 if the arguments ask for help, which is then the output, or if the machine that they describe
+    // executed the script that they name.
+    ensures ran { result ≡ 0 →
+        IsHelped (texts arguments.now) (λ printed. K.took output.old printed output.new)
         ⊎ RanArguments (R.file_bytes rt.now) (R.input_bytes rt.now) (texts arguments.now)
         (RanScript (λ printed. K.took output.old printed output.new)) }
-    // For every exit status, the output is empty or a prefix of the output of this machine for this script. It is empty
-    // for the exit statuses 2, 4 and 6.
+    // For every exit status, the output is empty, help, or a prefix of the output of this machine for this script. It is
+    // empty for the exit statuses 2, 4 and 6.
     ensures printed { K.took output.old [] output.new
+        ⊎ (IsHelped (texts arguments.now) (λ printed. K.took output.old printed output.new)
         ⊎ RanArguments (R.file_bytes rt.now) (R.input_bytes rt.now) (texts arguments.now)
-        (OutputPrefix (λ printed. K.took output.old printed output.new)) }
+        (OutputPrefix (λ printed. K.took output.old printed output.new))) }
     ensures nothing { (result ≡ 2) ⊎ ((result ≡ 4) ⊎ (result ≡ 6)) → K.took output.old [] output.new }
     ensures usage { result ≡ 2 → MayBeRefused (texts arguments.now) }
     ensures refused { AreRefused (texts arguments.now) → (result ≡ 2) ⊎ (result ≡ 6) }

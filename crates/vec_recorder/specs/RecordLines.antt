@@ -1,5 +1,5 @@
 -- The lines of a counts file (docs/RECORDER.md). Addresses and words are hexadecimal, counts are decimal.
-use Rattle.std.specs.Prelude.{ℕ, ◌==◌, List, [], ◌++◌, decimal, Option, None, Some, if◌then◌else◌, codes}
+use Rattle.std.specs.Prelude.{ℕ, ◌==◌, ◌&&◌, Bool, List, [], ◌++◌, decimal, Option, None, Some, if◌then◌else◌, codes}
 use Rattle.std.specs.Option.{option_and_then}
 use Rattle.recording.specs.declared.key.Key.{Key}
 use Rattle.recording.specs.declared.row.Row.{Row}
@@ -35,9 +35,13 @@ key_line (Word pc word) sums = word_line pc word sums
 key_line (Length vtype vl) sums = length_line vtype vl sums
 key_line (Jump pc target) sums = jump_line pc target sums
 
--- the line of a row; a row with a count of zero has none
+-- whether all counts are zero
+abbrev pub has_no_counts : Sums → Bool
+has_no_counts sums = sums.times == 0 && sums.ticks == 0 && sums.active == 0 && sums.masked == 0 && sums.tail == 0
+
+-- the line of a row; a row without counts has none
 unfoldable pub row_line : Row → List ℕ
-row_line row = if row.sums.times == 0 then [] else key_line row.key row.sums
+row_line row = if has_no_counts row.sums then [] else key_line row.key row.sums
 
 -- the reason for a program's stop, and the program counter; without a stop the program is still running because its
 -- ticks were used up

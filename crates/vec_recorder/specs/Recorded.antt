@@ -1,12 +1,14 @@
 -- The effect of the program with its arguments: the initial machine of a run, its output, and its records
-use Rattle.std.specs.Prelude.{◌≡◌, ◌≤◌, ◌%◌, ◌^◌, ◌++◌, ⊤, ℕ, Bool, List, [], Option, None, Some, flat_map}
+use Rattle.std.specs.Prelude.{◌≡◌, ◌≤◌, ◌%◌, ◌^◌, ◌++◌, ℕ, Bool, List, [], Option, None, Some, flat_map}
 use Rattle.std.specs.List.{AllZip}
 use Rattle.clap.specs.Walk.{Text}
+use Rattle.clap.specs.Words.{IsAmong}
+use Rattle.clap.specs.declared.error.kind.ErrorKind.TheVariants.{DisplayHelp}
 use Rattle.commit_log.specs.Logged.{logged_from}
 use Rattle.commit_log.specs.declared.log.Window.{Window}
 use Rattle.memory_changes.specs.Changes.{changes_from}
 use Rattle.memory_changes.specs.declared.place.Place.{Place}
-use Rattle.recording.specs.Runs.{output_of, ran, shares}
+use Rattle.recording.specs.Runs.{TakesFirst, output_of, ran, shares}
 use Rattle.recording.specs.Sums.{OfEach, is_word, total}
 use Rattle.recording.specs.declared.key.Key.{Key}
 use Rattle.recording.specs.declared.row.Row.{Row}
@@ -18,8 +20,10 @@ use Rattle.vec_recorder.specs.CommandLine.{RunArguments, number_or_default, poli
 use Rattle.vec_recorder.specs.MemoryArguments.{IsMemoryOf}
 use Rattle.vec_recorder.specs.Paths.{ArePathsApart}
 use Rattle.vec_recorder.specs.RecordLines.{last_line, row_line}
+use Rattle.vec_recorder.specs.Statuses.{IsRunFault, program_status}
 use Rattle.vec_recorder.specs.WatchArguments.{IsPlaceOf}
 use Rattle.vec_recorder.specs.declared.memory_arguments.MemoryPath.{MemoryPath}
+use Rattle.vec_recorder.specs.declared.program_fault.ProgramFault.{ProgramFault}
 
 -- These rows contain the counts of all instructions of a run, modulo 2^64, for each set of keys.
 abbrev pub AreCountsOf : List HartState → List Row → Type 0
@@ -54,47 +58,92 @@ pub record RecordsRun {O K : Type 0} (records : O → List HartState → O → T
   pub machine : left ≡ (ran ticks s).state
   pub output : took before (flat_map output_of (ran ticks s).found) after
 
--- A file was created at a path and accepted the text that `Says` describes.
-pub record IsWritten {F : Type 0} (is_created : Text → F → Type 0) (took : F → List ℕ → F → Type 0) (path : Text) (Says : (List ℕ → Type 0) → Type 0) : Type 0 where
-  pub before : F
-  pub after : F
-  pub made : is_created path before
-  pub says : Says (λ printed. took before printed after)
+-- ---- record files. `created`, `took` and `closed` are what the caller's files say of a created file, of the bytes that it accepts, and of a closed file
 
--- the record is in the file at a path, if a path is given
-abbrev pub AreKept : {F : Type 0} → (Text → F → Type 0) → (F → List ℕ → F → Type 0) → Option Text → ((List ℕ → Type 0) → Type 0) → Type 0
-AreKept is_created took None Says = ⊤
-AreKept is_created took (Some path) Says = IsWritten is_created took path Says
+-- A file was created at a path, other files were written as `Others` says, and the file was closed after it accepted a text that `Says` describes, and nothing else.
+pub record IsWritten {O F : Type 0} (created : O → Text → F → O → Type 0) (took : F → List ℕ → F → Type 0) (closed : O → F → O → Type 0) (path : Text) (Says : (List ℕ → Type 0) → Type 0)
+    (Others : O → O → Type 0) (old new : O) : Type 0 where
+  pub empty : F
+  pub full : F
+  pub first : O
+  pub last : O
+  pub made : created old path empty first
+  pub others : Others first last
+  pub says : Says (λ printed. took empty printed full)
+  pub ended : closed last full new
 
--- A run with this policy, this maximum number of ticks and this memory had the specified output, and its records were
--- written.
-pub record RunBy {F : Type 0} (file_bytes : Text → Option (List ℕ)) (is_created : Text → F → Type 0) (took : F → List ℕ → F → Type 0) (put : List ℕ → Type 0) (arguments : RunArguments)
-    (policy : Policy) (ticks : ℕ) (memories : List MemoryPath) (places : List Place) (window : Window) : Type 0 where
+-- a record is in the file at a path, if a path is given; otherwise only other files were written
+abbrev pub IsKept : {O F : Type 0} → (O → Text → F → O → Type 0) → (F → List ℕ → F → Type 0) → (O → F → O → Type 0) → Option Text → ((List ℕ → Type 0) → Type 0) → (O → O → Type 0) → O → O → Type 0
+IsKept created took closed None Says Others old new = Others old new
+IsKept created took closed (Some path) Says Others old new = IsWritten created took closed path Says Others old new
+
+-- no file was created, written or closed
+abbrev pub AreUntouched : {O : Type 0} → O → O → Type 0
+AreUntouched old new = new ≡ old
+
+-- the log is in the file at a path, if a path is given, and no other file was touched
+abbrev pub IsLogKept : {O F : Type 0} → (O → Text → F → O → Type 0) → (F → List ℕ → F → Type 0) → (O → F → O → Type 0) → Option Text → Window → ℕ → HartState → O → O → Type 0
+IsLogKept created took closed log window ticks s = IsKept created took closed log (λ printed. AreLogged printed window ticks s) AreUntouched
+
+-- the changes and the log are in their files, and no other file was touched
+abbrev pub AreChangesKept : {O F : Type 0} → (O → Text → F → O → Type 0) → (F → List ℕ → F → Type 0) → (O → F → O → Type 0) → Option Text → Option Text → List Place → Window → ℕ → HartState → O → O → Type 0
+AreChangesKept created took closed changes log places window ticks s =
+    IsKept created took closed changes (λ printed. AreChanged printed places ticks s) (IsLogKept created took closed log window ticks s)
+
+-- the counts, the changes and the log are in their files, and no other file was touched
+abbrev pub AreRecordsKept : {O F : Type 0} → (O → Text → F → O → Type 0) → (F → List ℕ → F → Type 0) → (O → F → O → Type 0) → Option Text → Option Text → Option Text → List Place → Window → ℕ → HartState → O → O → Type 0
+AreRecordsKept created took closed counts changes log places window ticks s =
+    IsKept created took closed counts (λ printed. AreCounted printed ticks s) (AreChangesKept created took closed changes log places window ticks s)
+
+-- ---- runs
+
+-- A run of at most `ticks` ticks ended with a fault. The output accepted the first bytes of the run's whole output, and none if memory ran out.
+pub record IsStopped {K : Type 0} (took : K → List ℕ → K → Type 0) (ticks : ℕ) (s : HartState) (before after : K) (fault : ProgramFault) : Type 0 where
+  pub status : IsRunFault fault
+  pub first : TakesFirst took before (flat_map output_of (ran ticks s).found) after
+  pub nothing : program_status fault ≡ 6 → took before [] after
+
+-- The output of a run is complete, and its records are in the files that the arguments name. No other file was touched.
+pub record IsComplete {O F : Type 0} (created : O → Text → F → O → Type 0) (took : F → List ℕ → F → Type 0) (closed : O → F → O → Type 0) (put : List ℕ → Type 0) (arguments : RunArguments) (old new : O)
+    (ticks : ℕ) (places : List Place) (window : Window) (state : HartState) : Type 0 where
+  pub output : put (flat_map output_of (ran ticks state).found)
+  pub records : AreRecordsKept created took closed arguments.counts arguments.changes arguments.log places window ticks state old new
+
+-- A run started from the image, memory and registers of the arguments, and `Ran` describes it.
+pub record RunBy (file_bytes : Text → Option (List ℕ)) (arguments : RunArguments) (policy : Policy) (memories : List MemoryPath) (Ran : HartState → Type 0) : Type 0 where
   pub state : HartState
   pub begins : StartsFrom file_bytes policy arguments.image memories arguments.registers state
-  pub output : put (flat_map output_of (ran ticks state).found)
-  pub counted : AreKept is_created took arguments.counts (λ printed. AreCounted printed ticks state)
-  pub changed : AreKept is_created took arguments.changes (λ printed. AreChanged printed places ticks state)
-  pub logged : AreKept is_created took arguments.log (λ printed. AreLogged printed window ticks state)
+  pub run : Ran state
 
--- The run that these values describe was executed with this output, and its records were written.
-pub record RecordedBy {F : Type 0} (file_bytes : Text → Option (List ℕ)) (is_created : Text → F → Type 0) (took : F → List ℕ → F → Type 0) (put : List ℕ → Type 0) (arguments : RunArguments) : Type 0 where
-  pub policy : Policy
+-- The values that valid arguments describe.
+pub record AreValuesOf (arguments : RunArguments) (policy : Policy) (ticks : ℕ) (memories : List MemoryPath) (places : List Place) (window : Window) : Type 0 where
   pub policy_is : policy_or_default arguments.policy ≡ Some policy
-  pub ticks : ℕ
   pub ticks_are : number_or_default (2 ^ 63) arguments.ticks ≡ Some ticks
-  pub memories : List MemoryPath
   pub memories_are : AllZip IsMemoryOf arguments.memory memories
-  pub places : List Place
   pub places_are : AllZip IsPlaceOf arguments.watch places
-  pub window : Window
   pub first_is : number_or_default 1 arguments.from ≡ Some window.from
   pub last_is : number_or_default (2 ^ 63) arguments.to ≡ Some window.to
   pub in_order : window.from ≤ window.to
   pub apart : ArePathsApart arguments memories
-  pub run : RunBy file_bytes is_created took put arguments policy ticks memories places window
 
--- clap accepted the arguments, and the run that they describe was executed
-pub record Recorded {F : Type 0} (file_bytes : Text → Option (List ℕ)) (is_created : Text → F → Type 0) (took : F → List ℕ → F → Type 0) (arguments : List Text) (put : List ℕ → Type 0) : Type 0 where
+-- The arguments are valid and describe a run, and `Ran` describes it.
+pub record RecordedBy (file_bytes : Text → Option (List ℕ)) (arguments : RunArguments) (Ran : ℕ → List Place → Window → HartState → Type 0) : Type 0 where
+  pub policy : Policy
+  pub ticks : ℕ
+  pub memories : List MemoryPath
+  pub places : List Place
+  pub window : Window
+  pub values : AreValuesOf arguments policy ticks memories places window
+  pub run : RunBy file_bytes arguments policy memories (Ran ticks places window)
+
+-- clap accepted the arguments, and `Ran` describes the run that they describe
+pub record Recorded (file_bytes : Text → Option (List ℕ)) (arguments : List Text) (Ran : ℕ → List Place → Window → HartState → Type 0) : Type 0 where
   pub accepted : arguments_fault arguments ≡ []
-  pub run : RecordedBy file_bytes is_created took put (run_arguments arguments)
+  pub run : RecordedBy file_bytes (run_arguments arguments) Ran
+
+-- The arguments ask for help: the output took a text, and no file was touched.
+pub record IsHelped {O : Type 0} (arguments : List Text) (put : List ℕ → Type 0) (old new : O) : Type 0 where
+  pub asked : IsAmong DisplayHelp (arguments_fault arguments)
+  pub text : List ℕ
+  pub taken : put text
+  pub files : AreUntouched old new

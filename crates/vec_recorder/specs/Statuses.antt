@@ -35,3 +35,7 @@ record_fault (stopped.Write name) = Write name
 -- a fault of the initial machine, or lack of memory
 abbrev pub IsInitialFault : ProgramFault → Type 0
 IsInitialFault fault = (program_status fault ≡ 4) ⊎ (program_status fault ≡ 6)
+
+-- a fault of a run: a watched range isn't mapped, a record or the output can't be written, the counts need more rows, or lack of memory
+abbrev pub IsRunFault : ProgramFault → Type 0
+IsRunFault fault = (program_status fault ≡ 4) ⊎ ((program_status fault ≡ 5) ⊎ (program_status fault ≡ 6))

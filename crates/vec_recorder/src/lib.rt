@@ -17,7 +17,7 @@ mod watch_arguments;
 
 pub use arguments::options;
 pub use command_line::{Options, UsageFault};
-pub use outputs::Outputs;
+pub use outputs::{Outputs, ProcessFiles};
 pub use program::{record, record_into, report};
 pub use program_fault::{
     ProgramFault, STATUS_DONE, STATUS_INITIAL_STATE, STATUS_NO_MEMORY, STATUS_USAGE, STATUS_WRITE,

@@ -1,46 +1,80 @@
 //! The files that the program writes its records to.
-ghost use Rattle.std.specs.Prelude.{ℕ, List, IfOk, ⊤};
+ghost use Rattle.std.specs.Prelude.{◌≡◌, ℕ, List, IfOk, ⊤};
+ghost use Rattle.devices.specs.Device.{Counts};
 
 use devices::{DeviceFault, Sink, WriterSink};
 use std::fs;
 use std::os::unix::fs::MetadataExt;
 use std::rt::Files;
 
-/// Files that are created by path. An implementation specifies their bytes, or leaves them unspecified.
+/// Files that are created by path, written, and closed. An implementation specifies their bytes, or leaves them
+/// unspecified.
 pub trait Outputs {
-    /// A created file.
+    /// A created file that isn't closed yet.
     type Created: Sink + Drop;
 
-    /// Whether this is the file created at a path, before anything is written to it.
-    ghost is_created: { Self → List ℕ → Self.Created → Type 0 };
+    /// Whether the file at a path was created between two states of all files, before anything is written to it.
+    ghost is_created: { Self → List ℕ → Self.Created → Self → Type 0 };
+
+    /// Whether a created file was closed between two states of all files.
+    ghost is_closed: { Self → Self.Created → Self → Type 0 };
+
+    /// The number of files that couldn't be created, up to 2^64 - 1, where it saturates.
+    ghost failures: { Self → ℕ };
 
     /// Create the file at a path, or truncate an existing file.
-    fn create(&self, path: &str) -> Result<Self::Created, DeviceFault>
-        ensures { IfOk result (is_created self.now path.now) };
+    fn create(&mut self, path: &str) -> Result<Self::Created, DeviceFault>
+        ensures created { IfOk result (λ file. is_created self.old path.now file self.new) }
+        ensures count { Counts (failures self.old) (failures self.new) result };
+
+    /// Close a file after its last write.
+    fn close(&mut self, file: Self::Created)
+        ensures closed { is_closed self.old file self.new }
+        ensures count { failures self.new ≡ failures self.old };
 
     /// Return whether files exist at both paths and are the same file.
     fn is_same_file(&self, first: &str, second: &str) -> bool;
 }
 
 /// The files of a process. Their bytes are unspecified.
-impl<R: Files> Outputs for R {
+#[derive(Drop)]
+pub struct ProcessFiles<'a, R> {
+    rt: &'a R,
+    failures: u64,
+}
+
+impl<'a, R: Files> ProcessFiles<'a, R> {
+    /// Return the files of the process, with a failure count of 0.
+    pub fn new(rt: &'a R) -> Self {
+        ProcessFiles { rt, failures: 0 }
+    }
+}
+
+impl<R: Files> Outputs for ProcessFiles<'_, R> {
     type Created = WriterSink<R::File>;
 
-    ghost is_created = { λ _ _ _. ⊤ };
+    ghost is_created = { λ _ _ _ _. ⊤ };
 
-    fn create(&self, path: &str) -> Result<WriterSink<R::File>, DeviceFault> {
-        let Ok(file) = fs::File::create(self, path) else {
+    ghost is_closed = { λ _ _ _. ⊤ };
+
+    ghost failures = { λ files. files.failures };
+
+    fn create(&mut self, path: &str) -> Result<WriterSink<R::File>, DeviceFault> {
+        let Ok(file) = fs::File::create(self.rt, path) else {
+            self.failures = self.failures.saturating_add(1);
             return Err(DeviceFault);
         };
         Ok(WriterSink::new(file))
     }
 
+    fn close(&mut self, _file: WriterSink<R::File>) {}
+
     /// Compare device and inode numbers, after following symbolic links.
     fn is_same_file(&self, first: &str, second: &str) -> bool {
-        let Ok(first) = fs::metadata(self, first) else {
+        let Ok(first) = fs::metadata(self.rt, first) else {
             return false;
         };
-        let Ok(second) = fs::metadata(self, second) else {
+        let Ok(second) = fs::metadata(self.rt, second) else {
             return false;
         };
         first.dev() == second.dev() && first.ino() == second.ino()

@@ -10,7 +10,7 @@ use crate::outputs::Outputs;
 use crate::program_fault::ProgramFault;
 
 /// Return whether two paths are given and name the same file: they are equal, or both files exist and are the same.
-fn are_same<R: Outputs>(rt: &R, first: Option<&str>, second: Option<&str>) -> bool
+fn are_same<F: Outputs>(files: &F, first: Option<&str>, second: Option<&str>) -> bool
     ensures { IsFalse result → Differ (option_map (λ path. path.now) first.entry)
         (option_map (λ path. path.now) second.entry) }
 {
@@ -20,31 +20,31 @@ fn are_same<R: Outputs>(rt: &R, first: Option<&str>, second: Option<&str>) -> bo
     let Some(second) = second else {
         return false;
     };
-    first == second || rt.is_same_file(first, second)
+    first == second || files.is_same_file(first, second)
 }
 
 /// Check that all output files differ. Return `SameOutput` otherwise.
-fn check_outputs<'a, R: Outputs>(rt: &R, options: &Options<'a>) -> Result<(), ProgramFault<'a>>
+fn check_outputs<'a, F: Outputs>(files: &F, options: &Options<'a>) -> Result<(), ProgramFault<'a>>
     ensures changes { IsOk result → Differ (option_arguments options.now).counts (option_arguments options.now).changes }
     ensures log { IsOk result → Differ (option_arguments options.now).counts (option_arguments options.now).log }
     ensures both { IsOk result → Differ (option_arguments options.now).changes (option_arguments options.now).log }
     ensures refused { IfErr result (λ fault. program_status fault ≡ 2) }
 {
-    if are_same(rt, options.counts, options.changes) {
+    if are_same(files, options.counts, options.changes) {
         return Err(ProgramFault::SameOutput("--counts", "--changes"));
     }
-    if are_same(rt, options.counts, options.log) {
+    if are_same(files, options.counts, options.log) {
         return Err(ProgramFault::SameOutput("--counts", "--log"));
     }
-    if are_same(rt, options.changes, options.log) {
+    if are_same(files, options.changes, options.log) {
         return Err(ProgramFault::SameOutput("--changes", "--log"));
     }
     Ok(())
 }
 
 /// Check that an option's output file isn't this input. Return `OutputIsInput` otherwise.
-fn check_input<'a, R: Outputs>(
-    rt: &R,
+fn check_input<'a, F: Outputs>(
+    files: &F,
     option: &'static str,
     output: Option<&'a str>,
     input: Option<&'a str>,
@@ -56,7 +56,7 @@ fn check_input<'a, R: Outputs>(
     let Some(path) = input else {
         return Ok(());
     };
-    if are_same(rt, output, input) {
+    if are_same(files, output, input) {
         return Err(ProgramFault::OutputIsInput(option, path));
     }
     Ok(())
@@ -64,8 +64,8 @@ fn check_input<'a, R: Outputs>(
 
 /// Check that an option's output file is neither the image nor a register or memory file. Return `OutputIsInput`
 /// otherwise.
-fn check_inputs<'a, R: Outputs>(
-    rt: &R,
+fn check_inputs<'a, F: Outputs>(
+    files: &F,
     option: &'static str,
     output: Option<&'a str>,
     options: &Options<'a>,
@@ -75,25 +75,25 @@ fn check_inputs<'a, R: Outputs>(
         (option_map (λ path. path.now) output.entry) }
     ensures refused { IfErr result (λ fault. program_status fault ≡ 2) }
 {
-    check_input(rt, option, output, options.image)?;
-    check_input(rt, option, output, options.registers)?;
+    check_input(files, option, output, options.image)?;
+    check_input(files, option, output, options.registers)?;
     for memory in memories {
-        check_input(rt, option, output, Some(memory.path))?;
+        check_input(files, option, output, Some(memory.path))?;
     }
     Ok(())
 }
 
 /// Check that all output files differ, and that none is an input. No file is opened.
-pub(crate) fn check_paths<'a, R: Outputs>(
-    rt: &R,
+pub(crate) fn check_paths<'a, F: Outputs>(
+    files: &F,
     options: &Options<'a>,
     memories: &[MemoryPath<'a>],
 ) -> Result<(), ProgramFault<'a>>
     ensures apart { IsOk result → ArePathsApart (option_arguments options.now) memories.now }
     ensures refused { IfErr result (λ fault. program_status fault ≡ 2) }
 {
-    check_outputs(rt, options)?;
-    check_inputs(rt, "--counts", options.counts, options, memories)?;
-    check_inputs(rt, "--changes", options.changes, options, memories)?;
-    check_inputs(rt, "--log", options.log, options, memories)
+    check_outputs(files, options)?;
+    check_inputs(files, "--counts", options.counts, options, memories)?;
+    check_inputs(files, "--changes", options.changes, options, memories)?;
+    check_inputs(files, "--log", options.log, options, memories)
 }

@@ -1,10 +1,11 @@
 //! The program: it runs one user's program, and writes the output to a sink and the records to files.
-ghost use Rattle.std.specs.Prelude.{◌≡◌, ◌⊎◌, OnOk, ⊤};
+ghost use Rattle.std.specs.Prelude.{◌≡◌, ◌⊎◌, [], IfErr, OnOk, flat_map, ⊤};
 ghost use Rattle.clap.specs.Walk.{texts};
 ghost use Rattle.clap.specs.Words.{IsAmong};
 ghost use Rattle.clap.specs.declared.error.kind.ErrorKind.TheVariants.{DisplayHelp};
-ghost use Rattle.vec_recorder.specs.CommandLine.{option_arguments, arguments_fault};
-ghost use Rattle.vec_recorder.specs.Recorded.{Recorded, RecordedBy, RunBy};
+ghost use Rattle.recording.specs.Runs.{TakesFirst, output_of, ran};
+ghost use Rattle.vec_recorder.specs.CommandLine.{option_arguments, arguments_fault, run_arguments};
+ghost use Rattle.vec_recorder.specs.Recorded.{IsComplete, IsHelped, Recorded, RecordedBy, RunBy};
 ghost use Rattle.vec_recorder.specs.Statuses.{program_status};
 
 use crate::arguments::options;
@@ -13,19 +14,20 @@ use crate::initial_machine::first_machine;
 use crate::log_arguments::check_log;
 use crate::memory_arguments::{MemoryPath, memory_paths};
 use crate::numbers::{policy, ticks, window};
-use crate::outputs::Outputs;
+use crate::outputs::{Outputs, ProcessFiles};
 use crate::paths::check_paths;
 use crate::program_fault::{ProgramFault, STATUS_DONE};
 use crate::runs::{LoggedRun, RecordedRun, run_machine};
 use crate::watch_arguments::watched_places;
 use commit_log::Window;
-use devices::{Inputs, Sink, WriterSink};
+use devices::{Inputs, Sink, TextFault, WriterSink, write_text};
 use first_state::OwnBytes;
 use memory_changes::{Place, has_memory};
 use recording::SingleUserMachine;
 use rv_model::Policy;
 use std::alloc::Global;
 use std::io;
+use std::rt::Files;
 
 /// Check that each watched range is mapped. Return `NoPlace` otherwise.
 fn check_places<'a>(
@@ -52,16 +54,24 @@ struct CheckedOptions<'a> {
 
 /// Run a machine with these values. The record files are created once the machine exists. Return the number of the
 /// program's write calls that wrote fewer bytes than requested.
-fn run_options<'a, R: Inputs + Outputs, K: Sink>(
-    rt: &R,
+fn run_options<'a, I: Inputs, F: Outputs, K: Sink>(
+    inputs: &I,
     alloc: Global,
     options: &Options<'a>,
     values: CheckedOptions<'a>,
     output: &mut K,
+    files: &mut F,
 ) -> Result<u64, ProgramFault<'a>>
-    ensures { OnOk result (RunBy (R.file_bytes rt.now) (R.is_created rt.now) R.Created.took
-        (λ printed. K.took output.old printed output.new) (option_arguments options.now) values.entry.policy
-        values.entry.ticks values.entry.memories.items values.entry.places.items values.entry.window) }
+    ensures ran { OnOk result (RunBy (I.file_bytes inputs.now) (option_arguments options.now) values.entry.policy
+        values.entry.memories.items (IsComplete F.is_created F.Created.took F.is_closed
+        (λ printed. K.took output.old printed output.new) (option_arguments options.now) files.old files.new
+        values.entry.ticks values.entry.places.items values.entry.window)) }
+    ensures printed { K.took output.old [] output.new ⊎ RunBy (I.file_bytes inputs.now) (option_arguments options.now)
+        values.entry.policy values.entry.memories.items (λ state. TakesFirst K.took output.old
+        (flat_map output_of (ran values.entry.ticks state).found) output.new) }
+    ensures nothing { IfErr result (λ fault.
+        (program_status fault ≡ 2) ⊎ (program_status fault ≡ 6) → K.took output.old [] output.new) }
+    ensures unused { IfErr result (λ fault. program_status fault ≡ 2 → files.new ≡ files.old) }
 {
     let CheckedOptions {
         policy,
@@ -71,7 +81,7 @@ fn run_options<'a, R: Inputs + Outputs, K: Sink>(
         window,
     } = values;
     let mut machine = first_machine(
-        rt,
+        inputs,
         alloc,
         policy,
         options.image,
@@ -89,20 +99,28 @@ fn run_options<'a, R: Inputs + Outputs, K: Sink>(
         changes: options.changes,
         places,
     };
-    let short = run_machine(rt, alloc, &mut machine, output, asked)?;
+    let short = run_machine(files, alloc, &mut machine, output, asked)?;
     Ok(short)
 }
 
 /// Run and record a program with the options. All values are parsed and checked before any file is opened. Return the
 /// number of the program's write calls that wrote fewer bytes than requested.
-fn record_options<'a, R: Inputs + Outputs, K: Sink>(
-    rt: &R,
+fn record_options<'a, I: Inputs, F: Outputs, K: Sink>(
+    inputs: &I,
     alloc: Global,
     options: &Options<'a>,
     output: &mut K,
+    files: &mut F,
 ) -> Result<u64, ProgramFault<'a>>
-    ensures { OnOk result (RecordedBy (R.file_bytes rt.now) (R.is_created rt.now) R.Created.took
-        (λ printed. K.took output.old printed output.new) (option_arguments options.now)) }
+    ensures ran { OnOk result (RecordedBy (I.file_bytes inputs.now) (option_arguments options.now)
+        (IsComplete F.is_created F.Created.took F.is_closed (λ printed. K.took output.old printed output.new)
+        (option_arguments options.now) files.old files.new)) }
+    ensures printed { K.took output.old [] output.new
+        ⊎ RecordedBy (I.file_bytes inputs.now) (option_arguments options.now) (λ ticks _ _ state.
+        TakesFirst K.took output.old (flat_map output_of (ran ticks state).found) output.new) }
+    ensures nothing { IfErr result (λ fault.
+        (program_status fault ≡ 2) ⊎ (program_status fault ≡ 6) → K.took output.old [] output.new) }
+    ensures unused { IfErr result (λ fault. program_status fault ≡ 2 → files.new ≡ files.old) }
 {
     let policy = policy(options.policy)?;
     let ticks = ticks(options.ticks)?;
@@ -113,7 +131,7 @@ fn record_options<'a, R: Inputs + Outputs, K: Sink>(
     if places.is_empty() != options.changes.is_none() {
         return Err(ProgramFault::WatchAlone);
     }
-    check_paths(rt, options, memories.as_slice())?;
+    check_paths(&*files, options, memories.as_slice())?;
     let values = CheckedOptions {
         policy,
         ticks,
@@ -121,26 +139,37 @@ fn record_options<'a, R: Inputs + Outputs, K: Sink>(
         places,
         window,
     };
-    run_options(rt, alloc, options, values, output)
+    run_options(inputs, alloc, options, values, output, files)
 }
 
-/// Run the recorder with its arguments: print help, or record a run. Return the number of the program's write calls
+/// Run the recorder with its arguments: write help, or record a run. Return the number of the program's write calls
 /// that wrote fewer bytes than requested.
-fn record_arguments<'a, R: Inputs + Outputs + Print, K: Sink>(
-    rt: &R,
+fn record_arguments<'a, I: Inputs, F: Outputs, K: Sink>(
+    inputs: &I,
     alloc: Global,
     arguments: &'a [&'a str],
     output: &mut K,
+    files: &mut F,
 ) -> Result<u64, ProgramFault<'a>>
-    ensures { OnOk result (IsAmong DisplayHelp (arguments_fault (texts arguments.now))
-        ⊎ Recorded (R.file_bytes rt.now) (R.is_created rt.now) R.Created.took (texts arguments.now)
-        (λ printed. K.took output.old printed output.new)) }
+    ensures recorded { OnOk result (
+        IsHelped (texts arguments.now) (λ printed. K.took output.old printed output.new) files.old files.new
+        ⊎ Recorded (I.file_bytes inputs.now) (texts arguments.now)
+        (IsComplete F.is_created F.Created.took F.is_closed (λ printed. K.took output.old printed output.new)
+        (run_arguments (texts arguments.now)) files.old files.new)) }
+    ensures printed { K.took output.old [] output.new
+        ⊎ (IsHelped (texts arguments.now) (λ printed. K.took output.old printed output.new) files.old files.new
+        ⊎ Recorded (I.file_bytes inputs.now) (texts arguments.now) (λ ticks _ _ state.
+        TakesFirst K.took output.old (flat_map output_of (ran ticks state).found) output.new)) }
+    ensures nothing { IfErr result (λ fault.
+        (program_status fault ≡ 2) ⊎ (program_status fault ≡ 6) → K.took output.old [] output.new) }
+    ensures unused { IfErr result (λ fault. program_status fault ≡ 2 → files.new ≡ files.old) }
 {
     match options(alloc, arguments) {
-        Ok(options) => record_options(rt, alloc, &options, output),
-        Err(UsageFault::Help(text)) => match print!(rt; "{text}") {
+        Ok(options) => record_options(inputs, alloc, &options, output, files),
+        Err(UsageFault::Help(text)) => match write_text(alloc, output, text) {
             Ok(()) => Ok(0),
-            Err(_) => Err(ProgramFault::Write("output")),
+            Err(TextFault::Unwritten) => Err(ProgramFault::Write("output")),
+            Err(TextFault::NoMemory) => Err(ProgramFault::NoMemory),
         },
         Err(UsageFault::Usage(text)) => Err(ProgramFault::Usage(text)),
         Err(UsageFault::NoMemory) => Err(ProgramFault::NoMemory),
@@ -165,22 +194,34 @@ fn report_short<R: Eprint>(rt: &R, short: u64) {
 }
 
 /// Run the recorder. `arguments` are the command-line arguments; the first is the program's name. The output of the
-/// recorded program is written to `output`, and help is printed to standard output. Error messages, and the number of
-/// write calls that wrote fewer bytes than requested, are printed to standard error. Return the exit status.
-pub fn record_into<R: Inputs + Outputs + Print + Eprint, K: Sink>(
+/// recorded program, or the help text, is written to `output`, and the records to files of `files`. Error messages, and
+/// the number of write calls that wrote fewer bytes than requested, are printed to standard error. Return the exit
+/// status.
+pub fn record_into<R: Inputs + Eprint, F: Outputs, K: Sink>(
     rt: &R,
     alloc: Global,
     arguments: &[&str],
     output: &mut K,
+    files: &mut F,
 ) -> u8
     ensures statuses { (result ≡ 0) ⊎ ((result ≡ 2) ⊎ ((result ≡ 4) ⊎ ((result ≡ 5) ⊎ (result ≡ 6)))) }
-    // The exit status is 0 if the arguments ask for help. It is also 0 if the run that they describe was executed with
-    // the specified output, and its counts, changes and log are in the files that they name.
-    ensures recorded { result ≡ 0 → IsAmong DisplayHelp (arguments_fault (texts arguments.now))
-        ⊎ Recorded (R.file_bytes rt.now) (R.is_created rt.now) R.Created.took (texts arguments.now)
-        (λ printed. K.took output.old printed output.new) }
+    // The exit status is 0 if the arguments ask for help, which is then the output. It is also 0 if the run that they
+    // describe was executed with the specified output, and its counts, changes and log are in the files that they name.
+    // These files have no other bytes, and no other file was created.
+    ensures recorded { result ≡ 0 →
+        IsHelped (texts arguments.now) (λ printed. K.took output.old printed output.new) files.old files.new
+        ⊎ Recorded (R.file_bytes rt.now) (texts arguments.now)
+        (IsComplete F.is_created F.Created.took F.is_closed (λ printed. K.took output.old printed output.new)
+        (run_arguments (texts arguments.now)) files.old files.new) }
+    // For every exit status, the output is empty, help, or a prefix of the output of the run that the arguments describe.
+    ensures printed { K.took output.old [] output.new
+        ⊎ (IsHelped (texts arguments.now) (λ printed. K.took output.old printed output.new) files.old files.new
+        ⊎ Recorded (R.file_bytes rt.now) (texts arguments.now) (λ ticks _ _ state.
+        TakesFirst K.took output.old (flat_map output_of (ran ticks state).found) output.new)) }
+    ensures nothing { (result ≡ 2) ⊎ (result ≡ 6) → K.took output.old [] output.new }
+    ensures unused { result ≡ 2 → files.new ≡ files.old }
 {
-    match record_arguments(rt, alloc, arguments, output) {
+    match record_arguments(rt, alloc, arguments, output, files) {
         Ok(short) => {
             report_short(rt, short);
             STATUS_DONE
@@ -189,12 +230,18 @@ pub fn record_into<R: Inputs + Outputs + Print + Eprint, K: Sink>(
     }
 }
 
-/// Run the recorder as `record_into` does, with standard output as the output. The bytes of standard output are
-/// unspecified.
-pub fn record<R: Inputs + Outputs + Print + Eprint>(rt: &R, alloc: Global, arguments: &[&str]) -> u8
+/// Run the recorder as `record_into` does, with standard output as the output and the files of the process. Their bytes
+/// are unspecified.
+pub fn record<R: Inputs + Files + Print + Eprint>(rt: &R, alloc: Global, arguments: &[&str]) -> u8
     ensures statuses { (result ≡ 0) ⊎ ((result ≡ 2) ⊎ ((result ≡ 4) ⊎ ((result ≡ 5) ⊎ (result ≡ 6)))) }
     ensures recorded { result ≡ 0 → IsAmong DisplayHelp (arguments_fault (texts arguments.now))
-        ⊎ Recorded (R.file_bytes rt.now) (R.is_created rt.now) R.Created.took (texts arguments.now) (λ _. ⊤) }
+        ⊎ Recorded (R.file_bytes rt.now) (texts arguments.now) (λ _ _ _ _. ⊤) }
 {
-    record_into(rt, alloc, arguments, &mut WriterSink::new(io::writer(rt)))
+    record_into(
+        rt,
+        alloc,
+        arguments,
+        &mut WriterSink::new(io::writer(rt)),
+        &mut ProcessFiles::new(rt),
+    )
 }

@@ -5,6 +5,7 @@ ghost use Rattle.rv_model.specs.commands.Running.{running_line};
 ghost use Rattle.rv_model.specs.machine.UserMachine.{stop_of};
 ghost use Rattle.vec_recorder.specs.RecordLines.{
   end_line,
+  has_no_counts,
   jump_line,
   last_line,
   length_line,
@@ -74,13 +75,20 @@ fn push_jump(reply: &mut Reply, pc: u64, target: u64, sums: &Sums)
     reply.push(b"\n");
 }
 
-/// Append the line of a row, unless its count is zero.
+/// Return whether all counts are zero.
+fn has_no_counts(sums: &Sums) -> bool
+    ensures { result ≡ has_no_counts sums.now }
+{
+    sums.times == 0 && sums.ticks == 0 && sums.active == 0 && sums.masked == 0 && sums.tail == 0
+}
+
+/// Append the line of a row, unless it has no counts.
 #[tactic(auto, unfolding(crate::specs::RecordLines::row_line))]
 fn push_row(reply: &mut Reply, row: &Row)
     requires { length reply.old + 134 ≤ 4096 }
     ensures { reply.new ≡ reply.old ++ row_line row.now }
 {
-    if row.sums.times == 0 {
+    if has_no_counts(&row.sums) {
         return;
     }
     match row.key {

@@ -1,11 +1,12 @@
 //! A run with its records: counts, changes, and a log, each of them optional.
-ghost use Rattle.std.specs.Prelude.{IsPermutation, ◌≡◌, ◌%◌, ◌^◌, ◌++◌, IfOk, OnOk, flat_map, option_map};
+ghost use Rattle.std.specs.Prelude.{IsPermutation, ◌≡◌, ◌%◌, ◌^◌, ◌++◌, IfErr, IfOk, OnErr, OnOk, flat_map, option_map};
 ghost use Rattle.recording.specs.Machines.{state_of};
-ghost use Rattle.recording.specs.Runs.{output_of, ran};
+ghost use Rattle.recording.specs.Runs.{TakesFirst, output_of, ran};
 ghost use Rattle.recording.specs.Sums.{is_word, total};
 ghost use Rattle.first_state.specs.OwnMemory.{own_memory};
 ghost use Rattle.vec_recorder.specs.RecordLines.{last_line, row_line};
-ghost use Rattle.vec_recorder.specs.Recorded.{AreChanged, AreCounted, AreKept, AreLogged, RecordsRun};
+ghost use Rattle.vec_recorder.specs.Recorded.{AreChangesKept, AreRecordsKept, IsLogKept, IsStopped, RecordsRun};
+ghost use Rattle.vec_recorder.specs.Statuses.{program_status};
 
 use crate::outputs::Outputs;
 use crate::program_fault::ProgramFault;
@@ -22,10 +23,14 @@ use rv_model::StepEnd;
 use std::alloc::Global;
 
 /// Create the file at a path.
-fn created_file<'a, R: Outputs>(rt: &R, path: &'a str) -> Result<R::Created, ProgramFault<'a>>
-    ensures { IfOk result (R.is_created rt.now path.entry.now) }
+fn created_file<'a, F: Outputs>(
+    files: &mut F,
+    path: &'a str,
+) -> Result<F::Created, ProgramFault<'a>>
+    ensures created { IfOk result (λ file. F.is_created files.old path.entry.now file files.new) }
+    ensures refused { IfErr result (λ fault. program_status fault ≡ 5) }
 {
-    match rt.create(path) {
+    match files.create(path) {
         Ok(file) => Ok(file),
         Err(_) => Err(ProgramFault::Write(path)),
     }
@@ -78,6 +83,8 @@ fn run_unlogged<K: Sink, O: Recorder<OwnBytes> + Drop>(
 ) -> Result<(Option<StepEnd>, O), RecordFault>
     ensures run { IfOk result (RecordsRun O.recorded K.took ticks (state_of own_memory machine.old)
         (state_of own_memory machine.new) output.old output.new recorder) }
+    ensures part { OnErr result (TakesFirst K.took output.old
+        (flat_map output_of (ran ticks (state_of own_memory machine.old)).found) output.new) }
 {
     let mut only = recorder;
     let end = run(&mut only, machine, output, ticks)?;
@@ -87,8 +94,8 @@ fn run_unlogged<K: Sink, O: Recorder<OwnBytes> + Drop>(
 /// Run and record a program, and write its log if there is a path for it. Return how it ended, and the record. The
 /// function isn't inlined because the loop of a run is faster then.
 #[inline(never)]
-fn run_recorded<'a, R: Outputs, K: Sink, O: Recorder<OwnBytes> + Drop>(
-    rt: &R,
+fn run_recorded<'a, F: Outputs, K: Sink, O: Recorder<OwnBytes> + Drop>(
+    files: &mut F,
     alloc: Global,
     machine: &mut SingleUserMachine<OwnBytes>,
     output: &mut K,
@@ -97,15 +104,17 @@ fn run_recorded<'a, R: Outputs, K: Sink, O: Recorder<OwnBytes> + Drop>(
 ) -> Result<(Option<StepEnd>, O), ProgramFault<'a>>
     ensures run { IfOk result (RecordsRun O.recorded K.took asked.entry.ticks (state_of own_memory machine.old)
         (state_of own_memory machine.new) output.old output.new recorder) }
-    ensures log { OnOk result (AreKept (R.is_created rt.now) R.Created.took
-        (option_map (λ path. path.now) asked.entry.log)
-        (λ printed. AreLogged printed asked.entry.window asked.entry.ticks (state_of own_memory machine.old))) }
+    ensures log { OnOk result (IsLogKept F.is_created F.Created.took F.is_closed
+        (option_map (λ path. path.now) asked.entry.log) asked.entry.window asked.entry.ticks
+        (state_of own_memory machine.old) files.old files.new) }
+    ensures stopped { IfErr result (IsStopped K.took asked.entry.ticks (state_of own_memory machine.old)
+        output.old output.new) }
 {
     let LoggedRun { ticks, log, window } = asked;
     let Some(path) = log else {
         return Ok(run_unlogged(machine, output, ticks, recorder)?);
     };
-    let file = created_file(rt, path)?;
+    let file = created_file(files, path)?;
     let log = Log::new(alloc, file, window)?;
     let mut both = RecorderPair {
         first: recorder,
@@ -115,19 +124,24 @@ fn run_recorded<'a, R: Outputs, K: Sink, O: Recorder<OwnBytes> + Drop>(
         },
     };
     let end = run(&mut both, machine, output, ticks)?;
-    let times = both.second.first.times;
-    let spent = both.second.first.ticks;
-    let log = &mut both.second.second;
+    let RecorderPair { first, second } = both;
+    let RecorderPair {
+        first: retired,
+        second: mut log,
+    } = second;
     log.finish()?;
-    let Ok(()) = write_last(&mut log.sink, machine.scalar.pc, end, times, spent) else {
+    let mut log_file = log.sink;
+    let pc = machine.scalar.pc;
+    let Ok(()) = write_last(&mut log_file, pc, end, retired.times, retired.ticks) else {
         return Err(ProgramFault::Write(path));
     };
-    Ok((end, both.first))
+    files.close(log_file);
+    Ok((end, first))
 }
 
 /// Run and record as `run_recorded` does, and write the changes of watched ranges if there is a path for them.
-fn run_watched<'a, R: Outputs, K: Sink, O: Recorder<OwnBytes> + Drop>(
-    rt: &R,
+fn run_watched<'a, F: Outputs, K: Sink, O: Recorder<OwnBytes> + Drop>(
+    files: &mut F,
     alloc: Global,
     machine: &mut SingleUserMachine<OwnBytes>,
     output: &mut K,
@@ -136,12 +150,12 @@ fn run_watched<'a, R: Outputs, K: Sink, O: Recorder<OwnBytes> + Drop>(
 ) -> Result<(Option<StepEnd>, O), ProgramFault<'a>>
     ensures run { IfOk result (RecordsRun O.recorded K.took asked.entry.logged.ticks (state_of own_memory machine.old)
         (state_of own_memory machine.new) output.old output.new recorder) }
-    ensures changes { OnOk result (AreKept (R.is_created rt.now) R.Created.took
-        (option_map (λ path. path.now) asked.entry.changes)
-        (λ printed. AreChanged printed asked.entry.places.items asked.entry.logged.ticks (state_of own_memory machine.old))) }
-    ensures log { OnOk result (AreKept (R.is_created rt.now) R.Created.took
-        (option_map (λ path. path.now) asked.entry.logged.log)
-        (λ printed. AreLogged printed asked.entry.logged.window asked.entry.logged.ticks (state_of own_memory machine.old))) }
+    ensures changes { OnOk result (AreChangesKept F.is_created F.Created.took F.is_closed
+        (option_map (λ path. path.now) asked.entry.changes) (option_map (λ path. path.now) asked.entry.logged.log)
+        asked.entry.places.items asked.entry.logged.window asked.entry.logged.ticks
+        (state_of own_memory machine.old) files.old files.new) }
+    ensures stopped { IfErr result (IsStopped K.took asked.entry.logged.ticks (state_of own_memory machine.old)
+        output.old output.new) }
 {
     let RecordedRun {
         logged,
@@ -150,9 +164,9 @@ fn run_watched<'a, R: Outputs, K: Sink, O: Recorder<OwnBytes> + Drop>(
         places,
     } = asked;
     let Some(path) = changes else {
-        return run_recorded(rt, alloc, machine, output, logged, recorder);
+        return run_recorded(files, alloc, machine, output, logged, recorder);
     };
-    let file = created_file(rt, path)?;
+    let file = created_file(files, path)?;
     let changes = Changes::new(alloc, file, places)?;
     let both = RecorderPair {
         first: recorder,
@@ -161,20 +175,25 @@ fn run_watched<'a, R: Outputs, K: Sink, O: Recorder<OwnBytes> + Drop>(
             second: changes,
         },
     };
-    let (end, mut both) = run_recorded(rt, alloc, machine, output, logged, both)?;
-    let times = both.second.first.times;
-    let spent = both.second.first.ticks;
-    let lines = &mut both.second.second.sink;
-    let Ok(()) = write_last(lines, machine.scalar.pc, end, times, spent) else {
+    let (end, both) = run_recorded(files, alloc, machine, output, logged, both)?;
+    let RecorderPair { first, second } = both;
+    let RecorderPair {
+        first: retired,
+        second: changes,
+    } = second;
+    let mut changes_file = changes.sink;
+    let pc = machine.scalar.pc;
+    let Ok(()) = write_last(&mut changes_file, pc, end, retired.times, retired.ticks) else {
         return Err(ProgramFault::Write(path));
     };
-    Ok((end, both.first))
+    files.close(changes_file);
+    Ok((end, first))
 }
 
 /// Run a program, and write its counts, the changes of watched ranges and its log to the files whose paths are given.
 /// Return the number of the program's write calls that wrote fewer bytes than requested.
-pub(crate) fn run_machine<'a, R: Outputs, K: Sink>(
-    rt: &R,
+pub(crate) fn run_machine<'a, F: Outputs, K: Sink>(
+    files: &mut F,
     alloc: Global,
     machine: &mut SingleUserMachine<OwnBytes>,
     output: &mut K,
@@ -182,31 +201,29 @@ pub(crate) fn run_machine<'a, R: Outputs, K: Sink>(
 ) -> Result<u64, ProgramFault<'a>>
     ensures output { OnOk result (K.took output.old
         (flat_map output_of (ran asked.entry.logged.ticks (state_of own_memory machine.old)).found) output.new) }
-    ensures counts { OnOk result (AreKept (R.is_created rt.now) R.Created.took
-        (option_map (λ path. path.now) asked.entry.counts)
-        (λ printed. AreCounted printed asked.entry.logged.ticks (state_of own_memory machine.old))) }
-    ensures changes { OnOk result (AreKept (R.is_created rt.now) R.Created.took
-        (option_map (λ path. path.now) asked.entry.changes)
-        (λ printed. AreChanged printed asked.entry.places.items asked.entry.logged.ticks (state_of own_memory machine.old))) }
-    ensures log { OnOk result (AreKept (R.is_created rt.now) R.Created.took
-        (option_map (λ path. path.now) asked.entry.logged.log)
-        (λ printed. AreLogged printed asked.entry.logged.window asked.entry.logged.ticks (state_of own_memory machine.old))) }
+    ensures records { OnOk result (AreRecordsKept F.is_created F.Created.took F.is_closed
+        (option_map (λ path. path.now) asked.entry.counts) (option_map (λ path. path.now) asked.entry.changes)
+        (option_map (λ path. path.now) asked.entry.logged.log) asked.entry.places.items asked.entry.logged.window
+        asked.entry.logged.ticks (state_of own_memory machine.old) files.old files.new) }
+    ensures stopped { IfErr result (IsStopped K.took asked.entry.logged.ticks (state_of own_memory machine.old)
+        output.old output.new) }
 {
     let short = ShortWrites::none();
     let Some(path) = asked.counts else {
-        let (_, short) = run_watched(rt, alloc, machine, output, asked, short)?;
+        let (_, short) = run_watched(files, alloc, machine, output, asked, short)?;
         return Ok(short.count);
     };
     let counts = Counts::new(alloc)?;
-    let mut file = created_file(rt, path)?;
+    let mut counts_file = created_file(files, path)?;
     let both = RecorderPair {
         first: short,
         second: counts,
     };
-    let (end, mut both) = run_watched(rt, alloc, machine, output, asked, both)?;
+    let (end, mut both) = run_watched(files, alloc, machine, output, asked, both)?;
     let rows = both.second.table.rows.as_mut_slice();
-    let Ok(()) = write_counts(&mut file, rows, machine.scalar.pc, end) else {
+    let Ok(()) = write_counts(&mut counts_file, rows, machine.scalar.pc, end) else {
         return Err(ProgramFault::Write(path));
     };
+    files.close(counts_file);
     Ok(both.first.count)
 }

@@ -22,15 +22,15 @@ returns-in-Ok-clause-printed g c =
     elim c.run_options.ensures.printed [
       | inl none ↦ inl none
       | inr ran ↦
-          inr (ran_arguments (g.R.Inputs.file_bytes c.args.rt.now) (g.R.Inputs.input_bytes c.args.rt.now) arguments _ _ _ _
-          (asked.taken refl) asked.quantum asked.script asked.images ran)
+          inr (inr (ran_arguments (g.R.Inputs.file_bytes c.args.rt.now) (g.R.Inputs.input_bytes c.args.rt.now) arguments _ _ _ _
+          (asked.taken refl) asked.quantum asked.script asked.images ran))
     ]
 
-pub returns-in-Ok-print-clause-ran : goal.returns-in-Ok-print-clause-ran
-returns-in-Ok-print-clause-ran g c =
+pub returns-in-Ok-write_text-clause-ran : goal.returns-in-Ok-write_text-clause-ran
+returns-in-Ok-write_text-clause-ran g c =
     let kinds = arguments_fault (texts c.args.arguments.now) in
     let refused = subst (IsRefusedFor kinds) c.in-Err-Help.field-0-is c.in-Err-Help.ensures.refused in
-    inl (subst (λ kind. IsAmong kind kinds) refused.0 refused.1)
+    inl (record { asked = subst (λ kind. IsAmong kind kinds) refused.0 refused.1; text = c.write_text.ensures.printed.0; taken = c.write_text.ensures.printed.1 })
 
 pub returns-in-Err-Usage-clause-usage : goal.returns-in-Err-Usage-clause-usage
 returns-in-Err-Usage-clause-usage g c = λ two.

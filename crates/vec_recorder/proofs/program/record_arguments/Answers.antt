@@ -1,23 +1,48 @@
 use Rattle.std.proofs.Common.{inl, inr, refl, subst}
+use Rattle.std.specs.Prelude.{flat_map}
 use Rattle.std.proofs.lemmas.Result.{on_ok_weaker}
 use Rattle.clap.specs.Walk.{texts}
 use Rattle.clap.specs.Words.{IsAmong}
+use Rattle.recording.specs.Runs.{TakesFirst, output_of, ran}
 use Rattle.vec_recorder.specs.CommandLine.{arguments_fault, IsRefusedFor}
-use Rattle.vec_recorder.specs.Recorded.{RecordedBy}
+use Rattle.vec_recorder.specs.Recorded.{IsComplete, IsHelped, RecordedBy}
 use Rattle.vec_recorder.proofs.program.record_arguments.Goals as goal
 
 pub returns-in-Ok : goal.returns-in-Ok
 returns-in-Ok g c =
     let asked = c.in-Ok.ensures in
-    on_ok_weaker c.record_options.result
-    (λ ran. inr (record {
-      accepted = asked.taken refl;
-      run = subst (RecordedBy (g.R.Inputs.file_bytes c.args.rt.now) (g.R.Outputs.is_created c.args.rt.now) g.R.Created.Sink.took _) asked.arguments ran;
-    }))
-    c.record_options.ensures
+    let file_bytes = g.I.Inputs.file_bytes c.args.inputs.now in
+    record {
+      recorded = on_ok_weaker c.record_options.result
+          (λ ran. inr (record {
+            accepted = asked.taken refl;
+            run = subst
+                (λ them. RecordedBy file_bytes them
+                (IsComplete g.F.Outputs.is_created g.F.Created.Sink.took g.F.Outputs.is_closed (λ printed. g.K.Sink.took c.args.output.now printed c.record_options.new.output) them c.args.files.now
+                c.record_options.new.files))
+                asked.arguments ran;
+          }))
+          c.record_options.ensures.ran;
+      printed = elim c.record_options.ensures.printed [
+        | inl none ↦ inl none
+        | inr first ↦ inr (inr (record {
+          accepted = asked.taken refl;
+          run = subst
+              (λ them. RecordedBy file_bytes them (λ ticks _ _ state. TakesFirst g.K.Sink.took c.args.output.now (flat_map output_of (ran ticks state).found) c.record_options.new.output))
+              asked.arguments first;
+        }))
+      ];
+      nothing = c.record_options.ensures.nothing;
+      unused = c.record_options.ensures.unused;
+    }
 
-pub returns-in-Ok-print : goal.returns-in-Ok-print
-returns-in-Ok-print g c =
+pub returns-in-Ok-write_text-clause-recorded : goal.returns-in-Ok-write_text-clause-recorded
+returns-in-Ok-write_text-clause-recorded g c =
     let kinds = arguments_fault (texts c.args.arguments.now) in
     let refused = subst (IsRefusedFor kinds) c.in-Err-Help.field-0-is c.in-Err-Help.ensures.refused in
-    inl (subst (λ kind. IsAmong kind kinds) refused.0 refused.1)
+    inl (record {
+      asked = subst (λ kind. IsAmong kind kinds) refused.0 refused.1;
+      text = c.write_text.ensures.printed.0;
+      taken = c.write_text.ensures.printed.1;
+      files = refl;
+    })

@@ -1,17 +1,41 @@
-use Rattle.std.proofs.Common.{subst}
+use Rattle.std.proofs.Common.{[], append-nil, inr, subst}
 use Rattle.std.specs.Prelude.{option_map}
 use Rattle.recording.specs.Machines.{state_of}
 use Rattle.first_state.specs.OwnMemory.{own_memory}
 use Rattle.vec_recorder.specs.InitialMachine.{StartsFrom}
+use Rattle.vec_recorder.proofs.RunLaws.{nothing_by, unused_by}
 use Rattle.vec_recorder.proofs.program.run_options.Goals as goal
 
 pub returns : goal.returns
-returns g c = record {
-  state = state_of own_memory c.in_ok-machine.machine;
-  begins = subst (λ them. StartsFrom (g.R.Inputs.file_bytes c.args.rt.now) c.args.values.policy (option_map (λ path. path.now) c.args.options.now.image) them
-      (option_map (λ path. path.now) c.args.options.now.registers) (state_of own_memory c.in_ok-machine.machine)) c.as_slice.ensures.value c.in_ok-machine.ensures.begins;
-  output = c.in_ok-short.ensures.output;
-  counted = c.in_ok-short.ensures.counts;
-  changed = c.in_ok-short.ensures.changes;
-  logged = c.in_ok-short.ensures.log;
-}
+returns g c =
+    let s = state_of own_memory c.in_ok-machine.machine in
+    let begins : StartsFrom (g.I.Inputs.file_bytes c.args.inputs.now) c.args.values.policy (option_map (λ path. path.now) c.args.options.now.image) c.args.values.memories.items
+    (option_map (λ path. path.now) c.args.options.now.registers) s =
+    subst (λ them. StartsFrom (g.I.Inputs.file_bytes c.args.inputs.now) c.args.values.policy (option_map (λ path. path.now) c.args.options.now.image) them
+    (option_map (λ path. path.now) c.args.options.now.registers) s) c.as_slice.ensures.value c.in_ok-machine.ensures.begins in
+    record {
+      ran = record {
+        state = s;
+        begins = begins;
+        run = record { output = c.in_ok-short.ensures.output; records = c.in_ok-short.ensures.records };
+      };
+      printed = inr (record { state = s; begins = begins; run = record { first = _; rest = []; are_first = append-nil _; took = c.in_ok-short.ensures.output } });
+      nothing = tt;
+      unused = tt;
+    }
+
+pub returns-in_err-short-clause-printed : goal.returns-in_err-short-clause-printed
+returns-in_err-short-clause-printed g c =
+    let s = state_of own_memory c.in_ok-machine.machine in
+    inr (record {
+      state = s;
+      begins = subst (λ them. StartsFrom (g.I.Inputs.file_bytes c.args.inputs.now) c.args.values.policy (option_map (λ path. path.now) c.args.options.now.image) them
+          (option_map (λ path. path.now) c.args.options.now.registers) s) c.as_slice.ensures.value c.in_ok-machine.ensures.begins;
+      run = c.in_err-short.ensures.stopped.first;
+    })
+
+pub returns-in_err-short-clause-nothing : goal.returns-in_err-short-clause-nothing
+returns-in_err-short-clause-nothing g c = nothing_by g.K.Sink.took _ _ _ _ c.from_residual-in_err-short.result c.in_err-short.ensures.stopped c.from_residual-in_err-short.ensures.1
+
+pub returns-in_err-short-clause-unused : goal.returns-in_err-short-clause-unused
+returns-in_err-short-clause-unused g c = unused_by g.K.Sink.took _ _ _ _ _ c.from_residual-in_err-short.result c.in_err-short.ensures.stopped c.from_residual-in_err-short.ensures.1

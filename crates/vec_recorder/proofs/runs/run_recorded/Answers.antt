@@ -1,7 +1,8 @@
+use Rattle.std.proofs.Common.{inl, inr, refl}
 use Rattle.recording.specs.Machines.{state_of}
 use Rattle.recording.specs.Runs.{ran}
 use Rattle.first_state.specs.OwnMemory.{own_memory}
-use Rattle.vec_recorder.proofs.RunLaws.{end_by_totals, log_printed}
+use Rattle.vec_recorder.proofs.RunLaws.{end_by_totals, log_printed, passed_on, stopped_by, stopped_late, unstarted, unstarted_by, whole_first}
 use Rattle.vec_recorder.proofs.runs.run_recorded.Goals as goal
 
 pub returns-clause-run : goal.returns-clause-run
@@ -18,12 +19,43 @@ returns-clause-log g c =
     let printed = c.in_ok-end.ensures.recorded.1 in
     let made = c.in_ok-log.ensures in
     rw c.in-Some.is (record {
-      before = c.in_ok-file.file;
-      after = c.write_last.new.sink;
-      made = c.in_ok-file.ensures;
-      says = log_printed g.R.Created.Sink.took g.met.R.Created.Sink.took_more c.in_ok-log.log c.run.new.recorder.second.second _ _ _ c.args.asked.window (ran c.args.asked.ticks s).found _ _
+      empty = c.in_ok-file.file;
+      full = c.write_last.new.sink;
+      first = c.created_file.new.files;
+      last = c.created_file.new.files;
+      made = c.in_ok-file.ensures.created;
+      others = refl;
+      ended = c.close.ensures.closed;
+      says = log_printed g.F.Created.Sink.took g.met.F.Created.Sink.took_more c.in_ok-log.log c.run.new.recorder.second.second _ _ _ c.args.asked.window (ran c.args.asked.ticks s).found _ _
           made.sink made.window made.number made.text printed.1 c.in_ok-finish.ensures
           (end_by_totals c.args.asked.ticks _ _ _ _ s (state_of own_memory c.run.new.machine) c.in_ok-end.end c.write_last.ensures.times c.write_last.ensures.ticks c.none.ensures.times c.none.ensures.ticks
           printed.0.0 printed.0.1 c.in_ok-end.ensures.machine c.in_ok-end.ensures.end)
           c.in-Ok.ensures.text;
     })
+
+pub returns-in_err-run_unlogged-clause-stopped : goal.returns-in_err-run_unlogged-clause-stopped
+returns-in_err-run_unlogged-clause-stopped g c =
+    stopped_by g.K.Sink.took c.args.asked.ticks (state_of own_memory c.args.machine.now) _ _ c.in_err-run_unlogged.field-0.0 c.from_residual.result c.in_err-run_unlogged.ensures.part c.from_residual.ensures.1
+
+pub returns-in_err-file-clause-stopped : goal.returns-in_err-file-clause-stopped
+returns-in_err-file-clause-stopped g c =
+    let none = g.met.K.Sink.took_none c.args.output.now in
+    passed_on g.K.Sink.took c.args.asked.ticks (state_of own_memory c.args.machine.now) _ _ c.from_residual-in_err-file.result
+    (unstarted g.K.Sink.took c.args.asked.ticks (state_of own_memory c.args.machine.now) _ c.in_err-file.field-0.0 none (inr (inl c.in_err-file.ensures.refused))) c.from_residual-in_err-file.ensures.1
+
+pub returns-in_err-log-clause-stopped : goal.returns-in_err-log-clause-stopped
+returns-in_err-log-clause-stopped g c =
+    unstarted_by g.K.Sink.took c.args.asked.ticks (state_of own_memory c.args.machine.now) c.args.output.now c.from_residual-in_err-log.result (g.met.K.Sink.took_none c.args.output.now) c.from_residual-in_err-log.ensures.1
+
+pub returns-in_err-end-clause-stopped : goal.returns-in_err-end-clause-stopped
+returns-in_err-end-clause-stopped g c =
+    stopped_by g.K.Sink.took c.args.asked.ticks (state_of own_memory c.args.machine.now) _ _ c.in_err-end.field-0.0 c.from_residual-in_err-end.result c.in_err-end.ensures.part c.from_residual-in_err-end.ensures.1
+
+pub returns-in_err-finish-clause-stopped : goal.returns-in_err-finish-clause-stopped
+returns-in_err-finish-clause-stopped g c =
+    let s = state_of own_memory c.args.machine.now in
+    stopped_by g.K.Sink.took c.args.asked.ticks s _ _ c.in_err-finish.field-0.0 c.from_residual-in_err-finish.result (whole_first g.K.Sink.took c.args.asked.ticks s _ _ c.in_ok-end.ensures.output)
+    c.from_residual-in_err-finish.ensures.1
+
+pub returns-in_default-write_last-clause-stopped : goal.returns-in_default-write_last-clause-stopped
+returns-in_default-write_last-clause-stopped g c = stopped_late g.K.Sink.took c.args.asked.ticks (state_of own_memory c.args.machine.now) _ _ _ c.in_ok-end.ensures.output refl
