@@ -1,0 +1,2 @@
+pub mod ClosedFiles
+pub mod MemoryFiles
