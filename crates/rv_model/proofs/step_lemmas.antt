@@ -8,6 +8,7 @@ pub mod GoesOn
 pub mod KeptAccesses
 pub mod KeptElements
 pub mod KeptSteps
+pub mod LegalEnds
 pub mod StepCases
 pub mod StepTicks
 pub mod StepsResume

@@ -35,8 +35,8 @@ pub use memory::{
 pub use scalar::Scalar;
 pub use step::{
     Cause, MemEnd, OUTPUT_SIZE, StepEnd, Stop, VEnd, WRITE_SIZE, bytes_of_transfers,
-    instructions_resume, loads_and_stores_resume, steps_keep_others, steps_take_ticks,
-    steps_write_one_register, ticks_and_cuts,
+    instructions_resume, legal_instructions_execute, loads_and_stores_resume, steps_keep_others,
+    steps_take_ticks, steps_write_one_register, ticks_and_cuts,
 };
 pub use vector::{
     ControlRegister, FILE_BYTES, GROUP_BYTES, Lmul, Policy, RegisterBytes, RequestedLength,

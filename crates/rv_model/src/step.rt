@@ -8,8 +8,8 @@ mod vector_end;
 
 pub use byte_laws::bytes_of_transfers;
 pub use laws::{
-    instructions_resume, loads_and_stores_resume, steps_keep_others, steps_take_ticks,
-    steps_write_one_register, ticks_and_cuts,
+    instructions_resume, legal_instructions_execute, loads_and_stores_resume, steps_keep_others,
+    steps_take_ticks, steps_write_one_register, ticks_and_cuts,
 };
 pub use memory_end::MemEnd;
 pub use output::{OUTPUT_SIZE, WRITE_SIZE};

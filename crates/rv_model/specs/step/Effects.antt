@@ -1,13 +1,15 @@
 -- Laws of every instruction.
-use Rattle.std.specs.Prelude.{ℕ, ◌≡◌, ◌≤◌, List, ◌++◌, length}
+use Rattle.std.specs.Prelude.{ℕ, ◌≡◌, ◌≤◌, List, ◌++◌, length, true}
+use Rattle.rv_model.specs.declared.instructions.instruction.Instr.{Instr}
 use Rattle.rv_model.specs.declared.step.step_end.Cause.{Cause}
 use Rattle.rv_model.specs.declared.step.step_end.StepEnd.TheVariants.{Fault}
 use Rattle.rv_model.specs.declared.memory.Access.{Access}
 use Rattle.rv_model.specs.memory.Memory.{can_access_byte}
+use Rattle.rv_model.specs.legality.Legality.{is_legal}
 use Rattle.rv_model.specs.step.Hart.{HartState}
 use Rattle.rv_model.specs.vector.Groups.{IsConfiguration}
 use Rattle.rv_model.specs.scalar.Registers.{read_register}
-use Rattle.rv_model.specs.step.Step.{step}
+use Rattle.rv_model.specs.step.Step.{is_legal_end, is_vector, step, vector_executed}
 use Rattle.rv_model.specs.step.WriteCall.{output_room}
 
 -- An instruction that faults writes no scalar register, and the program counter stays on it.
@@ -38,3 +40,9 @@ StepKeepsConfiguration =
 abbrev pub StepKeepsPermissions : Type 0
 StepKeepsPermissions = (access : Access) (limit : ℕ) (s : HartState) (x : ℕ)
     → can_access_byte access (step limit s).state.memory x ≡ can_access_byte access s.memory x
+
+-- A legal vector instruction is done, faults at memory or is cut. It never ends as an illegal one, so no legal instruction reaches the
+-- equations of `Step` for other instructions.
+abbrev pub LegalInstructionsExecute : Type 0
+LegalInstructionsExecute = (limit : ℕ) (i : Instr) (s : HartState) → is_vector i ≡ true → is_legal i s.vector.conf.vtype s.vector.vstart ≡ true
+    → is_legal_end (vector_executed limit i s).end ≡ true

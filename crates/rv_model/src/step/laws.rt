@@ -8,6 +8,7 @@ ghost use Rattle.rv_model.specs.accesses.Restarts.{AccessStopIndex, AccessesGoOn
 ghost use Rattle.rv_model.specs.accesses.Restarts.{OverlayIsEither, OverlayOfGrown, access_from};
 ghost use Rattle.rv_model.specs.step.AccessChanges.{AccessesKeepOthers};
 ghost use Rattle.rv_model.specs.step.Changes.{StepsKeepOthers};
+ghost use Rattle.rv_model.specs.step.Effects.{LegalInstructionsExecute};
 ghost use Rattle.rv_model.specs.step.Resumes.{InstructionsGoOn, StepsGoOn};
 ghost use Rattle.rv_model.specs.step.Step.{fetched, step, vector_step};
 ghost use Rattle.rv_model.specs.step.Targets.{WritesTarget};
@@ -60,4 +61,10 @@ pub fn steps_write_one_register()
 pub fn steps_keep_others()
     ensures operations { StepsKeepOthers }
     ensures accesses { AccessesKeepOthers }
+{}
+
+/// A legal vector instruction is done, faults at memory or is cut, and never ends as an illegal one. The definitions of
+/// one instruction have equations for instructions that no legal one reaches.
+pub fn legal_instructions_execute()
+    ensures { LegalInstructionsExecute }
 {}
