@@ -1,5 +1,5 @@
 -- A load or store whose elements are contiguous moves one block of bytes.
-use Rattle.std.proofs.Common.{◌≡◌, ℕ, zero, suc, ◌+◌, ◌*◌, ◌-◌, ◌<◌, ◌≤◌, ◌%◌, ◌^◌, ◌&&◌, ◌||◌, Bool, true, cond, List, [], ◌∷◌, ◌++◌, length, map, take, drop, min, refl, sym, ◌∙◌, ap, inl, inr, arith}
+use Rattle.std.proofs.Common.{◌≡◌, ℕ, zero, suc, ◌+◌, ◌*◌, ◌-◌, ◌<◌, ◌≤◌, ◌^◌, ◌&&◌, ◌||◌, Bool, true, cond, List, [], ◌∷◌, ◌++◌, length, map, take, drop, min, refl, sym, ◌∙◌, ap, inl, inr, arith}
 use Rattle.std.specs.List.{range_with_len}
 use Rattle.std.specs.Prelude.{nat_lt}
 use Rattle.std.specs.Simd.Lanes.{chunk, put_chunk}
@@ -38,8 +38,7 @@ put_none (suc at) (x ∷ file) = ap (λ bytes. x ∷ bytes) (put_none at file)
 
 -- bytes read directly after other bytes
 range_after : (a next n k : ℕ) → next ≡ a + n → range_with_len a (n + k) ≡ range_with_len a n ++ range_with_len next k
-range_after a next zero k e =
-    let count : 0 + k ≡ k = omega arith in let same : a ≡ next = omega arith in ap (range_with_len a) count ∙ ap (λ x. range_with_len x k) same
+range_after a next zero k e = search arith
 range_after a next (suc n) k e =
     let count : suc n + k ≡ suc (n + k) = omega arith in
     ap (range_with_len a) count ∙ ap (λ xs. a ∷ xs) (range_after (a + 1) next n k (omega arith))
@@ -70,12 +69,7 @@ module _ (a : VectorAccess) (fill : Bool) (start n address : ℕ) (c : IsContigu
 
   -- each index moves its element
   element_moved : (k : ℕ) → k < n → plan a fill (start + k) ≡ element (start + k) (address + k * a.size) a.size ∷ []
-  element_moved k h =
-      let i : ℕ = start + k in
-      let first : a.address i + 0 * a.size ≡ address + k * a.size = omega (arith, c.follow k h) in
-      plan_active a fill i (is_enabled_all i)
-      ∙ ap (λ fields. map (λ f. record { index = i; field = f; size = a.size; kind = Moved ((a.address i + f * a.size) % 2 ^ 64) }) (range_with_len 0 fields)) c.alone
-      ∙ ap (λ x. element i x a.size ∷ []) (ap (λ x. x % 2 ^ 64) first ∙ mod-eq_of_lt (no_wrap k h))
+  element_moved k h = search (arith, is_enabled_all, mod-eq_of_lt, no_wrap, plan_active)
 
   -- the transfers of the first k indices
   abbrev so_far : ℕ → List Transfer

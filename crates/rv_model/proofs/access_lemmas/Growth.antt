@@ -1,35 +1,34 @@
 -- Memories that grow between two runs of a vector load or store.
-use Rattle.std.proofs.Common.{◌≡◌, ℕ, zero, suc, ◌+◌, ◌-◌, ◌<◌, ◌≤◌, ◌⊎◌, inl, inr, true, false, cond, List, [], ◌∷◌, ◌++◌, length, drop, Option, Some, None, refl, sym, ◌∙◌, ap, subst, arith, length-take}
+use Rattle.std.proofs.Common.{◌≡◌, ℕ, zero, suc, ◌+◌, ◌-◌, ◌<◌, ◌≤◌, ◌⊎◌, inl, inr, true, false, List, [], ◌∷◌, ◌++◌, length, drop, Option, Some, None, refl, sym, ◌∙◌, ap, arith, length-take}
 use Rattle.std.specs.Cmp.{nat_cmp_total}
 use Rattle.std.specs.FinMap.{entries, find, get, get-entries, get-from_entries}
 use Rattle.std.specs.List.{list_all, range_with_len}
 use Rattle.std.specs.Option.{option_map_or, option_or}
-use Rattle.std.specs.Ordering.{eq_by_cmp, nat_cmp}
+use Rattle.std.specs.Ordering.{nat_cmp}
 use Rattle.std.specs.Simd.Lanes.{chunk, put_chunk}
 use Rattle.std.proofs.lemmas.Bool.{and_from, and_parts, cases_eq, cases_lt}
+use Rattle.std.proofs.lemmas.Bool.Decides.{nat_tests}
 use Rattle.rv_model.specs.accesses.Restarts.{Extends, OverlayIsEither, OverlayOfGrown, overlay}
-use Rattle.rv_model.specs.accesses.Transfers.{Moved, Ones, Transfer, TransferKind, are_allowed, bytes_loaded, can_move, can_transfer, registers_loaded, memory_stored, with_element}
+use Rattle.rv_model.specs.accesses.Transfers.{Transfer, TransferKind, are_allowed, bytes_loaded, can_move, can_transfer, registers_loaded, memory_stored, with_element}
 use Rattle.rv_model.specs.declared.memory.Access.{Access}
 use Rattle.rv_model.specs.declared.memory.Access.TheVariants.{Load, Monitor, Store}
 use Rattle.rv_model.specs.memory.Memory.{Cell, Memory, bytes_at, can_access, permits, put_byte, put_bytes, memory_byte}
 use Rattle.rv_model.specs.memory.Memory as memory
 use Rattle.rv_model.proofs.access_lemmas.Moves.{stored_allows}
-use Rattle.rv_model.proofs.memory_lemmas.Memory.{can_access-at, get-put_byte_other, get-put_byte_same, get-put_bytes_outside, same_memory, with_byte}
+use Rattle.rv_model.proofs.memory_lemmas.Memory.{can_access-at, get-put_byte_other, get-put_byte_same, get-put_bytes_outside, same_memory}
 use Rattle.rv_model.proofs.Choices.{of_option}
 
 -- ---- allowed addresses are mapped
 
 mapped : (access : Access) (o : Option Cell) → option_map_or (λ c. permits access c.permissions) o false ≡ true → (c : Cell) × (o ≡ Some c)
-mapped access None h = absurd (cc)
-mapped access (Some c) h = (c, refl)
+mapped access o h = search (arith, nat_tests)
 
 allowed_mapped : (access : Access) (m : Memory) (x : ℕ) → memory.can_access_byte access m x ≡ true → (c : Cell) × (get m x ≡ Some c)
 unfolding memory.can_access_byte
 allowed_mapped access m x h = mapped access (get m x) h
 
 monitored : (o : Option Cell) (c : Cell) → o ≡ Some c → option_map_or (λ c. permits Monitor c.permissions) o false ≡ true
-monitored None c e = absurd (cc)
-monitored (Some d) c e = refl
+monitored o c e = search
 
 mapped_allowed : (m : Memory) (x : ℕ) (c : Cell) → get m x ≡ Some c → memory.can_access_byte Monitor m x ≡ true
 unfolding memory.can_access_byte
@@ -38,8 +37,7 @@ mapped_allowed m x c e = monitored (get m x) c e
 -- ---- allowed addresses stay allowed and keep their bytes
 
 extends_at : (access : Access) (m more : Memory) (x : ℕ) → Extends m more → memory.can_access_byte access m x ≡ true → get more x ≡ get m x
-extends_at access m more x grown h =
-    let cell = allowed_mapped access m x h in grown x cell.0 cell.1 ∙ sym cell.1
+extends_at access m more x grown h = search (arith, nat_tests, allowed_mapped)
 
 pub allowed_by_get : (access : Access) (m more : Memory) (x : ℕ) → get more x ≡ get m x → memory.can_access_byte access more x ≡ memory.can_access_byte access m x
 unfolding memory.can_access_byte
@@ -67,12 +65,10 @@ bytes_at_extends access m more a (suc n) grown h =
     cc
 
 can_move_extends : (access : Access) (m more : Memory) (size : ℕ) (kind : TransferKind) → Extends m more → can_move access m size kind ≡ true → can_move access more size kind ≡ true
-can_move_extends access m more size (Moved address) grown h = can_access_extends access m more address size grown h
-can_move_extends access m more size Ones grown h = refl
+can_move_extends access m more size kind grown h = search (arith, nat_tests, can_access_extends)
 
 bytes_loaded_extends : (m more : Memory) (size : ℕ) (kind : TransferKind) → Extends m more → can_move Load m size kind ≡ true → bytes_loaded more size kind ≡ bytes_loaded m size kind
-bytes_loaded_extends m more size (Moved address) grown h = bytes_at_extends Load m more address size grown h
-bytes_loaded_extends m more size Ones grown h = refl
+bytes_loaded_extends m more size kind grown h = search (arith, nat_tests, bytes_at_extends)
 
 pub are_allowed_extends : (access : Access) (m more : Memory) (ts : List Transfer) → Extends m more → are_allowed access m ts ≡ true → are_allowed access more ts ≡ true
 unfolding are_allowed
@@ -94,11 +90,7 @@ loaded_extends m more place file (t ∷ ts) grown h =
 
 find_append : (q : ℕ) (xs ys : List (ℕ × Cell)) → find nat_cmp q (xs ++ ys) ≡ option_or (find nat_cmp q xs) (find nat_cmp q ys)
 find_append q [] ys = refl
-find_append q (e ∷ xs) ys =
-    elim (eq_by_cmp nat_cmp q e.0) as (λ b. cond b (Some e.1) (find nat_cmp q (xs ++ ys)) ≡ option_or (cond b (Some e.1) (find nat_cmp q xs)) (find nat_cmp q ys)) [
-      | true ↦ refl
-      | false ↦ find_append q xs ys
-    ]
+find_append q (e ∷ xs) ys = search (arith, nat_tests, (find_append q xs ys))
 
 pub get-overlay : OverlayIsEither
 unfolding overlay
@@ -130,13 +122,7 @@ overlay_same m more same = same_memory _ _ (λ x. at x (get m x) (get more x) re
 
 -- the result of a write at an address depends only on the memory at that address
 put_byte_local : (m other : Memory) (a b x : ℕ) → get m x ≡ get other x → get (put_byte m a b) x ≡ get (put_byte other a b) x
-put_byte_local m other a b x e = elim (cases_eq x a) [
-  | inl q ↦
-      let at : get m a ≡ get other a = subst (λ (y : ℕ). get m y ≡ get other y) q e in
-      subst (λ (y : ℕ). get (put_byte m a b) y ≡ get (put_byte other a b) y) (sym q)
-      (get-put_byte_same m a b ∙ ap (with_byte b) at ∙ sym (get-put_byte_same other a b))
-  | inr q ↦ get-put_byte_other m a b x q ∙ e ∙ sym (get-put_byte_other other a b x q)
-]
+put_byte_local m other a b x e = search (arith, nat_tests, cases_eq, get-put_byte_other, get-put_byte_same)
 
 put_bytes_local : (m other : Memory) (a : ℕ) (bs : List ℕ) (x : ℕ) → get m x ≡ get other x → get (put_bytes m a bs) x ≡ get (put_bytes other a bs) x
 unfolding put_bytes
@@ -144,8 +130,7 @@ put_bytes_local m other a [] x e = e
 put_bytes_local m other a (b ∷ bs) x e = put_bytes_local (put_byte m a b) (put_byte other a b) (a + 1) bs x (put_byte_local m other a b x e)
 
 element_local : (m other : Memory) (bytes : List ℕ) (kind : TransferKind) (x : ℕ) → get m x ≡ get other x → get (with_element m bytes kind) x ≡ get (with_element other bytes kind) x
-element_local m other bytes (Moved address) x e = put_bytes_local m other address bytes x e
-element_local m other bytes Ones x e = e
+element_local m other bytes kind x e = search (arith, nat_tests, put_bytes_local)
 
 stored_local : (m other : Memory) (place : Transfer → ℕ) (file : List ℕ) (ts : List Transfer) (x : ℕ) → get m x ≡ get other x → get (memory_stored m place file ts) x ≡ get (memory_stored other place file ts) x
 unfolding memory_stored
@@ -160,19 +145,14 @@ outside m a n x none ok = elim (cases_lt x a) [
   | inl l ↦ inl l
   | inr g ↦ elim (cases_lt x (a + n)) [
     | inl l ↦
-        let cell = allowed_mapped Store m x (can_access-at Store m a n (x - a) x ok (omega arith) (omega arith)) in
-        let e = cell.1 in absurd (cc)
+        let e = (allowed_mapped Store m x (can_access-at Store m a n (x - a) x ok (omega arith) (omega arith))).1 in absurd (cc)
     | inr g2 ↦ inr g2
   ]
 ]
 
 element_outside : (m other : Memory) (size : ℕ) (bs : List ℕ) (kind : TransferKind) (x : ℕ) → length bs ≤ size → get m x ≡ None → can_move Store m size kind ≡ true
     → get (with_element other bs kind) x ≡ get other x
-element_outside m other size bs (Moved address) x short none h =
-    let apart : (x < address) ⊎ (address + length bs ≤ x) =
-    elim (outside m address size x none h) [ inl l ↦ inl l | inr g ↦ inr (omega arith) ] in
-    get-put_bytes_outside other address bs x apart
-element_outside m other size bs Ones x short none h = refl
+element_outside m other size bs kind x short none h = search (arith, get-put_bytes_outside, outside)
 
 stored_outside : (m other : Memory) (place : Transfer → ℕ) (file : List ℕ) (ts : List Transfer) (x : ℕ) → get m x ≡ None → are_allowed Store m ts ≡ true → get (memory_stored other place file ts) x ≡ get other x
 unfolding memory_stored are_allowed
@@ -180,19 +160,13 @@ stored_outside m other place file [] x none h = refl
 stored_outside m other place file (t ∷ ts) x none h =
     let parts = and_parts (can_transfer Store m t) (list_all (can_transfer Store m) ts) h in
     let bs = chunk (place t) t.size file in
-    let short : length bs ≤ t.size = omega (arith, length-take t.size (drop (place t) file)) in
     stored_outside m (with_element other bs t.kind) place file ts x none parts.1
-    ∙ element_outside m other t.size bs t.kind x short none parts.0
-
--- an address that is mapped before a store is mapped after it
-stored_maps : (m : Memory) (place : Transfer → ℕ) (file : List ℕ) (ts : List Transfer) (x : ℕ) (c : Cell) → get m x ≡ Some c → (d : Cell) × (get (memory_stored m place file ts) x ≡ Some d)
-stored_maps m place file ts x c e =
-    allowed_mapped Monitor (memory_stored m place file ts) x (stored_allows Monitor m place file ts x ∙ mapped_allowed m x c e)
+    ∙ element_outside m other t.size bs t.kind x (omega (arith, length-take t.size (drop (place t) file))) none parts.0
 
 -- a store to the memory with the new addresses mapped from the start leaves exactly the grown memory
 pub overlay_stored : (m more : Memory) (place : Transfer → ℕ) (file : List ℕ) (ts : List Transfer) → are_allowed Store m ts ≡ true → Extends (memory_stored m place file ts) more → memory_stored (overlay m more) place file ts ≡ more
 overlay_stored m more place file ts ok grown = same_memory _ _ (λ x. of_option (get m x) (λ o. get (memory_stored (overlay m more) place file ts) x ≡ get more x)
     (λ e. stored_outside m (overlay m more) place file ts x e ok ∙ get-overlay m more x ∙ ap (λ (o : Option Cell). option_or o (get more x)) e)
     (λ c e.
-    let kept = stored_maps m place file ts x c e in
+    let kept = (allowed_mapped Monitor (memory_stored m place file ts) x (stored_allows Monitor m place file ts x ∙ mapped_allowed m x c e)) in
     stored_local (overlay m more) m place file ts x (overlay_extends m more x c e ∙ sym e) ∙ kept.1 ∙ sym (grown x kept.0 kept.1)))

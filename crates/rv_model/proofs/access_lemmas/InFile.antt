@@ -1,24 +1,23 @@
 -- The elements of a legal vector load or store lie in the register file.
-use Rattle.std.proofs.Common.{◌≡◌, ℕ, zero, suc, ◌+◌, ◌*◌, ◌/◌, ◌<◌, ◌≤◌, true, false, cond, [], map, Option, Some, None, refl, subst, arith}
+use Rattle.std.proofs.Common.{◌≡◌, ℕ, zero, suc, ◌+◌, ◌*◌, ◌/◌, ◌<◌, ◌≤◌, true, false, map, Option, Some, refl, subst, arith}
 use Rattle.std.specs.List.{AllByRecursion, range_with_len}
 use Rattle.std.specs.Option.{option_map}
 use Rattle.std.specs.Prelude.{IfSome}
 use Rattle.std.proofs.Math.Nat.{mul_comm}
 use Rattle.std.proofs.lemmas.List.Elements.{All-from_recursion}
 use Rattle.std.proofs.lemmas.Nat.{row_fits}
+use Rattle.std.proofs.lemmas.Bool.Decides.{nat_tests}
 use Rattle.rv_model.specs.declared.instructions.instruction.Instr.TheVariants as instr
 use Rattle.rv_model.specs.declared.instructions.access.AccessInstr.{AccessInstr}
 use Rattle.rv_model.specs.declared.instructions.access.AccessInstr.TheVariants.{MaskAccess, Indexed, Strided, UnitStride, WholeLoad, WholeStore}
 use Rattle.rv_model.specs.declared.instructions.operations.Eew.{Eew}
-use Rattle.rv_model.specs.declared.instructions.operations.Eew.TheVariants.{E8}
 use Rattle.rv_model.specs.declared.scalar.Scalar.{Scalar}
 use Rattle.rv_model.specs.declared.vector.sizes.TheConstants.{FILE_BYTES, VECTOR_REGISTERS, VLENB}
 use Rattle.rv_model.specs.declared.vector.state.VState.{VState}
 use Rattle.rv_model.specs.declared.vector.types.VType.{VType}
 use Rattle.rv_model.specs.accesses.TransferBytes.{TransfersLieInFile}
 use Rattle.rv_model.specs.accesses.Transfers.{Moved, Transfer, address_of, transfers}
-use Rattle.rv_model.specs.accesses.VectorAccess.{VectorAccess, access_of, element_bytes, element_start, mask_length, moved_segment, plan, whole_length}
-use Rattle.rv_model.specs.elements.Elements.{is_enabled}
+use Rattle.rv_model.specs.accesses.VectorAccess.{VectorAccess, access_of, element_bytes, element_start, mask_length, plan, whole_length}
 use Rattle.rv_model.specs.legality.Legality.{IsLegal, is_legal}
 use Rattle.rv_model.specs.lending.GroupBounds.{SegmentsInside}
 use Rattle.rv_model.specs.vector.Groups.{GroupType, IsConfiguration, group_type, width_bytes, registers, access_type, register_count}
@@ -48,16 +47,13 @@ segments_in_file g vd nf vl s f i below before =
 -- contiguous elements in a group of `count` registers
 rows_in_file : (vd count size end f i : ℕ) → vd + count ≤ VECTOR_REGISTERS → end * size ≤ VLENB * count → f < 1 → i < end
     → VLENB * (vd + f * count) + i * size + size ≤ FILE_BYTES
-rows_in_file vd count size end zero i room fits one before = omega (arith, room, fits, row_fits i size end size before (omega arith))
-rows_in_file vd count size end (suc f) i room fits one before = absurd (omega (arith, one))
+rows_in_file vd count size end f i room fits one before = search (arith, row_fits)
 
 whole_fits : (w : Eew) (count : ℕ) → (count * VLENB / element_bytes w) * element_bytes w ≤ VLENB * count
-whole_fits E8 count = omega arith
-whole_fits _ count = omega arith
+whole_fits w count = search arith
 
 typed_in_file : (o : Option VType) (make : VType → VectorAccess) → ((t : VType) → o ≡ Some t → InFile (make t)) → IfSome (option_map make o) InFile
-typed_in_file None make each = tt
-typed_in_file (Some t) make each = each t refl
+typed_in_file o make each = search (arith, nat_tests)
 
 module _ (v : VState) (x : Scalar) (is : IsConfiguration v.conf) where
   legal_test : (i : AccessInstr) (t : VType) → v.conf.vtype ≡ Some t → IsLegal (instr.Access i) v.conf.vtype v.vstart
@@ -97,11 +93,7 @@ module _ (P : Transfer → Type 0) where
 
   each_planned : (a : VectorAccess) (i : ℕ) → ((f : ℕ) → f < a.fields → P (field_transfer i (a.address i) a.size f)) → AllByRecursion P (plan a false i)
   unfolding plan
-  each_planned a i h =
-      elim (is_enabled a.body i) as (λ b. AllByRecursion P (cond b (moved_segment i (a.address i) a.size a.fields) [])) [
-        | true ↦ each_moved i (a.address i) a.size 0 a.fields (λ f l. h f (omega (arith, l)))
-        | false ↦ tt
-      ]
+  each_planned a i h = search (arith, each_moved)
 
 pub transfers_lie_in_file : TransfersLieInFile
 transfers_lie_in_file i v x a k n legal is e fits =

@@ -1,5 +1,5 @@
 -- Each legal vector load and store that stops and is executed again.
-use Rattle.std.proofs.Common.{◌≡◌, ◌≢◌, ℕ, ◌+◌, ◌-◌, ◌*◌, ◌%◌, ◌^◌, ◌<◌, ◌≤◌, inl, inr, Bool, true, false, List, Option, Some, refl, sym, ◌∙◌, ap, subst, arith}
+use Rattle.std.proofs.Common.{◌≡◌, ◌≢◌, ℕ, ◌+◌, ◌-◌, ◌%◌, ◌^◌, ◌<◌, ◌≤◌, inl, inr, Bool, true, false, List, Option, Some, refl, sym, ◌∙◌, ap, subst, arith}
 use Rattle.std.specs.Option.{option_map}
 use Rattle.std.specs.Prelude.{IsSomeAnd}
 use Rattle.std.proofs.lemmas.Bool.{cases_lt}
@@ -26,7 +26,6 @@ use Rattle.rv_model.proofs.vector_lemmas.Lengths.{IsLength}
 use Rattle.rv_model.specs.legality.Legality.{IsLegal}
 use Rattle.rv_model.specs.memory.Memory.{Memory}
 use Rattle.rv_model.specs.scalar.Registers.{read_register}
-use Rattle.rv_model.specs.declared.vector.sizes.TheConstants.{VLENB}
 use Rattle.rv_model.proofs.access_lemmas.Kept.{Beside, byte_kept, element_kept, element_place, length_kept, let_kept, mask_kept, plan_same}
 use Rattle.rv_model.proofs.access_lemmas.Runs.{access_again, is_stopped, run_facts}
 use Rattle.rv_model.proofs.access_lemmas.RunsResume.{IsResumed, Resumes, ResumesFrom, Run, load_resumes, load_transfers, store_resumes}
@@ -139,32 +138,27 @@ module _ (limit later : ℕ) (fill : Bool) (v : VState) (x : Scalar) (m more : M
   unit_resumes unit.FaultOnlyFirst w nf vd rs1 vm t vstart legal =
       masked_load limit later fill x v m more (λ v. unit_access unit.FaultOnlyFirst (access_type t w) nf vd rs1 vm v x) (λ file start. refl) refl refl
       (unit_above true vm w nf vd rs1 t vstart legal)
-  unit_resumes unit.Store w nf vd rs1 vm t vstart legal =
-      store_resumes (λ v. unit_access unit.Store (access_type t w) nf vd rs1 vm v x) limit later v m more refl (λ start. refl)
+  unit_resumes unit.Store w nf vd rs1 vm t vstart legal = search store_resumes
 
   strided_resumes : (d : Direction) (w : Eew) (nf vd rs1 rs2 : ℕ) (vm : Bool) (t : VType) (vstart : ℕ) → IsLegal (instr.Access (Strided d w nf vd rs1 rs2 vm)) (Some t) vstart
       → Resumes (λ limit v m. made_run limit fill (strided_access d (access_type t w) nf vd rs1 rs2 vm v x) v m) limit later v m more
   strided_resumes direction.Load w nf vd rs1 rs2 vm t vstart legal =
       masked_load limit later fill x v m more (λ v. strided_access direction.Load (access_type t w) nf vd rs1 rs2 vm v x) (λ file start. refl) refl refl
       (strided_above vm w nf vd rs1 rs2 t vstart legal)
-  strided_resumes direction.Store w nf vd rs1 rs2 vm t vstart legal =
-      store_resumes (λ v. strided_access direction.Store (access_type t w) nf vd rs1 rs2 vm v x) limit later v m more refl (λ start. refl)
+  strided_resumes direction.Store w nf vd rs1 rs2 vm t vstart legal = search store_resumes
 
   indexed_resumes : (d : Direction) (order : Order) (w : Eew) (nf vd rs1 vs2 : ℕ) (vm : Bool) (t : VType) (vstart : ℕ)
       → IsLegal (instr.Access (Indexed d order w nf vd rs1 vs2 vm)) (Some t) vstart → v.conf.vl ≤ vlmax t
       → Resumes (λ limit v m. made_run limit fill (indexed_access d (group_type t) (access_type t w) nf vd rs1 vs2 vm v x) v m) limit later v m more
-  indexed_resumes direction.Load order w nf vd rs1 vs2 vm t vstart legal few =
-      indexed_load limit later fill x v m more order w nf vd rs1 vs2 vm t vstart legal few
-  indexed_resumes direction.Store order w nf vd rs1 vs2 vm t vstart legal few =
-      store_resumes (λ v. indexed_access direction.Store (group_type t) (access_type t w) nf vd rs1 vs2 vm v x) limit later v m more refl (λ start. refl)
+  indexed_resumes direction.Load order w nf vd rs1 vs2 vm t vstart legal few = search indexed_load
+  indexed_resumes direction.Store order w nf vd rs1 vs2 vm t vstart legal few = search store_resumes
 
   mask_resumes : (d : Direction) (vd rs1 : ℕ)
       → Resumes (λ limit v m. made_run limit fill (unmasked_access d (mask_length v.conf.vl) 1 1 vd rs1 v x) v m) limit later v m more
   mask_resumes direction.Load vd rs1 =
       masked_load limit later fill x v m more (λ v. unmasked_access direction.Load (mask_length v.conf.vl) 1 1 vd rs1 v x) (λ file start. refl) refl refl
       (λ no. absurd (cc))
-  mask_resumes direction.Store vd rs1 =
-      store_resumes (λ v. unmasked_access direction.Store (mask_length v.conf.vl) 1 1 vd rs1 v x) limit later v m more refl (λ start. refl)
+  mask_resumes direction.Store vd rs1 = search store_resumes
 
   resumes : (i : AccessInstr) → IsLegal (instr.Access i) v.conf.vtype v.vstart → IsConfiguration v.conf
       → Resumes (λ limit v m. access_run limit fill i v x m) limit later v m more
@@ -182,10 +176,8 @@ module _ (limit later : ℕ) (fill : Bool) (v : VState) (x : Scalar) (m more : M
       masked_load limit later fill x v m more
       (λ v. unmasked_access direction.Load (whole_length count w) (width_bytes (sew_width (element_width w))) (register_count count) vd rs1 v x)
       (λ file start. refl) refl refl (λ no. absurd (cc))
-  resumes (WholeStore count vd rs1) legal is =
-      store_resumes (λ v. unmasked_access direction.Store (register_count count * VLENB) 1 (register_count count) vd rs1 v x) limit later v m more refl (λ start. refl)
-  resumes (MaskAccess d vd rs1) legal is =
-      typed_resumes (λ t v. unmasked_access d (mask_length v.conf.vl) 1 1 vd rs1 v x) limit later fill v m more (λ t e. mask_resumes d vd rs1)
+  resumes (WholeStore count vd rs1) legal is = search store_resumes
+  resumes (MaskAccess d vd rs1) legal is = search (mask_resumes, typed_resumes)
 
 pub access_resumes : (i : AccessInstr) (limit later : ℕ) (fill : Bool) (v : VState) (x : Scalar) (m more : Memory)
     → IsLegal (instr.Access i) v.conf.vtype v.vstart → IsConfiguration v.conf

@@ -6,9 +6,10 @@ use Rattle.std.proofs.Math.Nat.{mul_comm}
 use Rattle.std.proofs.lemmas.List.{ext_get_or, length-replicate}
 use Rattle.std.proofs.lemmas.Nat.{row_fits}
 use Rattle.std.proofs.lemmas.Simd.{get_or-chunk, get_or-put_chunk_above, get_or-put_chunk_below, length-put_chunk}
+use Rattle.std.proofs.lemmas.Bool.Decides.{nat_tests}
 use lib.Lanes.{number_l}
 use Rattle.rv_model.specs.declared.vector.sizes.TheConstants.{VLENB}
-use Rattle.rv_model.specs.accesses.Transfers.{Moved, Ones, Plan, Transfer, TransferKind, bytes_loaded, registers_loaded, transfers}
+use Rattle.rv_model.specs.accesses.Transfers.{Plan, Transfer, TransferKind, bytes_loaded, registers_loaded, transfers}
 use Rattle.rv_model.specs.accesses.VectorAccess.{VectorAccess, filled_segment, element_start, plan, moved_segment}
 use Rattle.rv_model.specs.elements.Arithmetic.{group_element}
 use Rattle.rv_model.specs.vector.Groups.{GroupType, width_bytes, register_of, registers}
@@ -27,12 +28,10 @@ abbrev pub Misses : (Transfer → ℕ) → ℕ → Transfer → Type 0
 Misses place b t = Beside b (place t) t.size
 
 pub put_beside : (file : List ℕ) (at : ℕ) (bytes : List ℕ) (b : ℕ) → Beside b at (length bytes) → get_or (put_chunk at file bytes) b 0 ≡ get_or file b 0
-put_beside file at bytes b (inl l) = get_or-put_chunk_below at file bytes b 0 l
-put_beside file at bytes b (inr g) = get_or-put_chunk_above at file bytes b 0 g
+put_beside file at bytes b h = search (arith, nat_tests, get_or-put_chunk_above, get_or-put_chunk_below)
 
 pub length-bytes_loaded : (m : Memory) (size : ℕ) (kind : TransferKind) → length (bytes_loaded m size kind) ≡ size
-length-bytes_loaded m size (Moved address) = length-bytes_at m address size
-length-bytes_loaded m size Ones = length-replicate {A = ℕ} size 255
+length-bytes_loaded m size kind = search (arith, nat_tests, length-bytes_at, length-replicate)
 
 module _ (m : Memory) (place : Transfer → ℕ) where
   pub missed : (b : ℕ) (ts : List Transfer) (file : List ℕ) → AllByRecursion (Misses place b) ts → get_or (registers_loaded m place file ts) b 0 ≡ get_or file b 0
@@ -41,8 +40,7 @@ module _ (m : Memory) (place : Transfer → ℕ) where
   missed b (t ∷ ts) file h =
       let bytes : List ℕ = bytes_loaded m t.size t.kind in
       let long : length bytes ≡ t.size = length-bytes_loaded m t.size t.kind in
-      let beside : Beside b (place t) (length bytes) = elim h.0 [ inl l ↦ inl l | inr g ↦ inr (omega arith) ] in
-      missed b ts (put_chunk (place t) file bytes) h.1 ∙ put_beside file (place t) bytes b beside
+      missed b ts (put_chunk (place t) file bytes) h.1 ∙ put_beside file (place t) bytes b (elim h.0 [ inl l ↦ inl l | inr g ↦ inr (omega arith) ])
 
   pub length-loaded : (ts : List Transfer) (file : List ℕ) → length (registers_loaded m place file ts) ≡ length file
   unfolding registers_loaded
@@ -59,8 +57,7 @@ all_append P (x ∷ xs) ys h g = (h.0, all_append P xs ys h.1 g)
 pub all_transfers : (P : Transfer → Type 0) (each : Plan) (i n : ℕ) → ((k : ℕ) → i ≤ k → k < i + n → AllByRecursion P (each k)) → AllByRecursion P (transfers each i n)
 unfolding transfers
 all_transfers P each i zero h = tt
-all_transfers P each i (suc n) h =
-    all_append P (each i) (transfers each (i + 1) n) (h i (omega arith) (omega arith)) (all_transfers P each (i + 1) n (λ k l g. h k (omega arith) (omega arith)))
+all_transfers P each i (suc n) h = search (arith, all_append, (all_transfers P each (i + 1) n (λ k l g. h k (omega arith) (omega arith))))
 
 -- the transfers of index i have this index, a field below n and this size
 abbrev IsOf : ℕ → ℕ → ℕ → Transfer → Type 0
@@ -69,10 +66,7 @@ IsOf i size n t = (t.index ≡ i) × (t.field < n) × (t.size ≡ size)
 all_fields : (P : Transfer → Type 0) (make : ℕ → Transfer) (i size a n : ℕ) → ((f : ℕ) → (make f).index ≡ i × (make f).field ≡ f × (make f).size ≡ size)
     → ((t : Transfer) → IsOf i size (a + n) t → P t) → AllByRecursion P (map make (range_with_len a n))
 all_fields P make i size a zero is h = tt
-all_fields P make i size a (suc n) is h = (
-  h (make a) ((is a).0, omega (arith, (is a).1), (is a).2),
-  all_fields P make i size (a + 1) n is (λ t x. h t (x.0, omega (arith, x.1), x.2)),
-)
+all_fields P make i size a (suc n) is h = search (arith, (all_fields P make i size (a + 1) n is (λ t x. h t (x.0, omega (arith, x.1), x.2))))
 
 all_planned : (P : Transfer → Type 0) (a : VectorAccess) (fill : Bool) (i : ℕ) → ((t : Transfer) → IsOf i a.size a.fields t → P t) → AllByRecursion P (plan a fill i)
 unfolding plan
@@ -105,8 +99,7 @@ all_missed a fill stop b beside =
     of : (t : Transfer) (i : ℕ) → IsOf i a.size a.fields t → i < stop → Misses (element_start a) b t
     of t i is l =
         let at : element_start a t ≡ element_place a t.field i = ap (λ (n : ℕ). VLENB * (a.register + t.field * a.field_registers) + n * a.size) is.0 in
-        let size : t.size ≡ a.size = is.2 in
-        elim (beside t.field i is.1 l) [ inl below ↦ inl (omega (arith, at, below)) | inr above ↦ inr (omega (arith, at, above, size)) ]
+        elim (beside t.field i is.1 l) [ inl below ↦ inl (omega (arith, at, below)) | inr above ↦ inr (omega (arith, at, above, is.2)) ]
 
 module _ (m : Memory) (a : VectorAccess) (fill : Bool) (file : List ℕ) (stop : ℕ) where
   pub byte_kept : (b : ℕ) → ((field i : ℕ) → field < a.fields → i < stop → Beside b (element_place a field i) a.size)
@@ -168,14 +161,9 @@ element_kept g first i count xs ys e l room h =
 
 -- two masks enable the same elements if they are equal or the instruction is unmasked
 pub let_kept : (unmasked : Bool) (mask other : List ℕ) (i : ℕ) → (unmasked ≡ false → mask ≡ other) → (unmasked || mask_bit mask i) ≡ (unmasked || mask_bit other i)
-let_kept true mask other i h = refl
-let_kept false mask other i h = ap (λ (bits : List ℕ). mask_bit bits i) (h refl)
+let_kept unmasked mask other i h = search (arith, nat_tests)
 
 pub plan_same : (a b : VectorAccess) (fill : Bool) (i : ℕ) → is_enabled b.body i ≡ is_enabled a.body i → b.address i ≡ a.address i → b.size ≡ a.size → b.fields ≡ a.fields
     → plan b fill i ≡ plan a fill i
 unfolding plan
-plan_same a b fill i lets address size fields =
-    ap (λ (l : Bool). cond l (moved_segment i (b.address i) b.size b.fields) (cond fill (filled_segment i b.size b.fields) [])) lets
-    ∙ ap (λ (x : ℕ). cond (is_enabled a.body i) (moved_segment i x b.size b.fields) (cond fill (filled_segment i b.size b.fields) [])) address
-    ∙ ap (λ (x : ℕ). cond (is_enabled a.body i) (moved_segment i (a.address i) x b.fields) (cond fill (filled_segment i x b.fields) [])) size
-    ∙ ap (λ (x : ℕ). cond (is_enabled a.body i) (moved_segment i (a.address i) a.size x) (cond fill (filled_segment i a.size x) [])) fields
+plan_same a b fill i lets address size fields = search

@@ -1,9 +1,10 @@
 -- Results of lists of transfers, one after another.
-use Rattle.std.proofs.Common.{◌≡◌, ℕ, true, List, [], ◌∷◌, ◌++◌, refl, ◌∙◌, zero, suc, ◌+◌, ◌&&◌}
+use Rattle.std.proofs.Common.{◌≡◌, ℕ, true, List, [], ◌∷◌, ◌++◌, refl, zero, suc, ◌+◌, ◌&&◌, arith}
 use Rattle.std.specs.Simd.Lanes.{chunk, put_chunk}
 use Rattle.std.proofs.lemmas.List.Folds.{list_all-append}
+use Rattle.std.proofs.lemmas.Bool.Decides.{nat_tests}
 use Rattle.rv_model.specs.declared.memory.Access.{Access}
-use Rattle.rv_model.specs.accesses.Transfers.{Moved, Ones, Transfer, TransferKind, are_allowed, bad_address, bytes_loaded, can_move, can_transfer, registers_loaded, memory_stored, with_element}
+use Rattle.rv_model.specs.accesses.Transfers.{Transfer, TransferKind, are_allowed, bad_address, bytes_loaded, can_move, can_transfer, registers_loaded, memory_stored, with_element}
 use Rattle.rv_model.specs.memory.Memory.{Memory, can_access}
 use Rattle.rv_model.specs.memory.Memory as memory
 use Rattle.rv_model.proofs.memory_lemmas.Memory.{is_allowed-put_bytes}
@@ -51,15 +52,13 @@ stored_one m place file t = refl
 -- ---- a store changes no permission
 
 pub element_allows : (access : Access) (m : Memory) (bytes : List ℕ) (kind : TransferKind) (x : ℕ) → memory.can_access_byte access (with_element m bytes kind) x ≡ memory.can_access_byte access m x
-element_allows access m bytes (Moved address) x = is_allowed-put_bytes access m address bytes x
-element_allows access m bytes Ones x = refl
+element_allows access m bytes kind x = search (arith, nat_tests, is_allowed-put_bytes)
 
 pub stored_allows : (access : Access) (m : Memory) (place : Transfer → ℕ) (file : List ℕ) (ts : List Transfer) (x : ℕ) → memory.can_access_byte access (memory_stored m place file ts) x ≡ memory.can_access_byte access m x
 unfolding memory_stored
 stored_allows access m place file [] x = refl
 stored_allows access m place file (t ∷ ts) x =
-    stored_allows access (with_element m (chunk (place t) t.size file) t.kind) place file ts x
-    ∙ element_allows access m (chunk (place t) t.size file) t.kind x
+    search (element_allows, (stored_allows access (with_element m (chunk (place t) t.size file) t.kind) place file ts x))
 
 -- two memories that allow an access at the same addresses
 abbrev pub AllowTheSame : Access → Memory → Memory → Type 0
@@ -71,20 +70,17 @@ can_access_same access m n a zero same = refl
 can_access_same access m n a (suc k) same = let here = same a in let rest = can_access_same access m n (a + 1) k same in cc
 
 can_move_same : (access : Access) (m n : Memory) (size : ℕ) (kind : TransferKind) → AllowTheSame access m n → can_move access m size kind ≡ can_move access n size kind
-can_move_same access m n size (Moved address) same = can_access_same access m n address size same
-can_move_same access m n size Ones same = refl
+can_move_same access m n size kind same = search (arith, nat_tests, can_access_same)
 
 pub are_allowed_same : (access : Access) (m n : Memory) (ts : List Transfer) → AllowTheSame access m n → are_allowed access m ts ≡ are_allowed access n ts
 unfolding are_allowed
 are_allowed_same access m n [] same = refl
-are_allowed_same access m n (t ∷ ts) same =
-    let here = can_move_same access m n t.size t.kind same in let rest = are_allowed_same access m n ts same in cc
+are_allowed_same access m n (t ∷ ts) same = search (arith, nat_tests, can_move_same, (are_allowed_same access m n ts same))
 
 pub bad_address_same : (access : Access) (m n : Memory) (ts : List Transfer) → AllowTheSame access m n → bad_address access m ts ≡ bad_address access n ts
 unfolding bad_address
 bad_address_same access m n [] same = refl
-bad_address_same access m n (t ∷ ts) same =
-    let here = can_move_same access m n t.size t.kind same in let rest = bad_address_same access m n ts same in cc
+bad_address_same access m n (t ∷ ts) same = search (arith, nat_tests, can_move_same, (bad_address_same access m n ts same))
 
 pub are_allowed-stored : (access : Access) (m : Memory) (place : Transfer → ℕ) (file : List ℕ) (done ts : List Transfer) → are_allowed access (memory_stored m place file done) ts ≡ are_allowed access m ts
 are_allowed-stored access m place file done ts = are_allowed_same access _ m ts (stored_allows access m place file done)

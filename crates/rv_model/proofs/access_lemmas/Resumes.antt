@@ -1,6 +1,7 @@
 -- The transfers of a vector load or store that stops before its end and continues from there.
 use Rattle.std.proofs.Common.{◌≡◌, ℕ, zero, suc, ◌+◌, ◌-◌, ◌<◌, ◌≤◌, true, false, cond, List, ◌++◌, min, refl, sym, ◌∙◌, ap, subst, inl, inr, arith}
 use Rattle.std.proofs.lemmas.Bool.{and_from, cases_eq, cases_lt, le-leb}
+use Rattle.std.proofs.lemmas.Bool.Decides.{nat_tests}
 use Rattle.rv_model.specs.accesses.Restarts.{Extends, overlay}
 use Rattle.rv_model.specs.accesses.Transfers.{Plan, Transfer, are_allowed, bad_address, end_at, registers_loaded, stop_index, memory_stored, transfers}
 use Rattle.rv_model.specs.declared.memory.Access.{Access}
@@ -17,10 +18,7 @@ use Rattle.rv_model.proofs.access_lemmas.Stops.{AllAllowed, first_bad, first_bad
 transfers_same : (each other : Plan) (i n : ℕ) → ((k : ℕ) → i ≤ k → k < i + n → each k ≡ other k) → transfers each i n ≡ transfers other i n
 unfolding transfers
 transfers_same each other i zero h = refl
-transfers_same each other i (suc n) h =
-    let here = h i (omega arith) (omega arith) in
-    let rest = transfers_same each other (i + 1) n (λ k l g. h k (omega arith) (omega arith)) in
-    cc
+transfers_same each other i (suc n) h = search (arith, (transfers_same each other (i + 1) n (λ k l g. h k (omega arith) (omega arith))))
 
 -- and tests that are equal
 first_bad_same : (access : Access) (m other : Memory) (each rest : Plan) (i n none : ℕ)
@@ -29,26 +27,18 @@ first_bad_same : (access : Access) (m other : Memory) (each rest : Plan) (i n no
 unfolding first_bad
 first_bad_same access m other each rest i zero none h = refl
 first_bad_same access m other each rest i (suc n) none h =
-    let here = h i (omega arith) (omega arith) in
-    let later = first_bad_same access m other each rest (i + 1) n none (λ k l g. h k (omega arith) (omega arith)) in
-    cc
+    search (arith, (first_bad_same access m other each rest (i + 1) n none (λ k l g. h k (omega arith) (omega arith))))
 
 stop_same : (access : Access) (m other : Memory) (each rest : Plan) (i cut n : ℕ)
     → ((k : ℕ) → i ≤ k → k < n → are_allowed access m (each k) ≡ are_allowed access other (rest k))
     → stop_index access m each i cut n ≡ stop_index access other rest i cut n
-stop_same access m other each rest i cut n h =
-    stop_is access m each i cut n
-    ∙ first_bad_same access m other each rest i (min n cut - i) (min n cut) (λ k l g. h k l (omega arith))
-    ∙ sym (stop_is access other rest i cut n)
+stop_same access m other each rest i cut n h = search (arith, first_bad_same, stop_is)
 
 end_same : (access : Access) (m other : Memory) (each rest : Plan) (cut n stop : ℕ)
     → (stop < n → bad_address access m (each stop) ≡ bad_address access other (rest stop))
     → end_at access m each cut n stop ≡ end_at access other rest cut n stop
 unfolding end_at
-end_same access m other each rest cut n stop h = elim (cases_lt stop n) [
-  | inl l ↦ let e = h l in cc
-  | inr g ↦ let done = le-leb n stop g in cc
-]
+end_same access m other each rest cut n stop h = search (arith, nat_tests, cases_lt, le-leb)
 
 -- ---- the index where transfers stop
 
@@ -56,12 +46,7 @@ module _ (access : Access) (m : Memory) (each : Plan) where
   pub first_bad_bounds : (i n none : ℕ) → i + n ≤ none → (i ≤ first_bad access m each i n none) × (first_bad access m each i n none ≤ none)
   unfolding first_bad
   first_bad_bounds i zero none h = (omega (arith, h), omega arith)
-  first_bad_bounds i (suc n) none h =
-      let rest = first_bad_bounds (i + 1) n none (omega (arith, h)) in
-      elim (are_allowed access m (each i)) as (λ b. (i ≤ cond b (first_bad access m each (i + 1) n none) i) × (cond b (first_bad access m each (i + 1) n none) i ≤ none)) [
-        | true ↦ (omega (arith, rest.0), rest.1)
-        | false ↦ (omega arith, omega (arith, h))
-      ]
+  first_bad_bounds i (suc n) none h = search (arith, (first_bad_bounds (i + 1) n none (omega (arith, h))))
 
   allowed_before : (i n none k : ℕ) → i ≤ k → k < i + n → k < first_bad access m each i n none → are_allowed access m (each k) ≡ true
   unfolding first_bad
@@ -77,37 +62,25 @@ module _ (access : Access) (m : Memory) (each : Plan) where
 
   -- it is at least the start, and at most the end and the cut
   stop_bounds : (i cut n : ℕ) → i ≤ min n cut → (i ≤ stop_index access m each i cut n) × (stop_index access m each i cut n ≤ min n cut)
-  stop_bounds i cut n h =
-      let b = first_bad_bounds i (min n cut - i) (min n cut) (omega (arith, h)) in
-      let is = stop_is access m each i cut n in
-      (omega (arith, b.0, is), omega (arith, b.1, is))
+  stop_bounds i cut n h = search (arith, first_bad_bounds, stop_is)
 
   pub stop_least : (i cut n : ℕ) → i ≤ n → i ≤ cut → i ≤ stop_index access m each i cut n
   stop_least i cut n h g = (stop_bounds i cut n (omega (arith, h, g))).0
 
   pub stop_most : (i cut n : ℕ) → stop_index access m each i cut n ≤ min n cut
-  stop_most i cut n = elim (cases_lt (min n cut) i) [
-    | inl past ↦ omega (arith, stop_past access m each i cut n past)
-    | inr low ↦ (stop_bounds i cut n low).1
-  ]
+  stop_most i cut n = search (arith, cases_lt, stop_bounds, stop_past)
 
   -- the same if the start is past the end, for transfers that aren't complete
   pub stop_from : (i cut n : ℕ) → i ≤ cut → stop_index access m each i cut n < n → i ≤ stop_index access m each i cut n
-  stop_from i cut n low less = elim (cases_lt (min n cut) i) [
-    | inl past ↦ absurd (omega (arith, low, less, stop_past access m each i cut n past, past))
-    | inr within ↦ (stop_bounds i cut n within).0
-  ]
+  stop_from i cut n low less = search (arith, cases_lt, stop_bounds, stop_past)
 
   pub allowed_done : (i cut n : ℕ) → AllAllowed access m each i (stop_index access m each i cut n)
-  allowed_done i cut n k l h =
-      allowed_before i (min n cut - i) (min n cut) k l (omega (arith, l, h, stop_most i cut n)) (omega (arith, h, stop_is access m each i cut n))
+  allowed_done i cut n k l h = search (arith, allowed_before, stop_is, stop_most)
 
   all_allowed : (i n : ℕ) → AllAllowed access m each i (i + n) → are_allowed access m (transfers each i n) ≡ true
   unfolding transfers
   all_allowed i zero h = allowed_none access m
-  all_allowed i (suc n) h =
-      are_allowed-append access m (each i) (transfers each (i + 1) n)
-      ∙ and_from _ _ (h i (omega arith) (omega arith)) (all_allowed (i + 1) n (λ k l g. h k (omega arith) (omega arith)))
+  all_allowed i (suc n) h = search (arith, and_from, are_allowed-append, (all_allowed (i + 1) n (λ k l g. h k (omega arith) (omega arith))))
 
   -- the completed transfers were allowed
   done_allowed : (i cut n : ℕ) → are_allowed access m (transfers each i (stop_index access m each i cut n - i)) ≡ true
@@ -120,20 +93,17 @@ module _ (access : Access) (m : Memory) (each : Plan) where
   stop_again : (i stop later n : ℕ) → i ≤ stop → stop < n → stop ≤ later → AllAllowed access m each i stop
       → stop_index access m each i later n ≡ stop_index access m each stop later n
   stop_again i stop later n l below within ok =
-      let at : i + (stop - i) ≡ stop = omega arith in
       stop_is access m each i later n
       ∙ ap (λ (c : ℕ). first_bad access m each i c (min n later)) (rest_of i stop later n l below within)
       ∙ first_bad_skip access m each i (stop - i) (min n later - stop) (min n later) (λ k a b. ok k a (omega arith))
-      ∙ ap (λ (j : ℕ). first_bad access m each j (min n later - stop) (min n later)) at
+      ∙ ap (λ (j : ℕ). first_bad access m each j (min n later - stop) (min n later)) (omega arith)
       ∙ sym (stop_is access m each stop later n)
 
 -- the transfers up to a later index are the completed ones followed by those from there on
 transfers_split : (each : Plan) (i stop again : ℕ) → i ≤ stop → stop ≤ again → transfers each i (again - i) ≡ transfers each i (stop - i) ++ transfers each stop (again - stop)
 transfers_split each i stop again a b =
-    let count : again - i ≡ (stop - i) + (again - stop) = omega arith in
-    let at : i + (stop - i) ≡ stop = omega arith in
-    ap (λ (c : ℕ). transfers each i c) count ∙ transfers-add each i (stop - i) (again - stop)
-    ∙ ap (λ (j : ℕ). transfers each i (stop - i) ++ transfers each j (again - stop)) at
+    ap (λ (c : ℕ). transfers each i c) (omega arith) ∙ transfers-add each i (stop - i) (again - stop)
+    ∙ ap (λ (j : ℕ). transfers each i (stop - i) ++ transfers each j (again - stop)) (omega arith)
 
 -- ---- the transfers of a plan, from an index on
 

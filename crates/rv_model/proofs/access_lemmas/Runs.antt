@@ -1,7 +1,7 @@
 -- The parts of each vector load or store, the index where its run stops, and the result.
-use Rattle.std.proofs.Common.{◌≡◌, ◌≢◌, ℕ, ◌+◌, ◌-◌, ◌<◌, ◌≤◌, Bool, true, false, ◌&&◌, List, max, ◌⊎◌, inl, inr, Option, Some, None, refl, sym, ◌∙◌, ap, subst, arith}
+use Rattle.std.proofs.Common.{◌≡◌, ◌≢◌, ℕ, ◌+◌, ◌-◌, ◌<◌, ◌≤◌, Bool, true, ◌&&◌, List, max, ◌⊎◌, inl, inr, Option, Some, None, refl, sym, ◌∙◌, ap, subst, arith}
 use Rattle.std.specs.Option.{option_map}
-use Rattle.std.specs.Prelude.{IfSome, nat_le, nat_lt, ⊤}
+use Rattle.std.specs.Prelude.{IfSome, nat_lt, ⊤}
 use Rattle.std.proofs.lemmas.Bool.{and_parts, leb-true}
 use Rattle.std.proofs.lemmas.Bool.Decides.{nat_tests}
 use Rattle.rv_model.specs.declared.instructions.access.AccessInstr.{AccessInstr}
@@ -9,7 +9,6 @@ use Rattle.rv_model.specs.declared.instructions.access.AccessInstr.TheVariants.{
 use Rattle.rv_model.specs.declared.instructions.operations.Direction.{Direction}
 use Rattle.rv_model.specs.declared.instructions.operations.Direction.TheVariants as direction
 use Rattle.rv_model.specs.declared.memory.Access.{Access}
-use Rattle.rv_model.specs.declared.memory.Access.TheVariants as access
 use Rattle.rv_model.specs.declared.scalar.Scalar.{Scalar}
 use Rattle.rv_model.specs.declared.step.memory_end.MemEnd.{MemEnd}
 use Rattle.rv_model.specs.declared.step.memory_end.MemEnd.TheVariants.{Cut, Done, Fault}
@@ -17,8 +16,8 @@ use Rattle.rv_model.specs.declared.vector.state.VState.{VState}
 use Rattle.rv_model.specs.declared.vector.types.VType.{VType}
 use Rattle.rv_model.specs.accesses.AccessRuns.{AccessRun, access_ends, access_run, directed_run, load_run, run_or_nothing, runs_to, store_run}
 use Rattle.rv_model.specs.accesses.Restarts.{AccessStopIndex, IsStopped, StopIndex}
-use Rattle.rv_model.specs.accesses.Transfers.{Plan, end_at, registers_loaded, stop_index, memory_stored, transfers}
-use Rattle.rv_model.specs.accesses.VectorAccess.{VectorAccess, access_of, indexed_access, mask_length, element_start, plan, strided_access, unit_access, unmasked_access}
+use Rattle.rv_model.specs.accesses.Transfers.{Plan, end_at, stop_index}
+use Rattle.rv_model.specs.accesses.VectorAccess.{VectorAccess, access_of, indexed_access, mask_length, strided_access, unit_access, unmasked_access}
 use Rattle.rv_model.specs.vector.Groups.{access_type, group_type, register_of}
 use Rattle.rv_model.specs.memory.Memory.{Memory, can_access_byte}
 use Rattle.rv_model.proofs.access_lemmas.Moves.{stored_allows}
@@ -33,8 +32,7 @@ pub record Made (v : VState) (a : VectorAccess) : Type 0 where
   pub shortens : a.first_only ≡ true → a.body.end ≡ v.conf.vl
 
 typed_made : (o : Option VType) (make : VType → VectorAccess) (P : VectorAccess → Type 0) → ((t : VType) → P (make t)) → IfSome (option_map make o) P
-typed_made None make P each = tt
-typed_made (Some t) make P each = each t
+typed_made o make P each = search (arith, nat_tests)
 
 each_made : (i : AccessInstr) (v : VState) (x : Scalar) → IfSome (access_of i v x) (Made v)
 each_made (WholeLoad count w vd rs1) v x = record { begins = refl; shortens = λ is. absurd (cc) }
@@ -73,9 +71,8 @@ again_of (UnitStride op w nf vd rs1 vm) v x a file start =
 again_of (Strided d w nf vd rs1 rs2 vm) v x a file start =
     typed_again (Strided d w nf vd rs1 rs2 vm) v x a file start _ (λ t. (strided_access d (access_type t w) nf vd rs1 rs2 vm v x).address) refl
 again_of (Indexed d order w nf vd rs1 vs2 vm) v x a file start =
-    let later : VState = record v { file = file; vstart = start } in
     typed_again (Indexed d order w nf vd rs1 vs2 vm) v x a file start _
-    (λ t. (indexed_access d (group_type t) (access_type t w) nf vd rs1 vs2 vm later x).address) refl
+    (λ t. (indexed_access d (group_type t) (access_type t w) nf vd rs1 vs2 vm (record v { file = file; vstart = start }) x).address) refl
 again_of (MaskAccess d vd rs1) v x a file start =
     typed_again (MaskAccess d vd rs1) v x a file start _ (λ t. (unmasked_access d (mask_length v.conf.vl) 1 1 vd rs1 v x).address) refl
 again_of _ v x a file start = λ e. record { address = a.address; is = ap (option_map (λ b. access_again b (register_of file 0) start b.address)) e }
@@ -90,9 +87,7 @@ AtStop (Fault index addr) C F = F index
 
 pub stop_means : (end : MemEnd) (C F D G : ℕ → Type 0) → AtStop end C F → ((index : ℕ) → C index → D index) → ((index : ℕ) → F index → G index)
     → AtStop end D G
-stop_means Done C F D G h cut fault = tt
-stop_means (Cut index) C F D G h cut fault = cut index h
-stop_means (Fault index addr) C F D G h cut fault = fault index h
+stop_means end C F D G h cut fault = search (arith, nat_tests)
 
 -- the end of at most `limit` indices from `start` on, of `count` in all
 abbrev EndIs : ℕ → ℕ → ℕ → MemEnd → Type 0
@@ -103,15 +98,7 @@ EndIs limit start count (Fault index addr) = (start ≤ index) × (index < start
 end_is : (kind : Access) (m : Memory) (each : Plan) (limit start count : ℕ)
     → EndIs limit start count (end_at kind m each (start + limit) count (stop_index kind m each start (start + limit) count))
 unfolding end_at
-end_is kind m each limit start count =
-    let stop = stop_index kind m each start (start + limit) count in
-    let most = stop_most kind m each start (start + limit) count in
-    of_test (EndIs limit start count) (nat_le count stop) _ _
-    (λ e. let all : count ≤ stop = leb-true count stop e in omega (arith, all, most))
-    (λ e. let more : stop < count = grind (arith, nat_tests, e) in
-    of_test (EndIs limit start count) (nat_le (start + limit) stop) _ _
-    (λ f. let last : start + limit ≤ stop = leb-true (start + limit) stop f in (omega (arith, more, last, most), more))
-    (λ f. (stop_from kind m each start (start + limit) count (omega arith) more, grind (arith, nat_tests, f), more)))
+end_is kind m each limit start count = search (arith, nat_tests, leb-true, of_test, stop_from, stop_most)
 
 -- ---- the result of a run
 
@@ -205,33 +192,20 @@ module _ (limit start count : ℕ) (d : Direction) (known : Bool) (v : VState) (
 module _ (limit : ℕ) (fill : Bool) (a : VectorAccess) (v : VState) (m : Memory) (made : Made v a) where
   load_facts : Facts limit a.body.start a.body.end direction.Load a.first_only v m (load_run limit fill a v m)
   unfolding load_run
-  load_facts =
-      let stop : ℕ = stop_index access.Load m (plan a fill) a.body.start (a.body.start + limit) a.body.end in
-      ends_facts limit a.body.start a.body.end direction.Load a.first_only v m a.first_only
-      (registers_loaded m (element_start a) v.file (transfers (plan a fill) a.body.start (stop - a.body.start))) m
-      (end_at access.Load m (plan a fill) (a.body.start + limit) a.body.end stop) (λ is. is) made.begins made.shortens
-      (λ is. absurd (cc)) (λ is. refl) (λ kind x. refl) (end_is access.Load m (plan a fill) limit a.body.start a.body.end)
+  load_facts = search (arith, nat_tests, end_is, ends_facts)
 
   store_facts : Facts limit a.body.start a.body.end direction.Store a.first_only v m (store_run limit a v m)
   unfolding store_run
-  store_facts =
-      let stop : ℕ = stop_index access.Store m (plan a false) a.body.start (a.body.start + limit) a.body.end in
-      let done = transfers (plan a false) a.body.start (stop - a.body.start) in
-      ends_facts limit a.body.start a.body.end direction.Store a.first_only v m false v.file (memory_stored m (element_start a) v.file done)
-      (end_at access.Store m (plan a false) (a.body.start + limit) a.body.end stop) (λ is. absurd (cc)) made.begins (λ is. absurd (cc))
-      (λ is. refl) (λ is. absurd (cc)) (λ kind x. stored_allows kind m (element_start a) v.file done x)
-      (end_is access.Store m (plan a false) limit a.body.start a.body.end)
+  store_facts = search (arith, nat_tests, end_is, ends_facts, stored_allows)
 
   directed_facts : (d : Direction) → Facts limit a.body.start a.body.end d a.first_only v m (directed_run d limit fill a v m)
-  directed_facts direction.Load = load_facts
-  directed_facts direction.Store = store_facts
+  directed_facts d = search (arith, nat_tests, load_facts, store_facts)
 
 pub run_facts : (limit : ℕ) (fill : Bool) (i : AccessInstr) (v : VState) (x : Scalar) (m : Memory) (a : VectorAccess) → access_of i v x ≡ Some a
     → Facts limit v.vstart a.body.end a.direction a.first_only v m (directed_run a.direction limit fill a v m)
 run_facts limit fill i v x m a e =
-    let made : Made v a = made_of i v x a e in
-    subst (λ (n : ℕ). Facts limit n a.body.end a.direction a.first_only v m (directed_run a.direction limit fill a v m)) made.begins
-    (directed_facts limit fill a v m made a.direction)
+    subst (λ (n : ℕ). Facts limit n a.body.end a.direction a.first_only v m (directed_run a.direction limit fill a v m)) (made_of i v x a e).begins
+    (directed_facts limit fill a v m (made_of i v x a e) a.direction)
 
 -- ---- the run of an instruction is that of its access
 
@@ -251,16 +225,7 @@ of_access limit fill i v x m P nothing each = of_option (access_of i v x) (λ o.
 -- ---- the index where it stops
 
 leaves_off : (limit count : ℕ) (d : Direction) (first_only : Bool) (v : VState) (m : Memory) (run : AccessRun) → Facts limit v.vstart count d first_only v m run → StopIndex limit v run
-leaves_off limit count d first_only v m run f = record {
-  cut = λ index e.
-      let at : CutAt limit v.vstart count v run index =
-      subst (λ (end : MemEnd). AtStop end (CutAt limit v.vstart count v run) (FaultAt limit v.vstart count v run)) e f.stop in
-      (at.at, at.stopped.vstart);
-  fault = λ index addr e.
-      let at : FaultAt limit v.vstart count v run index =
-      subst (λ (end : MemEnd). AtStop end (CutAt limit v.vstart count v run) (FaultAt limit v.vstart count v run)) e f.stop in
-      (at.before, at.stopped.vstart);
-}
+leaves_off limit count d first_only v m run f = search (arith, nat_tests)
 
 pub access_leaves_off : AccessStopIndex
 access_leaves_off i limit fill v x m =
@@ -271,9 +236,7 @@ access_leaves_off i limit fill v x m =
 -- ---- the state where it stops
 
 stops_at : (end : MemEnd) (P : ℕ → Type 0) → AtStop end P P → end ≢ Done → (index : ℕ) × P index
-stops_at Done P h ended = absurd (ended refl)
-stops_at (Cut index) P h ended = (index, h)
-stops_at (Fault index addr) P h ended = (index, h)
+stops_at end P h ended = search (arith, nat_tests)
 
 pub is_stopped : (limit : ℕ) (a : VectorAccess) (v : VState) (m : Memory) (run : AccessRun) → Facts limit v.vstart a.body.end a.direction a.first_only v m run
     → run.end ≢ Done → IsStopped a v run.vector

@@ -2,6 +2,7 @@
 use Rattle.std.proofs.Common.{◌≡◌, ◌≢◌, ℕ, zero, suc, ◌+◌, ◌-◌, ◌<◌, ◌≤◌, inl, inr, Bool, true, false, cond, List, [], ◌∷◌, min, refl, sym, ◌∙◌, ap, subst, arith}
 use Rattle.std.specs.Prelude.{nat_le}
 use Rattle.std.proofs.lemmas.Bool.{cases_lt, le-leb, lt-leb}
+use Rattle.std.proofs.lemmas.Bool.Decides.{nat_tests}
 use Rattle.rv_model.specs.declared.instructions.access.AccessInstr.{AccessInstr}
 use Rattle.rv_model.specs.declared.instructions.operations.Direction.{Direction}
 use Rattle.rv_model.specs.declared.instructions.operations.Direction.TheVariants as direction
@@ -9,11 +10,11 @@ use Rattle.rv_model.specs.declared.memory.Access.{Access}
 use Rattle.rv_model.specs.declared.memory.Access.TheVariants as access
 use Rattle.rv_model.specs.declared.scalar.Scalar.{Scalar}
 use Rattle.rv_model.specs.declared.step.memory_end.MemEnd.{MemEnd}
-use Rattle.rv_model.specs.declared.step.memory_end.MemEnd.TheVariants.{Cut, Fault}
+use Rattle.rv_model.specs.declared.step.memory_end.MemEnd.TheVariants.{Cut}
 use Rattle.rv_model.specs.declared.vector.state.VState.{VState}
 use Rattle.rv_model.specs.accesses.AccessRuns.{AccessRun, access_ends, access_run, directed_run, load_run, run_or_nothing, store_run}
 use Rattle.rv_model.specs.accesses.Restarts.{AreResumed, EndsWhole, GoesOn, LargerLimitIsSame, NextRun, Restartable, access_from, last_run, overlay, with_new}
-use Rattle.rv_model.specs.accesses.Transfers.{Plan, Transfer, are_allowed, end_at, registers_loaded, stop_index, memory_stored, transfers}
+use Rattle.rv_model.specs.accesses.Transfers.{Plan, Transfer, are_allowed, end_at, registers_loaded, stop_index, memory_stored}
 use Rattle.rv_model.specs.accesses.VectorAccess.{VectorAccess, access_of, index_count, element_start, plan}
 use Rattle.rv_model.specs.memory.Memory.{Memory}
 use Rattle.rv_model.proofs.access_lemmas.Resumes.{Progress, moves, progress_equal, stop_most}
@@ -86,31 +87,14 @@ module _ (access : Access) (m : Memory) (each : Plan) where
   end_more : (i cut larger n stop : ℕ) → cut ≤ larger → IsUncut (end_at access m each cut n stop)
       → end_at access m each larger n stop ≡ end_at access m each cut n stop
   unfolding end_at
-  end_more i cut larger n stop more uncut = elim (cases_lt stop n) [
-    | inl less ↦
-        let rest : nat_le n stop ≡ false = lt-leb n stop less in
-        elim (cases_lt stop cut) [
-          | inl below ↦
-              let here : nat_le cut stop ≡ false = lt-leb cut stop below in
-              let there : nat_le larger stop ≡ false = lt-leb larger stop (omega (arith, below, more)) in
-              cc
-          | inr above ↦
-              let here : nat_le cut stop ≡ true = le-leb cut stop above in
-              absurd (uncut stop (cc))
-        ]
-    | inr done ↦ let all : nat_le n stop ≡ true = le-leb n stop done in cc
-  ]
+  end_more i cut larger n stop more uncut = search (arith, cases_lt, le-leb, lt-leb)
 
 moves_more : {X : Type 0} (access : Access) (m : Memory) (each : Plan) (left : List Transfer → X) (i cut larger n : ℕ) → i ≤ cut → cut ≤ larger
     → IsUncut (moves access m each left i cut n).end → moves access m each left i larger n ≡ moves access m each left i cut n
-moves_more access m each left i cut larger n low more uncut =
-    let stop = stop_more access m each i cut larger n low more uncut in
-    let end = end_more access m each i cut larger n (stop_index access m each i cut n) more uncut in
-    progress_equal _ _ (ap (λ (s : ℕ). left (transfers each i (s - i))) stop) stop (ap (end_at access m each larger n) stop ∙ end)
+moves_more access m each left i cut larger n low more uncut = search (arith, nat_tests, end_more, progress_equal, stop_more)
 
 ends_uncut : (first_only : Bool) (count : ℕ) (v : VState) (m : Memory) (end : MemEnd) → IsUncut (access_ends first_only count v m end).end → IsUncut end
-ends_uncut first_only count v m (Fault at addr) h = λ index e. absurd (cc)
-ends_uncut first_only count v m _ h = h
+ends_uncut first_only count v m end h = search (arith, nat_tests)
 
 module _ (limit larger : ℕ) (fill : Bool) (v : VState) (m : Memory) (more : limit ≤ larger) where
   -- the larger limit gives the same result if the smaller one doesn't cut
@@ -171,14 +155,8 @@ module _ (R : Type 0) (k : Restartable R) (on : (limit : ℕ) (m : Memory) → G
   -- all limits without a cut give the same result
   agree : LargerLimitIsSame k → (limit other : ℕ) (m : Memory) → k.IsUncut (k.whole limit m) → k.IsUncut (k.whole other m)
       → k.whole limit m ≡ k.whole other m
-  agree larger limit other m uncut too = elim (cases_lt limit other) [
-    | inl less ↦ sym (larger limit other m (omega (arith, less)) uncut)
-    | inr most ↦ larger other limit m most too
-  ]
+  agree larger limit other m uncut too = search (arith, cases_lt)
 
   pub ends_whole : (enough : ℕ) → LargerLimitIsSame k → ((limit : ℕ) (m : Memory) → enough ≤ limit → k.IsUncut (k.whole limit m))
       → (limit : ℕ) (m : Memory) → EndsWhole k enough m (k.whole limit m)
-  ends_whole enough larger whole limit m nexts other resumed uncut most =
-      let one = last_is_one limit m nexts resumed in
-      one.1
-      ∙ agree larger one.0 other (with_new m nexts) (subst (λ (r : R). k.IsUncut r) one.1 uncut) (whole other (with_new m nexts) most)
+  ends_whole enough larger whole limit m nexts other resumed uncut most = search (arith, nat_tests, agree, last_is_one)

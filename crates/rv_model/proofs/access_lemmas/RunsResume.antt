@@ -1,12 +1,12 @@
 -- A legal vector load or store that stops and is executed again has the end and the result of the uninterrupted one.
-use Rattle.std.proofs.Common.{◌≡◌, ◌≢◌, ℕ, ◌+◌, ◌-◌, ◌<◌, ◌≤◌, Bool, false, ◌&&◌, max, List, refl, sym, ◌∙◌, ap, subst, arith}
+use Rattle.std.proofs.Common.{◌≡◌, ◌≢◌, ℕ, ◌+◌, ◌-◌, ◌<◌, ◌≤◌, Bool, false, ◌&&◌, List, refl, sym, ◌∙◌, ap, subst, arith}
 use Rattle.std.specs.Prelude.{nat_le, nat_lt}
 use Rattle.std.proofs.lemmas.Bool.Decides.{nat_tests}
 use Rattle.rv_model.specs.declared.memory.Access.TheVariants as access
 use Rattle.rv_model.specs.declared.step.memory_end.MemEnd.{MemEnd}
 use Rattle.rv_model.specs.declared.step.memory_end.MemEnd.TheVariants.{Done}
 use Rattle.rv_model.specs.declared.vector.state.VState.{VState}
-use Rattle.rv_model.specs.accesses.AccessRuns.{AccessRun, access_ends, load_run, runs_to, store_run}
+use Rattle.rv_model.specs.accesses.AccessRuns.{AccessRun, access_ends, load_run, store_run}
 use Rattle.rv_model.specs.accesses.Restarts.{Extends, overlay}
 use Rattle.rv_model.specs.accesses.Transfers.{Plan, end_at}
 use Rattle.rv_model.specs.accesses.VectorAccess.{VectorAccess, element_start, plan}
@@ -51,10 +51,7 @@ load_is limit fill a v m = refl
 -- the end of an instruction sets vstart, so it doesn't depend on the start if that is one of the indices
 begins_alike : (first_only : Bool) (count : ℕ) (v : VState) (m : Memory) (end : MemEnd) (file : List ℕ) (start : ℕ) → v.vstart < count → start < count
     → access_ends first_only count (record v { file = file; vstart = start }) m end ≡ access_ends first_only count (record v { file = file }) m end
-begins_alike first_only count v m Done file start h g =
-    let reached : max (start + 1) count ≡ max (v.vstart + 1) count = omega (arith, h, g) in
-    ap (λ (n : ℕ). runs_to Done n (record v { file = file; vstart = 0 }) m) reached
-begins_alike first_only count v m _ file start h g = refl
+begins_alike first_only count v m end file start h g = search arith
 
 -- a load that stops
 record LoadStopped (run : AccessRun) (v : VState) (m : Memory) (moved : Progress (List ℕ)) (n : ℕ) : Type 0 where
@@ -67,10 +64,9 @@ load_stopped : (limit : ℕ) (fill : Bool) (a : VectorAccess) (v : VState) (m : 
 unfolding load_run end_at
 load_stopped limit fill a v m =
     let moved : Progress (List ℕ) = load_transfers limit fill a v.file m in
-    let n : ℕ = a.body.end in
-    let Q : AccessRun → Type 0 = λ run. run.end ≢ Done → LoadStopped run v m moved n in
-    let P : MemEnd → Type 0 = λ end. Q (access_ends a.first_only n (record v { file = moved.left }) m end) in
-    of_test P (nat_le n moved.stop) _ _ (λ e ended. absurd (ended refl))
+    let Q : AccessRun → Type 0 = λ run. run.end ≢ Done → LoadStopped run v m moved a.body.end in
+    let P : MemEnd → Type 0 = λ end. Q (access_ends a.first_only a.body.end (record v { file = moved.left }) m end) in
+    of_test P (nat_le a.body.end moved.stop) _ _ (λ e ended. absurd (ended refl))
     (λ e. of_test P (nat_le (a.body.start + limit) moved.stop) _ _ (λ f ended. record { below = grind (arith, nat_tests, e); vector = refl; memory = refl })
     (λ f. of_either Q (a.first_only && nat_lt 0 moved.stop) _ _ (λ ended. absurd (ended refl))
     (λ ended. record { below = grind (arith, nat_tests, e); vector = refl; memory = refl })))
@@ -87,13 +83,12 @@ load_again limit later fill a mask address v m more grown begins below stays =
     let stop : ℕ = moved.stop in
     let b : VectorAccess = access_again a mask stop address in
     let from : a.body.start ≤ stop = stop_from access.Load m (plan a fill) a.body.start (a.body.start + limit) a.body.end (omega arith) below in
-    let last : stop + later ≡ a.body.start + (stop - a.body.start + later) = omega (arith, from) in
     let resumed = load_moves_resume m more (element_start a) (plan a fill) (plan b fill) v.file a.body.start (a.body.start + limit) (stop + later) a.body.end grown (omega arith) below (omega arith) stays in
     let rest : Progress (List ℕ) = load_moves more (element_start a) (plan a fill) v.file a.body.start (stop + later) a.body.end in
     load_is later fill b (record v { file = moved.left; vstart = stop }) more
     ∙ ap (λ (r : Progress (List ℕ)). access_ends a.first_only a.body.end (record v { file = r.left; vstart = stop }) more r.end) resumed
     ∙ begins_alike a.first_only a.body.end v more rest.end rest.left stop (omega (arith, begins, from, below)) below
-    ∙ ap (λ (n : ℕ). after_load a v more (load_moves more (element_start a) (plan a fill) v.file a.body.start n a.body.end)) last
+    ∙ ap (λ (n : ℕ). after_load a v more (load_moves more (element_start a) (plan a fill) v.file a.body.start n a.body.end)) (omega (arith, from))
     ∙ sym (load_is (stop - a.body.start + later) fill a v more)
 
 -- an access as a function of the state, and the same access after changes of the registers and of vstart
@@ -111,7 +106,6 @@ load_resumes make mask address limit later fill v m more made stays ended grown 
     let run : AccessRun = load_run limit fill (make v) v m in
     let moved : Progress (List ℕ) = load_transfers limit fill (make v) v.file m in
     let s = load_stopped limit fill (make v) v m ended in
-    let after : VState = record v { file = moved.left; vstart = moved.stop } in
     let wider : Extends m more = subst (λ (n : Memory). Extends n more) s.memory grown in
     let done : moved.stop - (make v).body.start + later ≡ run.vector.vstart - v.vstart + later =
     ap (λ (n : ℕ). moved.stop - n + later) made.begins ∙ ap (λ (w : VState). w.vstart - v.vstart + later) (sym s.vector) in
@@ -119,7 +113,7 @@ load_resumes make mask address limit later fill v m more made stays ended grown 
       conf = ap (λ (w : VState). w.conf) s.vector;
       same =
           ap (λ (w : VState). load_run later fill (make w) w more) s.vector
-          ∙ ap (λ (b : VectorAccess). load_run later fill b after more) (made.again moved.left moved.stop)
+          ∙ ap (λ (b : VectorAccess). load_run later fill b (record v { file = moved.left; vstart = moved.stop }) more) (made.again moved.left moved.stop)
           ∙ load_again limit later fill (make v) (mask moved.left) (address moved.left) v m more wider made.begins s.below stays
           ∙ ap (λ (n : ℕ). load_run n fill (make v) v more) done
           ∙ ap (λ (o : Memory). load_run (run.vector.vstart - v.vstart + later) fill (make v) v o) (sym (overlay_grown m more wider));
@@ -147,9 +141,8 @@ store_stopped : (limit : ℕ) (a : VectorAccess) (v : VState) (m : Memory) → (
 unfolding store_run end_at
 store_stopped limit a v m =
     let moved : Progress Memory = store_transfers limit a v.file m in
-    let n : ℕ = a.body.end in
-    let P : MemEnd → Type 0 = λ end. let run : AccessRun = access_ends false n v moved.left end in run.end ≢ Done → StoreStopped run v moved n in
-    of_test P (nat_le n moved.stop) _ _ (λ e ended. absurd (ended refl))
+    let P : MemEnd → Type 0 = λ end. let run : AccessRun = access_ends false a.body.end v moved.left end in run.end ≢ Done → StoreStopped run v moved a.body.end in
+    of_test P (nat_le a.body.end moved.stop) _ _ (λ e ended. absurd (ended refl))
     (λ e. of_either P (nat_le (a.body.start + limit) moved.stop) _ _ (λ ended. record { below = grind (arith, nat_tests, e); vector = refl; memory = refl })
     (λ ended. record { below = grind (arith, nat_tests, e); vector = refl; memory = refl }))
 
@@ -166,17 +159,15 @@ store_again : (limit later : ℕ) (a : VectorAccess) (v : VState) (m more : Memo
     → store_run later (access_from a (store_transfers limit a v.file m).stop) (record v { vstart = (store_transfers limit a v.file m).stop }) more
     ≡ store_run ((store_transfers limit a v.file m).stop - a.body.start + later) a v (overlay m more)
 store_again limit later a v m more grown begins below =
-    let moved : Progress Memory = store_transfers limit a v.file m in
-    let stop : ℕ = moved.stop in
+    let stop : ℕ = (store_transfers limit a v.file m).stop in
     let from : a.body.start ≤ stop = stop_from access.Store m (plan a false) a.body.start (a.body.start + limit) a.body.end (omega arith) below in
-    let last : stop + later ≡ a.body.start + (stop - a.body.start + later) = omega (arith, from) in
     let rest : Progress Memory = store_moves (overlay m more) (element_start a) (plan a false) v.file a.body.start (stop + later) a.body.end in
     store_is later (access_from a stop) (record v { vstart = stop }) more
     ∙ ap (λ (each : Plan). after_store a (record v { vstart = stop }) (store_moves more (element_start a) each v.file stop (stop + later) a.body.end)) (plan_from a stop)
     ∙ ap (after_store a (record v { vstart = stop }))
     (store_moves_resume m more (element_start a) (plan a false) v.file a.body.start (a.body.start + limit) (stop + later) a.body.end grown (omega arith) below (omega arith))
     ∙ begins_alike false a.body.end v rest.left rest.end v.file stop (omega (arith, begins, from, below)) below
-    ∙ ap (λ (n : ℕ). after_store a v (store_moves (overlay m more) (element_start a) (plan a false) v.file a.body.start n a.body.end)) last
+    ∙ ap (λ (n : ℕ). after_store a v (store_moves (overlay m more) (element_start a) (plan a false) v.file a.body.start n a.body.end)) (omega (arith, from))
     ∙ sym (store_is (stop - a.body.start + later) a v (overlay m more))
 
 pub store_resumes : (make : VState → VectorAccess) (limit later : ℕ) (v : VState) (m more : Memory)
@@ -184,17 +175,15 @@ pub store_resumes : (make : VState → VectorAccess) (limit later : ℕ) (v : VS
     → ((start : ℕ) → make (record v { vstart = start }) ≡ access_from (make v) start)
     → Resumes (λ limit v m. store_run limit (make v) v m) limit later v m more
 store_resumes make limit later v m more begins again ended grown =
-    let run : AccessRun = store_run limit (make v) v m in
     let moved : Progress Memory = store_transfers limit (make v) v.file m in
     let s = store_stopped limit (make v) v m ended in
-    let wider : Extends moved.left more = subst (λ (n : Memory). Extends n more) s.memory grown in
-    let done : moved.stop - (make v).body.start + later ≡ run.vector.vstart - v.vstart + later =
+    let done : moved.stop - (make v).body.start + later ≡ (store_run limit (make v) v m).vector.vstart - v.vstart + later =
     ap (λ (n : ℕ). moved.stop - n + later) begins ∙ ap (λ (w : VState). w.vstart - v.vstart + later) (sym s.vector) in
     record {
       conf = ap (λ (w : VState). w.conf) s.vector;
       same =
           ap (λ (w : VState). store_run later (make w) w more) s.vector
           ∙ ap (λ (b : VectorAccess). store_run later b (record v { vstart = moved.stop }) more) (again moved.stop)
-          ∙ store_again limit later (make v) v m more wider begins s.below
+          ∙ store_again limit later (make v) v m more (subst (λ (n : Memory). Extends n more) s.memory grown) begins s.below
           ∙ ap (λ (n : ℕ). store_run n (make v) v (overlay m more)) done;
     }

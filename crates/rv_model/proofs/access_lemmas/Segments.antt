@@ -5,6 +5,7 @@ use Rattle.std.specs.Simd.Lanes.{chunk, put_chunk}
 use Rattle.std.specs.Prelude.{replicate}
 use Rattle.std.proofs.lemmas.Bool.{and_parts}
 use Rattle.std.proofs.lemmas.List.{map-append}
+use Rattle.std.proofs.lemmas.Bool.Decides.{nat_tests}
 use Rattle.rv_model.specs.accesses.Transfers.{Moved, Ones, Transfer, address_of, are_allowed, bad_address, can_transfer, registers_loaded, memory_stored}
 use Rattle.rv_model.specs.accesses.VectorAccess.{VectorAccess, filled_segment, plan, moved_segment}
 use Rattle.rv_model.specs.declared.memory.Access.{Access}
@@ -38,10 +39,9 @@ mapped_split of a zero k n e =
     ap (λ c. map of (range_with_len a c)) count ∙ ap (λ x. of x ∷ map of (range_with_len (x + 1) k)) (omega arith)
 mapped_split of a (suc f) k n e =
     let count : n ≡ suc (f + suc k) = omega (arith, e) in
-    let same : (a + 1) + f ≡ a + suc f = omega arith in
     ap (λ c. map of (range_with_len a c)) count
     ∙ ap (λ ts. of a ∷ ts) (mapped_split of (a + 1) f k (f + suc k) refl)
-    ∙ ap (λ x. of a ∷ (map of (range_with_len (a + 1) f) ++ of x ∷ map of (range_with_len (x + 1) k))) same
+    ∙ ap (λ x. of a ∷ (map of (range_with_len (a + 1) f) ++ of x ∷ map of (range_with_len (x + 1) k))) (omega arith)
 
 -- the fields after field f
 abbrev fields_after : ℕ → ℕ → ℕ → ℕ → ℕ → List Transfer
@@ -50,9 +50,8 @@ fields_after i address size f n = map (field_transfer i address size) (range_wit
 segment_split : (i address size f n : ℕ) → f < n → moved_segment i address size n ≡ moved_segment i address size f ++ field_transfer i address size f ∷ fields_after i address size f n
 segment_split i address size f n h =
     let of = field_transfer i address size in
-    let same : 0 + f ≡ f = omega arith in
     mapped_split of 0 f (n - (f + 1)) n (omega (arith, h))
-    ∙ ap (λ x. moved_segment i address size f ++ of x ∷ map of (range_with_len (x + 1) (n - (f + 1)))) same
+    ∙ ap (λ x. moved_segment i address size f ++ of x ∷ map of (range_with_len (x + 1) (n - (f + 1)))) (omega arith)
 
 -- ---- whether the fields may be accessed
 
@@ -60,10 +59,7 @@ module _ (access : Access) (m : Memory) (i address size : ℕ) where
   pub allowed_more : (f : ℕ) → are_allowed access m (moved_segment i address size f) ≡ true → can_transfer access m (field_transfer i address size f) ≡ true
       → are_allowed access m (moved_segment i address size (f + 1)) ≡ true
   unfolding are_allowed
-  allowed_more f before here =
-      ap (are_allowed access m) (segment_more i address size f)
-      ∙ are_allowed-append access m (moved_segment i address size f) (field_transfer i address size f ∷ [])
-      ∙ ap (λ b. b && are_allowed access m (field_transfer i address size f ∷ [])) before ∙ ap (λ b. b && true) here
+  allowed_more f before here = search (arith, nat_tests, are_allowed-append, segment_more)
 
   -- if the fields before field f are allowed and f isn't, the index isn't allowed
   pub allowed_not : (f n : ℕ) → f < n → are_allowed access m (moved_segment i address size f) ≡ true → can_transfer access m (field_transfer i address size f) ≡ false
@@ -127,31 +123,17 @@ module _ (m : Memory) (place : Transfer → ℕ) (file : List ℕ) where
   pub loaded_field : (i address size f : ℕ)
       → put_chunk (place (field_transfer i address size f)) (registers_loaded m place file (moved_segment i address size f)) (bytes_at m ((address + f * size) % 2 ^ 64) size)
       ≡ registers_loaded m place file (moved_segment i address size (f + 1))
-  loaded_field i address size f =
-      let t = field_transfer i address size f in
-      let before = registers_loaded m place file (moved_segment i address size f) in
-      sym (ap (registers_loaded m place file) (segment_more i address size f)
-      ∙ loaded-append m place file (moved_segment i address size f) (t ∷ [])
-      ∙ loaded_one m place before t)
+  loaded_field i address size f = search (loaded-append, loaded_one, segment_more)
 
   pub filled_field : (i size f : ℕ)
       → put_chunk (place (filled_transfer i size f)) (registers_loaded m place file (filled_segment i size f)) (replicate size 255)
       ≡ registers_loaded m place file (filled_segment i size (f + 1))
-  filled_field i size f =
-      let t = filled_transfer i size f in
-      let before = registers_loaded m place file (filled_segment i size f) in
-      sym (ap (registers_loaded m place file) (filled_more i size f)
-      ∙ loaded-append m place file (filled_segment i size f) (t ∷ [])
-      ∙ loaded_one m place before t)
+  filled_field i size f = search (filled_more, loaded-append, loaded_one)
 
   pub stored_field : (i address size f : ℕ)
       → put_bytes (memory_stored m place file (moved_segment i address size f)) ((address + f * size) % 2 ^ 64) (chunk (place (field_transfer i address size f)) size file)
       ≡ memory_stored m place file (moved_segment i address size (f + 1))
-  stored_field i address size f =
-      let t = field_transfer i address size f in
-      sym (ap (memory_stored m place file) (segment_more i address size f)
-      ∙ stored-append m place file (moved_segment i address size f) (t ∷ [])
-      ∙ stored_one (memory_stored m place file (moved_segment i address size f)) place file t)
+  stored_field i address size f = search (segment_more, stored-append, stored_one)
 
 -- ---- the plan of an index
 

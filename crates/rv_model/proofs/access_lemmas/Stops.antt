@@ -1,10 +1,11 @@
 -- The index where a vector load or store stops, by induction on the indices, and its end there.
-use Rattle.std.proofs.Common.{◌≡◌, ℕ, zero, suc, ◌+◌, ◌-◌, ◌<◌, ◌≤◌, Bool, true, false, cond, List, [], ◌++◌, min, Option, Some, refl, sym, ◌∙◌, ap, inl, inr, arith, append_assoc}
+use Rattle.std.proofs.Common.{◌≡◌, ℕ, zero, suc, ◌+◌, ◌-◌, ◌<◌, ◌≤◌, Bool, true, false, cond, List, [], ◌++◌, min, refl, sym, ◌∙◌, ap, arith, append_assoc}
 use Rattle.std.specs.List.{find, range_with_len}
 use Rattle.std.specs.Option.{unwrap_or}
 use Rattle.std.specs.Prelude.{not}
 use Rattle.std.proofs.lemmas.Bool.{cases_eq, le-leb, lt-leb}
 use Rattle.std.proofs.lemmas.List.{append-nil}
+use Rattle.std.proofs.lemmas.Bool.Decides.{nat_tests}
 use Rattle.rv_model.specs.declared.memory.Access.{Access}
 use Rattle.rv_model.specs.declared.step.memory_end.MemEnd.{MemEnd}
 use Rattle.rv_model.specs.declared.step.memory_end.MemEnd.TheVariants.{Done, Fault, Cut}
@@ -19,11 +20,10 @@ unfolding transfers
 transfers-add plan i zero b = ap (λ (n : ℕ). transfers plan i n) (omega arith) ∙ ap (λ (j : ℕ). transfers plan j b) (omega arith)
 transfers-add plan i (suc a) b =
     let next : suc a + b ≡ suc (a + b) = omega arith in
-    let at : (i + 1) + a ≡ i + suc a = omega arith in
     ap (λ (n : ℕ). transfers plan i n) next
     ∙ ap (λ (ts : List Transfer). plan i ++ ts) (transfers-add plan (i + 1) a b)
     ∙ sym (append_assoc (plan i) (transfers plan (i + 1) a) (transfers plan ((i + 1) + a) b))
-    ∙ ap (λ (j : ℕ). (plan i ++ transfers plan (i + 1) a) ++ transfers plan j b) at
+    ∙ ap (λ (j : ℕ). (plan i ++ transfers plan (i + 1) a) ++ transfers plan j b) (omega arith)
 
 -- the transfers of no index
 pub transfers_none : (plan : Plan) (i j : ℕ) → j ≤ i → transfers plan i (j - i) ≡ []
@@ -38,10 +38,8 @@ transfers_one plan i = append-nil (plan i)
 -- one more index
 pub transfers_more : (plan : Plan) (i j : ℕ) → i ≤ j → transfers plan i ((j + 1) - i) ≡ transfers plan i (j - i) ++ plan j
 transfers_more plan i j h =
-    let count : (j + 1) - i ≡ (j - i) + 1 = omega arith in
-    let at : i + (j - i) ≡ j = omega arith in
-    ap (λ (n : ℕ). transfers plan i n) count ∙ transfers-add plan i (j - i) 1
-    ∙ ap (λ (k : ℕ). transfers plan i (j - i) ++ transfers plan k 1) at
+    ap (λ (n : ℕ). transfers plan i n) (omega arith) ∙ transfers-add plan i (j - i) 1
+    ∙ ap (λ (k : ℕ). transfers plan i (j - i) ++ transfers plan k 1) (omega arith)
     ∙ ap (λ (ts : List Transfer). transfers plan i (j - i) ++ ts) (transfers_one plan j)
 
 -- ---- the first incomplete index
@@ -55,11 +53,7 @@ found_is : (access : Access) (m : Memory) (plan : Plan) (i n none : ℕ)
     → unwrap_or (find (λ k. not (are_allowed access m (plan k))) (range_with_len i n)) none ≡ first_bad access m plan i n none
 unfolding first_bad
 found_is access m plan i zero none = refl
-found_is access m plan i (suc n) none =
-    let rest : Option ℕ = find (λ k. not (are_allowed access m (plan k))) (range_with_len (i + 1) n) in
-    of_bool (are_allowed access m (plan i))
-    (λ b. unwrap_or (cond (not b) (Some i) rest) none ≡ cond b (first_bad access m plan (i + 1) n none) i)
-    (λ e. found_is access m plan (i + 1) n none) (λ e. refl)
+found_is access m plan i (suc n) none = search (arith, nat_tests, of_bool, (found_is access m plan (i + 1) n none))
 
 module _ (access : Access) (m : Memory) (plan : Plan) where
   pub stop_is : (i cut n : ℕ) → stop_index access m plan i cut n ≡ first_bad access m plan i (min n cut - i) (min n cut)
@@ -69,9 +63,7 @@ module _ (access : Access) (m : Memory) (plan : Plan) where
   -- a start past the end
   pub stop_past : (i cut n : ℕ) → min n cut < i → stop_index access m plan i cut n ≡ min n cut
   unfolding first_bad
-  stop_past i cut n h =
-      let none : min n cut - i ≡ 0 = omega (arith, h) in
-      stop_is i cut n ∙ ap (λ (k : ℕ). first_bad access m plan i k (min n cut)) none
+  stop_past i cut n h = search (arith, stop_is)
 
   -- each index from i up to but not including j is allowed
   abbrev pub AllAllowed : ℕ → ℕ → Type 0
@@ -79,15 +71,11 @@ module _ (access : Access) (m : Memory) (plan : Plan) where
 
   -- one more index
   pub allowed_more : (i j : ℕ) → AllAllowed i j → are_allowed access m (plan j) ≡ true → AllAllowed i (j + 1)
-  allowed_more i j before here k low high = elim (cases_eq k j) [
-    | inl same ↦ ap (λ (n : ℕ). are_allowed access m (plan n)) same ∙ here
-    | inr other ↦ let less : k < j = omega arith in before k low less
-  ]
+  allowed_more i j before here k low high = search (arith, cases_eq)
 
   pub first_bad_skip : (i a b none : ℕ) → AllAllowed i (i + a) → first_bad access m plan i (a + b) none ≡ first_bad access m plan (i + a) b none
   unfolding first_bad
-  first_bad_skip i zero b none h =
-      ap (λ (n : ℕ). first_bad access m plan i n none) (omega arith) ∙ ap (λ (j : ℕ). first_bad access m plan j b none) (omega arith)
+  first_bad_skip i zero b none h = search arith
   first_bad_skip i (suc a) b none h =
       let next : suc a + b ≡ suc (a + b) = omega arith in
       let at : (i + 1) + a ≡ i + suc a = omega arith in
@@ -101,22 +89,18 @@ module _ (access : Access) (m : Memory) (plan : Plan) where
       → stop_index access m plan i cut n ≡ j
   unfolding first_bad
   stop_found i cut n j a b c before bad =
-      let none : ℕ = min n cut in
-      let rest : none - i ≡ (j - i) + suc (none - (j + 1)) = omega arith in
-      let at : i + (j - i) ≡ j = omega arith in
       stop_is i cut n
-      ∙ ap (λ (e : ℕ). first_bad access m plan i e none) rest
-      ∙ first_bad_skip i (j - i) (suc (none - (j + 1))) none (λ k l g. before k l (omega arith))
-      ∙ ap (λ (k : ℕ). first_bad access m plan k (suc (none - (j + 1))) none) at
-      ∙ ap (λ (t : Bool). cond t (first_bad access m plan (j + 1) (none - (j + 1)) none) j) bad
+      ∙ ap (λ (e : ℕ). first_bad access m plan i e (min n cut)) (omega arith)
+      ∙ first_bad_skip i (j - i) (suc ((min n cut) - (j + 1))) (min n cut) (λ k l g. before k l (omega arith))
+      ∙ ap (λ (k : ℕ). first_bad access m plan k (suc ((min n cut) - (j + 1))) (min n cut)) (omega arith)
+      ∙ ap (λ (t : Bool). cond t (first_bad access m plan (j + 1) ((min n cut) - (j + 1)) (min n cut)) j) bad
 
   -- no such index
   stop_none : (i cut n : ℕ) → AllAllowed i (min n cut) → stop_index access m plan i cut n ≡ min n cut
   unfolding first_bad
   stop_none i cut n before =
-      let rest : min n cut - i ≡ (min n cut - i) + 0 = omega arith in
       stop_is i cut n
-      ∙ ap (λ (e : ℕ). first_bad access m plan i e (min n cut)) rest
+      ∙ ap (λ (e : ℕ). first_bad access m plan i e (min n cut)) (omega arith)
       ∙ first_bad_skip i (min n cut - i) 0 (min n cut) (λ k l g. before k l (omega arith))
 
   -- ---- the end of an instruction
@@ -141,29 +125,12 @@ module _ (access : Access) (m : Memory) (plan : Plan) where
   -- the end at an index that isn't allowed
   pub stops_bad : (i cut n j : ℕ) → i ≤ j → j < n → j < cut → AllAllowed i j → are_allowed access m (plan j) ≡ false
       → Stopped i cut n j (Fault j (bad_address access m (plan j)))
-  stops_bad i cut n j low less within before bad =
-      let stop = stop_found i cut n j low less within before bad in
-      record {
-        done = ap (λ s. transfers plan i (s - i)) stop;
-        end = ap (end_at access m plan cut n) stop ∙ end_fault cut n j less within;
-      }
+  stops_bad i cut n j low less within before bad = search (arith, nat_tests, end_fault, stop_found)
 
   -- the end after the last index
   pub stops_done : (i cut n : ℕ) → n ≤ cut → AllAllowed i n → Stopped i cut n n Done
-  stops_done i cut n most before =
-      let stop : stop_index access m plan i cut n ≡ n =
-      stop_none i cut n (λ k low high. before k low (omega (arith, high))) ∙ omega (arith, most) in
-      record {
-        done = ap (λ s. transfers plan i (s - i)) stop;
-        end = ap (end_at access m plan cut n) stop ∙ end_done cut n n (omega arith);
-      }
+  stops_done i cut n most before = search (arith, end_done, stop_none)
 
   -- the end at a cut
   pub stops_cut : (i cut n : ℕ) → i ≤ cut → cut < n → AllAllowed i cut → Stopped i cut n cut (Cut cut)
-  stops_cut i cut n low less before =
-      let stop : stop_index access m plan i cut n ≡ cut =
-      stop_none i cut n (λ k l high. before k l (omega (arith, high))) ∙ omega (arith, less) in
-      record {
-        done = ap (λ s. transfers plan i (s - i)) stop;
-        end = ap (end_at access m plan cut n) stop ∙ end_cut cut n cut less (omega arith);
-      }
+  stops_cut i cut n low less before = search (arith, end_cut, stop_none)

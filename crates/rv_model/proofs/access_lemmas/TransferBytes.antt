@@ -1,5 +1,5 @@
 -- The result of lists of transfers for each byte: its value comes from the last transfer that covers it.
-use Rattle.std.proofs.Common.{◌≡◌, ℕ, zero, suc, ◌+◌, ◌-◌, ◌<◌, ◌≤◌, ◌⊎◌, inl, inr, Bool, true, false, ◌&&◌, cond, List, [], ◌∷◌, length, get_or, Option, Some, None, refl, sym, ◌∙◌, ap, arith}
+use Rattle.std.proofs.Common.{◌≡◌, ℕ, zero, suc, ◌+◌, ◌-◌, ◌<◌, ◌≤◌, Bool, true, cond, List, [], ◌∷◌, length, get_or, Option, Some, None, refl, sym, ◌∙◌, ap, arith}
 use Rattle.std.specs.Prelude.{All, reverse, slice_index}
 use Rattle.std.specs.List.{find}
 use Rattle.std.specs.Option.{option_map_or, option_or}
@@ -9,9 +9,10 @@ use Rattle.std.proofs.lemmas.List.{reverse-append}
 use Rattle.std.proofs.lemmas.List.Elements.{All-head, All-tail}
 use Rattle.std.proofs.lemmas.List.Folds.{find-append}
 use Rattle.std.proofs.lemmas.Simd.{get_or-chunk, length-chunk, length-put_chunk}
+use Rattle.std.proofs.lemmas.Bool.Decides.{nat_tests}
 use Rattle.rv_model.specs.declared.memory.Access.TheVariants.{Monitor}
 use Rattle.rv_model.specs.accesses.TransferBytes.{LoadsByTransfer, StoresByTransfer}
-use Rattle.rv_model.specs.accesses.Transfers.{Moved, Ones, Transfer, TransferKind, address_of, bytes_loaded, memory_stored, registers_loaded, with_element}
+use Rattle.rv_model.specs.accesses.Transfers.{Moved, Transfer, TransferKind, address_of, bytes_loaded, memory_stored, registers_loaded, with_element}
 use Rattle.rv_model.specs.memory.Memory.{Memory, can_access_byte, is_within, memory_byte}
 use Rattle.rv_model.proofs.access_lemmas.Kept.{length-bytes_loaded, put_beside}
 use Rattle.rv_model.proofs.access_lemmas.Moves.{element_allows}
@@ -22,9 +23,7 @@ use Rattle.rv_model.proofs.memory_lemmas.Memory.{is_within_false, is_within_true
 -- in a list with an element in front: the last match in the rest, or else the element
 module _ (p : Transfer → Bool) (f : Transfer → ℕ) (t : Transfer) (d : ℕ) where
   found_or : (o : Option Transfer) (b : Bool) → option_map_or f (option_or o (cond b (Some t) None)) d ≡ option_map_or f o (cond b (f t) d)
-  found_or None true = refl
-  found_or None false = refl
-  found_or (Some u) b = refl
+  found_or o b = search (arith, nat_tests)
 
   last_found : (ts : List Transfer) → option_map_or f (find p (reverse (t ∷ ts))) d ≡ option_map_or f (find p (reverse ts)) (cond (p t) (f t) d)
   last_found ts =
@@ -53,18 +52,7 @@ module _ (m : Memory) (place : Transfer → ℕ) (k : ℕ) where
 
   one_loaded : (t : Transfer) (file : List ℕ) → k < length file
       → slice_index (put_chunk (place t) file (bytes_loaded m t.size t.kind)) k ≡ cond (covers t) (byte_loaded t) (slice_index file k)
-  one_loaded t file inside =
-      let bytes : List ℕ = bytes_loaded m t.size t.kind in
-      let long : length bytes ≡ t.size = length-bytes_loaded m t.size t.kind in
-      elim (places (place t) t.size k) [
-        | inl within ↦
-            put_at (place t) file bytes (k - place t) k (omega (arith, within.0)) (omega (arith, within.0, within.1, long)) inside
-            ∙ sym (cond-true (covers t) (byte_loaded t) (slice_index file k) (is_within_true (place t) t.size k within.0 within.1))
-        | inr far ↦
-            let beside : (k < place t) ⊎ (place t + length bytes ≤ k) = elim far [ inl l ↦ inl l | inr g ↦ inr (omega (arith, g, long)) ] in
-            put_beside file (place t) bytes k beside
-            ∙ sym (cond-false (covers t) (byte_loaded t) (slice_index file k) (is_within_false (place t) t.size k far))
-      ]
+  one_loaded t file inside = search (arith, cond-false, cond-true, is_within_false, is_within_true, length-bytes_loaded, places, put_at, put_beside)
 
   byte_of_load : (ts : List Transfer) (file : List ℕ) → k < length file
       → slice_index (registers_loaded m place file ts) k ≡ option_map_or byte_loaded (find covers (reverse ts)) (slice_index file k)
@@ -94,26 +82,8 @@ module _ (place : Transfer → ℕ) (file : List ℕ) (x : ℕ) where
   one_stored : (m : Memory) (at size : ℕ) (kind : TransferKind) → IsMoved at size kind → can_access_byte Monitor m x ≡ true
       → memory_byte (with_element m (chunk at size file) kind) x
       ≡ cond (is_within (address_of kind) size x) (slice_index file (at + (x - address_of kind))) (memory_byte m x)
-  one_stored m at size Ones is mapped = let other = is.0 in absurd (cc)
-  one_stored m at size (Moved address) is mapped =
-      let bytes : List ℕ = chunk at size file in
-      let long : length bytes ≡ size = length-chunk at size file is.1 in
-      elim (places address size x) [
-        | inl within ↦
-            writes_bytes m address bytes x
-            ∙ cond-true (is_within address (length bytes) x && can_access_byte Monitor m x) (slice_index bytes (x - address)) (memory_byte m x)
-            (and_from _ _ (is_within_true address (length bytes) x within.0 (omega (arith, within.1, long))) mapped)
-            ∙ get_or-chunk at size file (x - address) 0 (omega (arith, within.0, within.1))
-            ∙ sym (cond-true (is_within address size x) (slice_index file (at + (x - address))) (memory_byte m x)
-            (is_within_true address size x within.0 within.1))
-        | inr far ↦
-            let beside : (x < address) ⊎ (address + length bytes ≤ x) = elim far [ inl l ↦ inl l | inr g ↦ inr (omega (arith, g, long)) ] in
-            writes_bytes m address bytes x
-            ∙ cond-false (is_within address (length bytes) x && can_access_byte Monitor m x) (slice_index bytes (x - address)) (memory_byte m x)
-            (ap (λ (b : Bool). b && can_access_byte Monitor m x) (is_within_false address (length bytes) x beside))
-            ∙ sym (cond-false (is_within address size x) (slice_index file (at + (x - address))) (memory_byte m x)
-            (is_within_false address size x far))
-      ]
+  one_stored m at size kind is mapped =
+      search (arith, and_from, cond-false, cond-true, get_or-chunk, is_within_false, is_within_true, length-chunk, places, writes_bytes)
 
   byte_of_store : (ts : List Transfer) (m : Memory) → All (λ t. IsMoved (place t) t.size t.kind) ts → can_access_byte Monitor m x ≡ true
       → memory_byte (memory_stored m place file ts) x ≡ option_map_or byte_stored (find stores (reverse ts)) (memory_byte m x)

@@ -1,20 +1,13 @@
 -- The slots of a row of the code's table are those of each instruction whose word has the bits of the row.
-use Rattle.std.proofs.Common.{◌≡◌, ℕ, ◌<◌, Bool, false, List, [], ◌∷◌, map, take, get_or, Option, Some, None, refl, sym, ap, subst, ◌∙◌}
+use Rattle.std.proofs.Common.{◌≡◌, ℕ, ◌<◌, List, map, take, get_or, Option, Some, None, refl, sym, ap, subst, ◌∙◌, arith}
 use Rattle.std.specs.Option.{IsSomeAnd, option_map}
 use Rattle.std.specs.Int.Bits.{bit_and}
 use Rattle.std.proofs.lemmas.List.{get_or-map, get_or-take}
+use Rattle.std.proofs.lemmas.Bool.Decides.{nat_tests}
 use Rattle.rv_model.specs.declared.instructions.operations.VectorOp.{VectorOp}
-use Rattle.rv_model.specs.declared.instructions.operations.VectorOp.TheVariants as vector_op
 use Rattle.rv_model.specs.declared.instructions.operations.Form.{Form}
 use Rattle.rv_model.specs.declared.instructions.instruction.Instr.{Instr}
-use Rattle.rv_model.specs.declared.instructions.instruction.Instr.TheVariants as instr
-use Rattle.rv_model.specs.declared.instructions.scalar.ScalarInstr.TheVariants.{Fence}
-use Rattle.rv_model.specs.declared.instructions.csr.CsrInstr.TheVariants.{Immediate}
-use Rattle.rv_model.specs.declared.instructions.vector.VectorInstr.TheVariants.{Arith, Carry, Move}
-use Rattle.rv_model.specs.declared.instructions.access.AccessInstr.TheVariants.{UnitStride}
-use Rattle.rv_model.specs.declared.assembler.forms.Place.TheVariants.{Rd}
 use Rattle.rv_model.specs.declared.assembler.forms.Slot.{Slot}
-use Rattle.rv_model.specs.declared.assembler.forms.Slot.TheVariants.{Comma, Vector}
 use Rattle.rv_model.specs.declared.assembler.mnemonics.Mnemonic.{Mnemonic}
 use Rattle.rv_model.specs.declared.assembler.mnemonics.TheConstants.{MNEMONICS, NAME_COUNT}
 use Rattle.rv_model.specs.instructions.FixedBits.{field, flag}
@@ -22,7 +15,7 @@ use Rattle.rv_model.specs.lending.Families.{filled}
 use Rattle.rv_model.specs.lending.NameTable.{HasBitsOf, bits_at, row_at, slots_at, slots_of}
 use Rattle.rv_model.specs.instructions.Operations.{form_of, source_of}
 use Rattle.rv_model.specs.instructions.Table.{Row, table, scan}
-use Rattle.rv_model.specs.assembler.InstructionTexts.{arith_slots, carry_out_slots, carry_slots, second, slots}
+use Rattle.rv_model.specs.assembler.InstructionTexts.{arith_slots, second, slots}
 use Rattle.rv_model.proofs.instruction_lemmas.Scans.{In}
 use Rattle.rv_model.proofs.instruction_lemmas.RoundTrips.{template_of}
 use Rattle.rv_model.proofs.instruction_lemmas.Words.{form_source_of}
@@ -32,28 +25,18 @@ use Rattle.rv_model.proofs.assembler_lemmas.NamedOperations.{of_name, same_flag,
 -- ---- words of one row that agree in the bits of the name have the same slots
 
 arith_same : (op : VectorOp) (f : Form) (w v : ℕ) → bit_and w (operation_bits op) ≡ bit_and v (operation_bits op) → arith_slots op f (flag w) ≡ arith_slots op f (flag v)
-arith_same (vector_op.CarryOut op) f w v same_bits_named = ap (λ (vm : Bool). carry_out_slots vm f) (same_flag w v same_bits_named)
-arith_same op f w v same_bits_named = refl
+arith_same op f w v same_bits_named = search (arith, nat_tests, same_flag)
 
 same_form : (f : Form) (w v : ℕ) → form_of (source_of f (field 15 5 w)) ≡ form_of (source_of f (field 15 5 v))
 same_form f w v = form_source_of f (field 15 5 w) ∙ sym (form_source_of f (field 15 5 v))
 
 same_slots : (t : Instr) (w v : ℕ) → bit_and w (name_bits (filled t v)) ≡ bit_and v (name_bits (filled t v)) → slots (filled t w) ≡ slots (filled t v)
-same_slots (instr.Vector (Arith arith vd vs2 vm)) w v same_bits_named =
-    let f = form_of arith.1 in
-    ap (λ (g : Form). arith_slots arith.0 g (flag w)) (same_form f w v) ∙ arith_same arith.0 (form_of (source_of f (field 15 5 v))) w v same_bits_named
-same_slots (instr.Vector (Carry carry vd vs2)) w v same_bits_named = ap carry_slots (same_form (form_of carry.1) w v)
-same_slots (instr.Vector (Move source vd)) w v same_bits_named = ap (λ (g : Form). Vector Rd ∷ Comma ∷ second false g ∷ []) (same_form (form_of source) w v)
-same_slots (instr.Scalar (Fence rd rs1 ordering)) w v same_bits_named = refl
-same_slots (instr.Csr (Immediate op rd imm csr)) w v same_bits_named = refl
-same_slots (instr.Access (UnitStride op width nf vd rs1 vm)) w v same_bits_named = refl
-same_slots _ w v same_bits_named = refl
+same_slots t w v same_bits_named = search (arith, arith_same, same_form, second)
 
 same_in_row : (r : Row) → In r table → (w v : ℕ) → bit_and w (name_bits (r.instr v)) ≡ bit_and v (name_bits (r.instr v)) → slots (r.instr w) ≡ slots (r.instr v)
 same_in_row r here w v =
-    let t = template_of r here in
     let P : Row → Type 0 = λ s. bit_and w (name_bits (s.instr v)) ≡ bit_and v (name_bits (s.instr v)) → slots (s.instr w) ≡ slots (s.instr v) in
-    subst P t.1 (same_slots t.0 w v)
+    subst P (template_of r here).1 (same_slots (template_of r here).0 w v)
 
 -- ---- each row of the code's table has these slots
 
@@ -79,11 +62,8 @@ its_slots row lt =
 pub has_slots : (row word : ℕ) → row < NAME_COUNT → HasBitsOf row word → IsSomeAnd (scan table word) (λ i. slots i ≡ slots_at row)
 unfolding slots_at bits_at
 has_slots row word lt is =
-    let m = row_at row in
     let named = of_name row word lt is in
-    let i = named.r.instr m.2 in
+    let i = named.r.instr (row_at row).2 in
     let own = its_slots row lt in
-    let found = ap (option_map slots) named.at_zeros in
-    let same : slots i ≡ slots_of m.1 = cc in
-    let Q : Option Instr → Type 0 = λ o. IsSomeAnd o (λ i. slots i ≡ slots_of m.1) in
-    subst Q (sym named.is) (same_in_row named.r named.of_table word m.2 named.agrees ∙ same)
+    let Q : Option Instr → Type 0 = λ o. IsSomeAnd o (λ i. slots i ≡ slots_of (row_at row).1) in
+    subst Q (sym named.is) (same_in_row named.r named.of_table word (row_at row).2 named.agrees ∙ cc)

@@ -6,6 +6,7 @@ use Rattle.std.specs.Int.Bits.{bit_and}
 use Rattle.std.proofs.lemmas.Bool.{cases_lt, cond-true, lt-ltb, eq-eqb, eqb-true, true≢false}
 use Rattle.std.proofs.lemmas.Bool.Decides.{eqb_tells}
 use Rattle.std.proofs.lemmas.List.Sums.{fails_before_first}
+use Rattle.std.proofs.lemmas.Bool.Decides.{nat_tests}
 use Rattle.rv_model.specs.declared.instructions.instruction.Instr.{Instr}
 use Rattle.rv_model.specs.declared.assembler.mnemonics.TheConstants.{MNEMONICS, NAME_COUNT, ROW_COUNT}
 use Rattle.rv_model.specs.assembler.Table.{text_by, directive, has_name}
@@ -21,11 +22,7 @@ none_is_not_some : (i : Instr) → None ≡ Some i → ⊥
 none_is_not_some i e = cc
 
 cases_fence : (w : ℕ) → IsFence w ⊎ (IsFence w → ⊥)
-cases_fence w =
-    elim (eqb_tells (bit_and w 0x707f) 0x0f) [
-      | inl y ↦ inl y.1
-      | inr n ↦ inr n.1
-    ]
+cases_fence w = search (arith, nat_tests, eqb_tells)
 
 -- the first row that a word matches is at or before any other that it matches
 matching_word_is_named : (w n : ℕ) → n < NAME_COUNT → has_bits w (get_or MNEMONICS n none) ≡ true → row_of_word w < NAME_COUNT
@@ -37,8 +34,7 @@ matching_word_is_named w n lt h =
       | inr le ↦
           let below : first < ROW_COUNT = omega arith in
           let is : unwrap_or (position (has_bits w) MNEMONICS) NAME_COUNT ≡ first = ap (λ (o : Option ℕ). unwrap_or o NAME_COUNT) (cond-true (nat_lt first (length MNEMONICS)) (Some first) None (lt-ltb first ROW_COUNT below)) in
-          let P : ℕ → Type 0 = λ k. k < NAME_COUNT in
-          subst P (sym is) (omega arith)
+          subst (λ k. k < NAME_COUNT) (sym is) (omega arith)
     ]
 
 -- a word with the bits of a name has this name or an earlier one
@@ -58,65 +54,46 @@ unfolding row_of_word fixed_mask
 full_fence_is_named = lit< tt
 
 some_from_is_some : (o : Option Instr) → IsSome o → (i : Instr) × (o ≡ Some i)
-some_from_is_some None h = absurd (cc)
-some_from_is_some (Some i) h = (i, refl)
+some_from_is_some o h = search (arith, nat_tests)
 
 none_from_is_none : (o : Option Instr) → IsNone o → o ≡ None
-none_from_is_none None h = refl
-none_from_is_none (Some i) h = cc
+none_from_is_none o h = search (arith, nat_tests)
 
 -- only the fence of all memory and device accesses has a name
 fence_with_name : (fence full : Bool) (w : ℕ) → nat_eq (bit_and w 0x707f) 0x0f ≡ fence → nat_eq w 0x0ff0000f ≡ full → cond fence full true ≡ true → IsFence w → w ≡ 0x0ff0000f
-fence_with_name false full w f e h is = absurd (let t = eq-eqb (bit_and w 0x707f) 0x0f is in cc)
-fence_with_name true full w f e h is = eqb-true w 0x0ff0000f (e ∙ h)
+fence_with_name fence full w f e h is = search (arith, nat_tests, eq-eqb, eqb-true)
 
 -- a word without a name is another fence, so every other instruction has a name
 fence_without_name : (fence full : Bool) (w : ℕ) → nat_eq (bit_and w 0x707f) 0x0f ≡ fence → nat_eq w 0x0ff0000f ≡ full → cond fence full true ≡ false → IsFence w × (w ≢ 0x0ff0000f)
-fence_without_name false full w f e h = absurd cc
-fence_without_name true true w f e h = absurd cc
-fence_without_name true false w f e h = (eqb-true (bit_and w 0x707f) 0x0f f, λ is. true≢false (sym (eq-eqb w 0x0ff0000f is) ∙ e))
+fence_without_name fence full w f e h = search (arith, nat_tests, eq-eqb, eqb-true, true≢false)
 
 pub word_with_name_is_named : (w : ℕ) → HasName w → row_of_word w < NAME_COUNT
 word_with_name_is_named w h =
-    elim (cases_fence w) [
-      | inl fence ↦ let P : ℕ → Type 0 = λ k. row_of_word k < NAME_COUNT in subst P (sym (fence_with_name (nat_eq (bit_and w 0x707f) 0x0f) (nat_eq w 0x0ff0000f) w refl refl h.1 fence)) full_fence_is_named
-      | inr other ↦
-          let i = some_from_is_some (scan table w) h.0 in
-          let r = some_row table w i.0 i.1 in
-          word_with_bits_is_named w (word_of_row_has_name r.0 w r.1 r.2 other)
-    ]
+    search (arith, nat_tests, cases_fence, fence_with_name, full_fence_is_named, some_from_is_some, some_row, word_of_row_has_name, word_with_bits_is_named)
 
 pub is_named : (w : ℕ) → HasName w → IsNamed w (listed_canonical w)
 unfolding listed_canonical
-is_named w h =
-    let lt = word_with_name_is_named w h in
-    let is = (row_matches w).bits in
-    (row_of_word w, lt, is, names_operation (row_of_word w) w lt is, refl)
+is_named w h = search (arith, nat_tests, names_operation, row_matches, word_with_name_is_named)
 
 -- the word isn't an instruction, or it is another fence
 abbrev HasNoName : ℕ → Type 0
 HasNoName word = IsNone (scan table word) ⊎ (IsFence word × (word ≢ 0x0ff0000f))
 
 no_name_by : (w : ℕ) (o : Option Instr) (named : Bool) → scan table w ≡ o → has_name w ≡ named → (HasName w → ⊥) → HasNoName w
-no_name_by w None named e n h = inl (subst (λ (o : Option Instr). IsNone o) (sym e) refl)
-no_name_by w (Some i) true e n h = absurd (h (subst (λ (o : Option Instr). IsSome o) (sym e) refl, n))
-no_name_by w (Some i) false e n h = inr (fence_without_name (nat_eq (bit_and w 0x707f) 0x0f) (nat_eq w 0x0ff0000f) w refl refl n)
+no_name_by w o named e n h = search (arith, nat_tests, fence_without_name)
 
 word_without_name_is_not_named : (w : ℕ) → w < 2 ^ 32 → HasNoName w → row_of_word w < NAME_COUNT → ⊥
 word_without_name_is_not_named w small (inl no_row) lt =
     let n = has_name_of w lt in
     let r = name_of_row n.0 w n.1 n.2 in
     none_is_not_some (r.0.instr w) (sym (none_from_is_none (scan table w) no_row) ∙ found table table_apart r.0 r.1 w r.2)
-word_without_name_is_not_named w small (inr fence) lt =
-    let n = has_name_of w lt in
-    fence.1 (fence_named n.0 w small n.1 n.2 fence.0)
+word_without_name_is_not_named w small (inr fence) lt = search (arith, nat_tests, fence_named, has_name_of)
 
 last_row : (row : ℕ) → row < ROW_COUNT → (row < NAME_COUNT → ⊥) → row ≡ NAME_COUNT
 last_row row lt h = omega (arith, h)
 
 pub only_directive_is_left : (w : ℕ) → w < 2 ^ 32 → (HasName w → ⊥) → row_of_word w ≡ NAME_COUNT
-only_directive_is_left w small h =
-    last_row (row_of_word w) (row_matches w).within (word_without_name_is_not_named w small (no_name_by w (scan table w) (has_name w) refl refl h))
+only_directive_is_left w small h = search (arith, nat_tests, last_row, no_name_by, row_matches, word_without_name_is_not_named)
 
 text_of_directive : (w : ℕ) → text_at NAME_COUNT w ≡ text_by directive w
 unfolding text_at name_at slots_at row_at

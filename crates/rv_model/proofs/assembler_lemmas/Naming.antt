@@ -7,6 +7,7 @@ use Rattle.std.proofs.lemmas.Nat.{and_assoc, and_mask}
 use Rattle.std.proofs.lemmas.Nat.Bits.{and_high}
 use Rattle.std.proofs.lemmas.Bool.{cases_Bool, and_parts, eqb-true, eq-eqb}
 use Rattle.std.proofs.lemmas.List.{get_or-map, get_or-take}
+use Rattle.std.proofs.lemmas.Bool.Decides.{nat_tests}
 use Rattle.rv_model.specs.declared.assembler.forms.Form.TheVariants as form
 use Rattle.rv_model.specs.declared.assembler.mnemonics.Mnemonic.{Mnemonic}
 use Rattle.rv_model.specs.declared.assembler.mnemonics.TheConstants.{MNEMONICS, NAME_COUNT}
@@ -102,8 +103,7 @@ each_is_covered = refl
 -- ---- consequences of these tests
 
 other_of_or : (a b : Bool) → (a || b) ≡ true → a ≡ false → b ≡ true
-other_of_or true b h k = absurd cc
-other_of_or false b h k = h
+other_of_or a b h k = search
 
 pub any_at : {X : Type 0} (p : X → Bool) (xs : List X) (d : X) → list_any p xs ≡ true → (n : ℕ) × (n < length xs) × (p (get_or xs n d) ≡ true)
 any_at p [] d h = absurd cc
@@ -160,9 +160,7 @@ bit_31 : IsBit (2 ^ 31)
 bit_31 w = one_bit (bit_and w (2 ^ 31)) (2 ^ 31) (w / 2 ^ 31 % 2) (omega arith) (and_high w 1 31)
 
 are_bits : (a b : Bool) → AreBits (splits a b)
-are_bits true b = (bit_25, tt)
-are_bits false true = (bit_29, (bit_30, (bit_31, tt)))
-are_bits false false = tt
+are_bits a b = search (arith, nat_tests, bit_25, bit_29, bit_30, bit_31)
 
 -- the word has the bits of a name of the list
 abbrev pub HasNameOf : List Pattern → ℕ → Type 0
@@ -186,26 +184,17 @@ covered_all ns (b ∷ bs) q w bits h is =
       | inl y ↦ covered_by_name ns q w y is
       | inr n ↦
           let k = and_parts (nat_eq (bit_and q.0 b) 0) (off && on) (other_of_or here (nat_eq (bit_and q.0 b) 0 && (off && on)) h n) in
-          let l = and_parts off on k.1 in
           let apart = eqb-true (bit_and q.0 b) 0 k.0 in
           elim (bits.0 w) [
-            | inl clear ↦ covered_all ns bs (q.0 + b, q.1) w bits.1 l.0 (with_bit w q.0 b 0 apart clear ∙ add-zero (bit_and w q.0) ∙ is)
-            | inr set ↦ covered_all ns bs (q.0 + b, q.1 + b) w bits.1 l.1 (with_bit w q.0 b b apart set ∙ ap (λ (x : ℕ). x + b) is)
+            | inl clear ↦ covered_all ns bs (q.0 + b, q.1) w bits.1 (and_parts off on k.1).0 (with_bit w q.0 b 0 apart clear ∙ add-zero (bit_and w q.0) ∙ is)
+            | inr set ↦ covered_all ns bs (q.0 + b, q.1 + b) w bits.1 (and_parts off on k.1).1 (with_bit w q.0 b b apart set ∙ ap (λ (x : ℕ). x + b) is)
           ]
     ]
 
 -- a word that matches a row other than that of fences has the bits of a name
 pub word_of_row_has_name : (r : Row) (w : ℕ) → In r table → Matches r w → (IsFence w → ⊥) → HasNameOf names w
 word_of_row_has_name r w here is no_fence =
-    let p = pattern_of_row r in
-    let bs = splits (has_mask p) (has_fields p) in
-    let h = all_in row_covered table each_is_covered r here in
-    elim (cases_Bool (is_fence p)) [
-      | inl y ↦
-          let k = and_parts (nat_eq r.mask 0x707f) (nat_eq r.bits 0x0f) y in
-          absurd (no_fence (ap (bit_and w) (sym (eqb-true r.mask 0x707f k.0)) ∙ is ∙ eqb-true r.bits 0x0f k.1))
-      | inr n ↦ covered_all names bs p w (are_bits (has_mask p) (has_fields p)) (other_of_or (is_fence p) (covered names bs p) h n) is
-    ]
+    search (arith, nat_tests, all_in, and_parts, are_bits, cases_Bool, covered_all, each_is_covered, eqb-true, other_of_or)
 
 -- each name belongs to a row
 pub row_of_name : (n : ℕ) → n < length names → (r : Row) × In r table × (covers (pattern_of_row r) (get_or names n (0, 0)) ≡ true)
@@ -214,12 +203,10 @@ row_of_name n lt = any_in (of_row (get_or names n (0, 0))) table (all_at (λ nam
 -- a word with the bits of a name matches a row
 pub name_of_row : (n w : ℕ) → n < length names → bit_and w (get_or names n (0, 0)).0 ≡ (get_or names n (0, 0)).1 → (r : Row) × In r table × Matches r w
 name_of_row n w lt is =
-    let r = row_of_name n lt in
-    (r.0, r.1, covers_all (pattern_of_row r.0) (get_or names n (0, 0)) w r.2 is)
+    ((row_of_name n lt).0, (row_of_name n lt).1, covers_all (pattern_of_row (row_of_name n lt).0) (get_or names n (0, 0)) w (row_of_name n lt).2 is)
 
 not_both : (b : Bool) → b ≡ true → not b ≡ true → ⊥
-not_both true h k = cc
-not_both false h k = cc
+not_both b h k = search (arith, nat_tests)
 
 -- a fence with the bits of a name is the one with a name
 pub fence_named : (n w : ℕ) → w < 2 ^ 32 → n < length names → bit_and w (get_or names n (0, 0)).0 ≡ (get_or names n (0, 0)).1 → IsFence w → w ≡ 0x0ff0000f

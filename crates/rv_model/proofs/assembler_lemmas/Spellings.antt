@@ -1,15 +1,15 @@
 -- The instruction table and the code's table have the same names, slots and bits. So a text gives the same word by both, and a word has
 -- the same text.
-use Rattle.std.proofs.Common.{◌≡◌, ◌⊎◌, ℕ, zero, suc, ◌-◌, ◌+◌, ◌/◌, ◌%◌, ◌^◌, ◌<◌, Bool, true, false, not, cond, eqb, nat_eq, nat_lt, ◌&&◌, List, [], ◌∷◌, ◌++◌, length, map, replicate, get_or, Option, Some, None, Result, Err, refl, sym, ap, ap₂, subst, ◌∙◌, arith, inl, inr}
-use Rattle.std.specs.Prelude.{find, position, codes, IsSome}
+use Rattle.std.proofs.Common.{◌≡◌, ◌⊎◌, ℕ, ◌-◌, ◌+◌, ◌^◌, ◌<◌, Bool, true, false, not, cond, eqb, nat_lt, ◌&&◌, List, [], ◌∷◌, ◌++◌, length, map, replicate, get_or, Option, Some, None, Result, Err, refl, sym, ap, subst, ◌∙◌, arith}
+use Rattle.std.specs.Prelude.{find, position, IsSome}
 use Rattle.std.specs.List.{list_all}
 use Rattle.std.specs.Option.{option_map, option_map_or, IsSomeAnd}
 use Rattle.std.specs.Str.{bytes_eq}
-use Rattle.std.specs.Int.Bits.{bit_and}
 use Rattle.std.proofs.lemmas.Bool.{and_parts, and_from, true≢false}
 use Rattle.std.proofs.lemmas.List.Quantifiers.{position-Some}
 use Rattle.std.proofs.lemmas.List.{get_or-map}
 use Rattle.std.proofs.lemmas.Slice.Eq.{bytes_eq-Decides}
+use Rattle.std.proofs.lemmas.Bool.Decides.{nat_tests}
 use Rattle.rv_model.specs.declared.assembler.forms.Form.TheVariants as form
 use Rattle.rv_model.specs.declared.assembler.forms.Slot.{Slot}
 use Rattle.rv_model.specs.declared.assembler.mnemonics.Mnemonic.{Mnemonic}
@@ -18,7 +18,7 @@ use Rattle.rv_model.specs.declared.instructions.instruction.Instr.{Instr}
 use Rattle.rv_model.specs.instructions.Table.{scan, table}
 use Rattle.rv_model.specs.assembler.InstructionTexts.{mnemonic, slots}
 use Rattle.rv_model.specs.assembler.Tokens.{Token, tokens, in_run, begins_run, with_first_byte}
-use Rattle.rv_model.specs.assembler.Table.{Spelling, spellings, spelling_of, directive, read_operands, spelled_by, spelled, text_by, operands_text, printed_operands, has_name, spelling, canonical}
+use Rattle.rv_model.specs.assembler.Table.{Spelling, spellings, spelling_of, directive, read_operands, spelled_by, spelled, text_by, has_name, spelling, canonical}
 use Rattle.rv_model.specs.lending.NameTable.{slots_of, unpadded, row_named, row_at, bits_at, slots_at, name_at, row_of_word}
 use Rattle.rv_model.proofs.assembler_lemmas.Found.{found_is, found_passes}
 use Rattle.rv_model.proofs.assembler_lemmas.ListedTexts.{text_at, listed_by, listed, listed_canonical, HasName, IsNamed}
@@ -65,12 +65,7 @@ clear ts = list_all (λ t. no_spaces t.text) ts
 
 clear_with : (space run : Bool) (p c : ℕ) (ts : List Token) → eqb c 32 ≡ space → clear ts ≡ true
     → clear (cond space ts (cond run (with_first_byte p c ts) (record { column = p; text = c ∷ [] } ∷ ts))) ≡ true
-clear_with true run p c ts e h = h
-clear_with false true p c [] e h = refl
-clear_with false true p c (t ∷ ts) e h =
-    let parts = and_parts (no_spaces t.text) (clear ts) h in
-    and_from (not (eqb c 32) && no_spaces t.text) (clear ts) (and_from (not (eqb c 32)) (no_spaces t.text) (ap not e) parts.0) parts.1
-clear_with false false p c ts e h = and_from (not (eqb c 32) && true) (clear ts) (and_from (not (eqb c 32)) true (ap not e) refl) h
+clear_with space run p c ts e h = search (arith, nat_tests, and_from, and_parts)
 
 tokens_clear : (p : ℕ) (text : List ℕ) → clear (tokens p text) ≡ true
 unfolding tokens
@@ -78,8 +73,7 @@ tokens_clear p [] = refl
 tokens_clear p (c ∷ cs) = clear_with (eqb c 32) (in_run c && begins_run cs) p c (tokens (p + 1) cs) refl (tokens_clear (p + 1) cs)
 
 only_spaces : (k : ℕ) → unpadded (replicate k 32) ≡ []
-only_spaces zero = refl
-only_spaces (suc k) = refl
+only_spaces k = search (arith, nat_tests)
 
 unpadded_again : (n : List ℕ) (k : ℕ) → no_spaces n ≡ true → unpadded (n ++ replicate k 32) ≡ n
 unpadded_again [] k h = only_spaces k
@@ -103,8 +97,7 @@ abbrev pub spelling_named : List ℕ → Option Spelling
 spelling_named n = find (λ s. bytes_eq s.name n) spellings
 
 within_16 : (long : Bool) (found : Option ℕ) (row : ℕ) → cond long None found ≡ Some row → found ≡ Some row
-within_16 true found row h = absurd cc
-within_16 false found row h = h
+within_16 long found row h = search (arith, nat_tests)
 
 none : Mnemonic
 none = record { 0 = []; 1 = form.Plain; 2 = 0 }
@@ -126,26 +119,19 @@ row_spelled row lt =
 
 same_reading : (end column : ℕ) (ts : List Token) (row : ℕ) (s : Option Spelling) → spelled_slots s ≡ own_slots (row_at row) → with_spelling end column ts s ≡ with_row end column ts (Some row)
 unfolding bits_at slots_at
-same_reading end column ts row None h = absurd cc
-same_reading end column ts row (Some s) h =
-    ap (λ (o : Option (ℕ × List Slot)). option_map_or (λ x. read_operands end x.0 x.1 ts) o (Err column)) h
+same_reading end column ts row s h = search (arith, nat_tests)
 
 not_some : (o : Option ℕ) → o ≡ None → is_some o ≡ true → ⊥
 not_some o e h = cc
 
 by_spelling : (end column : ℕ) (ts : List Token) (n : List ℕ) (s : Option Spelling) → spelling_named n ≡ s → row_named n ≡ None → with_spelling end column ts s ≡ Err column
-by_spelling end column ts n None e no_row = refl
-by_spelling end column ts n (Some s) e no_row =
-    let named : s.name ≡ n = (bytes_eq-Decides s.name n).0 (found_is (λ s. bytes_eq s.name n) spellings s e) in
-    let has = found_passes (λ s. bytes_eq s.name n) has_row spellings s each_has_row e in
-    absurd (not_some (row_named n) no_row (subst (λ (x : List ℕ). is_some (row_named x) ≡ true) named has))
+by_spelling end column ts n s e no_row = search (arith, nat_tests, bytes_eq-Decides, each_has_row, found_is, found_passes, not_some)
 
 by_row : (end column : ℕ) (ts : List Token) (n : List ℕ) (row : Option ℕ) → no_spaces n ≡ true → row_named n ≡ row → with_spelling end column ts (spelling_named n) ≡ with_row end column ts row
 by_row end column ts n None h e = by_spelling end column ts n (spelling_named n) refl e
 by_row end column ts n (Some row) h e =
-    let has = row_has_name n row h e in
     let P : List ℕ → Type 0 = λ x. spelled_slots (spelling_named x) ≡ own_slots (row_at row) in
-    same_reading end column ts row (spelling_named n) (subst P has.1 (row_spelled row has.0))
+    same_reading end column ts row (spelling_named n) (subst P (row_has_name n row h e).1 (row_spelled row (row_has_name n row h e).0))
 
 spelled_is_listed_by : (end : ℕ) (ts : List Token) → clear ts ≡ true → spelled_by end ts ≡ listed_by end ts
 spelled_is_listed_by end [] h = refl
@@ -165,8 +151,7 @@ abbrev pub spelling_by : Bool → Option Instr → Spelling
 spelling_by named i = cond named (option_map_or spelling_of i directive) directive
 
 no_some : (o : Option Instr) → o ≡ None → IsSome o → ⊥
-no_some None e h = cc
-no_some (Some i) e h = cc
+no_some o e h = search (arith, nat_tests)
 
 unnamed_none : (w : ℕ) → scan table w ≡ None → NoName w
 unnamed_none w e has = no_some (scan table w) e has.0
@@ -175,11 +160,7 @@ some_is : (i : Instr) → IsSome (Some i)
 some_is i = refl
 
 named_or_not : (w : ℕ) (named : Bool) (i : Option Instr) → has_name w ≡ named → scan table w ≡ i → HasName w ⊎ (NoName w × (spelling_by named i ≡ directive))
-named_or_not w false i e f = inr (λ has. true≢false (sym has.1 ∙ e), refl)
-named_or_not w true None e f = inr (unnamed_none w f, refl)
-named_or_not w true (Some i) e f =
-    let P : Option Instr → Type 0 = λ o. IsSome o in
-    inl (subst P (sym f) (some_is i), e)
+named_or_not w named i e f = search (arith, nat_tests, some_is, true≢false, unnamed_none)
 
 pub cases_named : (w : ℕ) → HasName w ⊎ (NoName w × (spelling_by (has_name w) (scan table w) ≡ directive))
 cases_named w = named_or_not w (has_name w) (scan table w) refl refl
@@ -190,28 +171,21 @@ canonical_directive w h = ap (λ (s : Spelling). text_by s w) h.1
 
 text_of_some : (w row : ℕ) (o : Option Instr) → IsSomeAnd o (λ i. mnemonic i ≡ name_at row) → IsSomeAnd o (λ i. slots i ≡ slots_at row) → text_by (option_map_or spelling_of o directive) w ≡ text_at row w
 unfolding text_at
-text_of_some w row None name ss = absurd name
-text_of_some w row (Some i) name ss = ap₂ (λ (n : List ℕ) (ss : List Slot). n ++ operands_text ss w) name ss
+text_of_some w row o name ss = search (arith, nat_tests)
 
 by_its_name : (w : ℕ) → HasName w → IsNamed w (listed_canonical w) → canonical w ≡ listed_canonical w
 unfolding canonical
-by_its_name w has named =
-    let row = named.0 in
-    ap (λ (b : Bool). text_by (spelling_by b (scan table w)) w) has.1 ∙ text_of_some w row (scan table w) named.3 (has_slots row w named.1 named.2) ∙ sym named.4
+by_its_name w has named = search (arith, nat_tests, has_slots, text_of_some)
 
 pub canonical_named : (w : ℕ) → HasName w → IsNamed w (canonical w)
 canonical_named w has = subst (IsNamed w) (sym (by_its_name w has (is_named w has))) (is_named w has)
 
 -- a word has the same text by both tables
 pub canonical_is_listed : (w : ℕ) → w < 2 ^ 32 → canonical w ≡ listed_canonical w
-canonical_is_listed w small = elim (cases_named w) [
-  | inl has ↦ by_its_name w has (is_named w has)
-  | inr no_name ↦ canonical_directive w no_name ∙ sym (is_directive w small no_name.0)
-]
+canonical_is_listed w small = search (arith, nat_tests, by_its_name, canonical_directive, cases_named, is_directive, is_named)
 
 slots_of_some : (row : ℕ) (o : Option Instr) → IsSomeAnd o (λ i. slots i ≡ slots_at row) → (option_map_or spelling_of o directive).slots ≡ slots_at row
-slots_of_some row None h = absurd h
-slots_of_some row (Some i) h = h
+slots_of_some row o h = search (arith, nat_tests)
 
 slots_of_directive : slots_at NAME_COUNT ≡ directive.slots
 unfolding slots_at row_at
@@ -219,9 +193,5 @@ slots_of_directive = refl
 
 -- and the same slots
 pub spelling_is_listed : (w : ℕ) → w < 2 ^ 32 → (spelling w).slots ≡ slots_at (row_of_word w)
-spelling_is_listed w small = elim (cases_named w) [
-  | inl has ↦
-      ap (λ (b : Bool). (spelling_by b (scan table w)).slots) has.1
-      ∙ slots_of_some (row_of_word w) (scan table w) (has_slots (row_of_word w) w (word_with_name_is_named w has) (row_matches w).bits)
-  | inr no_name ↦ ap (λ (s : Spelling). s.slots) no_name.1 ∙ sym slots_of_directive ∙ sym (ap slots_at (only_directive_is_left w small no_name.0))
-]
+spelling_is_listed w small =
+    search (arith, nat_tests, cases_named, has_slots, only_directive_is_left, row_matches, slots_of_directive, slots_of_some, word_with_name_is_named)

@@ -1,11 +1,11 @@
 -- Lines that several commands print contain no newline.
-use Rattle.std.proofs.Common.{ℕ, List, [], ◌∷◌, true, refl}
+use Rattle.std.proofs.Common.{ℕ, List, [], ◌∷◌, true, refl, arith}
 use Rattle.std.specs.Prelude.{codes, map}
 use Rattle.std.proofs.lemmas.Bool.{and_from}
+use Rattle.std.proofs.lemmas.Bool.Decides.{nat_tests}
 use Rattle.rv_model.specs.declared.commands.refusal.Refusal.{Refusal}
 use Rattle.rv_model.specs.declared.commands.refusal.Refusal.TheVariants.{ElfFault as BadImage, Assembler}
 use Rattle.rv_model.specs.declared.images.ElfFault.{ElfFault}
-use Rattle.rv_model.specs.declared.images.ElfFault.TheVariants.{BadShort}
 use Rattle.rv_model.specs.declared.step.step_end.Stop.{Stop}
 use Rattle.rv_model.specs.declared.step.step_end.Stop.TheVariants as stop
 use Rattle.rv_model.specs.commands.Printing.{listed, refused, stop_line}
@@ -16,15 +16,11 @@ use Rattle.rv_model.proofs.text_lemmas.Newlines.{is_line, IsLine, are_lines, Are
 use Rattle.rv_model.proofs.text_lemmas.Pieces.{Piece, ◌▸◌, hexadecimal, number, space}
 
 no_newline_in_fault_name : (fault : ElfFault) → IsLine (fault_name fault)
-no_newline_in_fault_name BadShort = refl
-no_newline_in_fault_name _ = refl
+no_newline_in_fault_name fault = search (arith, nat_tests)
 
 pub no_newline_in_refusal : (r : Refusal) → IsLine (refused r)
 unfolding refused
-no_newline_in_refusal (BadImage fault) =
-    let code : Piece = (codes "E09 ", refl) in
-    let name : Piece = (fault_name fault, no_newline_in_fault_name fault) in
-    (code ▸ name).1
+no_newline_in_refusal (BadImage fault) = search no_newline_in_fault_name
 no_newline_in_refusal (Assembler column) = let code : Piece = (codes "E15 ", refl) in (code ▸ number column).1
 no_newline_in_refusal _ = refl
 
@@ -37,14 +33,9 @@ unfolding stop_line
 no_newline_in_stop_line pc stop.Breakpoint = let word : Piece = (codes "break pc=", refl) in (word ▸ hexadecimal pc).1
 no_newline_in_stop_line pc stop.Ebreak = let word : Piece = (codes "ebreak pc=", refl) in (word ▸ hexadecimal pc).1
 no_newline_in_stop_line pc (stop.Exit status) =
-    let word : Piece = (codes "exit ", refl) in
-    let place : Piece = (codes " pc=", refl) in
-    (word ▸ number status ▸ place ▸ hexadecimal pc).1
+    ((codes "exit ", refl) ▸ number status ▸ (codes " pc=", refl) ▸ hexadecimal pc).1
 no_newline_in_stop_line pc (stop.Fault cause value) =
-    let word : Piece = (codes "fault cause=", refl) in
-    let place : Piece = (codes " pc=", refl) in
-    let what : Piece = (codes " value=", refl) in
-    (word ▸ number (cause_number cause) ▸ place ▸ hexadecimal pc ▸ what ▸ hexadecimal value).1
+    ((codes "fault cause=", refl) ▸ number (cause_number cause) ▸ (codes " pc=", refl) ▸ hexadecimal pc ▸ (codes " value=", refl) ▸ hexadecimal value).1
 no_newline_in_stop_line pc stop.OutputFull = let word : Piece = (codes "outfull pc=", refl) in (word ▸ hexadecimal pc).1
 
 -- an outcome prints lines without a newline

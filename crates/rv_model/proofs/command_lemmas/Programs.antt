@@ -1,20 +1,17 @@
 -- The lines that program commands print contain no newline.
-use Rattle.std.proofs.Common.{ℕ, ◌+◌, ◌*◌, List, refl}
+use Rattle.std.proofs.Common.{ℕ, List, refl}
 use Rattle.std.specs.Prelude.{codes}
-use Rattle.std.specs.List.{range_with_len}
 use Rattle.rv_model.specs.assembler.Table.{canonical}
-use Rattle.rv_model.specs.commands.Programs.{loaded_line, asm_line, dis_line, word_in, dis_lines}
+use Rattle.rv_model.specs.commands.Programs.{loaded_line, asm_line, dis_line, dis_lines}
 use Rattle.rv_model.proofs.text_lemmas.Newlines.{IsLine, AreLines}
 use Rattle.rv_model.proofs.assembler_lemmas.Lines.{canonical_line}
 use Rattle.rv_model.proofs.command_lemmas.Printing.{mapped_lines}
-use Rattle.rv_model.proofs.text_lemmas.Pieces.{Piece, ◌▸◌, hexadecimal, short_hexadecimal, number, space}
+use Rattle.rv_model.proofs.text_lemmas.Pieces.{◌▸◌, hexadecimal, short_hexadecimal, number, space}
 
 pub no_newline_in_loaded_line : (pc pages : ℕ) → IsLine (loaded_line pc pages)
 unfolding loaded_line
 no_newline_in_loaded_line pc pages =
-    let word : Piece = (codes "loaded pc=", refl) in
-    let count : Piece = (codes " pages=", refl) in
-    (word ▸ hexadecimal pc ▸ count ▸ number pages).1
+    ((codes "loaded pc=", refl) ▸ hexadecimal pc ▸ (codes " pages=", refl) ▸ number pages).1
 
 pub no_newline_in_asm_line : (addr word : ℕ) → IsLine (asm_line addr word)
 unfolding asm_line
@@ -23,11 +20,8 @@ no_newline_in_asm_line addr word = (hexadecimal addr ▸ space ▸ short_hexadec
 no_newline_in_dis_line : (addr word : ℕ) → IsLine (dis_line addr word)
 unfolding dis_line
 no_newline_in_dis_line addr word =
-    let place : Piece = (asm_line addr word, no_newline_in_asm_line addr word) in
-    let meaning : Piece = (canonical word, canonical_line word) in
-    (place ▸ space ▸ meaning).1
+    ((asm_line addr word, no_newline_in_asm_line addr word) ▸ space ▸ (canonical word, canonical_line word)).1
 
 pub dis_lines_are_lines : (addr count : ℕ) (shown : List ℕ) → AreLines (dis_lines addr count shown)
 unfolding dis_lines
-dis_lines_are_lines addr count shown =
-    mapped_lines (λ i. dis_line (addr + 4 * i) (word_in shown i)) (range_with_len 0 count) (λ i. no_newline_in_dis_line (addr + 4 * i) (word_in shown i))
+dis_lines_are_lines addr count shown = search (mapped_lines, no_newline_in_dis_line)

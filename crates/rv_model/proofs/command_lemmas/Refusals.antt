@@ -1,12 +1,11 @@
 -- Replies that aren't refusals, by their first letter.
-use Rattle.std.proofs.Common.{◌≡◌, ℕ, zero, suc, ◌/◌, List, [], ◌∷◌, ◌++◌, get_or, Bool, true, ◌&&◌, eqb, refl}
+use Rattle.std.proofs.Common.{◌≡◌, ℕ, zero, suc, ◌/◌, List, [], ◌∷◌, ◌++◌, get_or, Bool, true, ◌&&◌, eqb, refl, arith}
 use Rattle.std.specs.Prelude.{not, codes}
 use Rattle.std.specs.Int.{to_be_bytes, w64}
 use Rattle.std.proofs.lemmas.Bool.{and_from, and_parts}
+use Rattle.std.proofs.lemmas.Bool.Decides.{nat_tests}
 use Rattle.hex.specs.Hex.{encode_with, lower_digits}
-use Rattle.rv_model.specs.declared.commands.refusal.Refusal.TheVariants as refusal
 use Rattle.rv_model.specs.declared.step.step_end.Stop.{Stop}
-use Rattle.rv_model.specs.declared.step.step_end.Stop.TheVariants as stop
 use Rattle.rv_model.specs.assembler.Table.{canonical}
 use Rattle.rv_model.specs.commands.Printing.{hex8, hex16, refused, stop_line}
 use Rattle.rv_model.specs.commands.Programs.{asm_line, dis_line}
@@ -28,8 +27,7 @@ plain_line line h = and_from (is_plain line) true h refl
 
 pub reasons_are_refusals : ReasonsAreRefusals
 unfolding refused
-reasons_are_refusals refusal.UnknownCommand = refl
-reasons_are_refusals _ = refl
+reasons_are_refusals h = search (arith, nat_tests)
 
 -- ---- hexadecimal digits are in lower case
 
@@ -67,5 +65,4 @@ dis_plain addr word = spaced_plain (asm_line addr word) (canonical word) (asm_pl
 
 pub stop_line_plain : (pc : ℕ) (reason : Stop) → is_plain (stop_line pc reason) ≡ true
 unfolding stop_line
-stop_line_plain pc stop.Breakpoint = refl
-stop_line_plain pc _ = refl
+stop_line_plain pc reason = search (arith, nat_tests)

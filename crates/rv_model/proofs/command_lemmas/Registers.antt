@@ -41,17 +41,10 @@ unfolding vreg_line
 no_newline_in_vreg_line r width register =
     let element = element_text (sew_bits width / 8) register in
     let all = range_with_len 0 (256 / sew_bits width) in
-    let word : Piece = (codes "v", refl) in
-    let elements : Piece = (flat_map element all, flat_map_line element all (no_newline_in_element (sew_bits width / 8) register)) in
-    (word ▸ number r ▸ elements).1
+    ((codes "v", refl) ▸ number r ▸ (flat_map element all, flat_map_line element all (no_newline_in_element (sew_bits width / 8) register))).1
 
 pub no_newline_in_vcsr_line : (v : VState) → IsLine (vcsr_line v)
 unfolding vcsr_line
 no_newline_in_vcsr_line v =
-    let vl : Piece = (codes "vl=", refl) in
-    let vtype : Piece = (codes " vtype=", refl) in
-    let vstart : Piece = (codes " vstart=", refl) in
-    let vxrm : Piece = (codes " vxrm=", refl) in
-    let vxsat : Piece = (codes " vxsat=", refl) in
-    (vl ▸ number v.conf.vl ▸ vtype ▸ hexadecimal (vtype_number v.conf.vtype) ▸ vstart ▸ number v.vstart
-    ▸ vxrm ▸ number (rounding_number v.vxrm) ▸ vxsat ▸ number (flag_bit v.vxsat)).1
+    ((codes "vl=", refl) ▸ number v.conf.vl ▸ (codes " vtype=", refl) ▸ hexadecimal (vtype_number v.conf.vtype) ▸ (codes " vstart=", refl) ▸ number v.vstart
+    ▸ (codes " vxrm=", refl) ▸ number (rounding_number v.vxrm) ▸ (codes " vxsat=", refl) ▸ number (flag_bit v.vxsat)).1

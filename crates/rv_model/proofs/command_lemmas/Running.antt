@@ -1,6 +1,6 @@
 -- The lines that commands for execution print contain no newline.
 use Rattle.std.proofs.Common.{ℕ, List, [], Bool, true, false, Option, Some, None, refl}
-use Rattle.std.specs.Prelude.{◌++◌, codes, flat_map, if◌then◌else◌, length, nat_lt}
+use Rattle.std.specs.Prelude.{◌++◌, codes, if◌then◌else◌, length, nat_lt}
 use Rattle.hex.specs.Hex.{encode_lower}
 use Rattle.rv_model.specs.declared.step.step_end.Stop.{Stop}
 use Rattle.rv_model.specs.commands.Running.{step_line, running_line, stopped_line, state_line, trace_line, out_line}
@@ -13,9 +13,7 @@ use Rattle.rv_model.proofs.text_lemmas.Pieces.{Piece, ◌▸◌, hexadecimal, by
 pub no_newline_in_step_line : (n pc : ℕ) (reason : Option Stop) → IsLine (step_line n pc reason)
 unfolding step_line
 no_newline_in_step_line n pc None =
-    let word : Piece = (codes "stepped ", refl) in
-    let place : Piece = (codes " pc=", refl) in
-    (word ▸ number n ▸ place ▸ hexadecimal pc).1
+    ((codes "stepped ", refl) ▸ number n ▸ (codes " pc=", refl) ▸ hexadecimal pc).1
 no_newline_in_step_line n pc (Some reason) = no_newline_in_stop_line pc reason
 
 pub no_newline_in_running_line : (pc : ℕ) → IsLine (running_line pc)
@@ -33,21 +31,15 @@ no_newline_in_state_line false pc = let word : Piece = (codes "state stopped pc=
 
 pub no_newline_in_trace_line : (addresses : List ℕ) → IsLine (trace_line addresses)
 unfolding trace_line
-no_newline_in_trace_line addresses =
-    let word : Piece = (codes "trace", refl) in
-    let addresses : Piece = (flat_map listed addresses, flat_map_line listed addresses no_newline_in_listed) in
-    (word ▸ addresses).1
+no_newline_in_trace_line addresses = search (flat_map_line, listed, no_newline_in_listed)
 
 -- a space and the bytes in hexadecimal; nothing for an empty list
 abbrev spaced_bytes : List ℕ → List ℕ
 spaced_bytes all = if nat_lt 0 (length all) then codes " " ++ encode_lower all else []
 
-no_newline_in_spaced_bytes : (all : List ℕ) → IsLine (spaced_bytes all)
-no_newline_in_spaced_bytes all = of_either IsLine (nat_lt 0 (length all)) _ [] (space ▸ bytes all).1 refl
-
 pub no_newline_in_out_line : (all : List ℕ) → IsLine (out_line all)
 unfolding out_line
 no_newline_in_out_line all =
     let word : Piece = (codes "out ", refl) in
-    let after : Piece = (spaced_bytes all, no_newline_in_spaced_bytes all) in
+    let after : Piece = (spaced_bytes all, (of_either IsLine (nat_lt 0 (length all)) _ [] (space ▸ bytes all).1 refl)) in
     (word ▸ number (length all) ▸ after).1

@@ -1,6 +1,7 @@
 -- A loop over the body that determines whether a test holds for some active element.
 use Rattle.std.proofs.Common.{ℕ, zero, suc, ◌+◌, ◌-◌, ◌<◌, ◌≤◌, ◌≡◌, Bool, true, false, ◌&&◌, ◌||◌, refl, sym, ap, ◌∙◌, arith, add-one}
 use Rattle.std.specs.List.{list_any, range_with_len}
+use Rattle.std.proofs.lemmas.Bool.Decides.{nat_tests}
 use Rattle.rv_model.specs.elements.Elements.{Body, in_body, is_active, is_enabled, some_active}
 use Rattle.rv_model.proofs.element_lemmas.Sets.{from_start, inside_range, to_end}
 use Rattle.rv_model.proofs.Choices.{of_bool}
@@ -8,20 +9,15 @@ use Rattle.rv_model.proofs.Choices.{of_bool}
 -- ---- tests of ranges of numbers
 
 or_joined : (a b c : Bool) → (a || (b || c)) ≡ ((a || b) || c)
-or_joined true b c = refl
-or_joined false b c = refl
+or_joined a b c = search (arith, nat_tests)
 
 or_last : (a : Bool) → (a || false) ≡ a
-or_last true = refl
-or_last false = refl
+or_last a = search (arith, nat_tests)
 
 -- one more number
 any_more : (test : ℕ → Bool) (a n : ℕ) → list_any test (range_with_len a (suc n)) ≡ (list_any test (range_with_len a n) || test (a + n))
 any_more test a zero = let e : a + 0 ≡ a = omega arith in or_last (test a) ∙ ap test (sym e)
-any_more test a (suc n) =
-    let e : a + 1 + n ≡ a + suc n = omega arith in
-    ap (λ t. test a || t) (any_more test (a + 1) n ∙ ap (λ m. list_any test (range_with_len (a + 1) n) || test m) e)
-    ∙ or_joined (test a) (list_any test (range_with_len (a + 1) n)) (test (a + suc n))
+any_more test a (suc n) = search (arith, or_joined, (any_more test (a + 1) n))
 
 -- ---- tests of active elements
 
@@ -52,10 +48,7 @@ module _ (body : Body) (test : ℕ → Bool) where
 
   -- at an element of the body
   pub some_step : (i : ℕ) → body.start ≤ i → i < body.end → is_enabled body i ≡ true → some_before (i + 1) ≡ (some_before i || test i)
-  some_step i from to h =
-      let inside : in_body body i ≡ true = inside_range body.start body.end i from to in
-      let is : is_active body i ≡ true = rw (inside, h) refl in
-      some_more i ∙ ap (λ a. some_before i || (a && test i)) is
+  some_step i from to h = search (arith, nat_tests, inside_range, some_more)
 
   pub some_off : (i : ℕ) → is_enabled body i ≡ false → some_before (i + 1) ≡ some_before i
   some_off i h = some_kept i (of_bool (in_body body i) (λ b. (b && is_enabled body i) ≡ false) (λ is. h) (λ is. refl))

@@ -1,5 +1,6 @@
 -- The vector registers after an instruction's results.
-use Rattle.std.proofs.Common.{ℕ, ◌<◌, ◌≡◌, List, Bool, ap}
+use Rattle.std.proofs.Common.{ℕ, ◌<◌, ◌≡◌, List, Bool, ap, arith}
+use Rattle.std.proofs.lemmas.Bool.Decides.{nat_tests}
 use Rattle.rv_model.specs.elements.Elements.{Body, is_active, is_changed, result_or_ones}
 use Rattle.rv_model.specs.lending.Writes.{Writes, WritesBits}
 use Rattle.rv_model.specs.vector.Groups.{group_of, with_group, GroupType, width_bytes}
@@ -17,11 +18,7 @@ pub results_are : (g : GroupType) (vd : ℕ) (body : Body) (fill_masked_off fill
     → with_group file vd new ≡ with_results g vd body fill_masked_off fill_tail result file
 unfolding with_results
 results_are g vd body fill_masked_off fill_tail computed result file new same was =
-    let k : ℕ = width_bytes g.width in
-    let so = same_results k body fill_masked_off fill_tail computed result (ones g.width) (group_of file vd g.emul) new same was in
-    ap (λ bytes. with_group file vd bytes)
-    (writes_are k (is_changed body fill_masked_off fill_tail) (result_or_ones body result (ones g.width)) (group_of file vd g.emul) new
-    (bytes_positive g.width) so)
+    search (arith, nat_tests, bytes_positive, same_results, writes_are)
 
 -- the same for a mask
 pub mask_results_are : (vd : ℕ) (body : Body) (computed bit : ℕ → Bool) (file new : List ℕ)
@@ -38,7 +35,4 @@ pub results_same : (g : GroupType) (vd : ℕ) (body : Body) (fill_masked_off fil
     → ((i : ℕ) → i < body.end → computed i ≡ result i)
     → with_results g vd body fill_masked_off fill_tail computed file ≡ with_results g vd body fill_masked_off fill_tail result file
 unfolding with_results
-results_same g vd body fill_masked_off fill_tail computed result file same =
-    results_are g vd body fill_masked_off fill_tail computed result file _ same
-    (written_are (width_bytes g.width) (is_changed body fill_masked_off fill_tail) (result_or_ones body computed (ones g.width)) (group_of file vd g.emul)
-    (bytes_positive g.width))
+results_same g vd body fill_masked_off fill_tail computed result file same = search (arith, nat_tests, bytes_positive, results_are, written_are)

@@ -1,5 +1,5 @@
 -- Laws about replacing some bits in a list of bytes, one byte after another.
-use Rattle.std.proofs.Common.{ℕ, zero, suc, ◌+◌, ◌*◌, ◌/◌, ◌%◌, ◌^◌, ◌<◌, ◌≤◌, ◌≡◌, List, length, get_or, set, Bool, true, cond, ◌==◌, nat_lt, refl, sym, ap, ◌∙◌, arith, inl, inr, lt-ltb, le-ltb, get_or-set_other, length-set, lit<, zero-add}
+use Rattle.std.proofs.Common.{ℕ, ◌+◌, ◌*◌, ◌/◌, ◌%◌, ◌^◌, ◌<◌, ◌≤◌, ◌≡◌, List, length, get_or, set, Bool, true, cond, ◌==◌, nat_lt, refl, sym, ap, ◌∙◌, arith, inl, inr, lt-ltb, le-ltb, get_or-set_other, length-set, zero-add}
 use Rattle.std.specs.Int.{from_bool}
 use Rattle.std.proofs.lemmas.Bool.{cases_order}
 use Rattle.std.proofs.lemmas.Grind.{same_number_lists}
@@ -12,28 +12,17 @@ use Rattle.rv_model.proofs.Choices.{of_bool}
 -- ---- the bits of a byte
 
 one_bit : (n : ℕ) → from_bool (n % 2 == 1) ≡ n % 2
-one_bit n = by (n % 2) (omega arith)
-  where
-    by : (r : ℕ) → r < 2 → from_bool (r == 1) ≡ r
-    by zero h = refl
-    by (suc zero) h = refl
-    by (suc (suc r)) h = absurd (omega (arith, h))
+one_bit n = search arith
 
 -- the byte with the bits of a byte is that byte
 byte_of_own : (x : ℕ) → x < 256 → byte_of_bits (λ j. x / 2 ^ j % 2 == 1) ≡ x
-byte_of_own x h =
-    rw (one_bit (x / 1), one_bit (x / 2), one_bit (x / 4), one_bit (x / 8), one_bit (x / 16), one_bit (x / 32), one_bit (x / 64), one_bit (x / 128))
-    (omega (arith, h))
+byte_of_own x h = search (arith, one_bit)
 
 pub mask_bit_in : (bytes : List ℕ) (q j : ℕ) → j < 8 → mask_bit bytes (8 * q + j) ≡ (get_or bytes q 0 / 2 ^ j % 2 == 1)
-mask_bit_in bytes q j h =
-    let at : (8 * q + j) / 8 ≡ q = omega (arith, h) in
-    let shift : (8 * q + j) % 8 ≡ j = omega (arith, h) in
-    rw (at, shift) refl
+mask_bit_in bytes q j h = search arith
 
 pub same_byte : (f g : ℕ → Bool) → ((j : ℕ) → j < 8 → f j ≡ g j) → byte_of_bits f ≡ byte_of_bits g
-same_byte f g same =
-    rw (same 0 (lit< tt), same 1 (lit< tt), same 2 (lit< tt), same 3 (lit< tt), same 4 (lit< tt), same 5 (lit< tt), same 6 (lit< tt), same 7 (lit< tt)) refl
+same_byte f g same = search arith
 
 -- ---- one byte after another
 
@@ -67,11 +56,7 @@ module _ (changed bit : ℕ → Bool) where
   -- the replacement of a byte past the last changed bit is the byte itself
   pub byte_kept : (q end : ℕ) (old : List ℕ) → get_or old q 0 < 256 → ((i : ℕ) → changed i ≡ true → i < end) → end ≤ 8 * q
       → get_or old q 0 ≡ byte_with_bits changed bit old q
-  byte_kept q end old byte past h =
-      sym (byte_of_own (get_or old q 0) byte)
-      ∙ sym (same_byte (λ j. bit_or changed bit old (8 * q + j)) (λ j. get_or old q 0 / 2 ^ j % 2 == 1) (λ j l.
-      of_bool (changed (8 * q + j)) (λ c. cond c (bit (8 * q + j)) (mask_bit old (8 * q + j)) ≡ (get_or old q 0 / 2 ^ j % 2 == 1))
-      (λ e. absurd (omega (arith, past (8 * q + j) e, h))) (λ e. mask_bit_in old q j l)))
+  byte_kept q end old byte past h = search (arith, byte_of_own, mask_bit_in, of_bool, same_byte)
 
   -- ---- the resulting bytes
 

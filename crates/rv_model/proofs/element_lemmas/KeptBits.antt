@@ -1,5 +1,5 @@
 -- Bits of the register file that a write of elements, or of bits, doesn't change.
-use Rattle.std.proofs.Common.{◌≡◌, ◌∙◌, ◌⊎◌, inl, inr, ap, refl, subst, sym, ℕ, suc, ◌+◌, ◌-◌, ◌*◌, ◌/◌, ◌%◌, ◌^◌, ◌==◌, ◌<◌, ◌≤◌, Bool, true, false, cond, List, length, get_or, drop, arith, length-drop, zero-add}
+use Rattle.std.proofs.Common.{◌≡◌, ◌∙◌, ◌⊎◌, ap, refl, sym, ℕ, ◌+◌, ◌-◌, ◌*◌, ◌/◌, ◌%◌, ◌^◌, ◌==◌, ◌<◌, ◌≤◌, Bool, false, cond, List, length, get_or, drop, arith, length-drop, zero-add}
 use Rattle.std.specs.Int.{from_bool}
 use Rattle.std.proofs.lemmas.Bool.{cases_lt}
 use Rattle.std.proofs.lemmas.List.{length-take}
@@ -7,7 +7,7 @@ use Rattle.std.proofs.lemmas.List.FromFn.{get_or-map-range_with_len, length-map-
 use Rattle.std.proofs.lemmas.Simd.{get_or-chunk, get_or-put_chunk_above, get_or-put_chunk_at, get_or-put_chunk_below}
 use Rattle.std.proofs.Math.Nat.{div-add-mod, div-div-eq-div-mul, mod-lt}
 use mir.Val.{bits}
-use Rattle.std.specs.Simd.Lanes.{put_chunk}
+use Rattle.std.proofs.lemmas.Bool.Decides.{nat_tests}
 use Rattle.rv_model.specs.elements.Elements.{bit_or, byte_of_bits, byte_or, byte_with_bits, mask_bit, written, written_bits}
 use Rattle.rv_model.specs.lending.Writes.{Writes}
 use Rattle.rv_model.specs.vector.Groups.{GroupType, group_of, registers, width_bytes, with_group}
@@ -32,28 +32,11 @@ module _ (file bytes : List ℕ) (vd emul : ℕ) (long : length file ≡ 1024) (
   by_place : (P : ℕ → Type 0) (byte : ℕ) → P (get_or file byte 0)
       → (32 * vd ≤ byte → byte - 32 * vd < length (group_of file vd emul) → P (get_or (group_of file vd emul) (byte - 32 * vd) 0) → P (get_or bytes (byte - 32 * vd) 0))
       → P (get_or (with_group file vd bytes) byte 0)
-  by_place P byte old kept = let place : ℕ = byte - 32 * vd in elim (cases_lt byte (32 * vd)) [
-    | inl below ↦ subst P (sym (get_or-put_chunk_below (32 * vd) file bytes byte 0 below)) old
-    | inr from ↦ elim (cases_lt place (length (group_of file vd emul))) [
-      | inr past ↦ subst P (sym (get_or-put_chunk_above (32 * vd) file bytes byte 0 (omega (arith, from, past, size)))) old
-      | inl inside ↦
-          let lengths = group_length file vd emul long in
-          let at : 32 * vd + place ≡ byte = omega (arith, from) in
-          let small : place < 32 * registers emul = omega (arith, inside, lengths.0) in
-          let put : get_or (put_chunk (32 * vd) file bytes) (32 * vd + place) 0 ≡ get_or bytes place 0 =
-          get_or-put_chunk_at (32 * vd) file bytes place 0 (omega (arith, inside, size)) (omega (arith, inside, size, lengths.1, long)) in
-          subst P (sym put ∙ ap (λ (m : ℕ). get_or (put_chunk (32 * vd) file bytes) m 0) at)
-          (kept from inside (subst P (sym (get_or-chunk (32 * vd) (32 * registers emul) file place 0 small ∙ ap (λ (m : ℕ). get_or file m 0) at)) old))
-    ]
-  ]
+  by_place P byte old kept =
+      search (arith, cases_lt, get_or-chunk, get_or-put_chunk_above, get_or-put_chunk_at, get_or-put_chunk_below, group_length, registers)
 
   pub beside : (count : ℕ) → registers emul ≤ count → (k : ℕ) → (k < 32 * vd) ⊎ (32 * (vd + count) ≤ k) → get_or (with_group file vd bytes) k 0 ≡ get_or file k 0
-  beside count fits k out =
-      let lengths = group_length file vd emul long in
-      elim out [
-        | inl below ↦ get_or-put_chunk_below (32 * vd) file bytes k 0 below
-        | inr past ↦ get_or-put_chunk_above (32 * vd) file bytes k 0 (omega (arith, past, fits, size, lengths.0))
-      ]
+  beside count fits k out = search (arith, get_or-put_chunk_above, get_or-put_chunk_below, group_length)
 
 -- ---- elements
 
@@ -83,32 +66,24 @@ bytes_kept file g vd changed number byte long unchanged =
 pub elements_kept : (file : List ℕ) (g : GroupType) (vd count : ℕ) (changed : ℕ → Bool) (number : ℕ → ℕ) (n : ℕ) → length file ≡ 1024 → registers g.emul ≤ count
     → Unchanged vd count (bits g.width) changed n
     → mask_bit (with_group file vd (written (width_bytes g.width) changed number (group_of file vd g.emul))) n ≡ mask_bit file n
-elements_kept file g vd count changed number n long fits unchanged =
-    let lengths = group_length file vd g.emul long in
-    same_bit _ file n (bytes_kept file g vd changed number (n / 8) long (λ from inside.
-    sym (ap changed (element_of_byte (width_bytes g.width) n vd (bits g.width) (whole_bytes g.width) from))
-    ∙ unchanged (omega (arith, from)) (omega (arith, from, inside, lengths.0, fits))))
+elements_kept file g vd count changed number n long fits unchanged = search (arith, bytes_kept, element_of_byte, group_length, same_bit, whole_bytes)
 
 -- ---- bits
 
 one : (b : Bool) → from_bool b ≤ 1
-one true = omega arith
-one false = omega arith
+one b = search arith
 
 is_one : (b : Bool) → (from_bool b == 1) ≡ b
-is_one true = refl
-is_one false = refl
+is_one b = search (arith, nat_tests)
 
 -- bit r of the byte with these bits
 module _ (f : ℕ → Bool) where
   bit_by : from_bool (f 0) ≤ 1 → from_bool (f 1) ≤ 1 → from_bool (f 2) ≤ 1 → from_bool (f 3) ≤ 1 → from_bool (f 4) ≤ 1 → from_bool (f 5) ≤ 1
       → from_bool (f 6) ≤ 1 → from_bool (f 7) ≤ 1 → (r : ℕ) → r < 8 → byte_of_bits f / 2 ^ r % 2 ≡ from_bool (f r)
-  bit_by h0 h1 h2 h3 h4 h5 h6 h7 (suc (suc (suc (suc (suc (suc (suc (suc r)))))))) h = absurd (omega (arith, h))
-  bit_by h0 h1 h2 h3 h4 h5 h6 h7 _ h = omega (arith, h0, h1, h2, h3, h4, h5, h6, h7)
+  bit_by h0 h1 h2 h3 h4 h5 h6 h7 r h = search arith
 
   bit_is : (r : ℕ) → r < 8 → (byte_of_bits f / 2 ^ r % 2 == 1) ≡ f r
-  bit_is r h =
-      ap (λ (m : ℕ). m == 1) (bit_by (one (f 0)) (one (f 1)) (one (f 2)) (one (f 3)) (one (f 4)) (one (f 5)) (one (f 6)) (one (f 7)) r h) ∙ is_one (f r)
+  bit_is r h = search (bit_by, is_one, one)
 
 pub bits_kept : (file : List ℕ) (vd count : ℕ) (changed bit : ℕ → Bool) (n : ℕ) → length file ≡ 1024 → 1 ≤ count → Unchanged vd count 1 changed n
     → mask_bit (with_group file vd (written_bits changed bit (group_of file vd 8))) n ≡ mask_bit file n

@@ -1,5 +1,5 @@
 -- A loop that packs the elements with a set mask bit, and then fills the tail.
-use Rattle.std.proofs.Common.{ℕ, ◌+◌, ◌*◌, ◌<◌, ◌≤◌, ◌≡◌, List, [], ◌∷◌, ◌++◌, length, map, slice_index, Bool, true, false, cond, not, ◌&&◌, ◌||◌, nat_lt, nat_le, refl, sym, ap, subst, ◌∙◌, arith, inl, inr, append-nil, lt-ltb}
+use Rattle.std.proofs.Common.{ℕ, ◌+◌, ◌*◌, ◌<◌, ◌≤◌, ◌≡◌, List, [], ◌∷◌, ◌++◌, length, map, slice_index, Bool, true, false, cond, not, ◌&&◌, ◌||◌, nat_lt, refl, sym, ap, subst, ◌∙◌, arith, append-nil, lt-ltb}
 use Rattle.std.proofs.lemmas.Bool.{cases_lt}
 use Rattle.std.proofs.lemmas.Bool.Decides.{nat_tests}
 use Rattle.std.proofs.lemmas.List.{get_or_append_left, length-append, length-map, map-append}
@@ -34,12 +34,7 @@ both_below m n e h = grind (arith, nat_tests)
 
 module _ (select : List ℕ) (element : ℕ → ℕ) where
   packed_next : (n : ℕ) (b : Bool) → mask_bit select n ≡ b → packed select element (n + 1) ≡ packed select element n ++ map element (cond b (n ∷ []) [])
-  packed_next n b h =
-      let test = mask_bit select in
-      ap (λ l. map element (filter test l)) (range_more n)
-      ∙ ap (map element) (filter-append test (range_with_len 0 n) (n ∷ []))
-      ∙ map-append element (filter test (range_with_len 0 n)) (filter test (n ∷ []))
-      ∙ ap (λ t. packed select element n ++ map element (cond t (n ∷ []) [])) h
+  packed_next n b h = search (arith, nat_tests, filter-append, map-append, range_more)
 
   -- at most n of n elements are packed
   pub packed_few : (n : ℕ) → length (packed select element n) ≤ n
@@ -92,42 +87,23 @@ module _ (select : List ℕ) (element : ℕ → ℕ) where
 
 module _ (k end n : ℕ) (numbers : List ℕ) (ones : ℕ) where
   joined : (p l t : Bool) → t ≡ true → (p || (true && l)) ≡ (p || (l && t))
-  joined true l t h = refl
-  joined false true t h = sym h
-  joined false false t h = refl
+  joined p l t h = search (arith, nat_tests)
 
   apart : (e : ℕ) → length numbers ≤ end → nat_lt e (length numbers) ≡ true → in_range end n e ≡ false
   apart e few h = grind (arith, nat_tests)
 
   one_of : (p r : Bool) (x : ℕ) → (p ≡ true → r ≡ false) → (p || r) ≡ true → cond p x ones ≡ cond r ones x
-  one_of true true x only h = absurd (let both : true ≡ false = only refl in cc)
-  one_of true false x only h = refl
-  one_of false true x only h = refl
-  one_of false false x only h = absurd (cc)
+  one_of p r x only h = search (arith, nat_tests)
 
   pub packed_then_filled : (old mid new : List ℕ) → 0 < k → length old ≡ k * n → length numbers ≤ end
       → Writes k (is_packed numbers) (slice_index numbers) old mid
       → Writes k (in_range end n) (λ e. ones) mid new
       → Writes k (is_packed_or_filled numbers end true) (packed_or_ones numbers ones) old new
-  packed_then_filled old mid new positive long few first second =
-      writes_same k (λ e. is_packed numbers e || in_range end n e) (is_packed_or_filled numbers end true)
-      (λ e. cond (in_range end n e) ones (slice_index numbers e)) (packed_or_ones numbers ones) old new
-      (writes_then k (is_packed numbers) (in_range end n) (slice_index numbers) (λ e. ones) old mid new first second)
-      (λ e h. joined (is_packed numbers e) (nat_le end e) (nat_lt e n) (lt-ltb e n (inside e (omega (arith, h, long)))))
-      (λ e h. one_of (is_packed numbers e) (in_range end n e) (slice_index numbers e) (apart e few) h)
-    where
-      inside : (e : ℕ) → k * e < k * n → e < n
-      inside e h = elim (cases_lt e n) [
-        | inl low ↦ low
-        | inr high ↦ (let up : k * n ≤ k * e = mul-le-mul_left k high in absurd (omega arith))
-      ]
+  packed_then_filled old mid new positive long few first second = search (arith, cases_lt, joined, mul-le-mul_left, writes_same, writes_then)
 
 -- the registers after packing and filling
 pub packed_are : (g : GroupType) (vd end : ℕ) (fill_tail : Bool) (numbers file new : List ℕ)
     → Writes (width_bytes g.width) (is_packed_or_filled numbers end fill_tail) (packed_or_ones numbers (ones g.width)) (group_of file vd g.emul) new
     → with_group file vd new ≡ with_packed g vd end fill_tail numbers file
 unfolding with_packed
-packed_are g vd end fill_tail numbers file new was =
-    ap (with_group file vd)
-    (writes_are (width_bytes g.width) (is_packed_or_filled numbers end fill_tail) (packed_or_ones numbers (ones g.width)) (group_of file vd g.emul) new
-    (bytes_positive g.width) was)
+packed_are g vd end fill_tail numbers file new was = search (arith, nat_tests, bytes_positive, writes_are)

@@ -1,10 +1,11 @@
 -- Elements of copies of groups, and of lists that repeat one number.
-use Rattle.std.proofs.Common.{ℕ, zero, suc, ◌+◌, ◌-◌, ◌*◌, ◌%◌, ◌^◌, ◌≤◌, ◌≡◌, List, take, drop, refl, sym, ap, ◌∙◌, arith, mod-eq_of_lt}
+use Rattle.std.proofs.Common.{ℕ, zero, suc, ◌+◌, ◌-◌, ◌*◌, ◌%◌, ◌^◌, ◌≤◌, ◌≡◌, List, take, drop, refl, sym, ap, ◌∙◌, arith}
 use Rattle.std.proofs.lemmas.List.{drop-take, take-take}
 use Rattle.std.proofs.Math.Nat.{mod-lt, pow-suc}
 use Rattle.std.proofs.lemmas.Nat.{pow-add}
 use lib.Lanes.{number_l}
 use Rattle.std.specs.Int.{Width}
+use Rattle.std.proofs.lemmas.Bool.Decides.{nat_tests}
 use mir.Val.{bits}
 use Rattle.rv_model.specs.elements.Elements.{element}
 use Rattle.rv_model.specs.vector.Groups.{width_bytes}
@@ -27,6 +28,4 @@ bytes_power (suc k) =
 
 -- a number with the bits of a width fits in the bytes of the width
 pub low_bits_fit : (x : ℕ) (w : Width) → x % 2 ^ bits w % 256 ^ width_bytes w ≡ x % 2 ^ bits w
-low_bits_fit x w =
-    let same : 2 ^ bits w ≡ 256 ^ width_bytes w = ap (λ n. 2 ^ n) (whole_bytes w) ∙ bytes_power (width_bytes w) in
-    rw same (mod-eq_of_lt (mod-lt x (positive_power (width_bytes w))))
+low_bits_fit x w = search (arith, nat_tests, bytes_power, mod-lt, positive_power, whole_bytes)

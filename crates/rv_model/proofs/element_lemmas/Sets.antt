@@ -1,14 +1,13 @@
 -- Loops over the body that write the elements that an instruction changes.
-use Rattle.std.proofs.Common.{ℕ, suc, ◌+◌, ◌*◌, ◌<◌, ◌≤◌, ◌≡◌, List, length, Bool, true, false, cond, ◌&&◌, ◌||◌, nat_lt, nat_le, refl, sym, arith, inl, inr, le-leb, lt-ltb}
+use Rattle.std.proofs.Common.{ℕ, ◌+◌, ◌*◌, ◌<◌, ◌≤◌, ◌≡◌, List, length, Bool, true, false, ◌&&◌, ◌||◌, nat_lt, nat_le, refl, arith, le-leb, lt-ltb}
 use Rattle.std.specs.Prelude.{not}
-use Rattle.std.proofs.lemmas.Bool.{cases_lt}
 use Rattle.std.proofs.lemmas.Bool.Decides.{nat_tests}
 use Rattle.std.proofs.Math.Nat.{mul-le-mul_left, mul-suc}
 use Rattle.std.specs.Int.{bytes_low_first}
 use lib.Lanes.{put_chunk}
 use Rattle.rv_model.specs.elements.Elements.{Body, in_range, in_body, is_enabled, is_active, is_changed, result_or_ones}
 use Rattle.rv_model.specs.lending.Writes.{Writes}
-use Rattle.rv_model.proofs.element_lemmas.Writes.{begins, ends, step_written, step_kept, writes_same, writes_then}
+use Rattle.rv_model.proofs.element_lemmas.Writes.{begins, ends, step_written, step_kept, writes_same}
 use Rattle.rv_model.proofs.Choices.{of_bool}
 
 -- the start of a range is at most each index of the range
@@ -23,9 +22,7 @@ inside_range s v e from to = rw (le-leb s e from, lt-ltb e v to) refl
 
 -- Without the tail, only elements of the body change.
 pub changed_inside : (b l o t : Bool) → ((b && l) || ((o && (b && not l)) || (false && t))) ≡ true → b ≡ true
-changed_inside true l o t h = refl
-changed_inside false l true t h = h
-changed_inside false l false t h = h
+changed_inside b l o t h = search (arith, nat_tests)
 
 -- A loop's step at the index i of the body: the element is enabled, or it is masked off and filled, or masked off and unchanged.
 module _ (k : ℕ) (body : Body) (fill_masked_off : Bool) (i : ℕ) (result : ℕ → ℕ) (ones : ℕ) (old mid new : List ℕ)
@@ -60,9 +57,7 @@ module _ (k : ℕ) (body : Body) (fill_masked_off : Bool) (i : ℕ) (result : �
       step_written k changed number old mid new i was does fits (rw is e)
 
   pub step_off : So i mid → is_enabled body i ≡ false → fill_masked_off ≡ false → new ≡ mid → So (i + 1) new
-  step_off was h off e =
-      let does : changed i ≡ false = rw (inside, h, off) refl in
-      step_kept k changed number old mid new i was does e
+  step_off was h off e = search (arith, nat_tests, inside, step_kept)
 
 -- The state before and after the loop.
 module _ (k : ℕ) (body : Body) (fill_masked_off : Bool) (number : ℕ → ℕ) where
@@ -84,58 +79,15 @@ module _ (k start end : ℕ) (number : ℕ → ℕ) where
 
 -- a slice with room for `end` elements has room for each of them
 pub room_for : (k i end long : ℕ) → i < end → k * end ≤ long → k * i + k ≤ long
-room_for k i end long h room =
-    let up : k * suc i ≤ k * end = mul-le-mul_left k h in
-    omega (arith, mul-suc k i)
-
--- Results in the body, and ones in the tail up to the last of n elements.
-module _ (k : ℕ) (body : Body) (fill_masked_off : Bool) (n : ℕ) (result : ℕ → ℕ) (ones : ℕ) where
-  joined : (a o t l : Bool) → l ≡ true → (a || (o || (true && t))) ≡ ((a || (o || (false && t))) || (t && l))
-  joined true o t l h = refl
-  joined false true t l h = refl
-  joined false false true l h = sym h
-  joined false false false l h = refl
-
-  past_body : (e : ℕ) → body.end ≤ e → in_body body e ≡ false
-  past_body e h = grind (arith, nat_tests)
-
-  pub with_tail : (old mid new : List ℕ) → 0 < k → length old ≡ k * n
-      → Writes k (is_changed body fill_masked_off false) (result_or_ones body result ones) old mid
-      → Writes k (in_range body.end n) (λ e. ones) mid new
-      → Writes k (is_changed body fill_masked_off true) (result_or_ones body result ones) old new
-  with_tail old mid new positive long first second =
-      writes_same k (λ e. is_changed body fill_masked_off false e || in_range body.end n e)
-      (is_changed body fill_masked_off true) (λ e. cond (in_range body.end n e) ones (result_or_ones body result ones e)) (result_or_ones body result ones) old new
-      (writes_then k (is_changed body fill_masked_off false) (in_range body.end n) (result_or_ones body result ones) (λ e. ones) old mid new first second)
-      (λ e h. joined (is_active body e) (fill_masked_off && (in_body body e && not (is_enabled body e))) (nat_le body.end e) (nat_lt e n)
-      (lt-ltb e n (below e (omega (arith, h, long)))))
-      (λ e h. of_bool (in_range body.end n e) (λ b. result_or_ones body result ones e ≡ cond b ones (result_or_ones body result ones e))
-      (λ is. let off : in_body body e ≡ false = past_body e (from_start body.end n e is) in rw off refl) (λ is. refl))
-    where
-      below : (e : ℕ) → k * e < k * n → e < n
-      below e h = elim (cases_lt e n) [
-        | inl low ↦ low
-        | inr high ↦ (let up : k * n ≤ k * e = mul-le-mul_left k high in absurd (omega arith))
-      ]
+room_for k i end long h room = search (arith, mul-le-mul_left, mul-suc)
 
 -- Two functions that agree in the body write the same results.
 pub same_results : (k : ℕ) (body : Body) (fill_masked_off fill_tail : Bool) (result other : ℕ → ℕ) (ones : ℕ) (old new : List ℕ)
     → ((e : ℕ) → e < body.end → result e ≡ other e)
     → Writes k (is_changed body fill_masked_off fill_tail) (result_or_ones body result ones) old new
     → Writes k (is_changed body fill_masked_off fill_tail) (result_or_ones body other ones) old new
-same_results k body fill_masked_off fill_tail result other ones old new same was =
-    writes_same k (is_changed body fill_masked_off fill_tail) (is_changed body fill_masked_off fill_tail)
-    (result_or_ones body result ones) (result_or_ones body other ones) old new was
-    (λ e l. refl) (λ e h. numbers e (in_body body e) (is_enabled body e) (λ b. to_end body.start body.end e b) refl)
-  where
-    numbers : (e : ℕ) (b l : Bool) → (in_body body e ≡ true → e < body.end) → in_body body e ≡ b
-        → cond (b && l) (other e) ones ≡ cond (b && l) (result e) ones
-    numbers e true true h is = sym (same e (h is))
-    numbers e true false h is = refl
-    numbers e false l h is = refl
+same_results k body fill_masked_off fill_tail result other ones old new same was = search (arith, nat_tests, to_end, writes_same)
 
 -- an active element is before the end
 pub active_end : (body : Body) (i : ℕ) → is_active body i ≡ true → i < body.end
-active_end body i =
-    of_bool (in_body body i) (λ b. (b && is_enabled body i) ≡ true → i < body.end)
-    (λ is both. to_end body.start body.end i is) (λ is both. absurd (cc))
+active_end body i = search (arith, nat_tests, of_bool, to_end)

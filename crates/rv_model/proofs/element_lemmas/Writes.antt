@@ -1,5 +1,5 @@
 -- Laws about replacing some elements in a list of bytes, one after another or all at once.
-use Rattle.std.proofs.Common.{ℕ, zero, suc, ◌+◌, ◌-◌, ◌*◌, ◌/◌, ◌%◌, ◌^◌, ◌<◌, ◌≤◌, ◌≡◌, List, [], ◌∷◌, ◌++◌, length, get_or, drop, set, Bool, true, false, cond, ◌&&◌, ◌||◌, nat_lt, refl, sym, ap, ◌∙◌, arith, inl, inr, lt-ltb, le-ltb, append-nil, length-drop, zero-add}
+use Rattle.std.proofs.Common.{ℕ, zero, suc, ◌+◌, ◌-◌, ◌*◌, ◌/◌, ◌%◌, ◌^◌, ◌<◌, ◌≤◌, ◌≡◌, List, [], ◌∷◌, ◌++◌, length, get_or, drop, set, Bool, true, false, cond, ◌&&◌, ◌||◌, nat_lt, refl, sym, ap, ◌∙◌, arith, inl, inr, lt-ltb, append-nil, length-drop, zero-add}
 use Rattle.std.proofs.lemmas.Bool.{cases_order}
 use Rattle.std.proofs.lemmas.Bool.Decides.{nat_tests}
 use Rattle.std.proofs.lemmas.Grind.{same_number_lists}
@@ -11,7 +11,7 @@ use Rattle.std.proofs.Math.Arith.{mod-mul}
 use Rattle.std.specs.Int.{byte_at, bytes_low_first}
 use borrow.Rule.Slice.PartMut.{put_mid}
 use lib.Lanes.{chunk, put_chunk, number_l}
-use Rattle.rv_model.specs.elements.Elements.{element, byte_or, written}
+use Rattle.rv_model.specs.elements.Elements.{element, written}
 use Rattle.rv_model.specs.lending.Writes.{Writes}
 use Rattle.rv_model.proofs.Choices.{of_bool}
 
@@ -28,8 +28,7 @@ get_or-bytes i (suc k) n (suc m) h = let e : i + suc m ≡ suc i + m = omega ari
 
 -- a byte of a number
 pub byte_at-is : (m n : ℕ) → byte_at m n ≡ n / 256 ^ m % 256
-byte_at-is zero n = ap (λ y. y % 256) (sym (div-one n))
-byte_at-is (suc m) n = refl
+byte_at-is m n = search (arith, nat_tests, div-one)
 
 pub positive_power : (k : ℕ) → 0 < 256 ^ k
 positive_power zero = omega arith
@@ -37,11 +36,7 @@ positive_power (suc k) = rw pow-suc (omega (arith, positive_power k))
 
 number_bytes : (i k n : ℕ) → number_l 256 (bytes_low_first i k n) ≡ n / 256 ^ i % 256 ^ k
 number_bytes i zero n = omega arith
-number_bytes i (suc k) n =
-    let q : ℕ = n / 256 ^ i in
-    let next : n / 256 ^ suc i ≡ q / 256 = ap (λ z. n / z) (pow-suc 256 i) ∙ sym (div-div-eq-div-mul n (256 ^ i) 256) in
-    let whole : q % 256 ^ suc k ≡ q / 256 % 256 ^ k * 256 + q % 256 = ap (λ z. q % z) (pow-suc 256 k) ∙ mod-mul q (positive_power k) (omega arith) in
-    rw (byte_at-is i n, number_bytes (suc i) k n, next, whole) (omega arith)
+number_bytes i (suc k) n = search (arith, byte_at-is, div-div-eq-div-mul, mod-mul, positive_power, pow-suc, (number_bytes (suc i) k n))
 
 -- ---- writes one after another
 
@@ -68,12 +63,7 @@ writes_none k W F xs none = record { same_length = refl; bytes = λ e m h l. rw 
 -- writes depend only on the test for the existing elements and on the values of the changed ones
 pub writes_same : (k : ℕ) (W V : ℕ → Bool) (F G : ℕ → ℕ) (old new : List ℕ) → Writes k W F old new
     → ((e : ℕ) → k * e < length old → V e ≡ W e) → ((e : ℕ) → W e ≡ true → G e ≡ F e) → Writes k V G old new
-writes_same k W V F G old new was same numbers = record {
-  same_length = was.same_length;
-  bytes = λ e m h l. rw (same e (omega arith), was.bytes e m h l)
-      (of_bool (W e) (λ w. cond w (byte_at m (F e)) (get_or old (k * e + m) 0) ≡ cond w (byte_at m (G e)) (get_or old (k * e + m) 0))
-      (λ is. ap (byte_at m) (sym (numbers e is))) (λ is. refl));
-}
+writes_same k W V F G old new was same numbers = search (arith, of_bool)
 
 -- a write of element i
 writes_more : (k : ℕ) (W V : ℕ → Bool) (F : ℕ → ℕ) (old mid : List ℕ) (i : ℕ) → k * i + k ≤ length old → Writes k W F old mid → V i ≡ true → ((e : ℕ) → (e ≡ i → ⊥) → V e ≡ W e)
@@ -103,9 +93,7 @@ writes_more k W V F old mid i fits was here others =
 -- A loop's step at the index i, for an element that changes and for one that doesn't.
 module _ (k : ℕ) (W : ℕ → Bool) (F : ℕ → ℕ) (old mid new : List ℕ) (i : ℕ) where
   others : (e : ℕ) → (e ≡ i → ⊥) → (W e && nat_lt e (i + 1)) ≡ (W e && nat_lt e i)
-  others e ne =
-      let same : nat_lt e (i + 1) ≡ nat_lt e i = grind (arith, nat_tests) in
-      rw same refl
+  others e ne = search (arith, nat_tests)
 
   pub step_written : Writes k (λ e. W e && nat_lt e i) F old mid → W i ≡ true → k * i + k ≤ length old
       → new ≡ put_chunk (k * i) mid (bytes_low_first 0 k (F i)) → Writes k (λ e. W e && nat_lt e (i + 1)) F old new
@@ -114,63 +102,33 @@ module _ (k : ℕ) (W : ℕ → Bool) (F : ℕ → ℕ) (old mid new : List ℕ)
       (rw (h, lt-ltb i (i + 1) (omega arith)) refl) others)
 
   pub step_kept : Writes k (λ e. W e && nat_lt e i) F old mid → W i ≡ false → new ≡ mid → Writes k (λ e. W e && nat_lt e (i + 1)) F old new
-  step_kept was h e = rw e (writes_same k (λ x. W x && nat_lt x i) (λ x. W x && nat_lt x (i + 1)) F F old mid was
-      (λ x l. elim (cases_order x i) [
-        | inl is ↦ rw (is, h) refl
-        | inr (inl low) ↦ others x (λ q. omega (arith, q))
-        | inr (inr high) ↦ others x (λ q. omega (arith, q))
-      ]) (λ x q. refl))
+  step_kept was h e = search (arith, cases_order, others, writes_same)
 
 -- the state before a loop from i on
 pub begins : (k : ℕ) (W : ℕ → Bool) (F : ℕ → ℕ) (xs : List ℕ) (i : ℕ) → ((e : ℕ) → W e ≡ true → i ≤ e) → Writes k (λ e. W e && nat_lt e i) F xs xs
-begins k W F xs i from = writes_none k (λ e. W e && nat_lt e i) F xs
-    (λ e. of_bool (W e) (λ w. (w && nat_lt e i) ≡ false) (λ is. le-ltb e i (from e is)) (λ is. refl))
+begins k W F xs i from = search (arith, nat_tests, of_bool, writes_none)
 
 -- the state after a loop up to i
 pub ends : (k : ℕ) (W : ℕ → Bool) (F : ℕ → ℕ) (old new : List ℕ) (i : ℕ) → Writes k (λ e. W e && nat_lt e i) F old new → ((e : ℕ) → W e ≡ true → e < i) → Writes k W F old new
-ends k W F old new i was to = writes_same k (λ e. W e && nat_lt e i) W F F old new was
-    (λ e l. of_bool (W e) (λ w. w ≡ (w && nat_lt e i)) (λ is. sym (lt-ltb e i (to e is))) (λ is. refl)) (λ e q. refl)
+ends k W F old new i was to = search (arith, nat_tests, of_bool, writes_same)
 
 -- two writes; the second takes precedence
 pub writes_then : (k : ℕ) (V W : ℕ → Bool) (F G : ℕ → ℕ) (old mid new : List ℕ) → Writes k V F old mid → Writes k W G mid new
     → Writes k (λ e. V e || W e) (λ e. cond (W e) (G e) (F e)) old new
-writes_then k V W F G old mid new first second = record {
-  same_length = second.same_length ∙ first.same_length;
-  bytes = λ e m h l. (let l2 : k * e + m < length mid = omega (arith, first.same_length) in
-      rw (second.bytes e m h l2, first.bytes e m h l) (either (V e) (W e) m (F e) (G e) (get_or old (k * e + m) 0)));
-}
-  where
-    either : (v w : Bool) (m x y z : ℕ) → cond w (byte_at m y) (cond v (byte_at m x) z) ≡ cond (v || w) (byte_at m (cond w y x)) z
-    either true true m x y z = refl
-    either true false m x y z = refl
-    either false true m x y z = refl
-    either false false m x y z = refl
+writes_then k V W F G old mid new first second = search arith
 
 -- ---- the resulting bytes
 
 -- the writes determine the bytes
 pub writes_are : (k : ℕ) (W : ℕ → Bool) (F : ℕ → ℕ) (old new : List ℕ) → 0 < k → Writes k W F old new → new ≡ written k W F old
 unfolding written
-writes_are k W F old new positive w =
-    let f : ℕ → ℕ = λ at. byte_or W F old k (at / k) (at % k) in
-    same_number_lists new (written k W F old) (w.same_length ∙ sym (length-map-range_with_len f 0 (length old)))
-    (λ j h.
-    let l : j < length old = omega (arith, w.same_length, h) in
-    let e : k * (j / k) + j % k ≡ j = div-add-mod j k in
-    sym (ap (λ x. get_or new x 0) e) ∙ w.bytes (j / k) (j % k) (mod-lt j positive) (rw e l)
-    ∙ sym (get_or-map-range_with_len f 0 (length old) j j 0 l (zero-add j)))
+writes_are k W F old new positive w = search (arith, div-add-mod, get_or-map-range_with_len, length-map-range_with_len, mod-lt, same_number_lists)
 
 -- the written bytes satisfy the writes
 pub written_are : (k : ℕ) (W : ℕ → Bool) (F : ℕ → ℕ) (old : List ℕ) → 0 < k → Writes k W F old (written k W F old)
 unfolding written
 written_are k W F old positive =
-    let f : ℕ → ℕ = λ at. byte_or W F old k (at / k) (at % k) in
-    record {
-      same_length = length-map-range_with_len f 0 (length old);
-      bytes = λ e m h l. (let whole : (k * e + m) / k ≡ e = mul-add-div positive e m ∙ ap (λ x. e + x) (div-eq_of_lt h) ∙ omega arith in
-          let rest : (k * e + m) % k ≡ m = mul-add-mod_self_left k e m ∙ mod-eq_of_lt h in
-          get_or-map-range_with_len f 0 (length old) (k * e + m) (k * e + m) 0 l (zero-add (k * e + m)) ∙ rw (whole, rest) refl);
-    }
+    search (arith, div-eq_of_lt, get_or-map-range_with_len, length-map-range_with_len, mod-eq_of_lt, mul-add-div, mul-add-mod_self_left)
 
 -- an element after its write
 pub written_element : (k : ℕ) (W : ℕ → Bool) (F : ℕ → ℕ) (old new : List ℕ) (e : ℕ) → Writes k W F old new → W e ≡ true → k * e + k ≤ length old

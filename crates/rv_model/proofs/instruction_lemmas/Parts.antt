@@ -1,7 +1,6 @@
 -- Words as sums of parts without common bits
 use Rattle.std.proofs.Common.{◌≡◌, refl, ap, ap₂, ◌∙◌, sym, ℕ, ◌+◌, ◌-◌, ◌*◌, ◌/◌, ◌%◌, ◌^◌, ◌<◌, List, [], ◌∷◌, Bool, true, nat_eq, ◌&&◌, min, max, arith, add-zero, zero-add}
 use Rattle.std.specs.Int.Bits.{bit_and, bit_or, and_comm, and_zero_r, or_disjoint, and_high, and_zero_l}
-use Rattle.std.specs.Int.{bit_at}
 use Rattle.std.proofs.lemmas.Nat.Bits.{same_from_bits, bit_at_and, bit_at_or}
 use Rattle.std.proofs.lemmas.Nat.{and_assoc, and_mask, pow_pos}
 use Rattle.std.proofs.lemmas.Bool.{and_parts, eqb-true}
@@ -36,12 +35,7 @@ min_max : (x y z : ℕ) → min x (max y z) ≡ max (min x y) (min x z)
 min_max x y z = omega arith
 
 and_or_distrib : (n a b : ℕ) → bit_and n (bit_or a b) ≡ bit_or (bit_and n a) (bit_and n b)
-and_or_distrib n a b =
-    same_from_bits (bit_and n (bit_or a b)) (bit_or (bit_and n a) (bit_and n b)) (λ i.
-    bit_at_and n (bit_or a b) i
-    ∙ ap (min (bit_at n i)) (bit_at_or a b i)
-    ∙ min_max (bit_at n i) (bit_at a i) (bit_at b i)
-    ∙ sym (bit_at_or (bit_and n a) (bit_and n b) i ∙ ap₂ max (bit_at_and n a i) (bit_at_and n b i)))
+and_or_distrib n a b = search (bit_at_and, bit_at_or, min_max, same_from_bits)
 
 none_shared : (n a b : ℕ) → bit_and a b ≡ 0 → bit_and (bit_and n a) (bit_and n b) ≡ 0
 none_shared n a b h =
@@ -105,9 +99,8 @@ inside_mask code m within (p ∷ ps) h fit =
 leaves : (code m : ℕ) → bit_and code m ≡ code → (p : Part) (ps : List Part) → Step m p ps → p.value < 2 ^ p.len
     → AllFit ps → (k : ℕ) → bit_and (part_mask p) k ≡ 0 → bit_and (sum_of code ps + put p) k ≡ bit_and (sum_of code ps) k
 leaves code m within p ps s room fit k h =
-    let ih : bit_and (sum_of code ps) (mask_of m ps) ≡ sum_of code ps = inside_mask code m within ps s.rest fit in
     let iy : bit_and (put p) (part_mask p) ≡ put p = put_inside p room in
-    sum_and (sum_of code ps) (put p) k (apart_from_places (sum_of code ps) (put p) (mask_of m ps) (part_mask p) ih iy s.new)
+    sum_and (sum_of code ps) (put p) k (apart_from_places (sum_of code ps) (put p) (mask_of m ps) (part_mask p) (inside_mask code m within ps s.rest fit) iy s.new)
     ∙ ap (λ z. bit_and (sum_of code ps) k + z) (off (put p) (part_mask p) k iy h)
     ∙ add-zero (bit_and (sum_of code ps) k)
 
@@ -116,8 +109,7 @@ pub fixed_bits : (code m : ℕ) → bit_and code m ≡ code → (ps : List Part)
     → bit_and (sum_of code ps) m ≡ code
 fixed_bits code m within [] h fit = within
 fixed_bits code m within (p ∷ ps) h fit =
-    let s : Step m p ps = step_of m p ps h in
-    leaves code m within p ps s fit.0 fit.1 m s.fixed ∙ fixed_bits code m within ps s.rest fit.1
+    leaves code m within p ps (step_of m p ps h) fit.0 fit.1 m (step_of m p ps h).fixed ∙ fixed_bits code m within ps (step_of m p ps h).rest fit.1
 
 times_back : (a k : ℕ) → a * 2 ^ k / 2 ^ k ≡ a
 times_back a k = mul-div_cancel a (pow_pos k)
@@ -145,8 +137,7 @@ reads code m within (p ∷ ps) h c fit =
     let x : ℕ = sum_of code ps in
     let y : ℕ = put p in
     let ih : bit_and x (mask_of m ps) ≡ x = inside_mask code m within ps s.rest fit.1 in
-    let iy : bit_and y (part_mask p) ≡ y = put_inside p fit.0 in
-    let xy : bit_and x y ≡ 0 = apart_from_places x y (mask_of m ps) (part_mask p) ih iy s.new in
+    let xy : bit_and x y ≡ 0 = apart_from_places x y (mask_of m ps) (part_mask p) ih (put_inside p fit.0) s.new in
     let head : bit_and (x + y) (part_mask p) ≡ bit_and y (part_mask p) = sum_and x y (part_mask p) xy ∙ ap (λ z. z + bit_and y (part_mask p)) (off x (mask_of m ps) (part_mask p) ih s.new) ∙ zero-add (bit_and y (part_mask p)) in
     let cs : (nat_eq (bit_and m (part_mask p)) 0 ≡ true) × (clear m ps ≡ true) = and_parts (nat_eq (bit_and m (part_mask p)) 0) (clear m ps) c in (
       same_field (x + y) y p.low p.len head ∙ ap (λ z. z % 2 ^ p.len) (times_back p.value p.low) ∙ mod-eq_of_lt fit.0,
@@ -162,9 +153,8 @@ pub masked : (word m : ℕ) (ps : List Part) → share_none m ps ≡ true
     → sum_of (bit_and word m) (of_word word ps) ≡ bit_and word (mask_of m ps)
 masked word m [] h = refl
 masked word m (p ∷ ps) h =
-    let s : Step m p ps = step_of m p ps h in
-    ap₂ (λ (a b : ℕ). a + b) (masked word m ps s.rest) (sym (and_high word p.len p.low))
-    ∙ sym (and_sum word (mask_of m ps) (part_mask p) s.new)
+    ap₂ (λ (a b : ℕ). a + b) (masked word m ps (step_of m p ps h).rest) (sym (and_high word p.len p.low))
+    ∙ sym (and_sum word (mask_of m ps) (part_mask p) (step_of m p ps h).new)
 
 -- a word is the sum of its parts
 pub rebuilt : (word m : ℕ) (ps : List Part) → word < 2 ^ 32 → share_none m ps ≡ true → mask_of m ps ≡ 2 ^ 32 - 1

@@ -1,7 +1,8 @@
 -- Encoding and decoding are inverse to each other
-use Rattle.std.proofs.Common.{◌≡◌, ap, ap₂, ◌∙◌, sym, subst, ℕ, ◌+◌, ◌-◌, ◌*◌, ◌^◌, ◌<◌, ◌≤◌, List, [], ◌∷◌, ◌++◌, map, Option, Some, None, true, inl, inr, ◌⊎◌, arith, add-zero, add_assoc}
+use Rattle.std.proofs.Common.{◌≡◌, ap, ◌∙◌, sym, subst, ℕ, ◌+◌, ◌-◌, ◌^◌, ◌<◌, ◌≤◌, List, [], ◌∷◌, ◌++◌, map, Option, Some, true, inl, inr, ◌⊎◌, arith, add-zero}
 use Rattle.std.specs.Prelude.{IfSome, flat_map}
 use Rattle.std.specs.Int.Bits.{bit_and, and_le_r}
+use Rattle.std.proofs.lemmas.Bool.Decides.{nat_tests}
 use Rattle.rv_model.specs.declared.instructions.instruction.Instr.{Instr}
 use Rattle.rv_model.specs.instructions.FixedBits.{Part, sum_of, mask_of, fixed}
 use Rattle.rv_model.specs.lending.ListedBits.{AllFit, Allowed}
@@ -22,14 +23,12 @@ sum_small code m within ps h all fit =
 -- the word of an instruction decodes to this instruction
 pub back : (i : Instr) → AllFit (parts i) → Allowed i → scan table (word_of i) ≡ Some i
 back i fit ok =
-    let l : Laid (parts i) = laid i in
-    found table table_apart (row_of i) (listed i ok) (word_of i) (fixed_bits (bits i) (fixed (parts i)) (inside i ok) (parts i) l.apart fit)
-    ∙ ap Some (refilled i (word_of i) (reads (bits i) (fixed (parts i)) (inside i ok) (parts i) l.apart l.clear fit))
+    found table table_apart (row_of i) (listed i ok) (word_of i) (fixed_bits (bits i) (fixed (parts i)) (inside i ok) (parts i) (laid i).apart fit)
+    ∙ ap Some (refilled i (word_of i) (reads (bits i) (fixed (parts i)) (inside i ok) (parts i) (laid i).apart (laid i).clear fit))
 
 sum-split : (code : ℕ) (ps : List Part) → sum_of code ps ≡ code + sum_of 0 ps
 sum-split code [] = sym (add-zero code)
-sum-split code (p ∷ ps) =
-    ap (λ s. s + p.value * 2 ^ p.low) (sum-split code ps) ∙ add_assoc code (sum_of 0 ps) (p.value * 2 ^ p.low)
+sum-split code (p ∷ ps) = search (arith, nat_tests, (sum-split code ps))
 
 -- the word of an instruction is the sum of its fixed bits and operands
 pub word_sum : (i : Instr) → word_of i ≡ bits i + sum_of 0 (parts i)
@@ -41,9 +40,7 @@ small i fit ok =
     let l : Laid (parts i) = laid i in sum_small (bits i) (fixed (parts i)) (inside i ok) (parts i) l.apart l.whole fit
 
 word_again : (t : Instr) (w : ℕ) → w < 2 ^ 32 → bit_and w (fixed (parts t)) ≡ bits t → word_of (filled t w) ≡ w
-word_again t w small is =
-    ap₂ sum_of (filled_bits t w ∙ sym is) (filled_parts t w)
-    ∙ rebuilt w (fixed (parts t)) (parts t) small (laid t).apart (laid t).whole
+word_again t w small is = search (arith, nat_tests, filled_bits, filled_parts, fixed, laid, rebuilt)
 
 template_in : (ts : List Instr) (r : Row) → In r (map row_of ts) → (t : Instr) × (row_of t ≡ r)
 template_in [] r h = absurd h
@@ -64,13 +61,8 @@ pub template_of : (r : Row) → In r table → (t : Instr) × (row_of t ≡ r)
 template_of r h = template_joined groups r (subst (In r) table_groups h)
 
 row_word : (r : Row) (w : ℕ) → w < 2 ^ 32 → In r table → Matches r w → word_of (r.instr w) ≡ w
-row_word r w small h is =
-    let t : (t : Instr) × (row_of t ≡ r) = template_of r h in
-    subst (λ s. Matches s w → word_of (s.instr w) ≡ w) t.1 (word_again t.0 w small) is
+row_word r w small h is = search (arith, nat_tests, template_of, word_again)
 
 -- the instruction that a word decodes to has this word
 pub decoded : (w : ℕ) (o : Option Instr) → o ≡ scan table w → w < 2 ^ 32 → IfSome o (λ i. word_of i ≡ w)
-decoded w None is small = tt
-decoded w (Some i) is small =
-    let q : (r : Row) × In r table × Matches r w × (r.instr w ≡ i) = some_row table w i (sym is) in
-    subst (λ x. word_of x ≡ w) q.3 (row_word q.0 w small q.1 q.2)
+decoded w o is small = search (arith, nat_tests, row_word, some_row)

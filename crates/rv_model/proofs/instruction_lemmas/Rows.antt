@@ -1,5 +1,5 @@
 -- Each instruction has a row in the table
-use Rattle.std.proofs.Common.{◌≡◌, refl, ap, sym, subst, ℕ, zero, suc, List, [], ◌∷◌, ◌++◌, map, Some, None, Bool, true, false, nat_eq, cond, inl, inr, arith}
+use Rattle.std.proofs.Common.{◌≡◌, refl, ap, sym, subst, ℕ, zero, suc, List, [], ◌∷◌, ◌++◌, map, Some, None, Bool, true, nat_eq, cond, inl, inr, arith}
 use Rattle.std.specs.Int.Bits.{bit_and}
 use Rattle.std.proofs.lemmas.Bool.{eqb-true}
 use Rattle.rv_model.specs.declared.instructions.source.Source.{Source}
@@ -38,17 +38,12 @@ use Rattle.rv_model.specs.declared.instructions.operations.CsrImmediateOp.TheVar
 use Rattle.rv_model.specs.declared.instructions.operations.MaskLogicOp.TheVariants as mask_logic
 use Rattle.rv_model.specs.declared.instructions.operations.MaskToScalarOp.TheVariants as mask_to_scalar
 use Rattle.rv_model.specs.declared.instructions.operations.ExtendOp.TheVariants as extend
-use Rattle.rv_model.specs.declared.instructions.operations.MaskScanOp.TheVariants as mask_scan
 use Rattle.rv_model.specs.declared.instructions.operations.MaskUnaryOp.{MaskUnaryOp}
-use Rattle.rv_model.specs.declared.instructions.operations.MaskUnaryOp.TheVariants as mask_unary
 use Rattle.rv_model.specs.declared.instructions.operations.Eew.{Eew}
-use Rattle.rv_model.specs.declared.instructions.operations.Eew.TheVariants as width
 use Rattle.rv_model.specs.declared.instructions.operations.UnitOp.{UnitOp}
-use Rattle.rv_model.specs.declared.instructions.operations.UnitOp.TheVariants as unit
 use Rattle.rv_model.specs.declared.instructions.operations.Direction.{Direction}
 use Rattle.rv_model.specs.declared.instructions.operations.Direction.TheVariants as direction
 use Rattle.rv_model.specs.declared.instructions.operations.Order.{Order}
-use Rattle.rv_model.specs.declared.instructions.operations.Order.TheVariants as order
 use Rattle.rv_model.specs.declared.instructions.operations.RegisterCount.{RegisterCount}
 use Rattle.rv_model.specs.declared.instructions.operations.RegisterCount.TheVariants as count
 use Rattle.rv_model.specs.declared.instructions.instruction.Instr.{Instr}
@@ -62,9 +57,10 @@ use Rattle.rv_model.specs.instructions.Operations.{form_of, source_of, carry_lin
 use Rattle.rv_model.specs.lending.ListedBits.{Allowed, whole_move_bits, mask_memory_bits, unit_access_bits, strided_access_bits, indexed_access_bits, whole_load_bits, whole_store_bits, upper_bits, branch_bits, load_bits, store_bits, immediate_op_bits, shift_immediate_bits, shift_immediate_word_bits, register_op_bits, system_bits, csr_bits, csr_immediate_bits, mask_logic_bits, mask_to_scalar_bits, extend_bits, mask_unary_bits}
 use Rattle.rv_model.specs.instructions.Table.{parts, bits, Row, counts, directions, table}
 use Rattle.std.specs.Prelude.{filter, flat_map}
+use Rattle.std.proofs.lemmas.Bool.Decides.{nat_tests}
 use Rattle.rv_model.specs.lending.Families.{row_of, templates, upper_ops, branch_ops, load_ops, store_ops, immediate_ops, shift_immediate_ops, shift_immediate_word_ops, register_ops, system_ops, csr_ops, csr_immediate_ops, carry_ops, mask_logic_ops, mask_to_scalar_ops, extend_ops, mask_unary_ops, unit_accesses, strided_accesses, indexed_accesses, whole_loads, Uppers, Jumps, JumpRegisters, Branches, Loads, Stores, RegisterImmediates, ShiftImmediates, ShiftImmediateWords, RegisterRegisters, Fences, Systems, Csrs, CsrImmediates, SetVlis, SetIvlis, SetVls, Moves, WholeMoves, MaskLogics, Compresses, MasksToScalar, Extends, MaskUnaries, ElementIndices, MovesToScalar, MovesToVector, Units, Strideds, Indexeds, WholeLoads, WholeStores, MaskMemories}
 use Rattle.rv_model.specs.lending.Search.{find}
-use Rattle.rv_model.proofs.instruction_lemmas.Scans.{In, is_inside, table_inside, all_in}
+use Rattle.rv_model.proofs.instruction_lemmas.Scans.{In, table_inside, all_in}
 use Rattle.rv_model.proofs.Choices.{first_or}
 
 in_left : (r : Row) (xs ys : List Row) → In r xs → In r (xs ++ ys)
@@ -110,37 +106,27 @@ in_flat (g ∷ gs) (suc k) r h = in_right r (map row_of g) (flat_map (map row_of
 
 known_mask_unary : (op : MaskUnaryOp) → find mask_unary_bits mask_unary_ops (mask_unary_bits op) ≡ Some op
 unfolding find
-known_mask_unary (mask_unary.Scan mask_scan.Vmsbf) = refl
-known_mask_unary _ = refl
+known_mask_unary op = search (arith, nat_tests)
 
 known_unit : (op : UnitOp) (width : Eew)
     → find unit_access_bits unit_accesses (unit_access_bits (op, width)) ≡ Some (op, width)
 unfolding find
-known_unit unit.Load width.E8 = refl
-known_unit _ width.E8 = refl
-known_unit _ _ = refl
+known_unit op width = search (arith, nat_tests)
 
 known_strided : (op : Direction) (width : Eew)
     → find strided_access_bits strided_accesses (strided_access_bits (op, width)) ≡ Some (op, width)
 unfolding find
-known_strided direction.Load width.E8 = refl
-known_strided _ width.E8 = refl
-known_strided _ _ = refl
+known_strided op width = search (arith, nat_tests)
 
 known_whole_load : (op : RegisterCount) (width : Eew)
     → find whole_load_bits whole_loads (whole_load_bits (op, width)) ≡ Some (op, width)
 unfolding find
-known_whole_load count.One width.E8 = refl
-known_whole_load _ width.E8 = refl
-known_whole_load _ _ = refl
+known_whole_load op width = search (arith, nat_tests)
 
 known_indexed : (direction : Direction) (order : Order) (width : Eew)
     → find indexed_access_bits indexed_accesses (indexed_access_bits ((direction, order), width)) ≡ Some ((direction, order), width)
 unfolding find
-known_indexed direction.Load order.Unordered width.E8 = refl
-known_indexed _ order.Unordered width.E8 = refl
-known_indexed _ _ width.E8 = refl
-known_indexed _ _ _ = refl
+known_indexed direction order width = search (arith, nat_tests)
 
 -- a search by a row's bits finds the operation with this row, in each form that it has
 abbrev IsKnown : VectorOp → Line → Form → Type 0
@@ -151,9 +137,7 @@ IsKnown op l f =
 known_carry : (op : CarryOp) (f : Form)
     → cond (has_form (carry_line op).forms f) (find (λ o. line_bits (carry_line o) f) (filter (λ o. has_form (carry_line o).forms f) carry_ops) (line_bits (carry_line op) f)) None ≡ cond (has_form (carry_line op).forms f) (Some op) None
 unfolding find
-known_carry carry.Vadc form.V = refl
-known_carry _ form.V = refl
-known_carry _ _ = refl
+known_carry op f = search (arith, nat_tests)
 
 known_vector : (op : VectorOp) (f : Form) → IsKnown op (line op) f
 unfolding find
@@ -174,8 +158,7 @@ known_vector _ form.V = refl
 known_vector _ _ = refl
 
 cond-same : {A : Type 0} (b : Bool) (x y z : A) → cond b x z ≡ cond b y z → b ≡ true → x ≡ y
-cond-same true x y z h t = h
-cond-same false x y z h t = absurd (cc)
+cond-same b x y z h t = search
 
 -- ---- each instruction has its row
 
@@ -292,5 +275,4 @@ listed (instr.Access (MaskAccess direction.Load vd rs1)) h = listed_at 40 mask_m
 listed (instr.Access (MaskAccess direction vd rs1)) h = listed_at 40 mask_memory_bits (λ op. instr.Access (MaskAccess op 0 0)) directions direction refl refl
 
 pub inside : (i : Instr) → Allowed i → bit_and (bits i) (fixed (parts i)) ≡ bits i
-inside i ok =
-    eqb-true (bit_and (bits i) (fixed (parts i))) (bits i) (all_in is_inside table table_inside (row_of i) (listed i ok))
+inside i ok = search (arith, nat_tests, all_in, bits, eqb-true, fixed, listed, table_inside)

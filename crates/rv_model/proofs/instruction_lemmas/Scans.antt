@@ -1,5 +1,5 @@
 -- Results of a scan of the instruction table
-use Rattle.std.proofs.Common.{◌≡◌, ◌≢◌, refl, ap, ◌∙◌, sym, subst, ℕ, zero, suc, List, [], ◌∷◌, ◌++◌, Option, Some, None, Bool, true, false, nat_eq, cond, not, ◌&&◌, ◌||◌, inl, inr, ◌⊎◌, arith}
+use Rattle.std.proofs.Common.{◌≡◌, ◌≢◌, refl, ap, ◌∙◌, sym, subst, ℕ, zero, suc, List, [], ◌∷◌, ◌++◌, Option, Some, None, Bool, true, false, nat_eq, cond, not, ◌&&◌, inl, inr, ◌⊎◌, arith}
 use Rattle.std.specs.Prelude.{IfSome, IfNone}
 use Rattle.std.specs.List.{Contains, list_any, list_all}
 use Rattle.std.specs.Option.{option_or}
@@ -7,6 +7,7 @@ use Rattle.std.specs.Int.Bits.{bit_and, and_comm}
 use Rattle.std.proofs.lemmas.Nat.{and_assoc}
 use Rattle.std.proofs.lemmas.Bool.Decides.{eqb_tells}
 use Rattle.std.proofs.lemmas.Bool.{and_parts, eq-eqb, eqb-true, not-true}
+use Rattle.std.proofs.lemmas.Bool.Decides.{nat_tests}
 use Rattle.rv_model.specs.declared.instructions.instruction.Instr.{Instr}
 use Rattle.rv_model.specs.instructions.Table.{Row, table, Matches, IsRow, scan}
 use Rattle.rv_model.proofs.Choices.{first_or, of_bool}
@@ -48,10 +49,7 @@ is_inside r = nat_eq (bit_and r.bits r.mask) r.bits
 pub scan_append : (xs ys : List Row) (word : ℕ) → scan (xs ++ ys) word ≡ option_or (scan xs word) (scan ys word)
 unfolding scan
 scan_append [] ys word = refl
-scan_append (r ∷ xs) ys word =
-    let first : Option Instr = Some (r.instr word) in
-    of_bool (nat_eq (bit_and word r.mask) r.bits) (λ b. cond b first (scan (xs ++ ys) word) ≡ option_or (cond b first (scan xs word)) (scan ys word))
-    (λ e. refl) (λ e. scan_append xs ys word)
+scan_append (r ∷ xs) ys word = search (arith, nat_tests, of_bool, (scan_append xs ys word))
 
 and_swap : (w a b : ℕ) → bit_and (bit_and w a) b ≡ bit_and (bit_and w b) a
 and_swap w a b = and_assoc b w a ∙ ap (bit_and w) (and_comm a b) ∙ sym (and_assoc a w b)
@@ -66,26 +64,17 @@ narrowed m v (r ∷ rs) = cond (fits m v r) (r ∷ narrowed m v rs) (narrowed m 
 
 cannot : (m v word : ℕ) → bit_and word m ≡ v → (r : Row) → fits m v r ≡ false
     → nat_eq (bit_and word r.mask) r.bits ≡ false
-cannot m v word is r ne =
-    elim (eqb_tells (bit_and word r.mask) r.bits) [
-      | inl hit ↦
-          let e : bit_and r.bits m ≡ bit_and v r.mask = ap (λ x. bit_and x m) (sym hit.1) ∙ and_swap word r.mask m ∙ ap (λ x. bit_and x r.mask) is in
-          let t : fits m v r ≡ true = eq-eqb (bit_and r.bits m) (bit_and v r.mask) e in
-          cc
-      | inr n ↦ n.0
-    ]
+cannot m v word is r ne = search (arith, nat_tests, and_swap, eq-eqb, eqb_tells)
 
 narrowed-step : (word : ℕ) (r : Row) (rs n : List Row) (b : Bool)
     → (b ≡ false → nat_eq (bit_and word r.mask) r.bits ≡ false) → scan rs word ≡ scan n word
     → scan (r ∷ rs) word ≡ scan (cond b (r ∷ n) n) word
 unfolding scan
-narrowed-step word r rs n true ne e = ap (λ x. cond (nat_eq (bit_and word r.mask) r.bits) (Some (r.instr word)) x) e
-narrowed-step word r rs n false ne e = ap (λ b. cond b (Some (r.instr word)) (scan rs word)) (ne refl) ∙ e
+narrowed-step word r rs n b ne e = search (arith, nat_tests)
 
 pub scan_narrow : (m v word : ℕ) → bit_and word m ≡ v → (t : List Row) → scan t word ≡ scan (narrowed m v t) word
 scan_narrow m v word is [] = refl
-scan_narrow m v word is (r ∷ rs) =
-    narrowed-step word r rs (narrowed m v rs) (fits m v r) (cannot m v word is r) (scan_narrow m v word is rs)
+scan_narrow m v word is (r ∷ rs) = search (cannot, narrowed-step, (scan_narrow m v word is rs))
 
 pub same_narrow : (m v word : ℕ) → bit_and word m ≡ v → (t s : List Row) → narrowed m v t ≡ narrowed m v s
     → scan t word ≡ scan s word
@@ -97,15 +86,7 @@ one_of m vs r = nat_eq (bit_and r.mask m) m && list_any (λ v. nat_eq (bit_and r
 
 outside-row : (m : ℕ) (vs : List ℕ) (word : ℕ) → list_any (λ v. nat_eq (bit_and word m) v) vs ≡ false → (r : Row)
     → one_of m vs r ≡ true → nat_eq (bit_and word r.mask) r.bits ≡ false
-outside-row m vs word none r fixed =
-    elim (eqb_tells (bit_and word r.mask) r.bits) [
-      | inl hit ↦
-          let both : (nat_eq (bit_and r.mask m) m ≡ true) × (list_any (λ v. nat_eq (bit_and r.bits m) v) vs ≡ true) = and_parts (nat_eq (bit_and r.mask m) m) (list_any (λ v. nat_eq (bit_and r.bits m) v) vs) fixed in
-          let e : bit_and r.bits m ≡ bit_and word m = ap (λ x. bit_and x m) (sym hit.1) ∙ and_assoc m word r.mask ∙ ap (bit_and word) (eqb-true (bit_and r.mask m) m both.0) in
-          let t : list_any (λ v. nat_eq (bit_and word m) v) vs ≡ true = subst (λ x. list_any (λ v. nat_eq x v) vs ≡ true) e both.1 in
-          cc
-      | inr n ↦ n.0
-    ]
+outside-row m vs word none r fixed = search (arith, nat_tests, and_assoc, and_parts, eqb-true, eqb_tells)
 
 pub outside : (m : ℕ) (vs : List ℕ) (word : ℕ) → list_any (λ v. nat_eq (bit_and word m) v) vs ≡ false → (t : List Row)
     → list_all (one_of m vs) t ≡ true → scan t word ≡ None
@@ -117,11 +98,7 @@ outside m vs word none (r ∷ rs) all =
 
 none_cons : (a v : ℕ) (vs : List ℕ) → a ≢ v → list_any (λ x. nat_eq a x) vs ≡ false
     → list_any (λ x. nat_eq a x) (v ∷ vs) ≡ false
-none_cons a v vs ne rest =
-    elim (eqb_tells a v) [
-      | inl e ↦ absurd (ne e.1)
-      | inr n ↦ ap (λ b. b || list_any (λ x. nat_eq a x) vs) n.0 ∙ rest
-    ]
+none_cons a v vs ne rest = search (arith, nat_tests, eqb_tells)
 
 -- a number differs from each number of a list
 abbrev pub DiffersFrom : List ℕ → ℕ → Type 0
@@ -144,24 +121,14 @@ apart_in s r (x ∷ ss) h (inr later) = apart_in s r ss (and_parts (apart s x) (
 
 pub misses : (s r : Row) (word : ℕ) → apart s r ≡ true → bit_and word r.mask ≡ r.bits
     → nat_eq (bit_and word s.mask) s.bits ≡ false
-misses s r word h is =
-    elim (eqb_tells (bit_and word s.mask) s.bits) [
-      | inl hit ↦
-          let e : bit_and s.bits r.mask ≡ bit_and r.bits s.mask = ap (λ x. bit_and x r.mask) (sym hit.1) ∙ and_swap word s.mask r.mask ∙ ap (λ x. bit_and x s.mask) is in
-          let t : nat_eq (bit_and s.bits r.mask) (bit_and r.bits s.mask) ≡ true = eq-eqb (bit_and s.bits r.mask) (bit_and r.bits s.mask) e in
-          let f : nat_eq (bit_and s.bits r.mask) (bit_and r.bits s.mask) ≡ false = not-true (nat_eq (bit_and s.bits r.mask) (bit_and r.bits s.mask)) h in
-          cc
-      | inr n ↦ n.0
-    ]
+misses s r word h is = search (arith, nat_tests, and_swap, eq-eqb, eqb_tells, not-true)
 
 -- a scan finds the row of the table that matches
 pub found : (t : List Row) → all_apart t ≡ true → (r : Row) → In r t → (word : ℕ) → bit_and word r.mask ≡ r.bits
     → scan t word ≡ Some (r.instr word)
 unfolding scan
 found [] h r here word is = absurd here
-found (s ∷ ss) h r (inl e) word is =
-    let hit : nat_eq (bit_and word s.mask) s.bits ≡ true = eq-eqb (bit_and word s.mask) s.bits (subst (λ x. bit_and word x.mask ≡ x.bits) (sym e) is) in
-    ap (λ b. cond b (Some (s.instr word)) (scan ss word)) hit ∙ ap (λ x. Some (x.instr word)) e
+found (s ∷ ss) h r (inl e) word is = search (arith, nat_tests, eq-eqb)
 found (s ∷ ss) h r (inr later) word is =
     let parts : (apart_from s ss ≡ true) × (all_apart ss ≡ true) = and_parts (apart_from s ss) (all_apart ss) h in
     ap (λ b. cond b (Some (s.instr word)) (scan ss word)) (misses s r word (apart_in s r ss parts.0 later) is) ∙ found ss parts.1 r later word is
@@ -202,9 +169,7 @@ some_row (r ∷ rs) word i h =
 
 pub found_row : (word : ℕ) (o : Option Instr) → o ≡ scan table word
     → IfSome o (λ i. (r : Row) × IsRow word r × (r.instr word ≡ i))
-found_row word None is = tt
-found_row word (Some i) is =
-    let q : (r : Row) × In r table × Matches r word × (r.instr word ≡ i) = some_row table word i (sym is) in (q.0, (contains_of table q.0 q.1, q.2), q.3)
+found_row word o is = search (arith, nat_tests, contains_of, some_row)
 
 none_some : (x : Instr) (o : Option Instr) → o ≡ None → o ≡ Some x → ⊥
 none_some x o h k = cc

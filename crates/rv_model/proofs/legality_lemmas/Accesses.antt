@@ -9,20 +9,17 @@ use Rattle.rv_model.specs.declared.instructions.access.AccessInstr.TheVariants.{
 use Rattle.rv_model.specs.declared.instructions.operations.Direction.{Direction}
 use Rattle.rv_model.specs.declared.instructions.operations.Order.{Order}
 use Rattle.rv_model.specs.declared.instructions.operations.RegisterCount.{RegisterCount}
-use Rattle.rv_model.specs.declared.instructions.operations.RegisterCount.TheVariants.{One}
 use Rattle.rv_model.specs.declared.instructions.operations.UnitOp.{UnitOp}
 use Rattle.rv_model.specs.declared.instructions.operations.Eew.{Eew}
 use Rattle.rv_model.specs.declared.legality.Role.{Role}
 use Rattle.rv_model.specs.declared.legality.Role.TheVariants.{Read}
 use Rattle.rv_model.specs.declared.vector.types.Lmul.{Lmul}
-use Rattle.rv_model.specs.declared.vector.types.Lmul.TheVariants.{Mf8, Mf4, Mf2, M1, M2, M4, M8}
 use Rattle.rv_model.specs.declared.vector.types.Sew.{Sew}
-use Rattle.rv_model.specs.declared.vector.types.Sew.TheVariants.{E8, E16, E32, E64}
 use Rattle.rv_model.specs.declared.vector.types.VType.{VType}
 use Rattle.rv_model.specs.declared.vector.sizes.TheConstants.{VECTOR_REGISTERS, VLEN, VLENB}
 use Rattle.rv_model.specs.vector.Groups.{access_type, register_count, GroupType, group_type, element_width, lmul_eighths, sew_bits, sew_width, vlmax, width_bytes, registers}
 use Rattle.rv_model.specs.lending.GroupBounds.{HasRoom, IsInside, SegmentsInside, emul}
-use Rattle.rv_model.specs.legality.Legality.{data_role, indexed_role, is_legal, operands, unit_role}
+use Rattle.rv_model.specs.legality.Legality.{indexed_role, is_legal, operands}
 use Rattle.rv_model.specs.legality.OperandShapes.{field_groups, group, mask, v0}
 use Rattle.rv_model.specs.vector.TypeNames.{lmuls, sews}
 use Rattle.rv_model.proofs.assembler_lemmas.Naming.{all_at}
@@ -33,19 +30,10 @@ use Rattle.rv_model.proofs.legality_lemmas.Meaning.{IsGroup, legal_groups}
 
 -- a test of all widths holds for each width, and a test of all multipliers for each multiplier
 pub of_sews : (p : Sew → Bool) → list_all p sews ≡ true → (s : Sew) → p s ≡ true
-of_sews p h E8 = all_at p sews 0 E8 h (lit< tt)
-of_sews p h E16 = all_at p sews 1 E8 h (lit< tt)
-of_sews p h E32 = all_at p sews 2 E8 h (lit< tt)
-of_sews p h E64 = all_at p sews 3 E8 h (lit< tt)
+of_sews p h s = search (arith, all_at)
 
 pub of_lmuls : (p : Lmul → Bool) → list_all p lmuls ≡ true → (l : Lmul) → p l ≡ true
-of_lmuls p h Mf8 = all_at p lmuls 0 M1 h (lit< tt)
-of_lmuls p h Mf4 = all_at p lmuls 1 M1 h (lit< tt)
-of_lmuls p h Mf2 = all_at p lmuls 2 M1 h (lit< tt)
-of_lmuls p h M1 = all_at p lmuls 3 M1 h (lit< tt)
-of_lmuls p h M2 = all_at p lmuls 4 M1 h (lit< tt)
-of_lmuls p h M4 = all_at p lmuls 5 M1 h (lit< tt)
-of_lmuls p h M8 = all_at p lmuls 6 M1 h (lit< tt)
+of_lmuls p h l = search (arith, all_at)
 
 -- a group with VLMAX elements of one width, under a type with another SEW, has room for all of them
 abbrev has_room : Sew → Sew → Lmul → Bool
@@ -53,19 +41,10 @@ has_room s sew l =
     nat_le (width_bytes (sew_width s) * (lmul_eighths l * VLEN / (8 * sew_bits sew))) (VLENB * registers (sew_bits s * lmul_eighths l / sew_bits sew))
 
 each_has_room : (s sew : Sew) (l : Lmul) → has_room s sew l ≡ true
-each_has_room E8 E8 Mf8 = refl
-each_has_room _ E8 Mf8 = refl
-each_has_room _ _ Mf8 = refl
-each_has_room _ _ _ = refl
+each_has_room s sew l = search (arith, nat_tests)
 
 pub elements_fit : (s : Sew) (t : VType) (vl : ℕ) → vl ≤ vlmax t → width_bytes (sew_width s) * vl ≤ VLENB * registers (emul (sew_bits s) t)
-elements_fit s t vl h =
-    let up : width_bytes (sew_width s) * vl ≤ width_bytes (sew_width s) * vlmax t = mul-le-mul_left (width_bytes (sew_width s)) h in
-    let most : width_bytes (sew_width s) * vlmax t ≤ VLENB * registers (emul (sew_bits s) t) = from_test (each_has_room s t.sew t.lmul) in
-    omega (arith, up, most)
-  where
-    from_test : {a b : ℕ} → nat_le a b ≡ true → a ≤ b
-    from_test h = grind (arith, nat_tests, h)
+elements_fit s t vl h = search (arith, nat_tests, each_has_room, mul-le-mul_left, registers)
 
 -- the type of a group of elements of a width, with the VLMAX of the vector type
 abbrev pub sew_groups : Sew → VType → GroupType
@@ -75,9 +54,7 @@ sew_groups s t = record { width = sew_width s; emul = emul (sew_bits s) t }
 
 -- the register group of a field is inside the file
 pub field_inside : (g : GroupType) (vd nf vl : ℕ) → SegmentsInside g vd nf vl → (f : ℕ) → f ≤ nf → IsInside (vd + f * registers g.emul) g.emul
-field_inside g vd nf vl s f h =
-    let up : (f + 1) * registers g.emul ≤ (nf + 1) * registers g.emul = mul-le-mul_right (registers g.emul) (omega (arith, h)) in
-    omega (arith, up, s.inside)
+field_inside g vd nf vl s f h = search (arith, mul-le-mul_right, registers)
 
 segments_inside : (role : Role) (s : Sew) (e vd nf vl : ℕ) (t : VType) → emul (sew_bits s) t ≡ e → vl ≤ vlmax t
     → IsGroup (field_groups role (nf + 1) vd (record { width = sew_width s; emul = e })) → SegmentsInside (record { width = sew_width s; emul = e }) vd nf vl
@@ -98,16 +75,12 @@ segments_inside role s e vd nf vl t is h group = record {
 pub unit_inside : (op : UnitOp) (w : Eew) (nf vd rs1 : ℕ) (vm : Bool) (t : VType) (vstart vl : ℕ)
     → is_legal (instr.Access (UnitStride op w nf vd rs1 vm)) (Some t) vstart ≡ true → vl ≤ vlmax t → SegmentsInside (access_type t w) vd nf vl
 unfolding operands
-unit_inside op w nf vd rs1 vm t vstart vl legal h =
-    let groups = legal_groups (instr.Access (UnitStride op w nf vd rs1 vm)) (Some t) vstart legal in
-    segments_inside (unit_role op) (element_width w) (access_type t w).emul vd nf vl t refl h (first_of (field_groups (unit_role op) (nf + 1) vd (access_type t w)) (v0 vm) groups)
+unit_inside op w nf vd rs1 vm t vstart vl legal h = search (first_of, legal_groups, segments_inside)
 
 pub strided_inside : (direction : Direction) (w : Eew) (nf vd rs1 rs2 : ℕ) (vm : Bool) (t : VType) (vstart vl : ℕ)
     → is_legal (instr.Access (Strided direction w nf vd rs1 rs2 vm)) (Some t) vstart ≡ true → vl ≤ vlmax t → SegmentsInside (access_type t w) vd nf vl
 unfolding operands
-strided_inside direction w nf vd rs1 rs2 vm t vstart vl legal h =
-    let groups = legal_groups (instr.Access (Strided direction w nf vd rs1 rs2 vm)) (Some t) vstart legal in
-    segments_inside (data_role direction) (element_width w) (access_type t w).emul vd nf vl t refl h (first_of (field_groups (data_role direction) (nf + 1) vd (access_type t w)) (v0 vm) groups)
+strided_inside direction w nf vd rs1 rs2 vm t vstart vl legal h = search (first_of, legal_groups, segments_inside)
 
 -- the indices of an indexed access: a group inside the file, with room for the elements before vl
 pub record IndicesInside (g : GroupType) (vs2 vl : ℕ) : Type 0 where
@@ -142,8 +115,7 @@ indexed_inside direction order w nf vd rs1 vs2 vm t vstart vl legal h =
 
 -- `count` registers form a group of `count` registers
 whole_registers : (count : RegisterCount) → 1 * registers (8 * register_count count) ≡ register_count count
-whole_registers One = refl
-whole_registers _ = refl
+whole_registers count = search (arith, nat_tests)
 
 pub whole_load_inside : (count : RegisterCount) (w : Eew) (vd rs1 : ℕ) (t : Option VType) (vstart : ℕ)
     → is_legal (instr.Access (WholeLoad count w vd rs1)) t vstart ≡ true → vd + register_count count ≤ VECTOR_REGISTERS
@@ -164,5 +136,4 @@ pub mask_memory_inside : (direction : Direction) (vd rs1 : ℕ) (t : VType) (vst
     → is_legal (instr.Access (MaskAccess direction vd rs1)) (Some t) vstart ≡ true → vd + 1 ≤ VECTOR_REGISTERS
 unfolding operands
 mask_memory_inside direction vd rs1 t vstart legal =
-    let groups = legal_groups (instr.Access (MaskAccess direction vd rs1)) (Some t) vstart legal in
-    (groups 0 (mask Read 0) (lit< tt)).inside
+    ((legal_groups (instr.Access (MaskAccess direction vd rs1)) (Some t) vstart legal) 0 (mask Read 0) (lit< tt)).inside

@@ -11,7 +11,6 @@ use Rattle.rv_model.specs.declared.instructions.operations.CarryOutOp.{CarryOutO
 use Rattle.rv_model.specs.declared.instructions.operations.ClipOp.{ClipOp}
 use Rattle.rv_model.specs.declared.instructions.operations.CompareOp.{CompareOp}
 use Rattle.rv_model.specs.declared.instructions.operations.ExtendOp.{ExtendOp}
-use Rattle.rv_model.specs.declared.instructions.operations.ExtendOp.TheVariants.{VzextVf8}
 use Rattle.rv_model.specs.declared.instructions.operations.FixedPointOp.{FixedPointOp}
 use Rattle.rv_model.specs.declared.instructions.operations.MaskUnaryOp.TheVariants as mask_unary
 use Rattle.rv_model.specs.declared.instructions.operations.MultiplyAddOp.{MultiplyAddOp}
@@ -29,7 +28,7 @@ use Rattle.rv_model.specs.declared.legality.Operand.{Operand}
 use Rattle.rv_model.specs.declared.legality.Role.{Role}
 use Rattle.rv_model.specs.declared.legality.Role.TheVariants.{Apart, Read, Write}
 use Rattle.rv_model.specs.declared.legality.Shape.{Shape}
-use Rattle.rv_model.specs.declared.legality.Shape.TheVariants.{Narrowing, Reduction, Single, WideSource, Widening}
+use Rattle.rv_model.specs.declared.legality.Shape.TheVariants.{Narrowing, Single, WideSource, Widening}
 use Rattle.rv_model.specs.declared.instructions.source.Source.{Source}
 use Rattle.rv_model.specs.declared.instructions.source.Source.TheVariants as source
 use Rattle.rv_model.specs.declared.vector.types.Lmul.{Lmul}
@@ -45,14 +44,12 @@ use Rattle.rv_model.specs.lending.GroupBounds.{HasIndices, HasRoom, HoldsBody, I
 use mir.Val.{bits}
 use Rattle.std.specs.Int.{Width, w16}
 use Rattle.rv_model.specs.elements.PermutationResults.{source_type}
-use Rattle.rv_model.proofs.vector_lemmas.Lengths.{IsLength}
 use Rattle.rv_model.proofs.legality_lemmas.Meaning.{IsGroup, legal_groups}
 use Rattle.rv_model.proofs.Choices.{of_option}
 
 -- elements of SEW have the vector type's multiplier
 pub emul-sew : (s : Sew) (e : ℕ) → sew_bits s * e / sew_bits s ≡ e
-emul-sew E8 e = omega arith
-emul-sew _ e = omega arith
+emul-sew s e = search arith
 
 -- a legal group, with the multiplier in another form
 pub inside : (r e f : ℕ) → e ≡ f → r + 1 * registers e ≤ VECTOR_REGISTERS → IsInside r f
@@ -80,8 +77,7 @@ sew_group r t h = inside r (lmul_eighths t.lmul) (lmul_eighths t.lmul) refl h
 
 -- no multiplier is above 8
 pub multiplier_fits : (l : Lmul) → lmul_eighths l ≤ 64
-multiplier_fits Mf8 = lit≤ tt
-multiplier_fits _ = lit≤ tt
+multiplier_fits l = search arith
 
 -- the groups of a vector type hold all of its elements
 all_hold : (s : Sew) (l : Lmul)
@@ -109,18 +105,15 @@ length_below t vl h = (groups_hold_body t vl h).least
 
 -- the same for a configuration with any vector type or with vill
 pub configuration_below : (c : Configuration) → IsConfiguration c → c.vl ≤ GROUP_BYTES
-configuration_below c =
-    of_option c.vtype (λ t. IsLength t c.vl → c.vl ≤ GROUP_BYTES) (λ e h. omega (arith, h)) (λ t e h. length_below t c.vl h.1)
+configuration_below c = search (arith, length_below, of_option)
 
 -- n registers hold a whole number of elements
 pub whole_elements : (s : Sew) (n : ℕ) → VLENB * n ≡ width_bytes (sew_width s) * (VLENB * n / width_bytes (sew_width s))
-whole_elements E8 n = omega arith
-whole_elements _ n = omega arith
+whole_elements s n = search arith
 
 -- n bytes hold at most n elements
 pub fewer : (s : Sew) (n : ℕ) → n / width_bytes (sew_width s) ≤ n
-fewer E8 n = omega arith
-fewer _ n = omega arith
+fewer s n = search arith
 
 -- ---- operands of two widths
 
@@ -151,15 +144,13 @@ wide_groups_have_room t vl h narrow most = room_of (wide_groups_hold_body t vl h
 
 -- elements of twice SEW have twice the vector type's multiplier
 emul-wide : (s : Sew) (e : ℕ) → bits (doubled (sew_width s)) * e / sew_bits s ≡ 2 * e
-emul-wide E8 e = omega arith
-emul-wide _ e = omega arith
+emul-wide s e = search arith
 
 wide_group : (r : ℕ) (t : VType) → r + 1 * registers (wide_type t).emul ≤ VECTOR_REGISTERS → IsInside r (2 * lmul_eighths t.lmul)
 wide_group r t h = inside r (wide_type t).emul (2 * lmul_eighths t.lmul) (emul-wide t.sew (lmul_eighths t.lmul)) h
 
 wide_fits : (s : Sew) → bits (doubled (sew_width s)) ≤ 64 → sew_bits s ≤ 32
-wide_fits E8 h = omega (arith, h)
-wide_fits _ h = omega (arith, h)
+wide_fits s h = search arith
 
 -- elements of twice SEW exist, in groups of twice the multiplier
 pub record HasDouble (t : VType) : Type 0 where
@@ -208,19 +199,13 @@ pub record ArithInside (target first_source second_source vd vs2 : ℕ) (from : 
 
 module _ (vd vs2 : ℕ) (t : VType) where
   target_inside : (shape : Shape) → IsGroup (destination shape vd t) → IsInside vd (target_emul shape t)
-  target_inside Widening g = wide_group vd t g.inside
-  target_inside WideSource g = wide_group vd t g.inside
-  target_inside shape g = inside vd (target_emul shape t) (target_emul shape t) refl g.inside
+  target_inside shape g = search (arith, nat_tests, inside, wide_group)
 
   first_inside : (shape : Shape) → IsGroup (first_source shape vs2 t) → IsInside vs2 (first_emul shape t)
-  first_inside WideSource g = wide_group vs2 t g.inside
-  first_inside Narrowing g = wide_group vs2 t g.inside
-  first_inside _ g = sew_group vs2 t g.inside
+  first_inside shape g = search (arith, nat_tests, sew_group, wide_group)
 
   second_inside : (shape : Shape) (from : Source) → SecondIsGroup shape from t → SourceIsInside from (vector_source shape 0 t).emul
-  second_inside Reduction (source.V vs1) g = inside vs1 8 8 refl g.inside
-  second_inside shape (source.V vs1) g = inside vs1 (vector_source shape 0 t).emul (vector_source shape 0 t).emul refl g.inside
-  second_inside _ _ g = tt
+  second_inside shape from g = search (arith, nat_tests, inside)
 
   shape_inside : (shape : Shape) (from : Source) → ShapeGroups shape vd vs2 from t
       → ArithInside (target_emul shape t) (first_emul shape t) (vector_source shape 0 t).emul vd vs2 from
@@ -296,9 +281,7 @@ module _ (from : Source) (vd vs2 : ℕ) (vm : Bool) (t : VType) (vstart : ℕ) w
 -- ---- slides and gathers
 
 indices_fit : (s : Sew) (l : Lmul) → 2 * (lmul_eighths l * VLEN / (8 * sew_bits s)) ≤ VLENB * registers (16 * lmul_eighths l / bits (sew_width s))
-indices_fit E8 Mf8 = lit≤ tt
-indices_fit _ Mf8 = lit≤ tt
-indices_fit _ _ = lit≤ tt
+indices_fit s l = search arith
 
 -- the operands of a slide or gather
 pub record PermuteInside (op : PermuteOp) (vd vs2 : ℕ) (from : Source) (t : VType) : Type 0 where
@@ -366,22 +349,16 @@ index_inside vd vm t vstart h = sew_group vd t (first_of (group Write vd (group_
 -- elements of a fraction of SEW have that fraction of the vector type's multiplier
 emul-part : (o : ExtendOp) (s : Sew) (e : ℕ) → 8 ≤ sew_bits s / extension_divisor o
     → bits (part_width o (sew_width s)) * e / sew_bits s ≡ e / extension_divisor o
-emul-part VzextVf8 E8 e wide = omega (arith, wide)
-emul-part _ E8 e wide = omega (arith, wide)
-emul-part _ _ e wide = omega (arith, wide)
+emul-part o s e wide = search arith
 
 -- with the same fraction of the width and of the multiplier, a group has room for VLMAX elements
 part_fits : (o : ExtendOp) (s : Sew) (l : Lmul)
     → (nat_lt (sew_bits s / extension_divisor o) 8 || (nat_lt (lmul_eighths l / extension_divisor o) 1
     || nat_le (width_bytes (part_width o (sew_width s)) * (lmul_eighths l * VLEN / (8 * sew_bits s))) (VLENB * registers (lmul_eighths l / extension_divisor o)))) ≡ true
-part_fits VzextVf8 E8 Mf8 = refl
-part_fits _ E8 Mf8 = refl
-part_fits _ _ Mf8 = refl
-part_fits _ _ _ = refl
+part_fits o s l = search (arith, nat_tests)
 
 fewer_part : (o : ExtendOp) (n : ℕ) → n / extension_divisor o ≤ n
-fewer_part VzextVf8 n = omega arith
-fewer_part _ n = omega arith
+fewer_part o n = search arith
 
 -- groups with the same fraction of the width and of the multiplier have room for the body
 pub part_groups_have_room : (o : ExtendOp) (t : VType) (vl : ℕ) → vl ≤ vlmax t → 8 ≤ sew_bits t.sew / extension_divisor o
@@ -407,12 +384,11 @@ pub extension_inside : (o : ExtendOp) (vd vs2 : ℕ) (vm : Bool) (t : VType) (vs
     → is_legal (instr.Vector (Extend o vd vs2 vm)) (Some t) vstart ≡ true → ExtensionInside o vd vs2 t
 unfolding operands
 extension_inside o vd vs2 vm t vstart h =
-    let groups = legal_groups _ _ _ h in
-    let source = second_of (group Write vd (group_type t)) (extension_source o vs2 t) (v0 vm) groups in
+    let source = second_of (group Write vd (group_type t)) (extension_source o vs2 t) (v0 vm) (legal_groups _ _ _ h) in
     let same : (part_type o t).emul ≡ lmul_eighths t.lmul / extension_divisor o = emul-part o t.sew (lmul_eighths t.lmul) source.width.0 in
     record {
       wide = source.width.0;
       least = subst (λ n. 1 ≤ n) same source.least;
-      destination = sew_group vd t (first_of (group Write vd (group_type t)) (extension_source o vs2 t ∷ v0 vm) groups).inside;
+      destination = sew_group vd t (first_of (group Write vd (group_type t)) (extension_source o vs2 t ∷ v0 vm) (legal_groups _ _ _ h)).inside;
       first = inside vs2 (part_type o t).emul (lmul_eighths t.lmul / extension_divisor o) same source.inside;
     }

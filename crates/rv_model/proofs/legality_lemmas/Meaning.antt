@@ -1,6 +1,6 @@
 -- The tests of legality are equivalent to its definition.
 use Rattle.std.proofs.Common.{◌≡◌, ℕ, ◌*◌, ◌≤◌, Bool, true, false, ◌||◌, not, List, max, min, refl, arith, ◌↔◌}
-use Rattle.std.specs.Prelude.{Option, Some, None, IsSomeAnd, ◌≢◌, ◌⊎◌, ◌<◌}
+use Rattle.std.specs.Prelude.{Option, IsSomeAnd, ◌≢◌, ◌⊎◌, ◌<◌}
 use Rattle.std.specs.Option.{option_map_or}
 use Rattle.std.specs.Bool.{Decides}
 use Rattle.std.specs.Prelude.{◌%◌, nat_le, ◌==◌, ⊤, All, IsTrue}
@@ -28,8 +28,7 @@ never = (λ h. absurd (cc), λ h. absurd h)
 
 -- a test under a premise
 decides_when : {P Q : Type 0} (p q : Bool) → Decides p P → Decides q Q → Decides (not p || q) (P → Q)
-decides_when true q d e = (λ h _. e.0 h, λ f. e.1 (f (d.0 refl)))
-decides_when false q d e = (λ _ p. absurd (both_ways false refl (d.1 p)), λ _. refl)
+decides_when p q d e = search (arith, nat_tests, both_ways)
 
 itself : (b : Bool) → Decides b (b ≡ true)
 itself b = (λ h. h, λ h. h)
@@ -49,8 +48,7 @@ pub record IsGroup (o : Operand) : Type 0 where
   pub inside : end o ≤ VECTOR_REGISTERS
 
 width_means : (c : Content) → Decides (is_width c) (IsWidth c)
-width_means Mask = always
-width_means (Elements w) = Decides-and (nat_le 8 w) (nat_le w 64) (decides_le 8 w) (decides_le w 64)
+width_means c = search (arith, nat_tests, Decides-and, always, decides_le)
 
 group_means : (o : Operand) → Decides (is_group o) (IsGroup o)
 group_means o =
@@ -79,12 +77,7 @@ MayOverlap d s =
     ⊎ ((eew s.content < eew d.content) × (8 ≤ s.emul) × (end d ≡ end s)))
 
 pub may_overlap_means : (d s : Operand) → Decides (may_overlap d s) (MayOverlap d s)
-may_overlap_means d s =
-    Decides-or _ _ (Decides-eqb (eew d.content) (eew s.content))
-    (Decides-or _ _
-    (Decides-and _ _ (Decides-ltb (eew d.content) (eew s.content)) (Decides-eqb d.first s.first))
-    (Decides-like _ (λ p. (p.0, p.1.0, p.1.1)) (λ p. (p.0, (p.1, p.2)))
-    (Decides-and _ _ (Decides-ltb (eew s.content) (eew d.content)) (Decides-and _ _ (decides_le 8 s.emul) (Decides-eqb (end d) (end s))))))
+may_overlap_means d s = search (arith, nat_tests, Decides-and, Decides-eqb, Decides-like, Decides-ltb, Decides-or, decides_le, end)
 
 allows_means : (d s : Operand) → Decides (allows d s) (Overlap d s → IsTrue (may_share d.role s.role d s))
 allows_means d s = decides_when (overlaps d s) (may_share d.role s.role d s) (overlap_means d s) (itself (may_share d.role s.role d s))
@@ -108,12 +101,10 @@ pub are_legal_means : (xs : List Operand) → (are_legal xs ≡ true) ↔ AreLeg
 are_legal_means xs = are_legal_decides xs
 
 has_legal_decides : (xs : Option (List Operand)) → Decides (option_map_or are_legal xs false) (IsSomeAnd xs AreLegal)
-has_legal_decides None = never
-has_legal_decides (Some xs) = are_legal_decides xs
+has_legal_decides xs = search (arith, nat_tests, are_legal_decides, never)
 
 narrow_decides : (t : Option VType) → Decides (option_map_or (λ t. not (sew_bits t.sew == 64)) t false) (IsSomeAnd t (λ t. sew_bits t.sew ≢ 64))
-narrow_decides None = never
-narrow_decides (Some t) = Decides-not (sew_bits t.sew == 64) (Decides-eqb (sew_bits t.sew) 64)
+narrow_decides t = search (arith, nat_tests, Decides-eqb, Decides-not, never)
 
 -- the test is true exactly for the legal instructions
 pub is_legal_means : (i : Instr) (t : Option VType) (vstart : ℕ) → (is_legal i t vstart ≡ true) ↔ IsLegal i t vstart
@@ -127,8 +118,7 @@ is_legal_means i t vstart =
 
 -- the operands of a legal instruction are valid groups
 some_groups : (o : Option (List Operand)) → IsSomeAnd o AreLegal → IsSomeAnd o (All IsGroup)
-some_groups None h = h
-some_groups (Some xs) h = groups_are h
+some_groups o h = search (arith, nat_tests, groups_are)
 
 pub legal_groups : (i : Instr) (t : Option VType) (vstart : ℕ) → is_legal i t vstart ≡ true → IsSomeAnd (operands i t) (All IsGroup)
 legal_groups i t vstart h = some_groups (operands i t) ((is_legal_means i t vstart).0 h).operands

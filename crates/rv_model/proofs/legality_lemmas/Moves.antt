@@ -1,13 +1,11 @@
 -- Consequences of legality for the registers of a compression and of whole-register moves.
 use Rattle.std.specs.Prelude.{Some}
-use Rattle.std.proofs.Common.{◌≡◌, ℕ, ◌*◌, ◌/◌, true, refl, lit≤, lit<}
+use Rattle.std.proofs.Common.{◌≡◌, ℕ, ◌*◌, ◌/◌, true, refl, lit<, arith}
 use Rattle.rv_model.specs.declared.instructions.instruction.Instr.TheVariants as instr
 use Rattle.rv_model.specs.declared.instructions.vector.VectorInstr.TheVariants.{Compress, WholeMove}
 use Rattle.rv_model.specs.declared.instructions.operations.RegisterCount.{RegisterCount}
-use Rattle.rv_model.specs.declared.instructions.operations.RegisterCount.TheVariants.{One}
 use Rattle.rv_model.specs.declared.legality.Role.TheVariants.{Read}
 use Rattle.rv_model.specs.declared.vector.types.Sew.{Sew}
-use Rattle.rv_model.specs.declared.vector.types.Sew.TheVariants.{E8}
 use Rattle.rv_model.specs.declared.vector.types.VType.{VType}
 use Rattle.rv_model.specs.declared.vector.sizes.TheConstants.{VLEN}
 use Rattle.rv_model.specs.vector.Groups.{element_count, lmul_eighths, sew_bits, sew_width, whole_type, register_count}
@@ -41,18 +39,15 @@ pub whole_move_inside : (count : RegisterCount) (vd vs2 : ℕ) (t : VType) (vsta
 unfolding operands
 whole_move_inside count vd vs2 t vstart h =
     let groups = legal_groups (instr.Vector (WholeMove count vd vs2)) (Some t) vstart h in
-    let emul : ℕ = 8 * register_count count in
     record {
-      destination = inside vd emul emul refl (groups 0 (mask Read 0) (lit< tt)).inside;
-      source = inside vs2 emul emul refl (groups 1 (mask Read 0) (lit< tt)).inside;
+      destination = inside vd (8 * register_count count) (8 * register_count count) refl (groups 0 (mask Read 0) (lit< tt)).inside;
+      source = inside vs2 (8 * register_count count) (8 * register_count count) refl (groups 1 (mask Read 0) (lit< tt)).inside;
     }
 
 -- the registers hold all of their elements
 whole_hold : (s : Sew) (count : RegisterCount)
     → HoldsBody (sew_width s) (8 * register_count count) (8 * register_count count * VLEN / (8 * sew_bits s)) (8 * register_count count * VLEN / (8 * sew_bits s))
-whole_hold E8 One = record { most = lit≤ tt; room = lit≤ tt; least = lit≤ tt; whole = refl; size = lit≤ tt }
-whole_hold _ One = record { most = lit≤ tt; room = lit≤ tt; least = lit≤ tt; whole = refl; size = lit≤ tt }
-whole_hold _ _ = record { most = lit≤ tt; room = lit≤ tt; least = lit≤ tt; whole = refl; size = lit≤ tt }
+whole_hold s count = search arith
 
 pub whole_groups_hold_body : (t : VType) (count : RegisterCount)
     → HoldsBody (sew_width t.sew) (8 * register_count count) (element_count (whole_type t count)) (element_count (whole_type t count))

@@ -1,9 +1,10 @@
 -- Consequences of legality for the overlaps of a vector load: it changes neither its mask nor the indices that it still needs.
 use Rattle.std.specs.Prelude.{IsTrue, Some, nat_le, nat_lt, ◌==◌}
-use Rattle.std.proofs.Common.{◌≡◌, ◌∷◌, ◌⊎◌, inl, inr, ℕ, ◌+◌, ◌-◌, ◌*◌, ◌/◌, ◌%◌, ◌<◌, ◌≤◌, Bool, true, false, ◌&&◌, ◌||◌, cond, refl, sym, ap, ◌∙◌, subst, arith, lit<}
+use Rattle.std.proofs.Common.{◌≡◌, ◌∷◌, inl, inr, ℕ, ◌+◌, ◌-◌, ◌*◌, ◌/◌, ◌%◌, ◌<◌, ◌≤◌, Bool, true, false, ◌&&◌, ◌||◌, cond, refl, sym, ap, ◌∙◌, subst, arith, lit<}
 use Rattle.std.proofs.Math.Nat.{add-mul, mod-add-div', mul_comm}
 use Rattle.std.proofs.lemmas.Bool.{and_parts, both_ways, cases_order, eqb-true, leb-true, ltb-true, or_cases}
 use Rattle.std.proofs.lemmas.Nat.{mul-le, row_fits}
+use Rattle.std.proofs.lemmas.Bool.Decides.{nat_tests}
 use Rattle.rv_model.specs.declared.instructions.instruction.Instr.TheVariants as instr
 use Rattle.rv_model.specs.declared.instructions.access.AccessInstr.TheVariants.{Indexed, Strided, UnitStride}
 use Rattle.rv_model.specs.declared.instructions.operations.Direction.TheVariants as direction
@@ -22,7 +23,7 @@ use Rattle.rv_model.specs.declared.vector.types.VType.{VType}
 use Rattle.rv_model.specs.accesses.Restarts.{IsByteOf, LaterIndicesUnchanged}
 use Rattle.rv_model.specs.legality.Legality.{IsLegal, indexed_role, operands}
 use Rattle.rv_model.specs.legality.OperandShapes.{field_groups, group, mask, v0}
-use Rattle.rv_model.specs.legality.RegisterOperands.{Overlap, is_mask, may_share}
+use Rattle.rv_model.specs.legality.RegisterOperands.{Overlap, may_share}
 use Rattle.rv_model.specs.vector.Groups.{access_type, element_width, group_type, lmul_eighths, sew_bits, sew_width, vlmax, width_bytes, registers}
 use Rattle.rv_model.proofs.legality_lemmas.Accesses.{elements_fit}
 use Rattle.rv_model.proofs.legality_lemmas.Meaning.{IsGroup, MayOverlap, groups_are, may_overlap_means}
@@ -46,23 +47,10 @@ each_fills _ _ Mf8 = refl
 each_fills _ _ _ = refl
 
 group_filled : (s : Sew) (t : VType) → 8 ≤ emul (sew_bits s) t → vlmax t * width_bytes (sew_width s) ≡ VLENB * registers (emul (sew_bits s) t)
-group_filled s t some = elim (or_cases _ _ (and_parts _ _ (each_fills s t.sew t.lmul)).0) [
-  | inl l ↦ let a : emul (sew_bits s) t < 8 = ltb-true _ _ l in absurd (omega arith)
-  | inr h ↦ eqb-true _ _ h
-]
+group_filled s t some = search (arith, and_parts, each_fills, eqb-true, ltb-true, or_cases)
 
 wider : (s : Sew) (t : VType) → 8 ≤ emul (sew_bits s) t → sew_bits s ≤ sew_bits t.sew → 8 ≤ emul (sew_bits t.sew) t
-wider s t some h = from_test (or_cases (nat_lt (emul (sew_bits s) t) 8) narrow (and_parts _ _ (each_fills s t.sew t.lmul)).1)
-  where
-    narrow : Bool
-    narrow = nat_lt (sew_bits t.sew) (sew_bits s) || nat_le 8 (emul (sew_bits t.sew) t)
-
-    from_test : ((nat_lt (emul (sew_bits s) t) 8 ≡ true) ⊎ (narrow ≡ true)) → 8 ≤ emul (sew_bits t.sew) t
-    from_test (inl l) = let a : emul (sew_bits s) t < 8 = ltb-true _ _ l in absurd (omega arith)
-    from_test (inr o) = elim (or_cases (nat_lt (sew_bits t.sew) (sew_bits s)) (nat_le 8 (emul (sew_bits t.sew) t)) o) [
-      | inl l ↦ let a : sew_bits t.sew < sew_bits s = ltb-true _ _ l in absurd (omega arith)
-      | inr g ↦ leb-true _ _ g
-    ]
+wider s t some h = search (arith, and_parts, each_fills, leb-true, ltb-true, or_cases)
 
 pub group_fits : (s : Sew) (t : VType) → vlmax t * width_bytes (sew_width s) ≤ VLENB * registers (emul (sew_bits s) t)
 group_fits s t = omega (arith, elements_fit s t (vlmax t) (omega arith), mul_comm (vlmax t) (width_bytes (sew_width s)))
@@ -85,22 +73,15 @@ aligned_same z a b p q h g =
 -- a byte of an element of a field is in one of the registers of the fields
 byte_register : (first n f z k v i b : ℕ) → f < n → i < v → v * k ≤ VLENB * z → IsByteOf (first + f * z) k i b
     → (first ≤ b / 32) × (b / 32 < first + n * z)
-byte_register first n f z k v i b hf hi room h =
-    let low = row_fits i k v k hi (omega arith) in
-    let field = row_fits f z n z hf (omega arith) in
-    (omega arith, omega arith)
+byte_register first n f z k v i b hf hi room h = search (arith, row_fits)
 
 -- ---- the mask
 
 clear : (b : Bool) (d s : Operand) (w : ℕ) → d.content ≡ Elements w → (Overlap d s → IsTrue (may_share (cond b Write Apart) Control d s)) → ¬ Overlap d s
-clear true d s w e h o = absurd (both_ways false refl (subst (λ c. IsTrue (is_mask c)) e (h o)))
-clear false d s w e h o = absurd (both_ways false refl (h o))
+clear b d s w e h o = search (arith, nat_tests, both_ways)
 
 above_v0 : (d : Operand) → ¬ Overlap d (mask Control 0) → 1 ≤ d.fields → 1 ≤ d.first
-above_v0 d h some = elim (cases_order d.first 0) [
-  | inl e ↦ absurd (h (0, ((omega arith, omega (arith, row_fits 0 (registers d.emul) d.fields (registers d.emul) some (omega arith))), (omega arith, omega arith))))
-  | inr s ↦ omega arith
-]
+above_v0 d h some = search (arith, cases_order, registers, row_fits)
 
 -- a masked load writes no part of v0
 fields_above : (b : Bool) (d : Operand) (w : ℕ) → d.content ≡ Elements w → 1 ≤ d.fields
@@ -141,8 +122,7 @@ abbrev index_group : Eew → ℕ → VType → Operand
 index_group w vs2 t = group Read vs2 (access_type t w)
 
 may : (b : Bool) (d s : Operand) → (Overlap d s → IsTrue (may_share (cond b Write Apart) Read d s)) → Overlap d s → (b ≡ true) × MayOverlap d s
-may true d s h o = (refl, (may_overlap_means d s).0 (h o))
-may false d s h o = absurd (both_ways false refl (h o))
+may b d s h o = search (arith, nat_tests, both_ways, may_overlap_means)
 
 -- the data and the indices are valid groups; they overlap only if there is one field, and then as a destination and a source may
 record IndexedOperands (w : Eew) (nf vd vs2 : ℕ) (t : VType) : Type 0 where
@@ -210,5 +190,4 @@ later_stay w nf vd vs2 t legal f i k b hf hi hk x y =
     ]
 
 pub later_indices_stay : LaterIndicesUnchanged
-later_indices_stay order w nf vd rs1 vs2 vm t vstart legal f i k b hf hi hk x =
-    later_stay w nf vd vs2 t (indexed_operands order w nf vd rs1 vs2 vm t vstart legal) f i k b hf hi hk x
+later_indices_stay order w nf vd rs1 vs2 vm t vstart legal f i k b hf hi hk x = search (indexed_operands, later_stay)

@@ -7,7 +7,7 @@ use Rattle.std.proofs.lemmas.Bool.Decides.{nat_tests}
 use Rattle.std.proofs.lemmas.List.{get_or-replicate, get_or-set_other, set-get_or}
 use Rattle.rv_model.specs.declared.commands.command.Cmd.{Cmd}
 use Rattle.rv_model.specs.declared.commands.command.Cmd.TheVariants.{Entering}
-use Rattle.rv_model.specs.declared.commands.entering.EnteringCommand.TheVariants.{Enter, Leave}
+use Rattle.rv_model.specs.declared.commands.entering.EnteringCommand.TheVariants.{Leave}
 use Rattle.rv_model.specs.declared.commands.refusal.Refusal.TheVariants as refusal
 use Rattle.rv_model.specs.commands.Commands.{Parsed, command_outcome, commanded, needs_stopped, of_absent, of_present, parse}
 use Rattle.rv_model.specs.commands.Entering.{entering, entering_absent}
@@ -15,9 +15,9 @@ use Rattle.rv_model.specs.machine.AbsentUsers.{AbsentUsersHaveNothing, AbsentUse
 use Rattle.rv_model.specs.machine.World.{Private, Event, Command, Slice, event, sliced, World, UserEvent, after_events, after_one, outcome_of, unit_after, with_unit, user_machine, with_user_machine}
 use Rattle.rv_model.specs.machine.Script.{after_all, after_script, events_of, kind_of, new_world, world_after}
 use Rattle.rv_model.specs.machine.Setup.{Image, Setup}
-use Rattle.rv_model.specs.machine.UserMachine.{Outcome, Present, Use, Tries, Writes, Drops, refuses}
+use Rattle.rv_model.specs.machine.UserMachine.{Outcome, Present, Use, refuses}
 use Rattle.rv_model.specs.machine.VectorUnit.{VectorUnit, is_marked, is_owned_by, owner_changed, owner_saved, unit_after_instruction, unit_after_use, unit_after_uses, unit_discarded, unit_register_written, unit_touched, with_mark}
-use Rattle.rv_model.specs.step.Step.{dirties, fetched, touches}
+use Rattle.rv_model.specs.step.Step.{touches}
 use Rattle.rv_model.specs.text.Lines.{pieces}
 use Rattle.rv_model.proofs.command_lemmas.Commands.{stays_there}
 use Rattle.rv_model.proofs.machine_lemmas.Configurations.{not_gone}
@@ -37,8 +37,7 @@ unmarked (b ∷ saved) (suc i) = unmarked saved i
 -- the mark of another user is unchanged
 other_mark : (user u : ℕ) (mark : Bool) (saved : List Bool) → 1 ≤ user → 1 ≤ u → u ≢ user
     → is_marked (with_mark user mark saved) u ≡ is_marked saved u
-other_mark user u mark saved low here other =
-    get_or-set_other saved (user - 1) (u - 1) mark false (λ e. other (omega (arith, e, low, here)))
+other_mark user u mark saved low here other = search (arith, nat_tests, get_or-set_other)
 
 -- a user who isn't the owner differs from the owner
 not_owner : (owner u : ℕ) → is_owned_by (Some owner) u ≡ false → u ≢ owner
@@ -122,10 +121,7 @@ module _ (user : ℕ) (low : 1 ≤ user) (high : user ≤ 8) where
 
   -- a user whose vector state is discarded neither owns the unit nor has a saved state
   nothing_left : (unit : VectorUnit) → HasNothing user (unit_discarded user unit)
-  nothing_left unit = (
-    of_test (λ (owner : Option ℕ). is_owned_by owner user ≡ false) (is_owned_by unit.owner user) None unit.owner (λ is. refl) (λ is. is),
-    unmarked unit.saved (user - 1),
-  )
+  nothing_left unit = search (arith, nat_tests, of_test, unmarked)
 
   -- discarding the vector state of a user without one changes nothing
   nothing_dropped : (unit : VectorUnit) → HasNothing user unit → unit_discarded user unit ≡ unit
@@ -138,11 +134,7 @@ module _ (user : ℕ) (low : 1 ≤ user) (high : user ≤ 8) where
   -- ---- uses
 
   used : (one : Use) (unit : VectorUnit) → Moves user unit (unit_after_use user one unit)
-  used (Tries left hart) unit =
-      let i = fetched hart.memory hart.scalar.pc in
-      instruction (touches i) (dirties left i hart) unit
-  used Writes unit = writes unit
-  used Drops unit = discards unit
+  used one unit = search (arith, nat_tests, discards, instruction, writes)
 
   all_used : (uses : List Use) (unit : VectorUnit) → Moves user unit (unit_after_uses user uses unit)
   all_used [] unit = still user unit
@@ -153,19 +145,12 @@ module _ (user : ℕ) (low : 1 ≤ user) (high : user ≤ 8) where
 
   absent_command : (c : Cmd) (unit : VectorUnit) → HasNothing user unit → unit_after_uses user (of_absent c).uses unit ≡ unit
   unfolding of_absent entering_absent
-  absent_command (Entering Enter) unit nothing = nothing_dropped unit nothing
-  absent_command (Entering Leave) unit nothing = refl
-  absent_command _ unit nothing = refl
+  absent_command c unit nothing = search (arith, nat_tests, nothing_dropped)
 
   absent_event : (s : Setup) (e : Event) (unit : VectorUnit) → HasNothing user unit
       → unit_after_uses user (event s None e).uses unit ≡ unit
   unfolding event command_outcome sliced
-  absent_event s (Command line) unit nothing = parsed (parse line)
-    where
-      parsed : (r : Parsed) → unit_after_uses user (commanded s.images None r).uses unit ≡ unit
-      parsed (Err reason) = refl
-      parsed (Ok c) = absent_command c unit nothing
-  absent_event s Slice unit nothing = refl
+  absent_event s e unit nothing = search (arith, nat_tests, absent_command)
 
   -- ---- users who become absent
 
@@ -193,8 +178,7 @@ module _ (user : ℕ) (low : 1 ≤ user) (high : user ≤ 8) where
       parsed : (r : Parsed) → LeavesNothing (commanded s.images (Some p) r) unit
       parsed (Err reason) none = absurd (not_gone p (Some p) (λ is. is) none)
       parsed (Ok c) none = present_leaves s.images p c unit none
-  absent_after s (Some p) Slice unit nothing none =
-      absurd (not_gone p (sliced s.quantum (Some p)).next (sliced_stays s.quantum p) none)
+  absent_after s (Some p) Slice unit nothing none = search (arith, nat_tests, not_gone, sliced_stays)
 
 -- ---- the laws
 
@@ -203,8 +187,7 @@ unfolding new_world
 new_world_has_nothing = (tt, λ u low high absent. (refl, get_or-replicate 8 (u - 1) false false (omega (arith, low, high))))
 
 unit_after_turn : (turn : Bool) (u : ℕ) (w : World) → (if turn then record w { cursor = u } else w).unit ≡ w.unit
-unit_after_turn true u w = refl
-unit_after_turn false u w = refl
+unit_after_turn turn u w = search (arith, nat_tests)
 
 unit_after_one : (s : Setup) (w : World) (h : UserEvent) → (after_one s w h).unit ≡ unit_after s w h
 unit_after_one s w h = unit_after_turn h.turn h.user (with_unit (unit_after s w h) (with_user_machine h.user (outcome_of s w h).next w))
@@ -234,22 +217,18 @@ all_keep_nothing : (s : Setup) (w : World) (hs : List UserEvent) → length w.pa
     → AbsentUsersHaveNothing (after_events s w hs)
 all_keep_nothing s w [] eight users nothing = nothing
 all_keep_nothing s w (h ∷ hs) eight users nothing =
-    all_keep_nothing s (after_one s w h) hs (length-after_one s w h ∙ eight) users.2
-    (user_events_keep_nothing s w h users.0 users.1 eight nothing)
+    search (arith, nat_tests, length-after_one, user_events_keep_nothing, (all_keep_nothing s (after_one s w h) hs (length-after_one s w h ∙ eight) users.2 (user_events_keep_nothing s w h users.0 users.1 eight nothing)))
 
 lines_keep_nothing : (s : Setup) (w : World) (lines : List (List ℕ)) → length w.parts ≡ 8 → AbsentUsersHaveNothing w
     → AbsentUsersHaveNothing (after_all s w lines)
 unfolding world_after
 lines_keep_nothing s w [] eight nothing = nothing
 lines_keep_nothing s w (line ∷ lines) eight nothing =
-    lines_keep_nothing s (world_after s w line) lines (length-after s w line ∙ eight)
-    (all_keep_nothing s w (events_of s w (kind_of line)) eight (users_of s w line) nothing)
+    search (arith, nat_tests, all_keep_nothing, length-after, users_of, (lines_keep_nothing s (world_after s w line) lines (length-after s w line ∙ eight) (all_keep_nothing s w (events_of s w (kind_of line)) eight (users_of s w line) nothing)))
 
 pub scripts_keep_nothing : ScriptsKeepNothing
 unfolding after_script
 scripts_keep_nothing s w script eight nothing = lines_keep_nothing s w (pieces script) eight nothing
 
 pub absent_users_leave_the_unit : AbsentUsersLeaveTheUnit
-absent_users_leave_the_unit s w h low high nothing absent =
-    ap (λ (p : Private). unit_after_uses h.user (event s p h.event).uses w.unit) absent
-    ∙ absent_event h.user low high s h.event w.unit (nothing.1 h.user low high absent)
+absent_users_leave_the_unit s w h low high nothing absent = search (arith, nat_tests, absent_event)

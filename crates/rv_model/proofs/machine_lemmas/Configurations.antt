@@ -1,12 +1,10 @@
 -- After any number of a user's instructions, the user is still present, and the vector type still allows the vector length.
-use Rattle.std.proofs.Common.{◌≡◌, ℕ, zero, suc, ◌-◌, Bool, false, Some, None, refl, sym, subst}
-use Rattle.std.specs.Prelude.{◌&&◌, not, is_none}
+use Rattle.std.proofs.Common.{◌≡◌, ℕ, zero, suc, Bool, false, Some, None, subst, arith}
+use Rattle.std.proofs.lemmas.Bool.Decides.{nat_tests}
 use Rattle.rv_model.specs.declared.step.step_end.StepEnd.{StepEnd}
-use Rattle.rv_model.specs.declared.step.step_end.StepEnd.TheVariants.{Ran}
 use Rattle.rv_model.specs.machine.Cuts.{IsConfigured}
-use Rattle.rv_model.specs.machine.UserMachine.{after, at_breakpoint, stop_of, Halted, halted, runs_on, slice_steps, steps, Present, Private}
-use Rattle.rv_model.specs.step.Hart.{HartState, Stepped}
-use Rattle.rv_model.specs.step.Step.{step}
+use Rattle.rv_model.specs.machine.UserMachine.{after, Halted, runs_on, slice_steps, steps, Present, Private}
+use Rattle.rv_model.specs.step.Hart.{HartState}
 use Rattle.rv_model.specs.vector.Groups.{IsConfiguration}
 use Rattle.rv_model.proofs.Choices.{of_either}
 use Rattle.rv_model.proofs.step_lemmas.Configurations.{step_keeps_configuration}
@@ -20,8 +18,7 @@ StaysAs p None = ⊥
 StaysAs p (Some q) = HasLength p → HasLength q
 
 pub stays_configured : (p : Present) (next : Private) → StaysAs p next → IsConfigured (Some p) → IsConfigured next
-stays_configured p None stays is = tt
-stays_configured p (Some q) stays is = stays is
+stays_configured p next stays is = search (arith, nat_tests)
 
 pub not_gone : (p : Present) (next : Private) → StaysAs p next → next ≡ None → ⊥
 not_gone p next stays none = subst (StaysAs p) none stays
@@ -29,20 +26,12 @@ not_gone p next stays none = subst (StaysAs p) none stays
 -- ---- runs of instructions
 
 hart_after : (e : StepEnd) (state : HartState) (p : Present) → (after e state p).hart ≡ state
-hart_after Ran state p = refl
-hart_after _ state p = refl
+hart_after e state p = search (arith, nat_tests)
 
 run_stays : (skip_once : Bool) (limit : ℕ) (p : Present) (others : ℕ → Present → Halted)
     → ((later : ℕ) (q : Present) → HasLength q → HasLength (others later q).state)
     → HasLength p → HasLength (runs_on skip_once limit p others).state
-run_stays skip_once limit p others rest is =
-    let one : Stepped = step limit p.hart in
-    let q : Present = after one.end one.state p in
-    let left : HasLength q = subst (λ (s : HartState). IsConfiguration s.vector.conf) (sym (hart_after one.end one.state p))
-    (step_keeps_configuration limit p.hart is) in
-    of_either (λ (r : Halted). HasLength r.state) (not skip_once && at_breakpoint p) _ _ is
-    (of_either (λ (r : Halted). HasLength r.state) (is_none (stop_of one.end)) (others (limit - one.ticks) q)
-    (halted q (stop_of one.end)) (rest (limit - one.ticks) q left) left)
+run_stays skip_once limit p others rest is = search (arith, nat_tests, hart_after, of_either, step_keeps_configuration)
 
 pub steps_stay : (n : ℕ) (skip_once : Bool) (p : Present) → HasLength p → HasLength (steps n skip_once p).state
 steps_stay zero skip_once p is = is

@@ -1,17 +1,18 @@
 -- The vector type of each user's machine allows its vector length, after any events.
-use Rattle.std.proofs.Common.{ℕ, zero, suc, ◌-◌, List, [], ◌∷◌, get_or, set, Some, None, Ok, Err, refl, sym, subst}
-use Rattle.std.specs.Prelude.{◌&&◌, replicate}
+use Rattle.std.proofs.Common.{ℕ, zero, suc, ◌-◌, List, [], ◌∷◌, get_or, set, Some, None, sym, subst, arith}
+use Rattle.std.specs.Prelude.{replicate}
+use Rattle.std.proofs.lemmas.Bool.Decides.{nat_tests}
 use Rattle.rv_model.specs.declared.commands.command.Cmd.{Cmd}
 use Rattle.rv_model.specs.declared.commands.command.Cmd.TheVariants.{Entering}
-use Rattle.rv_model.specs.declared.commands.entering.EnteringCommand.TheVariants.{Enter, Leave}
-use Rattle.rv_model.specs.commands.Commands.{Parsed, command_outcome, commanded, needs_stopped, of_absent, of_present, parse}
+use Rattle.rv_model.specs.declared.commands.entering.EnteringCommand.TheVariants.{Leave}
+use Rattle.rv_model.specs.commands.Commands.{Parsed, command_outcome, commanded, of_absent, of_present}
 use Rattle.rv_model.specs.commands.Entering.{entering, entering_absent}
 use Rattle.rv_model.specs.machine.ConfiguredUsers.{UserEventsKeepConfigurations, ScriptsKeepConfigurations, SlicesAddUpAfterScripts, UsersAreConfigured}
 use Rattle.rv_model.specs.machine.Cuts.{IsConfigured}
-use Rattle.rv_model.specs.machine.World.{Event, Command, Slice, event, World, UserEvent, after_events, after_one, outcome_of, user_machine}
+use Rattle.rv_model.specs.machine.World.{Event, event, World, UserEvent, after_events, after_one, outcome_of, user_machine}
 use Rattle.rv_model.specs.machine.Script.{after_script, events_of, kind_of, new_world, world_after}
 use Rattle.rv_model.specs.machine.Setup.{Image, Setup}
-use Rattle.rv_model.specs.machine.UserMachine.{Outcome, Present, Private}
+use Rattle.rv_model.specs.machine.UserMachine.{Present, Private}
 use Rattle.rv_model.specs.text.Lines.{pieces}
 use Rattle.rv_model.specs.vector.State.{initial_vector}
 use Rattle.rv_model.proofs.Choices.{of_either}
@@ -24,8 +25,7 @@ use Rattle.rv_model.proofs.machine_lemmas.Headline.{part_after_one}
 
 absent_command : (c : Cmd) → IsConfigured (of_absent c).next
 unfolding of_absent entering_absent initial_vector
-absent_command (Entering Enter) = refl
-absent_command _ = tt
+absent_command c = search (arith, nat_tests)
 
 present_command : (images : List Image) (p : Present) (c : Cmd) → IsConfigured (Some p) → IsConfigured (of_present images c p).next
 unfolding of_present entering
@@ -34,15 +34,11 @@ present_command images p c is = stays_configured p (of_present images c p).next 
 
 line_keeps : (images : List Image) (p : Private) (r : Parsed) → IsConfigured p → IsConfigured (commanded images p r).next
 unfolding command_outcome
-line_keeps images p (Err reason) is = is
-line_keeps images None (Ok c) is = absent_command c
-line_keeps images (Some p) (Ok c) is =
-    of_either (λ (o : Outcome). IsConfigured o.next) (p.running && needs_stopped c) _ _ is (present_command images p c is)
+line_keeps images p r is = search (arith, nat_tests, absent_command, of_either, present_command)
 
 event_keeps : (s : Setup) (p : Private) (e : Event) → IsConfigured p → IsConfigured (event s p e).next
 unfolding event
-event_keeps s p (Command line) is = line_keeps s.images p (parse line) is
-event_keeps s p Slice is = slice_keeps_configuration s.quantum p is
+event_keeps s p e is = search (arith, nat_tests, line_keeps, slice_keeps_configuration)
 
 -- ---- events of all users
 

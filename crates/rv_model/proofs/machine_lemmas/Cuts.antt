@@ -4,6 +4,7 @@ use Rattle.std.specs.Prelude.{All, is_none, not, ◌&&◌, if◌then◌else◌}
 use Rattle.std.proofs.lemmas.Bool.{cases_Bool}
 use Rattle.std.proofs.lemmas.List.{append-nil}
 use Rattle.std.proofs.lemmas.List.Elements.{All-cons, All-head, All-tail, All-same, All-nil}
+use Rattle.std.proofs.lemmas.Bool.Decides.{nat_tests}
 use Rattle.rv_model.specs.declared.step.step_end.StepEnd.{StepEnd}
 use Rattle.rv_model.specs.declared.step.step_end.StepEnd.TheVariants.{Ran, Exit, Ebreak, Fault, OutputFull, Cut}
 use Rattle.rv_model.specs.declared.step.step_end.Stop.{Stop}
@@ -11,7 +12,7 @@ use Rattle.rv_model.specs.declared.step.step_end.Stop.TheVariants as stop
 use Rattle.rv_model.specs.accesses.Restarts.{overlay}
 use Rattle.rv_model.specs.machine.Cuts.{HaveEqualEffects, CutsAreInvisible, IsConfigured, KeepsWordIfCut, SliceKeepsConfiguration, SlicesAddUp, joined, slices}
 use Rattle.rv_model.specs.machine.World.{slice_ends, sliced}
-use Rattle.rv_model.specs.machine.UserMachine.{stop_of, at_breakpoint, recorded, after, Halted, halted, slice_steps, ticked, Outcome, Present, Private, Use, Tries}
+use Rattle.rv_model.specs.machine.UserMachine.{stop_of, at_breakpoint, after, Halted, halted, slice_steps, ticked, Outcome, Present, Private, Use, Tries}
 use Rattle.rv_model.specs.memory.Memory.{Memory}
 use Rattle.rv_model.specs.declared.memory.Access.TheVariants.{Monitor}
 use Rattle.rv_model.specs.step.Hart.{HartState, Stepped}
@@ -64,12 +65,10 @@ ended Cut = inr (inl refl)
 -- an instruction that continues after a cut leaves the same machine as the uncut one
 after_resumed : (e : StepEnd) (state half : HartState) (p : Present) → half.scalar ≡ p.hart.scalar
     → after e state (after Cut half p) ≡ after e state p
-after_resumed Ran state half p h = ap (λ x. record p { hart = state; trace = recorded p.trace x.pc; fresh = false }) h
-after_resumed _ state half p h = refl
+after_resumed e state half p h = search (arith, nat_tests)
 
 running_after : (e : StepEnd) (state : HartState) (p : Present) → (after e state p).running ≡ p.running
-running_after Ran state p = refl
-running_after _ state p = refl
+running_after e state p = search (arith, nat_tests)
 
 -- ---- a run of instructions
 
@@ -81,12 +80,10 @@ abbrev comes_to : ℕ → ℕ → Present → Halted
 comes_to n left p = bare (slice_steps n left p)
 
 bare_either : (b : Bool) (x y : Halted) → bare (if b then x else y) ≡ (if b then bare x else bare y)
-bare_either true x y = refl
-bare_either false x y = refl
+bare_either b x y = search (arith, nat_tests)
 
 uses_either : (b : Bool) (x y : Halted) → (if b then x else y).uses ≡ (if b then x.uses else y.uses)
-uses_either true x y = refl
-uses_either false x y = refl
+uses_either b x y = search (arith, nat_tests)
 
 -- a breakpoint stops the program before its next instruction
 abbrev should_break : Present → Bool
@@ -99,22 +96,16 @@ follows n left p one =
     else halted (after one.end one.state p) (stop_of one.end)
 
 steps_none : (n : ℕ) (p : Present) → comes_to n 0 p ≡ halted p None
-steps_none zero p = refl
-steps_none (suc n) p = refl
+steps_none n p = search (arith, nat_tests)
 
 steps_broken : (n left : ℕ) (p : Present) → should_break p ≡ true → 1 ≤ left
     → comes_to (suc n) left p ≡ halted p (Some stop.Breakpoint)
-steps_broken n zero p h l = absurd (omega (arith, l))
-steps_broken n (suc left) p h l = rw h refl
+steps_broken n left p h l = search (arith, nat_tests)
 
 steps_tried : (n left : ℕ) (p : Present) → should_break p ≡ false → 1 ≤ left
     → comes_to (suc n) left p ≡ follows n left p (step left p.hart)
 unfolding follows
-steps_tried n zero p h l = absurd (omega (arith, l))
-steps_tried n (suc left) p h l =
-    let one : Stepped = step (suc left) p.hart in
-    let next : Present = after one.end one.state p in
-    rw h (bare_either (is_none (stop_of one.end)) (slice_steps n (suc left - one.ticks) next) (halted next (stop_of one.end)))
+steps_tried n left p h l = search (arith, nat_tests, bare_either)
 
 -- the uses of the vector unit after an instruction
 uses_after : ℕ → ℕ → Present → Stepped → List Use
@@ -124,12 +115,7 @@ uses_after n left p one =
 uses_tried : (n left : ℕ) (p : Present) → should_break p ≡ false → 1 ≤ left
     → (slice_steps (suc n) left p).uses ≡ Tries left p.hart ∷ uses_after n left p (step left p.hart)
 unfolding uses_after
-uses_tried n zero p h l = absurd (omega (arith, l))
-uses_tried n (suc left) p h l =
-    let one : Stepped = step (suc left) p.hart in
-    let next : Present = after one.end one.state p in
-    rw h (ap (λ (others : List Use). Tries (suc left) p.hart ∷ others)
-    (uses_either (is_none (stop_of one.end)) (slice_steps n (suc left - one.ticks) next) (halted next (stop_of one.end))))
+uses_tried n left p h l = search (arith, nat_tests, uses_either)
 
 follows_on : (n left : ℕ) (p : Present) (one : Stepped) (e : StepEnd) → one.end ≡ e → stop_of e ≡ None
     → follows n left p one ≡ comes_to n (left - one.ticks) (after e one.state p)
@@ -151,15 +137,7 @@ follows_resumed : (b c left more : ℕ) (p : Present) (half : HartState) (two : 
     → left + more ≤ suc b → more ≤ suc c → 1 ≤ left → 1 ≤ two.ticks
     → follows b (left + more) p (after_ticks left two) ≡ follows c more (after Cut half p) two
 unfolding follows
-follows_resumed b c left more p half two h lb lc some least =
-    let over : (left + more) - (two.ticks + left) ≡ more - two.ticks = omega arith in
-    let whole : Present = after two.end two.state p in
-    let reason : Option Stop = stop_of two.end in
-    ap (λ (n : ℕ). if is_none reason then comes_to b n whole else halted whole reason) over
-    ∙ ap (λ (r : Halted). if is_none reason then bare r else halted whole reason)
-    (fuel_is_enough b c (more - two.ticks) whole (omega (arith, lb, some, least)) (omega (arith, lc, least)))
-    ∙ ap (λ (q : Present). if is_none reason then comes_to c (more - two.ticks) q else halted q reason)
-    (sym (after_resumed two.end two.state half p h))
+follows_resumed b c left more p half two h lb lc some least = search (arith, nat_tests, after_resumed, fuel_is_enough)
 
 -- a run, and another run from its final state unless the first stopped the program
 abbrev goes_on : Halted → (Present → Halted) → Halted
@@ -167,11 +145,7 @@ goes_on first more = if is_none first.stop then more first.state else first
 
 adds_none : (a b c more : ℕ) (p : Present) → more ≤ b → more ≤ c
     → comes_to b (0 + more) p ≡ goes_on (comes_to a 0 p) (λ q. comes_to c more q)
-adds_none a b c more p lb lc =
-    let zeros : 0 + more ≡ more = omega arith in
-    ap (λ (n : ℕ). comes_to b n p) zeros
-    ∙ ap (λ (r : Halted). bare r) (fuel_is_enough b c more p lb lc)
-    ∙ ap (λ (r : Halted). goes_on r (λ q. comes_to c more q)) (sym (steps_none a p))
+adds_none a b c more p lb lc = search (arith, nat_tests, fuel_is_enough, steps_none)
 
 adds : (a b c left more : ℕ) (p : Present) → left ≤ a → left + more ≤ b → more ≤ c → 1 ≤ more
     → IsConfiguration p.hart.vector.conf
@@ -267,67 +241,48 @@ unfolding sliced
 sliced_absent quantum = refl
 
 ends_uses : (run : Halted) (reason : Option Stop) → (slice_ends run reason).uses ≡ run.uses
-ends_uses run None = refl
-ends_uses run (Some reason) = refl
+ends_uses run reason = search (arith, nat_tests)
 
 uses_running : (quantum : ℕ) (p : Present) → p.running ≡ true → (sliced quantum (Some p)).uses ≡ (ticked quantum p).uses
-uses_running quantum p h =
-    ap (λ (o : Outcome). o.uses) (sliced_running quantum p h) ∙ ends_uses (ticked quantum p) (ticked quantum p).stop
+uses_running quantum p h = search (arith, nat_tests, ends_uses, sliced_running)
 
 -- the visible part of an ended slice doesn't depend on the uses
 ends_bare : (run : Halted) (reason : Option Stop) → seen (slice_ends run reason) ≡ seen (slice_ends (bare run) reason)
-ends_bare run None = refl
-ends_bare run (Some reason) = refl
+ends_bare run reason = search (arith, nat_tests)
 
 seen_running : (quantum : ℕ) (p : Present) → p.running ≡ true
     → seen (sliced quantum (Some p)) ≡ seen (slice_ends (comes_to quantum quantum p) (comes_to quantum quantum p).stop)
 seen_running quantum p h = ap seen (sliced_running quantum p h) ∙ ends_bare (ticked quantum p) (ticked quantum p).stop
 
 ends_stay : (p : Present) (run : Halted) (reason : Option Stop) → StaysAs p (Some run.state) → StaysAs p (slice_ends run reason).next
-ends_stay p run None stays = stays
-ends_stay p run (Some reason) stays = stays
+ends_stay p run reason stays = search (arith, nat_tests)
 
 pub sliced_stays : (quantum : ℕ) (p : Present) → StaysAs p (sliced quantum (Some p)).next
 unfolding sliced
-sliced_stays quantum p =
-    let run : Halted = ticked quantum p in
-    of_either (λ (o : Outcome). StaysAs p o.next) p.running _ _
-    (ends_stay p run run.stop (slice_stays quantum quantum p)) (λ is. is)
+sliced_stays quantum p = search (arith, nat_tests, ends_stay, of_either, slice_stays)
 
 pub slice_keeps_configuration : SliceKeepsConfiguration
 unfolding sliced
-slice_keeps_configuration quantum None is = tt
-slice_keeps_configuration quantum (Some p) is = stays_configured p (sliced quantum (Some p)).next (sliced_stays quantum p) is
+slice_keeps_configuration quantum h is = search (arith, nat_tests, sliced_stays, stays_configured)
 
 -- a slice of 0 ticks changes nothing
 sliced_nothing : (p : Private) → sliced 0 p ≡ record { next = p; lines = []; uses = [] }
 sliced_nothing None = sliced_absent 0
-sliced_nothing (Some p) = elim (cases_Bool p.running) [
-  | inl h ↦ sliced_running 0 p h
-  | inr h ↦ sliced_stopped 0 p h
-]
+sliced_nothing (Some p) = search (arith, nat_tests, cases_Bool, sliced_running, sliced_stopped)
 
 -- an outcome followed by a slice of 0 ticks is unchanged
 joined_nothing : (first : Outcome) → seen (joined first (sliced 0 first.next)) ≡ seen first
-joined_nothing first =
-    ap (λ (o : Outcome). seen (joined first o)) (sliced_nothing first.next)
-    ∙ ap (λ (ls : List (List ℕ)). seen (record first { lines = ls })) (append-nil first.lines)
+joined_nothing first = search (arith, nat_tests, append-nil, joined, sliced_nothing)
 
 ends_joined : (n : ℕ) (run : Halted) (reason : Option Stop) → run.state.running ≡ true
     → let whole : Halted = goes_on (halted run.state reason) (λ q. comes_to n n q) in
     seen (joined (slice_ends run reason) (sliced n (slice_ends run reason).next)) ≡ seen (slice_ends whole whole.stop)
-ends_joined n run None h = seen_running n run.state h
-ends_joined n run (Some reason) h =
-    ap (λ (o : Outcome). seen (joined (slice_ends run (Some reason)) o)) (sliced_stopped n (record run.state { running = false }) refl)
+ends_joined n run reason h = search (arith, nat_tests, joined, seen_running, sliced_stopped)
 
 cuts_add_up : (m n : ℕ) (p : Private) → IsConfigured p → All KeepsWordIfCut (sliced m p).uses
     → seen (joined (sliced m p) (sliced n (sliced m p).next)) ≡ seen (sliced (m + n) p)
-cuts_add_up m zero p is keeps =
-    let same : m ≡ m + 0 = omega arith in
-    joined_nothing (sliced m p) ∙ ap (λ (q : ℕ). seen (sliced q p)) same
-cuts_add_up m (suc n) None is keeps =
-    ap (λ (first : Outcome). seen (joined first (sliced (suc n) first.next))) (sliced_absent m)
-    ∙ ap seen (sliced_absent (suc n) ∙ sym (sliced_absent (m + suc n)))
+cuts_add_up m zero p is keeps = search (arith, nat_tests, joined_nothing)
+cuts_add_up m (suc n) None is keeps = search (arith, nat_tests, joined, sliced_absent)
 cuts_add_up m (suc n) (Some p) is keeps = elim (cases_Bool p.running) [
   | inl h ↦
       let run : Halted = ticked m p in
@@ -344,8 +299,7 @@ cuts_add_up m (suc n) (Some p) is keeps = elim (cases_Bool p.running) [
 ]
 
 pub cuts_are_invisible : CutsAreInvisible
-cuts_are_invisible m n p is keeps =
-    come_to_the_same (joined (sliced m p) (sliced n (sliced m p).next)) (sliced (m + n) p) (cuts_add_up m n p is keeps)
+cuts_are_invisible m n p is keeps = search (arith, nat_tests, come_to_the_same, cuts_add_up, joined)
 
 all_add_up : (k quantum : ℕ) (p : Private) → IsConfigured p → All KeepsWordIfCut (slices k quantum p).uses
     → seen (slices k quantum p) ≡ seen (sliced (k * quantum) p)
@@ -363,5 +317,4 @@ all_add_up (suc k) quantum p is keeps =
     ∙ ap (λ (q : ℕ). seen (sliced q p)) more
 
 pub slices_add_up : SlicesAddUp
-slices_add_up k quantum p is keeps =
-    come_to_the_same (slices k quantum p) (sliced (k * quantum) p) (all_add_up k quantum p is keeps)
+slices_add_up k quantum p is keeps = search (arith, nat_tests, all_add_up, come_to_the_same)

@@ -1,16 +1,15 @@
 -- The operator grants slices to users only, and the replies to the operator contain no newline.
-use Rattle.std.proofs.Common.{ℕ, zero, suc, ◌-◌, ◌≤◌, List, [], ◌∷◌, ◌++◌, length, Bool, true, false, Option, Some, None, Ok, Err, refl, arith}
-use Rattle.std.specs.Prelude.{drop, take, find, map, codes, flat_map, slice_index_or, unwrap_or}
+use Rattle.std.proofs.Common.{ℕ, zero, suc, ◌-◌, ◌≤◌, List, [], ◌∷◌, ◌++◌, Bool, true, false, Option, Some, None, refl, arith}
+use Rattle.std.specs.Prelude.{drop, take, find, map, codes, slice_index_or, unwrap_or}
 use Rattle.std.specs.Option.{option_map_or}
-use Rattle.rv_model.specs.declared.commands.operator.OperatorCommand.TheVariants.{Slices, Run, List as ListUsers, Stats as ShowStats}
+use Rattle.std.proofs.lemmas.Bool.Decides.{nat_tests}
 use Rattle.rv_model.specs.declared.machine.run_state.RunState.{RunState}
 use Rattle.rv_model.specs.declared.machine.run_state.RunState.TheVariants.{Absent}
 use Rattle.rv_model.specs.declared.machine.stats.Stats.{Stats}
 use Rattle.rv_model.specs.commands.Operator.{OperatorParsed, granted_line, run_state_word, listed_user, list_line, stats_line}
-use Rattle.rv_model.specs.machine.Grants.{turns_after, next_user, runs, next_running, slice_of, granted, grants, grants_of, run_state, operator_line}
+use Rattle.rv_model.specs.machine.Grants.{turns_after, next_user, runs, next_running, slice_of, granted, grants_of, run_state, operator_line}
 use Rattle.rv_model.specs.machine.Setup.{users, Setup}
-use Rattle.rv_model.specs.machine.VectorUnit.{stats_of}
-use Rattle.rv_model.specs.machine.World.{World, UserEvent, after_one, user_machine}
+use Rattle.rv_model.specs.machine.World.{World, UserEvent, after_one}
 use Rattle.rv_model.proofs.text_lemmas.Newlines.{IsLine}
 use Rattle.rv_model.proofs.command_lemmas.Operator.{ParsedNamesUser}
 use Rattle.rv_model.proofs.command_lemmas.Printing.{no_newline_in_refusal}
@@ -40,9 +39,7 @@ all-drop (suc n) [] h = tt
 all-drop (suc n) (x ∷ xs) h = all-drop n xs h.1
 
 all_users : All users
-all_users =
-    let one : (n : ℕ) → 1 ≤ n → n ≤ 8 → IsUser n = λ n low high. (low, high) in
-    (one 1 (omega arith) (omega arith), (one 2 (omega arith) (omega arith), (one 3 (omega arith) (omega arith), (one 4 (omega arith) (omega arith), (one 5 (omega arith) (omega arith), (one 6 (omega arith) (omega arith), (one 7 (omega arith) (omega arith), (one 8 (omega arith) (omega arith), tt))))))))
+all_users = search arith
 
 abbrev pub IsUserIfAny : Option ℕ → Type 0
 IsUserIfAny None = Unit {0}
@@ -73,9 +70,7 @@ granted_to_users s (suc n) w =
     (λ e h. tt) (λ u e h. (h.0, h.1, granted_to_users s n (after_one s w (slice_of u true)))) (next_is_user w.cursor (map runs w.parts))
 
 pub grants_to_users : (s : Setup) (w : World) (r : OperatorParsed) → ParsedNamesUser r → AreUsers (grants_of s w r)
-grants_to_users s w (Ok (Slices n)) named = granted_to_users s n w
-grants_to_users s w (Ok (Run u)) named = of_either AreUsers (runs (user_machine u w)) _ _ (named.0, named.1, tt) tt
-grants_to_users s w _ named = tt
+grants_to_users s w r named = search (arith, nat_tests, granted_to_users, of_either, runs)
 
 -- ---- replies to the operator
 
@@ -84,38 +79,24 @@ unfolding granted_line
 no_newline_in_granted_line n = let word : Piece = (codes "granted ", refl) in (word ▸ number n).1
 
 no_newline_in_run_state : (s : RunState) → IsLine (run_state_word s)
-no_newline_in_run_state Absent = refl
-no_newline_in_run_state _ = refl
+no_newline_in_run_state s = search (arith, nat_tests)
 
 no_newline_in_listed_user : (run_states : List RunState) (u : ℕ) → IsLine (listed_user run_states u)
 unfolding listed_user
 no_newline_in_listed_user run_states u =
-    let gap : Piece = (codes " ", refl) in
-    let colon : Piece = (codes ":", refl) in
     let run_state : RunState = slice_index_or run_states (u - 1) Absent in
-    let word : Piece = (run_state_word run_state, no_newline_in_run_state run_state) in
-    (gap ▸ number u ▸ colon ▸ word).1
+    ((codes " ", refl) ▸ number u ▸ (codes ":", refl) ▸ (run_state_word run_state, no_newline_in_run_state run_state)).1
 
 no_newline_in_list_line : (run_states : List RunState) → IsLine (list_line run_states)
 unfolding list_line
-no_newline_in_list_line run_states =
-    let word : Piece = (codes "list", refl) in
-    let all : Piece = (flat_map (listed_user run_states) users, flat_map_line (listed_user run_states) users (no_newline_in_listed_user run_states)) in
-    (word ▸ all).1
+no_newline_in_list_line run_states = search (flat_map_line, no_newline_in_listed_user)
 
 no_newline_in_stats_line : (stats : Stats) → IsLine (stats_line stats)
 unfolding stats_line
 no_newline_in_stats_line stats =
-    let saves : Piece = (codes "saves ", refl) in
-    let restores : Piece = (codes " restores ", refl) in
-    let inits : Piece = (codes " inits ", refl) in
-    let owner : Piece = (codes " owner ", refl) in
-    (saves ▸ number stats.saves ▸ restores ▸ number stats.restores ▸ inits ▸ number stats.inits
-    ▸ owner ▸ number (unwrap_or stats.owner 0)).1
+    ((codes "saves ", refl) ▸ number stats.saves ▸ (codes " restores ", refl) ▸ number stats.restores ▸ (codes " inits ", refl) ▸ number stats.inits
+    ▸ (codes " owner ", refl) ▸ number (unwrap_or stats.owner 0)).1
 
 pub no_newline_in_operator_line : (s : Setup) (w : World) (r : OperatorParsed) → IsLine (operator_line s w r)
-no_newline_in_operator_line s w (Err reason) = no_newline_in_refusal reason
-no_newline_in_operator_line s w (Ok (Slices n)) = no_newline_in_granted_line (length (granted s n w))
-no_newline_in_operator_line s w (Ok (Run u)) = no_newline_in_granted_line (length (grants s w (Run u)))
-no_newline_in_operator_line s w (Ok ListUsers) = no_newline_in_list_line (map run_state w.parts)
-no_newline_in_operator_line s w (Ok ShowStats) = no_newline_in_stats_line (stats_of w.unit)
+no_newline_in_operator_line s w r =
+    search (arith, nat_tests, no_newline_in_granted_line, no_newline_in_list_line, no_newline_in_refusal, no_newline_in_stats_line)

@@ -1,18 +1,16 @@
 -- Each user's lines are those of the user's machine run alone.
-use Rattle.std.proofs.Common.{◌≡◌, ◌≢◌, inl, inr, ℕ, ◌+◌, ◌-◌, ◌≤◌, List, [], ◌∷◌, ◌++◌, length, length-set, get_or, get_or-set_same, get_or-set_other, Bool, true, false, refl, ap, ◌∙◌, sym, subst, append_assoc, arith, eqb, cond, None}
+use Rattle.std.proofs.Common.{◌≡◌, ◌≢◌, ℕ, ◌+◌, ◌-◌, ◌≤◌, List, [], ◌∷◌, ◌++◌, length, length-set, get_or-set_same, get_or-set_other, Bool, true, false, refl, ap, ◌∙◌, sym, append_assoc, arith, eqb, cond, None}
 use Rattle.std.proofs.lemmas.List.{get_or-replicate}
-use Rattle.std.specs.Prelude.{if◌then◌else◌, ◌==◌, ◌&&◌, nat_le, nat_lt}
+use Rattle.std.specs.Prelude.{if◌then◌else◌, nat_lt}
 use Rattle.std.proofs.lemmas.Bool.{cases_eq, leb-true, and_parts}
 use Rattle.std.proofs.lemmas.Bool.Decides.{nat_tests}
 use Rattle.rv_model.specs.text.Lines.{pieces, text}
 use Rattle.rv_model.proofs.text_lemmas.Newlines.{AreLines}
 use Rattle.rv_model.specs.machine.Setup.{Setup}
-use Rattle.rv_model.specs.machine.World.{Private, Event, event, solo_from, solo, end_of}
-use Rattle.rv_model.specs.machine.Script.{World, new_world, with_unit, Kind, Long, Bad, Operator, Of, prefixed, kind_of, events_of, common, UserEvent, outcome_of, unit_after, after_one, after_events, printed_by_events, printed_by_line, after_all, printed_by_lines, schedule, whole_from, after_script, mine, own_from, own, lines, user_machine, with_user_machine, world_after}
+use Rattle.rv_model.specs.machine.World.{Private, Event, event, solo_from, end_of}
+use Rattle.rv_model.specs.machine.Script.{World, new_world, with_unit, Kind, Long, prefixed, kind_of, events_of, common, UserEvent, outcome_of, unit_after, after_one, after_events, printed_by_events, printed_by_line, after_all, printed_by_lines, schedule, whole_from, after_script, mine, own_from, own, lines, user_machine, with_user_machine, world_after}
 use Rattle.rv_model.specs.machine.Laws.{EachUserAlone, EachNewUserAlone, EachUserEndsAlone, OthersChangeNothing, EqualPartsAnswerAlike, MachinesStayEight}
 use Rattle.rv_model.proofs.text_lemmas.Lines.{lines_text}
-use Rattle.rv_model.specs.commands.Operator.{operator_parse}
-use Rattle.rv_model.specs.machine.Grants.{operator_line}
 use Rattle.rv_model.proofs.command_lemmas.Operator.{parsed_names_user}
 use Rattle.rv_model.proofs.command_lemmas.Printing.{one_line}
 use Rattle.rv_model.proofs.machine_lemmas.EventLines.{event_lines}
@@ -21,9 +19,6 @@ use Rattle.rv_model.proofs.Choices.{of_bool, of_either}
 
 pub no_newline : (v : ℕ) → eqb (48 + v) 10 ≡ false
 no_newline v = grind (arith, nat_tests)
-
-same_digit : (u v : ℕ) → eqb (48 + v) (48 + u) ≡ eqb v u
-same_digit u v = grind (arith, nat_tests)
 
 pub same_number : (u : ℕ) → eqb u u ≡ true
 same_number u = grind (arith, nat_tests)
@@ -39,12 +34,10 @@ part_other u v p w low low' ne = get_or-set_other w.parts (v - 1) (u - 1) p None
 
 -- a turn changes no user's machine
 pub parts_after_turn : (turn : Bool) (u : ℕ) (w : World) → (if turn then record w { cursor = u } else w).parts ≡ w.parts
-parts_after_turn true u w = refl
-parts_after_turn false u w = refl
+parts_after_turn turn u w = search (arith, nat_tests)
 
 pub part_after_one : (s : Setup) (u : ℕ) (w : World) (h : UserEvent) → user_machine u (after_one s w h) ≡ user_machine u (with_user_machine h.user (outcome_of s w h).next w)
-part_after_one s u w h =
-    ap (λ parts. get_or parts (u - 1) None) (parts_after_turn h.turn h.user (with_unit (unit_after s w h) (with_user_machine h.user (outcome_of s w h).next w)))
+part_after_one s u w h = search (arith, nat_tests, parts_after_turn)
 
 pub length-after_one : (s : Setup) (w : World) (h : UserEvent) → length (after_one s w h).parts ≡ length w.parts
 length-after_one s w h =
@@ -63,15 +56,10 @@ splits_same s u others w e es low high =
     ∙ sym (append_assoc (event s (user_machine u w) e).lines (solo_from s p (mine u es)) others))
 
 splits_other : (s : Setup) (u : ℕ) (others : List (List ℕ)) (w : World) (e : Event) (es : List UserEvent) (v : ℕ) → 1 ≤ u → 1 ≤ v → v ≢ u → Splits s u others w e es v
-splits_other s u others w e es v low low' ne =
-    rw (other_number u v ne) (ap (λ (q : Private). solo_from s q (mine u es) ++ others) (part_other u v (event s (user_machine v w) e).next w low low' ne))
+splits_other s u others w e es v low low' ne = search (other_number, part_other)
 
 splits : (s : Setup) (u : ℕ) (others : List (List ℕ)) (w : World) (e : Event) (es : List UserEvent) (v : ℕ) → 1 ≤ u → u ≤ length w.parts → 1 ≤ v → Splits s u others w e es v
-splits s u others w e es v low high low' =
-    elim (cases_eq v u) [
-      | inl h ↦ subst (Splits s u others w e es) (sym h) (splits_same s u others w e es low high)
-      | inr ne ↦ splits_other s u others w e es v low low' ne
-    ]
+splits s u others w e es v low high low' = search (arith, nat_tests, cases_eq, splits_other, splits_same)
 
 -- the lines that events print for a user
 pub lines_printed_by_events : (s : Setup) (u : ℕ) (w : World) (es : List UserEvent) (rest : List ℕ) → 1 ≤ u → u ≤ 8 → length w.parts ≡ 8 → AreUsers es → lines u (printed_by_events s w es ++ rest) ≡ solo_from s (user_machine u w) (mine u es) ++ lines u rest
@@ -83,7 +71,7 @@ lines_printed_by_events s u w (h ∷ es) rest low high eight users =
     let ih = lines_printed_by_events s u w' es rest low high (length-after_one s w h ∙ eight) users.2 in
     ap (lines u) (append_assoc (text (48 + v) (event s (user_machine v w) e).lines) (printed_by_events s w' es) rest)
     ∙ lines_text u (48 + v) (event s (user_machine v w) e).lines (printed_by_events s w' es ++ rest) (no_newline v) (event_lines s (user_machine v w) e)
-    ∙ ap (λ (b : Bool). cond b (event s (user_machine v w) e).lines [] ++ lines u (printed_by_events s w' es ++ rest)) (same_digit u v)
+    ∙ ap (λ (b : Bool). cond b (event s (user_machine v w) e).lines [] ++ lines u (printed_by_events s w' es ++ rest)) (grind (arith, nat_tests))
     ∙ ap (λ (x : List (List ℕ)). cond (eqb v u) (event s (user_machine v w) e).lines [] ++ x) ih
     ∙ ap (λ (q : Private). cond (eqb v u) (event s (user_machine v w) e).lines [] ++ (solo_from s q (mine u es) ++ lines u rest)) (part_after_one s u w h)
     ∙ splits s u (lines u rest) w e es v low (omega (arith, high, eight)) users.0
@@ -93,24 +81,15 @@ abbrev Ends : Setup → ℕ → World → Event → List UserEvent → ℕ → T
 Ends s u w e es v = end_of s (user_machine u (with_user_machine v (event s (user_machine v w) e).next w)) (mine u es) ≡ end_of s (user_machine u w) (cond (eqb v u) (e ∷ mine u es) (mine u es))
 
 ends_same : (s : Setup) (u : ℕ) (w : World) (e : Event) (es : List UserEvent) → 1 ≤ u → u ≤ length w.parts → Ends s u w e es u
-ends_same s u w e es low high =
-    rw (same_number u) (ap (λ (q : Private). end_of s q (mine u es)) (part_same u (event s (user_machine u w) e).next w low high))
+ends_same s u w e es low high = search (part_same, same_number)
 
 ends_other : (s : Setup) (u : ℕ) (w : World) (e : Event) (es : List UserEvent) (v : ℕ) → 1 ≤ u → 1 ≤ v → v ≢ u → Ends s u w e es v
-ends_other s u w e es v low low' ne =
-    rw (other_number u v ne) (ap (λ (q : Private). end_of s q (mine u es)) (part_other u v (event s (user_machine v w) e).next w low low' ne))
+ends_other s u w e es v low low' ne = search (other_number, part_other)
 
 pub part_after_events : (s : Setup) (u : ℕ) (w : World) (es : List UserEvent) → 1 ≤ u → u ≤ 8 → length w.parts ≡ 8 → AreUsers es → user_machine u (after_events s w es) ≡ end_of s (user_machine u w) (mine u es)
 part_after_events s u w [] low high eight users = refl
 part_after_events s u w (h ∷ es) low high eight users =
-    let v = h.user in
-    let e = h.event in
-    part_after_events s u (after_one s w h) es low high (length-after_one s w h ∙ eight) users.2
-    ∙ ap (λ (q : Private). end_of s q (mine u es)) (part_after_one s u w h)
-    ∙ elim (cases_eq v u) [
-      | inl h ↦ subst (Ends s u w e es) (sym h) (ends_same s u w e es low (omega (arith, high, eight)))
-      | inr ne ↦ ends_other s u w e es v low users.0 ne
-    ]
+    search (arith, cases_eq, ends_other, ends_same, length-after_one, part_after_one, (part_after_events s u (after_one s w h) es low high (length-after_one s w h ∙ eight) users.2))
 
 pub length-after_events : (s : Setup) (w : World) (es : List UserEvent) → length (after_events s w es).parts ≡ length w.parts
 length-after_events s w [] = refl
@@ -118,16 +97,7 @@ length-after_events s w (h ∷ hs) = length-after_events s (after_one s w h) hs 
 
 -- the events of a line are those of one of the eight users
 users_prefixed : (s : Setup) (w : World) (line : List ℕ) → AreUsers (events_of s w (prefixed line))
-users_prefixed s w (d ∷ c ∷ rest) = spaced (c == 32) (d == 42) (nat_le 49 d && nat_le d 56) refl
-  where
-    spaced : (a b c : Bool) → c ≡ (nat_le 49 d && nat_le d 56) → AreUsers (events_of s w (if a then (if b then Operator rest else if c then Of (d - 48) rest else Bad) else Bad))
-    spaced false b c h = tt
-    spaced true true c h = grants_to_users s w (operator_parse rest) (parsed_names_user rest)
-    spaced true false false h = tt
-    spaced true false true h =
-        let two = and_parts (nat_le 49 d) (nat_le d 56) (sym h) in
-        (omega (arith, leb-true 49 d two.0, leb-true d 56 two.1), omega (arith, leb-true 49 d two.0, leb-true d 56 two.1), tt)
-users_prefixed s w _ = tt
+users_prefixed s w line = search (arith, and_parts, grants_to_users, leb-true, parsed_names_user)
 
 pub users_of : (s : Setup) (w : World) (line : List ℕ) → AreUsers (events_of s w (kind_of line))
 unfolding kind_of
@@ -136,13 +106,10 @@ users_of s w line = of_either (λ k. AreUsers (events_of s w k)) (nat_lt 1024 (l
 -- replies without a user's digit appear in no user's lines
 common_lines : (s : Setup) (w : World) (k : Kind) → AreLines (common s w k)
 unfolding common
-common_lines s w (Operator line) = one_line (operator_line s w (operator_parse line)) (no_newline_in_operator_line s w (operator_parse line))
-common_lines s w _ = refl
+common_lines s w k = search (arith, nat_tests, no_newline_in_operator_line, one_line)
 
 lines_common : (s : Setup) (u : ℕ) (w : World) (k : Kind) (rest : List ℕ) → lines u (text 42 (common s w k) ++ rest) ≡ lines u rest
-lines_common s u w k rest =
-    let star : eqb 42 (48 + u) ≡ false = grind (arith, nat_tests) in
-    lines_text u 42 (common s w k) rest refl (common_lines s w k) ∙ ap (λ (b : Bool). cond b (common s w k) [] ++ lines u rest) star
+lines_common s u w k rest = search (arith, nat_tests, common_lines, lines_text)
 
 solo-append : (s : Setup) (p : Private) (a b : List Event) → solo_from s p (a ++ b) ≡ solo_from s p a ++ solo_from s (end_of s p a) b
 solo-append s p [] b = refl
@@ -150,9 +117,7 @@ solo-append s p (e ∷ a) b = ap (λ (x : List (List ℕ)). (event s p e).lines 
 
 pub mine-append : (u : ℕ) (a b : List UserEvent) → mine u (a ++ b) ≡ mine u a ++ mine u b
 mine-append u [] b = refl
-mine-append u (h ∷ a) b =
-    of_bool (eqb h.user u) (λ t. cond t (h.event ∷ mine u (a ++ b)) (mine u (a ++ b)) ≡ cond t (h.event ∷ mine u a) (mine u a) ++ mine u b)
-    (λ e. ap (λ (x : List Event). h.event ∷ x) (mine-append u a b)) (λ e. mine-append u a b)
+mine-append u (h ∷ a) b = search (arith, nat_tests, of_bool, (mine-append u a b))
 
 pub length-after : (s : Setup) (w : World) (line : List ℕ) → length (world_after s w line).parts ≡ length w.parts
 unfolding world_after
@@ -172,20 +137,13 @@ lines_printed_by_line s u w line rest low high eight =
 
 lines_none : (u : ℕ) → lines u [] ≡ []
 unfolding lines
-lines_none u =
-    let other : eqb 0 (48 + u) ≡ false = grind (arith, nat_tests) in
-    rw other refl
+lines_none u = search (arith, nat_tests)
 
 -- For all lines of a script: the user's lines are those of the user's machine run alone.
 pub lines_printed_by_lines : (s : Setup) (u : ℕ) (w : World) (ls : List (List ℕ)) → 1 ≤ u → u ≤ 8 → length w.parts ≡ 8 → lines u (printed_by_lines s w ls) ≡ solo_from s (user_machine u w) (mine u (schedule s w ls))
 lines_printed_by_lines s u w [] low high eight = lines_none u
 lines_printed_by_lines s u w (l ∷ ls) low high eight =
-    let es : List UserEvent = events_of s w (kind_of l) in
-    lines_printed_by_line s u w l (printed_by_lines s (world_after s w l) ls) low high eight
-    ∙ ap (λ (x : List (List ℕ)). solo_from s (user_machine u w) (mine u es) ++ x) (lines_printed_by_lines s u (world_after s w l) ls low high (length-after s w l ∙ eight))
-    ∙ ap (λ (p : Private). solo_from s (user_machine u w) (mine u es) ++ solo_from s p (mine u (schedule s (world_after s w l) ls))) (part_after s u w l low high eight)
-    ∙ sym (solo-append s (user_machine u w) (mine u es) (mine u (schedule s (world_after s w l) ls)))
-    ∙ ap (solo_from s (user_machine u w)) (sym (mine-append u es (schedule s (world_after s w l) ls)))
+    search (length-after, lines_printed_by_line, mine-append, part_after, solo-append, (lines_printed_by_lines s u (world_after s w l) ls low high (length-after s w l ∙ eight)))
 
 pub headline : (s : Setup) (u : ℕ) (w : World) (script : List ℕ) → 1 ≤ u → u ≤ 8 → length w.parts ≡ 8 → lines u (whole_from s w script) ≡ solo_from s (user_machine u w) (own_from s u w script)
 unfolding whole_from own_from
@@ -203,11 +161,7 @@ end_of-append s p (e ∷ a) b = end_of-append s (event s p e).next a b
 part_after_all : (s : Setup) (u : ℕ) (w : World) (ls : List (List ℕ)) → 1 ≤ u → u ≤ 8 → length w.parts ≡ 8 → user_machine u (after_all s w ls) ≡ end_of s (user_machine u w) (mine u (schedule s w ls))
 part_after_all s u w [] low high eight = refl
 part_after_all s u w (l ∷ ls) low high eight =
-    let es : List UserEvent = events_of s w (kind_of l) in
-    part_after_all s u (world_after s w l) ls low high (length-after s w l ∙ eight)
-    ∙ ap (λ (p : Private). end_of s p (mine u (schedule s (world_after s w l) ls))) (part_after s u w l low high eight)
-    ∙ sym (end_of-append s (user_machine u w) (mine u es) (mine u (schedule s (world_after s w l) ls)))
-    ∙ ap (end_of s (user_machine u w)) (sym (mine-append u es (schedule s (world_after s w l) ls)))
+    search (end_of-append, length-after, mine-append, part_after, (part_after_all s u (world_after s w l) ls low high (length-after s w l ∙ eight)))
 
 pub each_user_alone : EachUserAlone
 each_user_alone s w script u eight low high = headline s u w script low high eight
@@ -221,21 +175,14 @@ unfolding after_script own_from
 each_user_ends_alone s w script u eight low high = part_after_all s u w (pieces script) low high eight
 
 pub others_change_nothing : OthersChangeNothing
-others_change_nothing s one two u low high same =
-    each_new_user_alone s one u low high ∙ ap (solo s) same ∙ sym (each_new_user_alone s two u low high)
+others_change_nothing s one two u low high same = search (arith, nat_tests, each_new_user_alone)
 
 part_moves : (s : Setup) (w : World) (h : UserEvent) → 1 ≤ h.user → h.user ≤ 8 → length w.parts ≡ 8
     → user_machine h.user (after_one s w h) ≡ (outcome_of s w h).next
-part_moves s w h low high eight =
-    part_after_one s h.user w h ∙ part_same h.user (outcome_of s w h).next w low (omega (arith, high, eight))
+part_moves s w h low high eight = search (arith, part_after_one, part_same)
 
 pub equal_parts_answer_alike : EqualPartsAnswerAlike
-equal_parts_answer_alike s one two h low high first second same = (
-  ap (λ (p : Private). text (48 + h.user) (event s p h.event).lines ++ []) same,
-  part_moves s one h low high first
-      ∙ ap (λ (p : Private). (event s p h.event).next) same
-      ∙ sym (part_moves s two h low high second),
-)
+equal_parts_answer_alike s one two h low high first second same = search (arith, nat_tests, part_moves)
 
 pub machines_stay_eight : MachinesStayEight
 unfolding after_script

@@ -1,6 +1,6 @@
 -- A user's lines don't change if the lines of all other users are removed, once lines `run` replace each `slices`.
-use Rattle.std.proofs.Common.{◌≡◌, ◌≢◌, inl, inr, ℕ, zero, suc, ◌-◌, ◌≤◌, List, [], ◌∷◌, ◌++◌, length, Bool, true, false, ◌&&◌, Some, None, Ok, cond, eqb, refl, ap, ◌∙◌, sym, subst, append_assoc, append-nil, arith}
-use Rattle.std.specs.Prelude.{codes, decimal, filter, find, map, not, slice_index_or, ◌==◌}
+use Rattle.std.proofs.Common.{◌≡◌, ◌≢◌, inl, inr, ℕ, zero, suc, ◌-◌, ◌≤◌, List, [], ◌∷◌, ◌++◌, length, Bool, true, false, Some, None, Ok, cond, refl, ap, ◌∙◌, sym, subst, append_assoc, arith}
+use Rattle.std.specs.Prelude.{codes, decimal, filter, find, map, not, ◌==◌}
 use Rattle.std.specs.List.{list_any, onto_first}
 use Rattle.std.specs.Option.{option_map_or}
 use Rattle.std.specs.Fmt.{digits}
@@ -8,17 +8,18 @@ use Rattle.std.proofs.lemmas.Bool.{and_parts, and_from, cases_eq, false≢true, 
 use Rattle.std.proofs.lemmas.List.{get_or-replicate}
 use Rattle.std.proofs.lemmas.List.Splits.{join_with_byte-slice_split}
 use Rattle.std.proofs.lemmas.Option.{none-some}
-use Rattle.rv_model.specs.declared.commands.operator.OperatorCommand.TheVariants.{Slices, Run}
+use Rattle.std.proofs.lemmas.Bool.Decides.{nat_tests}
+use Rattle.rv_model.specs.declared.commands.operator.OperatorCommand.TheVariants.{Run}
 use Rattle.rv_model.specs.commands.Commands.{command_outcome, named, of_absent, of_present, parse}
 use Rattle.rv_model.specs.commands.Entering.{entering, entering_absent}
 use Rattle.rv_model.specs.commands.Operator.{OperatorParsed, operator_parse}
 use Rattle.rv_model.specs.commands.Reading.{one_argument}
 use Rattle.rv_model.specs.commands.Running.{running_command}
-use Rattle.rv_model.specs.machine.Grants.{turns_after, next_user, runs, next_running, slice_of, granted, grants_of}
+use Rattle.rv_model.specs.machine.Grants.{next_user, runs, next_running, slice_of, granted, grants_of}
 use Rattle.rv_model.specs.machine.World.{Private, Event, Command, Slice, event, end_of, World, UserEvent, after_one, user_machine}
 use Rattle.rv_model.specs.machine.Script.{new_world, Kind, Operator, Of, kind_of, events_of, world_after, schedule, mine, own_from, own, whole, lines}
 use Rattle.rv_model.specs.machine.Setup.{Setup}
-use Rattle.rv_model.specs.machine.Purge.{runs_other, is_of_other, script_of, purged, grants_turns, is_slices, HasNoSlices, run_line, line_with_runs, lines_with_runs, with_runs, OthersCanBePurged, OthersCanBeReplaced, RunsReplaceSlices, OnlySlicesAreReplaced, OthersCanBePurgedFromAll, SmallScriptsArePurged, SmallScriptsGetRuns}
+use Rattle.rv_model.specs.machine.Purge.{runs_other, is_of_other, script_of, grants_turns, is_slices, HasNoSlices, run_line, line_with_runs, lines_with_runs, with_runs, OthersCanBePurged, OthersCanBeReplaced, RunsReplaceSlices, OnlySlicesAreReplaced, OthersCanBePurgedFromAll, SmallScriptsArePurged, SmallScriptsGetRuns}
 use Rattle.rv_model.specs.scalar.Registers.{initial_scalar}
 use Rattle.rv_model.specs.text.Digits.{digits_after}
 use Rattle.rv_model.specs.text.Lines.{is_newline, pieces}
@@ -35,17 +36,12 @@ use Rattle.rv_model.proofs.machine_lemmas.Turns.{flag_of}
 -- ---- lines and scripts
 
 onto_first_lines : (b : ℕ) (ps : List (List ℕ)) → not (is_newline b) ≡ true → AreLines ps → AreLines (onto_first b ps)
-onto_first_lines b [] other h = and_from (not (is_newline b) && true) true (and_from (not (is_newline b)) true other refl) refl
-onto_first_lines b (p ∷ ps) other h =
-    let two = and_parts (is_line p) (are_lines ps) h in
-    and_from (is_line (b ∷ p)) (are_lines ps) (and_from (not (is_newline b)) (is_line p) other two.0) two.1
+onto_first_lines b ps other h = search (arith, nat_tests, and_from, and_parts)
 
 -- the pieces of a text contain no newline
 pieces_are_lines : (text : List ℕ) → AreLines (pieces text)
 pieces_are_lines [] = refl
-pieces_are_lines (b ∷ bs) =
-    of_bool (is_newline b) (λ t. AreLines (cond t ([] ∷ pieces bs) (onto_first b (pieces bs)))) (λ e. pieces_are_lines bs)
-    (λ e. onto_first_lines b (pieces bs) (ap not e) (pieces_are_lines bs))
+pieces_are_lines (b ∷ bs) = search (arith, nat_tests, of_bool, onto_first_lines, (pieces_are_lines bs))
 
 -- lines without a newline, none of them a `slices`
 abbrev ArePlain : List (List ℕ) → Type 0
@@ -72,14 +68,12 @@ plain-append (l ∷ a) b h k = (h.0, h.1, plain-append a b h.2 k)
 
 plain-filter : (p : List ℕ → Bool) (ls : List (List ℕ)) → ArePlain ls → ArePlain (filter p ls)
 plain-filter p [] h = tt
-plain-filter p (l ∷ ls) h =
-    let rest = plain-filter p ls h.2 in of_either ArePlain (p l) (l ∷ filter p ls) (filter p ls) (h.0, h.1, rest) rest
+plain-filter p (l ∷ ls) h = search (arith, nat_tests, of_either, (plain-filter p ls h.2))
 
 -- the pieces of a script from at least one line are its lines
 pieces_of_script : (l : List ℕ) (ls : List (List ℕ)) → ArePlain (l ∷ ls) → pieces (script_of (l ∷ ls)) ≡ l ∷ ls
 pieces_of_script l [] plain = pieces_of_line l plain.0
-pieces_of_script l (m ∷ ls) plain =
-    pieces_at l (script_of (m ∷ ls)) plain.0 ∙ ap (λ (x : List (List ℕ)). l ∷ x) (pieces_of_script m ls plain.2)
+pieces_of_script l (m ∷ ls) plain = search (pieces_at, (pieces_of_script m ls plain.2))
 
 no_slices_in_script : (ls : List (List ℕ)) → ArePlain ls → HasNoSlices (script_of ls)
 unfolding kind_of
@@ -106,42 +100,28 @@ abbrev OwnRun : World → ℕ → ℕ → Type 0
 OwnRun w u v = mine u (cond (runs (user_machine v w)) (slice_of v false ∷ []) []) ≡ own_operator (user_machine u w) u (Ok (Run v))
 
 own_run_same : (u : ℕ) (w : World) → OwnRun w u u
-own_run_same u w =
-    of_bool (runs (user_machine u w)) (λ b. mine u (cond b (slice_of u false ∷ []) []) ≡ cond (eqb u u) (cond b (Slice ∷ []) []) [])
-    (λ e. refl) (λ e. rw (same_number u) refl)
+own_run_same u w = search (arith, nat_tests, of_bool, runs, same_number)
 
 own_run_other : (u v : ℕ) (w : World) → v ≢ u → OwnRun w u v
-own_run_other u v w ne =
-    let none : List Event = cond (runs (user_machine u w)) (Slice ∷ []) [] in
-    of_bool (runs (user_machine v w)) (λ b. mine u (cond b (slice_of v false ∷ []) []) ≡ cond (eqb v u) none [])
-    (λ e. rw (other_number u v ne) refl) (λ e. rw (other_number u v ne) refl)
+own_run_other u v w ne = search (arith, nat_tests, of_bool, other_number, runs)
 
 own_run : (u v : ℕ) (w : World) → OwnRun w u v
-own_run u v w =
-    elim (cases_eq v u) [
-      | inl same ↦ subst (OwnRun w u) (sym same) (own_run_same u w)
-      | inr ne ↦ own_run_other u v w ne
-    ]
+own_run u v w = search (arith, nat_tests, cases_eq, own_run_other, own_run_same)
 
 own_grants : (s : Setup) (u : ℕ) (w : World) (r : OperatorParsed) → grants_turns r ≡ false
     → mine u (grants_of s w r) ≡ own_operator (user_machine u w) u r
-own_grants s u w (Ok (Slices n)) none = absurd (true≢false none)
-own_grants s u w (Ok (Run v)) none = own_run u v w
-own_grants s u w _ none = refl
+own_grants s u w r none = search (arith, nat_tests, own_run, true≢false)
 
 own_events : (s : Setup) (u : ℕ) (w : World) (k : Kind) → is_slices k ≡ false → mine u (events_of s w k) ≡ own_kind (user_machine u w) u k
-own_events s u w (Operator line) none = own_grants s u w (operator_parse line) none
-own_events s u w (Of v line) none = refl
-own_events s u w _ none = refl
+own_events s u w k none = search (arith, nat_tests, own_grants)
 
 own_schedule : (s : Setup) (u : ℕ) (w : World) (ls : List (List ℕ)) → 1 ≤ u → u ≤ 8 → length w.parts ≡ 8 → ArePlain ls
     → mine u (schedule s w ls) ≡ own_lines s (user_machine u w) u ls
 own_schedule s u w [] low high eight plain = refl
 own_schedule s u w (l ∷ ls) low high eight plain =
     let es : List UserEvent = events_of s w (kind_of l) in
-    let w' : World = world_after s w l in
-    mine-append u es (schedule s w' ls)
-    ∙ ap (λ (x : List Event). mine u es ++ x) (own_schedule s u w' ls low high (length-after s w l ∙ eight) plain.2)
+    mine-append u es (schedule s (world_after s w l) ls)
+    ∙ ap (λ (x : List Event). mine u es ++ x) (own_schedule s u (world_after s w l) ls low high (length-after s w l ∙ eight) plain.2)
     ∙ ap (λ (p : Private). mine u es ++ own_lines s p u ls) (part_after s u w l low high eight)
     ∙ ap (λ (x : List Event). x ++ own_lines s (end_of s (user_machine u w) x) u ls) (own_events s u w (kind_of l) plain.1)
 
@@ -153,26 +133,21 @@ absent_in_new_world u low high = get_or-replicate 8 (u - 1) None None (omega ari
 own_from_new : (s : Setup) (u : ℕ) (ls : List (List ℕ)) → 1 ≤ u → u ≤ 8 → ArePlain ls
     → mine u (schedule s new_world ls) ≡ own_lines s None u ls
 unfolding new_world
-own_from_new s u ls low high plain =
-    own_schedule s u new_world ls low high refl plain ∙ ap (λ (p : Private). own_lines s p u ls) (absent_in_new_world u low high)
+own_from_new s u ls low high plain = search (absent_in_new_world, own_schedule)
 
 own_of_script : (s : Setup) (u : ℕ) (ls : List (List ℕ)) → 1 ≤ u → u ≤ 8 → ArePlain ls → own s u (script_of ls) ≡ own_lines s None u ls
 unfolding own_from kind_of
 own_of_script s u [] low high plain = own_from_new s u ([] ∷ []) low high (refl, refl, tt)
-own_of_script s u (l ∷ ls) low high plain =
-    ap (λ (x : List (List ℕ)). mine u (schedule s new_world x)) (pieces_of_script l ls plain) ∙ own_from_new s u (l ∷ ls) low high plain
+own_of_script s u (l ∷ ls) low high plain = search (own_from_new, pieces_of_script)
 
 -- ---- removed lines
 
 no_own_grant : (p : Private) (u : ℕ) (r : OperatorParsed) → runs_other u r ≡ true → own_operator p u r ≡ []
-no_own_grant p u (Ok (Run v)) other = let no : eqb v u ≡ false = not-true (eqb v u) other in rw no refl
-no_own_grant p u _ other = absurd (false≢true other)
+no_own_grant p u r other = search (arith, nat_tests, false≢true, not-true)
 
 -- a line of another user has no event of the user
 no_own_event : (p : Private) (u : ℕ) (k : Kind) → is_of_other u k ≡ true → own_kind p u k ≡ []
-no_own_event p u (Operator line) other = no_own_grant p u (operator_parse line) other
-no_own_event p u (Of v line) other = let no : eqb v u ≡ false = not-true (eqb v u) other in rw no refl
-no_own_event p u _ other = absurd (false≢true other)
+no_own_event p u k other = search (arith, nat_tests, false≢true, no_own_grant, not-true)
 
 abbrev remaining : ℕ → List (List ℕ) → List (List ℕ)
 remaining u ls = filter (λ line. not (is_of_other u (kind_of line))) ls
@@ -180,21 +155,14 @@ remaining u ls = filter (λ line. not (is_of_other u (kind_of line))) ls
 own_remaining : (s : Setup) (p : Private) (u : ℕ) (ls : List (List ℕ)) → own_lines s p u (remaining u ls) ≡ own_lines s p u ls
 own_remaining s p u [] = refl
 own_remaining s p u (l ∷ ls) =
-    of_bool (is_of_other u (kind_of l)) (λ b. own_lines s p u (cond (not b) (l ∷ remaining u ls) (remaining u ls)) ≡ own_lines s p u (l ∷ ls))
-    (λ e. own_remaining s p u ls ∙ sym (ap (λ (x : List Event). x ++ own_lines s (end_of s p x) u ls) (no_own_event p u (kind_of l) e)))
-    (λ e. ap (λ (x : List Event). own_kind p u (kind_of l) ++ x) (own_remaining s (end_of s p (own_kind p u (kind_of l))) u ls))
+    search (arith, nat_tests, no_own_event, of_bool, (own_remaining s (end_of s p (own_kind p u (kind_of l))) u ls), (own_remaining s p u ls))
 
 plain_pieces : (script : List ℕ) → HasNoSlices script → ArePlain (pieces script)
 plain_pieces script none = plain_from (pieces script) (pieces_are_lines script) none
 
 pub others_can_be_purged : OthersCanBePurged
 unfolding own_from
-others_can_be_purged s script u low high none =
-    let plain = plain_pieces script none in
-    let ls : List (List ℕ) = pieces script in
-    others_change_nothing s (purged u script) script u low high
-    (own_of_script s u (remaining u ls) low high (plain-filter (λ line. not (is_of_other u (kind_of line))) ls plain)
-    ∙ own_remaining s None u ls ∙ sym (own_from_new s u ls low high plain))
+others_can_be_purged s script u low high none = search (others_change_nothing, own_from_new, own_of_script, own_remaining, plain-filter, plain_pieces)
 
 pub others_can_be_replaced : OthersCanBeReplaced
 others_can_be_replaced s one two u low high none_in_one none_in_two same =
@@ -203,31 +171,18 @@ others_can_be_replaced s one two u low high none_in_one none_in_two same =
 
 -- ---- lines `run` in place of `slices`
 
--- a property of each user's number
-each_user : (P : ℕ → Type 0) → P 1 → P 2 → P 3 → P 4 → P 5 → P 6 → P 7 → P 8 → (v : ℕ) → IsUser v → P v
-each_user P a b c d e f g h zero is = absurd (omega (arith, is.0))
-each_user P a b c d e f g h (suc zero) is = a
-each_user P a b c d e f g h (suc (suc zero)) is = b
-each_user P a b c d e f g h (suc (suc (suc zero))) is = c
-each_user P a b c d e f g h (suc (suc (suc (suc zero)))) is = d
-each_user P a b c d e f g h (suc (suc (suc (suc (suc zero))))) is = e
-each_user P a b c d e f g h (suc (suc (suc (suc (suc (suc zero)))))) is = f
-each_user P a b c d e f g h (suc (suc (suc (suc (suc (suc (suc zero))))))) is = g
-each_user P a b c d e f g h (suc (suc (suc (suc (suc (suc (suc (suc zero)))))))) is = h
-each_user P a b c d e f g h (suc (suc (suc (suc (suc (suc (suc (suc (suc n))))))))) is = absurd (omega (arith, is.1))
-
 -- a line `run` is parsed as the command
 abbrev RunsUser : ℕ → Type 0
 RunsUser v = (kind_of (run_line v) ≡ Operator (codes "run " ++ decimal v)) × (operator_parse (codes "run " ++ decimal v) ≡ Ok (Run v))
 
 run_line_runs : (v : ℕ) → IsUser v → RunsUser v
 unfolding kind_of operator_parse words one_argument digits_after digits
-run_line_runs v is =
-    each_user RunsUser (refl, refl) (refl, refl) (refl, refl) (refl, refl) (refl, refl) (refl, refl) (refl, refl) (refl, refl) v is
+run_line_runs zero is = absurd (omega (arith, is.0))
+run_line_runs (suc (suc (suc (suc (suc (suc (suc (suc (suc n))))))))) is = absurd (omega (arith, is.1))
+run_line_runs _ is = (refl, refl)
 
 own_run_line : (p : Private) (u v : ℕ) → IsUser v → own_kind p u (kind_of (run_line v)) ≡ own_operator p u (Ok (Run v))
-own_run_line p u v is =
-    let runs = run_line_runs v is in ap (own_kind p u) runs.0 ∙ ap (own_operator p u) runs.1
+own_run_line p u v is = search (arith, nat_tests, run_line_runs)
 
 no_slices_in_run_line : (v : ℕ) → IsUser v → is_slices (kind_of (run_line v)) ≡ false
 no_slices_in_run_line v is = let runs = run_line_runs v is in ap is_slices runs.0 ∙ ap grants_turns runs.1
@@ -237,11 +192,7 @@ run_lines hs = map (λ h. run_line h.user) hs
 
 plain_runs : (hs : List UserEvent) → AreUsers hs → ArePlain (run_lines hs)
 plain_runs [] users = tt
-plain_runs (h ∷ hs) users = (
-  is_line-append (codes "* run ") (decimal h.user) refl (decimal_line h.user),
-  no_slices_in_run_line h.user (users.0, users.1),
-  plain_runs hs users.2,
-)
+plain_runs (h ∷ hs) users = search (decimal_line, is_line-append, no_slices_in_run_line, (plain_runs hs users.2))
 
 plain_with_runs : (s : Setup) (w : World) (ls : List (List ℕ)) → AreLines ls → ArePlain (lines_with_runs s w ls)
 plain_with_runs s w [] lines = tt
@@ -264,14 +215,12 @@ found_passes p (y ∷ ys) x found =
 
 next_runs : (w : World) (v : ℕ) → next_running w ≡ Some v → runs (user_machine v w) ≡ true
 unfolding next_user
-next_runs w v next =
-    sym (flag_of w.parts (v - 1)) ∙ found_passes (λ u. slice_index_or (map runs w.parts) (u - 1) false) (turns_after w.cursor) v next
+next_runs w v next = search (arith, nat_tests, flag_of, found_passes, runs)
 
 -- a turn is a slice of a user whose program is running, so `run` grants it as well
 own_turn : (u v : ℕ) (w : World) → IsUser v → runs (user_machine v w) ≡ true
     → own_kind (user_machine u w) u (kind_of (run_line v)) ≡ mine u (slice_of v true ∷ [])
-own_turn u v w is running =
-    own_run_line (user_machine u w) u v is ∙ sym (own_run u v w) ∙ ap (λ (b : Bool). mine u (cond b (slice_of v false ∷ []) [])) running
+own_turn u v w is running = search (arith, nat_tests, own_run, own_run_line)
 
 own_granted : (s : Setup) (u n : ℕ) (w : World) → 1 ≤ u → u ≤ 8 → length w.parts ≡ 8
     → own_lines s (user_machine u w) u (run_lines (granted s n w)) ≡ mine u (granted s n w)
@@ -282,61 +231,45 @@ own_granted s u (suc n) w low high eight =
     (λ o. let hs : List UserEvent = option_map_or (λ v. slice_of v true ∷ granted s n (after_one s w (slice_of v true))) o [] in
     own_lines s (user_machine u w) u (run_lines hs) ≡ mine u hs)
     (λ next. refl) (λ v next.
-    let h : UserEvent = slice_of v true in
-    let w' : World = after_one s w h in
-    let hs : List UserEvent = granted s n w' in
+    let w' : World = after_one s w (slice_of v true) in
     let is = subst IsUserIfAny next (next_is_user w.cursor (map runs w.parts)) in
-    let moved = part_after_events s u w (h ∷ []) low high eight (is.0, is.1, tt) in
-    ap (λ (x : List Event). x ++ own_lines s (end_of s (user_machine u w) x) u (run_lines hs)) (own_turn u v w is (next_runs w v next))
-    ∙ ap (λ (p : Private). mine u (h ∷ []) ++ own_lines s p u (run_lines hs)) (sym moved)
-    ∙ ap (λ (x : List Event). mine u (h ∷ []) ++ x) (own_granted s u n w' low high (length-after_one s w h ∙ eight))
-    ∙ sym (mine-append u (h ∷ []) hs))
+    let moved = part_after_events s u w ((slice_of v true) ∷ []) low high eight (is.0, is.1, tt) in
+    ap (λ (x : List Event). x ++ own_lines s (end_of s (user_machine u w) x) u (run_lines (granted s n w'))) (own_turn u v w is (next_runs w v next))
+    ∙ ap (λ (p : Private). mine u ((slice_of v true) ∷ []) ++ own_lines s p u (run_lines (granted s n w'))) (sym moved)
+    ∙ ap (λ (x : List Event). mine u ((slice_of v true) ∷ []) ++ x) (own_granted s u n w' low high (length-after_one s w (slice_of v true) ∙ eight))
+    ∙ sym (mine-append u ((slice_of v true) ∷ []) (granted s n w')))
 
 -- a `slices` has the events of its lines `run`
 own_slices : (s : Setup) (u : ℕ) (w : World) (k : Kind) → 1 ≤ u → u ≤ 8 → length w.parts ≡ 8 → is_slices k ≡ true
     → own_lines s (user_machine u w) u (run_lines (events_of s w k)) ≡ mine u (events_of s w k)
-own_slices s u w (Operator line) low high eight is = parsed (operator_parse line) is
-  where
-    parsed : (r : OperatorParsed) → grants_turns r ≡ true
-        → own_lines s (user_machine u w) u (run_lines (grants_of s w r)) ≡ mine u (grants_of s w r)
-    parsed (Ok (Slices n)) is = own_granted s u n w low high eight
-    parsed _ is = absurd (false≢true is)
-own_slices s u w _ low high eight is = absurd (false≢true is)
+own_slices s u w k low high eight is = search (arith, nat_tests, false≢true, own_granted)
 
 -- so has each line
 own_line : (s : Setup) (u : ℕ) (w : World) (l : List ℕ) → 1 ≤ u → u ≤ 8 → length w.parts ≡ 8
     → own_lines s (user_machine u w) u (line_with_runs s w l) ≡ mine u (events_of s w (kind_of l))
-own_line s u w l low high eight =
-    let p : Private = user_machine u w in
-    let es : List UserEvent = events_of s w (kind_of l) in
-    of_bool (is_slices (kind_of l)) (λ b. own_lines s p u (cond b (run_lines es) (l ∷ [])) ≡ mine u es)
-    (λ is. own_slices s u w (kind_of l) low high eight is)
-    (λ no. append-nil (own_kind p u (kind_of l)) ∙ sym (own_events s u w (kind_of l) no))
+own_line s u w l low high eight = search (arith, nat_tests, of_bool, own_events, own_slices)
 
 own_lines-append : (s : Setup) (p : Private) (u : ℕ) (a b : List (List ℕ))
     → own_lines s p u (a ++ b) ≡ own_lines s p u a ++ own_lines s (end_of s p (own_lines s p u a)) u b
 own_lines-append s p u [] b = refl
 own_lines-append s p u (l ∷ a) b =
-    let first : List Event = own_kind p u (kind_of l) in
-    let q : Private = end_of s p first in
+    let q : Private = end_of s p (own_kind p u (kind_of l)) in
     let others : List Event = own_lines s q u a in
-    ap (λ (x : List Event). first ++ x) (own_lines-append s q u a b)
-    ∙ sym (append_assoc first others (own_lines s (end_of s q others) u b))
-    ∙ ap (λ (r : Private). (first ++ others) ++ own_lines s r u b) (sym (end_of-append s p first others))
+    ap (λ (x : List Event). (own_kind p u (kind_of l)) ++ x) (own_lines-append s q u a b)
+    ∙ sym (append_assoc (own_kind p u (kind_of l)) others (own_lines s (end_of s q others) u b))
+    ∙ ap (λ (r : Private). ((own_kind p u (kind_of l)) ++ others) ++ own_lines s r u b) (sym (end_of-append s p (own_kind p u (kind_of l)) others))
 
 own_with_runs : (s : Setup) (u : ℕ) (w : World) (ls : List (List ℕ)) → 1 ≤ u → u ≤ 8 → length w.parts ≡ 8
     → own_lines s (user_machine u w) u (lines_with_runs s w ls) ≡ mine u (schedule s w ls)
 own_with_runs s u w [] low high eight = refl
 own_with_runs s u w (l ∷ ls) low high eight =
-    let p : Private = user_machine u w in
     let es : List UserEvent = events_of s w (kind_of l) in
-    let w' : World = world_after s w l in
-    let rest : List (List ℕ) = lines_with_runs s w' ls in
-    own_lines-append s p u (line_with_runs s w l) rest
-    ∙ ap (λ (x : List Event). x ++ own_lines s (end_of s p x) u rest) (own_line s u w l low high eight)
+    let rest : List (List ℕ) = lines_with_runs s (world_after s w l) ls in
+    own_lines-append s (user_machine u w) u (line_with_runs s w l) rest
+    ∙ ap (λ (x : List Event). x ++ own_lines s (end_of s (user_machine u w) x) u rest) (own_line s u w l low high eight)
     ∙ ap (λ (q : Private). mine u es ++ own_lines s q u rest) (sym (part_after s u w l low high eight))
-    ∙ ap (λ (x : List Event). mine u es ++ x) (own_with_runs s u w' ls low high (length-after s w l ∙ eight))
-    ∙ sym (mine-append u es (schedule s w' ls))
+    ∙ ap (λ (x : List Event). mine u es ++ x) (own_with_runs s u (world_after s w l) ls low high (length-after s w l ∙ eight))
+    ∙ sym (mine-append u es (schedule s (world_after s w l) ls))
 
 own_of_runs : (s : Setup) (u : ℕ) (script : List ℕ) → 1 ≤ u → u ≤ 8 → own s u (with_runs s script) ≡ own s u script
 unfolding own_from new_world
@@ -347,26 +280,20 @@ own_of_runs s u script low high =
     ∙ own_with_runs s u new_world (pieces script) low high refl
 
 pub runs_replace_slices : RunsReplaceSlices
-runs_replace_slices s script u low high =
-    others_change_nothing s (with_runs s script) script u low high (own_of_runs s u script low high)
+runs_replace_slices s script u low high = search (others_change_nothing, own_of_runs)
 
 same_lines : (s : Setup) (w : World) (ls : List (List ℕ)) → any_slices ls ≡ false → lines_with_runs s w ls ≡ ls
 same_lines s w [] none = refl
 same_lines s w (l ∷ ls) none =
     let two = or_parts (is_slices (kind_of l)) (any_slices ls) none in
-    let rest : List (List ℕ) = lines_with_runs s (world_after s w l) ls in
-    ap (λ (b : Bool). cond b (run_lines (events_of s w (kind_of l))) (l ∷ []) ++ rest) two.0
+    ap (λ (b : Bool). cond b (run_lines (events_of s w (kind_of l))) (l ∷ []) ++ (lines_with_runs s (world_after s w l) ls)) two.0
     ∙ ap (λ (x : List (List ℕ)). l ∷ x) (same_lines s (world_after s w l) ls two.1)
 
 pub only_slices_are_replaced : OnlySlicesAreReplaced
-only_slices_are_replaced s script = (
-  no_slices_in_script (lines_with_runs s new_world (pieces script)) (plain_with_runs s new_world (pieces script) (pieces_are_lines script)),
-  λ none. ap script_of (same_lines s new_world (pieces script) none) ∙ join_with_byte-slice_split 10 script,
-)
+only_slices_are_replaced s script = search (join_with_byte-slice_split, no_slices_in_script, pieces_are_lines, plain_with_runs, same_lines)
 
 pub others_can_be_purged_from_all : OthersCanBePurgedFromAll
-others_can_be_purged_from_all s script u low high =
-    others_can_be_purged s (with_runs s script) u low high (only_slices_are_replaced s script).0 ∙ runs_replace_slices s script u low high
+others_can_be_purged_from_all s script u low high = search (arith, nat_tests, only_slices_are_replaced, others_can_be_purged, runs_replace_slices)
 
 pub small_scripts_are_purged : SmallScriptsArePurged
 unfolding kind_of operator_parse words one_argument digits_after

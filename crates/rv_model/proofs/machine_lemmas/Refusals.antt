@@ -1,21 +1,19 @@
 -- A refused command changes nothing.
-use Rattle.std.proofs.Common.{◌≡◌, inl, inr, ℕ, zero, suc, ◌+◌, ◌-◌, ◌<◌, List, [], ◌∷◌, ◌++◌, get_or, length, drop, map, Bool, true, false, eqb, None, Ok, Err, refl, ap, sym, ◌∙◌, subst, append_assoc, arith}
-use Rattle.std.specs.Prelude.{not, if◌then◌else◌}
+use Rattle.std.proofs.Common.{◌≡◌, inl, inr, ℕ, zero, suc, ◌+◌, ◌-◌, ◌<◌, List, [], ◌∷◌, ◌++◌, get_or, length, drop, map, true, false, eqb, Ok, Err, refl, ap, sym, ◌∙◌, subst, append_assoc, arith}
+use Rattle.std.specs.Prelude.{not}
 use Rattle.std.specs.List.{Any}
 use Rattle.std.specs.Option.{option_map_or}
 use Rattle.std.proofs.lemmas.Bool.{and_from, and_parts, false≢true}
 use Rattle.std.proofs.lemmas.List.{append-nil, set-get_or}
+use Rattle.std.proofs.lemmas.Bool.Decides.{nat_tests}
 use Rattle.rv_model.specs.declared.commands.operator.OperatorCommand.{OperatorCommand}
-use Rattle.rv_model.specs.declared.commands.operator.OperatorCommand.TheVariants.{Slices, Run}
 use Rattle.rv_model.specs.commands.Commands.{parse}
-use Rattle.rv_model.specs.commands.Operator.{OperatorParsed, granted_line, list_line, operator_parse, stats_line}
+use Rattle.rv_model.specs.commands.Operator.{OperatorParsed, granted_line, list_line, stats_line}
 use Rattle.rv_model.specs.machine.Grants.{granted, grants, grants_of, next_running, operator_line, runs, slice_of}
-use Rattle.rv_model.specs.machine.World.{Private, Event, Command, Slice, event, World, UserEvent, after_events, after_one, outcome_of, printed_by_events, unit_after, with_unit, user_machine, with_user_machine}
+use Rattle.rv_model.specs.machine.World.{Private, Event, Command, Slice, event, World, UserEvent, after_events, after_one, outcome_of, printed_by_events, user_machine}
 use Rattle.rv_model.specs.machine.Refusals.{IsRefusal, RefusedUserEventsChangeNothing, RefusedLinesChangeNothing}
-use Rattle.rv_model.specs.machine.Script.{Kind, Empty, Long, Bad, Operator, Of, commands, common, events_of, kind_of, printed_by_line, world_after}
+use Rattle.rv_model.specs.machine.Script.{commands, common, printed_by_line, world_after}
 use Rattle.rv_model.specs.machine.Setup.{Setup}
-use Rattle.rv_model.specs.machine.UserMachine.{Use}
-use Rattle.rv_model.specs.machine.VectorUnit.{unit_after_uses}
 use Rattle.rv_model.specs.text.Lines.{is_newline, pieces, tagged, text}
 use Rattle.rv_model.proofs.text_lemmas.Newlines.{is_line, are_lines, AreLines, IsLine}
 use Rattle.rv_model.proofs.command_lemmas.Printing.{one_line}
@@ -43,16 +41,13 @@ plain_at (a ∷ rest) (suc k) d plain below =
 -- none of the plain replies is a refusal
 none_refused : (answers : List (List ℕ)) → are_plain answers ≡ true → Any IsRefusal answers → ⊥
 none_refused answers plain any =
-    let here : is_plain any.1 ≡ true = sym (ap is_plain any.3) ∙ plain_at answers any.0 any.1 plain any.2 in
-    let letter : eqb (get_or any.1 0 0) 69 ≡ true = ap (λ n. eqb n 69) any.4 in
-    false≢true (sym (ap not letter) ∙ here)
+    false≢true (sym (ap not (ap (λ n. eqb n 69) any.4)) ∙ (sym (ap is_plain any.3) ∙ plain_at answers any.0 any.1 plain any.2))
 
 answers_tagged : (tag : ℕ) (line rest : List ℕ) → is_newline tag ≡ false → IsLine line
     → answers_in (tagged tag line ++ rest) ≡ line ∷ answers_in rest
 answers_tagged tag line rest plain h =
-    let all : IsLine (tag ∷ 32 ∷ line) = and_from (not (is_newline tag)) (is_line (32 ∷ line)) (ap not plain) h in
     ap (λ (l : List ℕ). answers_in (tag ∷ 32 ∷ l)) (append_assoc line (10 ∷ []) rest)
-    ∙ ap (map (λ (l : List ℕ). drop 2 l)) (pieces_at (tag ∷ 32 ∷ line) rest all)
+    ∙ ap (map (λ (l : List ℕ). drop 2 l)) (pieces_at (tag ∷ 32 ∷ line) rest (and_from (not (is_newline tag)) (is_line (32 ∷ line)) (ap not plain) h))
 
 -- a text is plain if its lines and the rest after them are plain
 plain_text : (tag : ℕ) (ls : List (List ℕ)) (rest : List ℕ) → is_newline tag ≡ false → AreLines ls → are_plain ls ≡ true
@@ -85,21 +80,10 @@ event_settles s p Slice = inr (sliced_printed s.quantum p).1
 -- the world is unchanged if the user's machine is unchanged, the vector unit isn't used, and the event isn't a turn
 same_world : (s : Setup) (w : World) (h : UserEvent) → h.turn ≡ false → (outcome_of s w h).next ≡ user_machine h.user w
     → (outcome_of s w h).uses ≡ [] → after_one s w h ≡ w
-same_world s w h turn same unused =
-    let moved : World = with_unit (unit_after s w h) (with_user_machine h.user (outcome_of s w h).next w) in
-    ap (λ (t : Bool). if t then record moved { cursor = h.user } else moved) turn
-    ∙ ap (λ (p : Private). with_unit (unit_after s w h) (with_user_machine h.user p w)) same
-    ∙ ap (λ (uses : List Use). with_unit (unit_after_uses h.user uses w.unit) (with_user_machine h.user (user_machine h.user w) w)) unused
-    ∙ ap (λ (parts : List Private). record w { parts = parts }) (set-get_or w.parts (h.user - 1) None)
+same_world s w h turn same unused = search (arith, nat_tests, set-get_or)
 
 pub refused_user_events_change_nothing : RefusedUserEventsChangeNothing
-refused_user_events_change_nothing s w h slices refused =
-    of_bool h.turn (λ b. after_one s w h ≡ w)
-    (λ turn. absurd (none_refused (outcome_of s w h).lines (slice_plain s (user_machine h.user w) h.event (slices turn)) refused))
-    (λ turn. elim (event_settles s (user_machine h.user w) h.event) [
-      | inl same ↦ same_world s w h turn same.0 same.1
-      | inr plain ↦ absurd (none_refused (outcome_of s w h).lines plain refused)
-    ])
+refused_user_events_change_nothing s w h slices refused = search (arith, nat_tests, event_settles, none_refused, of_bool, same_world, slice_plain)
 
 -- ---- grants of the operator
 
@@ -115,24 +99,20 @@ granted_are_slices s (suc n) w =
     (λ e. tt) (λ u e. (refl, granted_are_slices s n (after_one s w (slice_of u true))))
 
 grants_are_slices : (s : Setup) (w : World) (c : OperatorCommand) → AreSlices (grants s w c)
-grants_are_slices s w (Slices n) = granted_are_slices s n w
-grants_are_slices s w (Run u) = of_either AreSlices (runs (user_machine u w)) _ _ (refl, tt) tt
-grants_are_slices s w _ = tt
+grants_are_slices s w c = search (arith, nat_tests, granted_are_slices, of_either, runs)
 
 plain_printed_by_events : (s : Setup) (w : World) (hs : List UserEvent) (rest : List ℕ) → AreSlices hs
     → are_plain (answers_in rest) ≡ true → are_plain (answers_in (printed_by_events s w hs ++ rest)) ≡ true
 plain_printed_by_events s w [] rest slices k = k
 plain_printed_by_events s w (h ∷ hs) rest slices k =
-    let ls : List (List ℕ) = (outcome_of s w h).lines in
-    ap (λ (t : List ℕ). are_plain (answers_in t)) (append_assoc (text (48 + h.user) ls) (printed_by_events s (after_one s w h) hs) rest)
-    ∙ plain_text (48 + h.user) ls (printed_by_events s (after_one s w h) hs ++ rest) (no_newline h.user)
+    ap (λ (t : List ℕ). are_plain (answers_in t)) (append_assoc (text (48 + h.user) ((outcome_of s w h).lines)) (printed_by_events s (after_one s w h) hs) rest)
+    ∙ plain_text (48 + h.user) ((outcome_of s w h).lines) (printed_by_events s (after_one s w h) hs ++ rest) (no_newline h.user)
     (event_lines s (user_machine h.user w) h.event) (slice_plain s (user_machine h.user w) h.event slices.0)
     (plain_printed_by_events s (after_one s w h) hs rest slices.1 k)
 
 operator_line_plain : (s : Setup) (w : World) (c : OperatorCommand) → is_plain (operator_line s w (Ok c)) ≡ true
 unfolding granted_line list_line stats_line
-operator_line_plain s w (Slices n) = refl
-operator_line_plain s w _ = refl
+operator_line_plain s w c = search (arith, nat_tests)
 
 -- ---- a line of a script
 
@@ -140,11 +120,10 @@ operator_line_plain s w _ = refl
 user_line : (s : Setup) (w : World) (u : ℕ) (line : List ℕ)
     → Any IsRefusal (answers_in (printed_by_events s w (commands u line ∷ []) ++ [])) → after_one s w (commands u line) ≡ w
 user_line s w u line refused =
-    let h : UserEvent = commands u line in
     elim (event_settles s (user_machine u w) (Command line)) [
-      | inl same ↦ same_world s w h refl same.0 same.1
+      | inl same ↦ same_world s w (commands u line) refl same.0 same.1
       | inr plain ↦
-          let ls : List (List ℕ) = (outcome_of s w h).lines in
+          let ls : List (List ℕ) = (outcome_of s w (commands u line)).lines in
           let all = plain_text (48 + u) ls [] (no_newline u) (event_lines s (user_machine u w) (Command line)) plain refl in
           absurd (none_refused _ (ap (λ (t : List ℕ). are_plain (answers_in t)) (append_assoc (text (48 + u) ls) [] []) ∙ all) refused)
     ]
@@ -154,19 +133,8 @@ operator_line_refused : (s : Setup) (w : World) (r : OperatorParsed)
     → after_events s w (grants_of s w r) ≡ w
 operator_line_refused s w (Err reason) refused = refl
 operator_line_refused s w (Ok c) refused =
-    let line : List ℕ = operator_line s w (Ok c) in
-    let last = plain_all 42 (line ∷ []) refl (one_line line (no_newline_in_operator_line s w (Ok c)))
-    (plain_line line (operator_line_plain s w c)) in
-    absurd (none_refused _ (plain_printed_by_events s w (grants s w c) (text 42 (line ∷ [])) (grants_are_slices s w c) last) refused)
+    search (grants_are_slices, no_newline_in_operator_line, none_refused, one_line, operator_line_plain, plain_all, plain_line, plain_printed_by_events)
 
 pub refused_lines_change_nothing : RefusedLinesChangeNothing
 unfolding world_after printed_by_line common
-refused_lines_change_nothing s w line refused = named (kind_of line) refused
-  where
-    named : (k : Kind) → Any IsRefusal (answers_in (printed_by_events s w (events_of s w k) ++ text 42 (common s w k)))
-        → after_events s w (events_of s w k) ≡ w
-    named Empty refused = refl
-    named Long refused = refl
-    named Bad refused = refl
-    named (Operator rest) refused = operator_line_refused s w (operator_parse rest) refused
-    named (Of u rest) refused = user_line s w u rest refused
+refused_lines_change_nothing s w line refused = search (arith, nat_tests, operator_line_refused, user_line)

@@ -25,9 +25,4 @@ fuel_is_enough (suc n) (suc k) (suc left) p h g =
 
 -- a run of one or more ticks is one instruction, followed by the run of the ticks that it leaves
 pub ticked_is_one_more : (left : ℕ) (p : Present) → 1 ≤ left → ticked left p ≡ runs_on p.fresh left p (λ later next. ticked later next)
-ticked_is_one_more zero p some = absurd (omega (arith, some))
-ticked_is_one_more (suc n) p some =
-    let one : Stepped = step (suc n) p.hart in
-    let ticks = step_takes_ticks (suc n) p.hart some in
-    ap (before (suc n) p)
-    (fuel_is_enough n (suc n - one.ticks) (suc n - one.ticks) (after one.end one.state p) (omega (arith, ticks.0)) (omega arith))
+ticked_is_one_more left p some = search (arith, fuel_is_enough, step_takes_ticks)

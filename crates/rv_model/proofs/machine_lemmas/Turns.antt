@@ -1,16 +1,15 @@
 -- Turns rotate: no user with a running program waits for ever.
-use Rattle.std.proofs.Common.{◌≡◌, ◌≢◌, inl, inr, ℕ, zero, suc, ◌+◌, ◌-◌, ◌*◌, ◌/◌, ◌%◌, ◌<◌, ◌≤◌, List, [], ◌∷◌, ◌++◌, length, get_or, Bool, true, false, Some, None, Ok, cond, eqb, refl, ap, ◌∙◌, sym, subst, append_assoc, arith}
-use Rattle.std.specs.Prelude.{find, filter, map, if◌then◌else◌, ◌==◌, ◌&&◌, slice_index_or}
+use Rattle.std.proofs.Common.{◌≡◌, ◌≢◌, inl, inr, ℕ, zero, suc, ◌+◌, ◌-◌, ◌*◌, ◌/◌, ◌%◌, ◌<◌, ◌≤◌, List, [], ◌∷◌, ◌++◌, length, get_or, Bool, true, false, Some, None, cond, eqb, refl, ap, ◌∙◌, sym, subst, append_assoc, arith}
+use Rattle.std.specs.Prelude.{find, filter, map, if◌then◌else◌, ◌==◌, slice_index_or}
 use Rattle.std.proofs.lemmas.Bool.{agree_below_at, cases_Bool, cases_eq, eqb-true, false≢true}
 use Rattle.std.proofs.lemmas.Option.{same_Some}
 use Rattle.std.specs.Option.{option_map_or}
-use Rattle.rv_model.specs.declared.commands.operator.OperatorCommand.TheVariants.{Slices, Run}
-use Rattle.rv_model.specs.commands.Operator.{operator_parse}
+use Rattle.std.proofs.lemmas.Bool.Decides.{nat_tests}
 use Rattle.rv_model.specs.machine.Grants.{turns_after, next_user, runs, next_running, slice_of, granted}
-use Rattle.rv_model.specs.machine.World.{Private, Slice, World, UserEvent, with_unit, outcome_of, unit_after, after_one, after_events, user_machine, with_user_machine}
-use Rattle.rv_model.specs.machine.Script.{Kind, Operator, Of, kind_of, events_of, schedule, world_after}
+use Rattle.rv_model.specs.machine.World.{Private, Slice, World, UserEvent, after_one, after_events}
+use Rattle.rv_model.specs.machine.Script.{Kind, events_of, schedule, world_after}
 use Rattle.rv_model.specs.machine.Setup.{Setup}
-use Rattle.rv_model.specs.machine.Turns.{AtEachTurn, AreInTurn, RunsAtEachTurn, turns_of, NobodyHasTwoTurns, EachRunningUserHasATurn, GrantsAreInTurn, ScriptsAreInTurn, OneTurnBetweenTurns}
+use Rattle.rv_model.specs.machine.Turns.{AtEachTurn, AreInTurn, RunsAtEachTurn, turns_of, NobodyHasTwoTurns, EachRunningUserHasATurn, GrantsAreInTurn, OneTurnBetweenTurns, ScriptsAreInTurn}
 use Rattle.rv_model.specs.text.Lines.{pieces}
 use Rattle.rv_model.proofs.machine_lemmas.Grants.{IsUser, IsUserIfAny, next_is_user}
 use Rattle.rv_model.proofs.machine_lemmas.Headline.{same_number, other_number}
@@ -24,12 +23,9 @@ turn_is n = eqb (slice_index_or (turns_after (n / 8)) (n % 8) 0) ((n / 8 + n % 8
 
 pub turn_at : (last turns : ℕ) → last ≤ 8 → turns < 8 → (last + turns) % 8 + 1 ≡ slice_index_or (turns_after last) turns 0
 turn_at last turns low small =
-    let n : ℕ = 8 * last + turns in
-    let quotient : n / 8 ≡ last = omega (arith, small) in
-    let remainder : n % 8 ≡ turns = omega (arith, small) in
-    let is = eqb-true _ _ (agree_below_at turn_is (λ _. true) 72 n refl (omega (arith, low, small))) in
-    sym (ap (λ q. (q + n % 8) % 8 + 1) quotient ∙ ap (λ r. (last + r) % 8 + 1) remainder) ∙ sym is
-    ∙ ap (λ q. slice_index_or (turns_after q) (n % 8) 0) quotient ∙ ap (λ r. slice_index_or (turns_after last) r 0) remainder
+    let is = eqb-true _ _ (agree_below_at turn_is (λ _. true) 72 (8 * last + turns) refl (omega (arith, low, small))) in
+    sym (ap (λ q. (q + (8 * last + turns) % 8) % 8 + 1) (omega (arith, small)) ∙ ap (λ r. (last + r) % 8 + 1) (omega (arith, small))) ∙ sym is
+    ∙ ap (λ q. slice_index_or (turns_after q) ((8 * last + turns) % 8) 0) (omega (arith, small)) ∙ ap (λ r. slice_index_or (turns_after last) r 0) (omega (arith, small))
 
 -- a round after any cursor has eight turns
 long_is : (last : ℕ) → last ≤ 8 → length (turns_after last) ≡ 8
@@ -47,8 +43,7 @@ picked p y ys b is = ap (λ (b : Bool). cond b (Some y) (find p ys)) is
 found_first : (p : ℕ → Bool) (xs : List ℕ) (j x : ℕ) → j < length xs → p (get_or xs j 0) ≡ true → find p xs ≡ Some x
     → (i : ℕ) × (i ≤ j) × (get_or xs i 0 ≡ x)
 found_first p [] j x within passes found = absurd (omega (arith, within))
-found_first p (y ∷ ys) zero x within passes found =
-    (0, omega arith, same_Some y x (sym (picked p y ys true passes) ∙ found))
+found_first p (y ∷ ys) zero x within passes found = search (arith, picked, same_Some)
 found_first p (y ∷ ys) (suc j) x within passes found =
     let later = found_first p ys j x (omega (arith, within)) passes in
     elim (cases_Bool (p y)) [
@@ -61,11 +56,10 @@ pub next_comes_first : (cursor u x : ℕ) (flags : List Bool) → cursor ≤ 8 �
     → next_user cursor flags ≡ Some x → ahead cursor x ≤ ahead cursor u
 unfolding next_user
 next_comes_first cursor u x flags low user set found =
-    let j : ℕ = ahead cursor u in
     let p : ℕ → Bool = λ v. slice_index_or flags (v - 1) false in
-    let small : j < 8 = omega arith in
-    let here : slice_index_or (turns_after cursor) j 0 ≡ u = omega (arith, turn_at cursor j low small, low, user.0, user.1) in
-    let i = found_first p (turns_after cursor) j x (rw (long_is cursor low) small) (ap p here ∙ set) found in
+    let small : (ahead cursor u) < 8 = omega arith in
+    let here : slice_index_or (turns_after cursor) (ahead cursor u) 0 ≡ u = omega (arith, turn_at cursor (ahead cursor u) low small, low, user.0, user.1) in
+    let i = found_first p (turns_after cursor) (ahead cursor u) x (rw (long_is cursor low) small) (ap p here ∙ set) found in
     omega (arith, low, user.0, user.1, i.1, i.2, turn_at cursor i.0 low (omega (arith, i.1, small)))
 
 -- the flag of a user is set if the user's program is running
@@ -97,79 +91,51 @@ turns hs = length (filter (λ h. h.turn) hs)
 
 turns_are : (hs : List UserEvent) → turns hs ≡ length (turn_users hs)
 turns_are [] = refl
-turns_are (h ∷ hs) =
-    let all : List UserEvent = filter (λ h. h.turn) hs in
-    of_bool h.turn (λ b. length (if b then h ∷ all else all) ≡ length (if b then h.user ∷ turn_users hs else turn_users hs))
-    (λ e. ap (λ n. suc n) (turns_are hs)) (λ e. turns_are hs)
+turns_are (h ∷ hs) = search (arith, nat_tests, of_bool, (turns_are hs))
 
 turns_of_are : (u : ℕ) (hs : List UserEvent) → turns_of u hs ≡ count u (turn_users hs)
 turns_of_are u [] = refl
-turns_of_are u (h ∷ hs) =
-    let mine : List UserEvent = filter (λ h. h.turn && h.user == u) hs in
-    let same : turns_of u hs ≡ count u (turn_users hs) = turns_of_are u hs in
-    of_bool h.turn (λ b. length (if b && h.user == u then h ∷ mine else mine) ≡ count u (if b then h.user ∷ turn_users hs else turn_users hs))
-    (λ e. of_bool (h.user == u) (λ b. length (if b then h ∷ mine else mine) ≡ (if b then 1 else 0) + count u (turn_users hs))
-    (λ e. omega (arith, same)) (λ e. omega (arith, same))) (λ e. same)
+turns_of_are u (h ∷ hs) = search (arith, of_bool, (turns_of_are u hs))
 
 first_counts : (u x : ℕ) (xs : List ℕ) → x ≡ u → count u (x ∷ xs) ≡ suc (count u xs)
-first_counts u x xs same =
-    ap (λ (b : Bool). (if b then 1 else 0) + count u xs) (ap (λ y. eqb y u) same ∙ same_number u) ∙ omega arith
+first_counts u x xs same = search (arith, same_number)
 
 others_count : (u x : ℕ) (xs : List ℕ) → x ≢ u → count u (x ∷ xs) ≡ count u xs
-others_count u x xs other =
-    ap (λ (b : Bool). (if b then 1 else 0) + count u xs) (other_number u x other) ∙ omega arith
+others_count u x xs other = search (arith, other_number)
 
 -- a number that doesn't occur is neither the first nor in the rest
 absent : (u x : ℕ) (xs : List ℕ) → count u (x ∷ xs) ≡ 0 → (x ≢ u) × (count u xs ≡ 0)
-absent u x xs none =
-    elim (cases_eq x u) [
-      | inl same ↦ absurd (omega (arith, none, first_counts u x xs same))
-      | inr other ↦ (other, omega (arith, none, others_count u x xs other))
-    ]
+absent u x xs none = search (arith, cases_eq, first_counts, others_count)
 
 -- while user u has no turn, a user who comes after u has none
 none_later : (u v cursor : ℕ) (xs : List ℕ) → IsUser u → IsUser v → cursor ≤ 8 → ahead cursor u < ahead cursor v
     → NoneIsLater u cursor xs → count u xs ≡ 0 → count v xs ≡ 0
 none_later u v cursor [] is_u is_v low later turns none = refl
 none_later u v cursor (x ∷ xs) is_u is_v low later turns none =
-    let rest = absent u x xs none in
-    let is_x = turns.0 in
-    let sooner = turns.1 low in
     let still : ahead x u < ahead x v =
-    omega (arith, low, later, sooner, rest.0, is_u.0, is_u.1, is_v.0, is_v.1, is_x.0, is_x.1) in
-    others_count v x xs (λ same. omega (arith, later, sooner, ap (ahead cursor) same))
-    ∙ none_later u v x xs is_u is_v is_x.1 still turns.2 rest.1
+    omega (arith, low, later, (turns.1 low), (absent u x xs none).0, is_u.0, is_u.1, is_v.0, is_v.1, turns.0.0, turns.0.1) in
+    others_count v x xs (λ same. omega (arith, later, (turns.1 low), ap (ahead cursor) same))
+    ∙ none_later u v x xs is_u is_v turns.0.1 still turns.2 (absent u x xs none).1
 
 -- while user u has no turn, no user has two
 one_at_most : (u v cursor : ℕ) (xs : List ℕ) → IsUser u → NoneIsLater u cursor xs → count u xs ≡ 0 → count v xs ≤ 1
 one_at_most u v cursor [] is_u turns none = omega arith
 one_at_most u v cursor (x ∷ xs) is_u turns none =
-    let rest = absent u x xs none in
-    let is_x = turns.0 in
-    let later : ahead x u < ahead x x = omega (arith, rest.0, is_u.0, is_u.1, is_x.0, is_x.1) in
-    let no_more = none_later u x x xs is_u is_x is_x.1 later turns.2 rest.1 in
-    let all = one_at_most u v x xs is_u turns.2 rest.1 in
+    let later : ahead x u < ahead x x = omega (arith, (absent u x xs none).0, is_u.0, is_u.1, turns.0.0, turns.0.1) in
     elim (cases_eq x v) [
-      | inl same ↦ omega (arith, first_counts v x xs same, ap (λ y. count y xs) same, no_more)
-      | inr other ↦ omega (arith, all, others_count v x xs other)
+      | inl same ↦ omega (arith, first_counts v x xs same, ap (λ y. count y xs) same, (none_later u x x xs is_u turns.0 turns.0.1 later turns.2 (absent u x xs none).1))
+      | inr other ↦ omega (arith, (one_at_most u v x xs is_u turns.2 (absent u x xs none).1), others_count v x xs other)
     ]
 
 -- while user u has no turn, the number of turns is at most the number of users before u
 few : (u cursor : ℕ) (xs : List ℕ) → IsUser u → cursor ≤ 8 → NoneIsLater u cursor xs → count u xs ≡ 0 → length xs ≤ ahead cursor u
 few u cursor [] is_u low turns none = omega arith
 few u cursor (x ∷ xs) is_u low turns none =
-    let rest = absent u x xs none in
-    let is_x = turns.0 in
-    let fewer = few u x xs is_u is_x.1 turns.2 rest.1 in
-    omega (arith, low, turns.1 low, fewer, rest.0, is_u.0, is_u.1, is_x.0, is_x.1)
+    omega (arith, low, turns.1 low, (few u x xs is_u turns.0.1 turns.2 (absent u x xs none).1), (absent u x xs none).0, is_u.0, is_u.1, turns.0.0, turns.0.1)
 
 below_eight : (u cursor : ℕ) (xs : List ℕ) → IsUser u → NoneIsLater u cursor xs → count u xs ≡ 0 → length xs < 8
 below_eight u cursor [] is_u turns none = omega arith
-below_eight u cursor (x ∷ xs) is_u turns none =
-    let rest = absent u x xs none in
-    let is_x = turns.0 in
-    let fewer = few u x xs is_u is_x.1 turns.2 rest.1 in
-    omega (arith, fewer, rest.0, is_u.0, is_u.1, is_x.0, is_x.1)
+below_eight u cursor (x ∷ xs) is_u turns none = search (arith, absent, few)
 
 -- ---- the turns of events
 
@@ -179,30 +145,19 @@ IsTurn w h = (h.event ≡ Slice) × (next_running w ≡ Some h.user)
 
 cursor_after_turn : (turn : Bool) (u : ℕ) (w : World)
     → (if turn then record w { cursor = u } else w).cursor ≡ (if turn then u else w.cursor)
-cursor_after_turn true u w = refl
-cursor_after_turn false u w = refl
+cursor_after_turn turn u w = search (arith, nat_tests)
 
 -- a turn moves the cursor to its user, and nothing else moves it
 cursor_after : (s : Setup) (w : World) (h : UserEvent) (b : Bool) → h.turn ≡ b
     → (after_one s w h).cursor ≡ (if b then h.user else w.cursor)
-cursor_after s w h b turn =
-    cursor_after_turn h.turn h.user (with_unit (unit_after s w h) (with_user_machine h.user (outcome_of s w h).next w))
-    ∙ ap (λ (b : Bool). if b then h.user else w.cursor) turn
+cursor_after s w h b turn = search (arith, nat_tests, cursor_after_turn)
 
 -- if user u's program is running at each turn, no turn skips u
 none_is_later : (s : Setup) (w : World) (hs : List UserEvent) (u : ℕ) → IsUser u → AreInTurn s w hs → RunsAtEachTurn u s w hs
     → NoneIsLater u w.cursor (turn_users hs)
 none_is_later s w [] u is_u in_turn running = tt
 none_is_later s w (h ∷ hs) u is_u in_turn running =
-    let rest : NoneIsLater u (after_one s w h).cursor (turn_users hs) = none_is_later s (after_one s w h) hs u is_u in_turn.1 running.1 in
-    of_bool h.turn (λ b. NoneIsLater u w.cursor (if b then h.user ∷ turn_users hs else turn_users hs))
-    (λ is.
-    let next = (in_turn.0 is).1 in
-    let is_user = subst IsUserIfAny next (next_is_user w.cursor (map runs w.parts)) in
-    let first : w.cursor ≤ 8 → ahead w.cursor h.user ≤ ahead w.cursor u =
-    λ low. next_comes_first w.cursor u h.user (map runs w.parts) low is_u (flag_of w.parts (u - 1) ∙ running.0 is) next in
-    (is_user, first, subst (λ c. NoneIsLater u c (turn_users hs)) (cursor_after s w h true is) rest))
-    (λ is. subst (λ c. NoneIsLater u c (turn_users hs)) (cursor_after s w h false is) rest)
+    search (arith, nat_tests, cursor_after, flag_of, next_comes_first, next_is_user, of_bool, runs, (none_is_later s (after_one s w h) hs u is_u in_turn.1 running.1))
 
 -- ---- events in turn
 
@@ -229,21 +184,15 @@ granted_in_turn s (suc n) w =
     (λ next. tt) (λ u next. (λ _. (refl, next), granted_in_turn s n (after_one s w (slice_of u true))))
 
 pub grants_are_in_turn : GrantsAreInTurn
-grants_are_in_turn s w (Ok (Slices n)) = granted_in_turn s n w
-grants_are_in_turn s w (Ok (Run u)) = of_either (AreInTurn s w) (runs (user_machine u w)) _ _ (λ turn. absurd (false≢true turn), tt) tt
-grants_are_in_turn s w _ = tt
+grants_are_in_turn s w h = search (arith, nat_tests, false≢true, granted_in_turn, of_either, runs)
 
 events_in_turn : (s : Setup) (w : World) (k : Kind) → AreInTurn s w (events_of s w k)
-events_in_turn s w (Operator line) = grants_are_in_turn s w (operator_parse line)
-events_in_turn s w (Of u line) = (λ turn. absurd (false≢true turn), tt)
-events_in_turn s w _ = tt
+events_in_turn s w k = search (arith, nat_tests, false≢true, grants_are_in_turn)
 
 lines_in_turn : (s : Setup) (w : World) (all : List (List ℕ)) → AreInTurn s w (schedule s w all)
 unfolding world_after
 lines_in_turn s w [] = tt
-lines_in_turn s w (line ∷ lines) =
-    at_each-append IsTurn s w (events_of s w (kind_of line)) (schedule s (world_after s w line) lines)
-    (events_in_turn s w (kind_of line)) (lines_in_turn s (world_after s w line) lines)
+lines_in_turn s w (line ∷ lines) = search (at_each-append, events_in_turn, (lines_in_turn s (world_after s w line) lines))
 
 pub scripts_are_in_turn : ScriptsAreInTurn
 scripts_are_in_turn s w script = lines_in_turn s w (pieces script)
@@ -251,18 +200,10 @@ scripts_are_in_turn s w script = lines_in_turn s w (pieces script)
 -- ---- the laws
 
 pub nobody_has_two_turns : NobodyHasTwoTurns
-nobody_has_two_turns s w hs u v low high in_turn running none =
-    let none_later = none_is_later s w hs u (low, high) in_turn running in
-    rw (turns_of_are v hs) (one_at_most u v w.cursor (turn_users hs) (low, high) none_later (sym (turns_of_are u hs) ∙ none))
+nobody_has_two_turns s w hs u v low high in_turn running none = search (arith, nat_tests, none_is_later, one_at_most, turns_of_are)
 
 pub each_running_user_has_a_turn : EachRunningUserHasATurn
-each_running_user_has_a_turn s w hs u low high in_turn running eight =
-    let none_later = none_is_later s w hs u (low, high) in_turn running in
-    let few_turns = below_eight u w.cursor (turn_users hs) (low, high) none_later in
-    elim (cases_eq (turns_of u hs) 0) [
-      | inl none ↦ absurd (omega (arith, eight, turns_are hs, few_turns (sym (turns_of_are u hs) ∙ none)))
-      | inr some ↦ omega (arith, some)
-    ]
+each_running_user_has_a_turn s w hs u low high in_turn running eight = search (arith, below_eight, cases_eq, none_is_later, turns_are, turns_of_are)
 
 pub one_turn_between_turns : OneTurnBetweenTurns
 one_turn_between_turns s w script before between later u v split none running =

@@ -38,13 +38,11 @@ put_at m a b o = option_map_or (λ c. insert m a (record { byte = b; permissions
 
 put_at_same : (m : Memory) (a b : ℕ) (o : Option Cell) → get m a ≡ o → get (put_at m a b o) a ≡ with_byte b o
 unfolding put_at
-put_at_same m a b None e = e
-put_at_same m a b (Some c) e = get-insert_same m a _
+put_at_same m a b o e = search (arith, nat_tests, get-insert_same)
 
 put_at_other : (m : Memory) (a b x : ℕ) (o : Option Cell) → x ≢ a → get (put_at m a b o) x ≡ get m x
 unfolding put_at
-put_at_other m a b x None h = refl
-put_at_other m a b x (Some c) h = get-insert_other m a _ x h
+put_at_other m a b x o h = search (arith, nat_tests, get-insert_other)
 
 pub get-put_byte_same : (m : Memory) (a b : ℕ) → get (put_byte m a b) a ≡ with_byte b (get m a)
 unfolding put_byte put_at
@@ -63,36 +61,26 @@ pub get-put_bytes_outside : (m : Memory) (a : ℕ) (bs : List ℕ) (x : ℕ) →
 unfolding put_bytes
 get-put_bytes_outside m a [] x h = refl
 get-put_bytes_outside m a (b ∷ bs) x h =
-    let apart : x ≢ a = λ e. elim h [ inl l ↦ omega arith | inr g ↦ omega arith ] in
     let rest : ((x < a + 1) ⊎ ((a + 1) + length bs ≤ x)) = elim h [ inl l ↦ inl (omega arith) | inr g ↦ inr (omega arith) ] in
-    get-put_bytes_outside (put_byte m a b) (a + 1) bs x rest ∙ get-put_byte_other m a b x apart
+    get-put_bytes_outside (put_byte m a b) (a + 1) bs x rest ∙ get-put_byte_other m a b x (λ e. elim h [ inl l ↦ omega arith | inr g ↦ omega arith ])
 
 pub get-put_bytes_within : (m : Memory) (a : ℕ) (bs : List ℕ) (k x : ℕ) → k < length bs → x ≡ a + k → get (put_bytes m a bs) x ≡ with_byte (get_or bs k 0) (get m x)
 unfolding put_bytes
 get-put_bytes_within m a [] k x h e = absurd (omega arith)
-get-put_bytes_within m a (b ∷ bs) zero x h e =
-    let same : x ≡ a = omega arith in
-    get-put_bytes_outside (put_byte m a b) (a + 1) bs x (inl (omega arith))
-    ∙ subst (λ (y : ℕ). get (put_byte m a b) y ≡ with_byte b (get m y)) (sym same) (get-put_byte_same m a b)
+get-put_bytes_within m a (b ∷ bs) zero x h e = search (arith, get-put_byte_same, get-put_bytes_outside)
 get-put_bytes_within m a (b ∷ bs) (suc k) x h e =
-    let apart : x ≢ a = λ q. omega arith in
-    get-put_bytes_within (put_byte m a b) (a + 1) bs k x (omega arith) (omega arith)
-    ∙ ap (with_byte (get_or bs k 0)) (get-put_byte_other m a b x apart)
+    search (arith, get-put_byte_other, (get-put_bytes_within (put_byte m a b) (a + 1) bs k x (omega arith) (omega arith)))
 
 allowed_by : Access → Option Cell → Bool
 allowed_by access o = option_map_or (λ c. permits access c.permissions) o false
 
 allowed_by-with_byte : (access : Access) (b : ℕ) (o : Option Cell) → allowed_by access (with_byte b o) ≡ allowed_by access o
 unfolding allowed_by
-allowed_by-with_byte access b None = refl
-allowed_by-with_byte access b (Some c) = refl
+allowed_by-with_byte access b o = search (arith, nat_tests)
 
 is_allowed-put_byte : (access : Access) (m : Memory) (a b x : ℕ) → can_access_byte access (put_byte m a b) x ≡ can_access_byte access m x
 unfolding can_access_byte allowed_by
-is_allowed-put_byte access m a b x = elim (cases_eq x a) [
-  | inl e ↦ subst (λ (y : ℕ). allowed_by access (get (put_byte m a b) y) ≡ allowed_by access (get m y)) (sym e) (ap (allowed_by access) (get-put_byte_same m a b) ∙ allowed_by-with_byte access b (get m a))
-  | inr n ↦ ap (allowed_by access) (get-put_byte_other m a b x n)
-]
+is_allowed-put_byte access m a b x = search (arith, nat_tests, allowed_by, allowed_by-with_byte, cases_eq, get-put_byte_other, get-put_byte_same)
 
 -- a write of bytes leaves the permissions unchanged
 pub is_allowed-put_bytes : (access : Access) (m : Memory) (a : ℕ) (bs : List ℕ) (x : ℕ) → can_access_byte access (put_bytes m a bs) x ≡ can_access_byte access m x
@@ -103,29 +91,24 @@ is_allowed-put_bytes access m a (b ∷ bs) x = is_allowed-put_bytes access (put_
 pub put_bytes-append : (m : Memory) (a : ℕ) (bs cs : List ℕ) → put_bytes m a (bs ++ cs) ≡ put_bytes (put_bytes m a bs) (a + length bs) cs
 unfolding put_bytes
 put_bytes-append m a [] cs = ap (λ (x : ℕ). put_bytes m x cs) (omega arith)
-put_bytes-append m a (b ∷ bs) cs =
-    put_bytes-append (put_byte m a b) (a + 1) bs cs
-    ∙ ap (λ (x : ℕ). put_bytes (put_bytes (put_byte m a b) (a + 1) bs) x cs) (omega arith)
+put_bytes-append m a (b ∷ bs) cs = search (arith, (put_bytes-append (put_byte m a b) (a + 1) bs cs))
 
 pub get-add_cells_outside : (m : Memory) (a n : ℕ) (f : ℕ → Cell) (x : ℕ) → ((x < a) ⊎ (a + n ≤ x)) → get (add_cells m a n f) x ≡ get m x
 unfolding add_cells
 get-add_cells_outside m a zero f x h = refl
 get-add_cells_outside m a (suc n) f x h =
-    let apart : x ≢ a + n = λ e. elim h [ inl l ↦ omega arith | inr g ↦ omega arith ] in
     let rest : ((x < a) ⊎ (a + n ≤ x)) = elim h [ inl l ↦ inl l | inr g ↦ inr (omega arith) ] in
-    get-insert_other (add_cells m a n f) (a + n) (f n) x apart ∙ get-add_cells_outside m a n f x rest
+    get-insert_other (add_cells m a n f) (a + n) (f n) x (λ e. elim h [ inl l ↦ omega arith | inr g ↦ omega arith ]) ∙ get-add_cells_outside m a n f x rest
 
 pub get-add_cells_within : (m : Memory) (a n : ℕ) (f : ℕ → Cell) (k x : ℕ) → k < n → x ≡ a + k → get (add_cells m a n f) x ≡ Some (f k)
 unfolding add_cells
 get-add_cells_within m a zero f k x h e = absurd (omega arith)
 get-add_cells_within m a (suc n) f k x h e = elim (cases_eq k n) [
   | inl same ↦
-      let here : a + n ≡ x = omega arith in
-      subst (λ (y : ℕ). get (insert (add_cells m a n f) (a + n) (f n)) y ≡ Some (f n)) here (get-insert_same (add_cells m a n f) (a + n) (f n))
+      subst (λ (y : ℕ). get (insert (add_cells m a n f) (a + n) (f n)) y ≡ Some (f n)) (omega arith) (get-insert_same (add_cells m a n f) (a + n) (f n))
       ∙ ap (λ (j : ℕ). Some (f j)) (sym same)
   | inr other ↦
-      let less : k < n = omega arith in
-      get-insert_other (add_cells m a n f) (a + n) (f n) x (λ q. other (omega arith)) ∙ get-add_cells_within m a n f k x less e
+      get-insert_other (add_cells m a n f) (a + n) (f n) x (λ q. other (omega arith)) ∙ get-add_cells_within m a n f k x (omega arith) e
 ]
 
 -- new cells at unmapped addresses increase the number of cells
@@ -133,11 +116,10 @@ pub len-add_cells : (m : Memory) (a n : ℕ) (f : ℕ → Cell) → ((k : ℕ) �
 unfolding add_cells
 len-add_cells m a zero f h = omega arith
 len-add_cells m a (suc n) f h =
-    let rest = len-add_cells m a n f (λ k l. h k (omega arith)) in
     let new : get (add_cells m a n f) (a + n) ≡ None = get-add_cells_outside m a n f (a + n) (inr (omega arith)) ∙ h n (omega arith) in
     len-insert nat_cmp_total (add_cells m a n f) (a + n) (f n)
     ∙ ap (λ (o : Option Cell). cond (is_some o) (len (add_cells m a n f)) (len (add_cells m a n f) + 1)) new
-    ∙ omega (arith, rest)
+    ∙ omega (arith, (len-add_cells m a n f (λ k l. h k (omega arith))))
 
 pub length-bytes_at : (m : Memory) (a n : ℕ) → length (bytes_at m a n) ≡ n
 unfolding bytes_at
@@ -150,8 +132,7 @@ get_or-bytes_at m a n k x h e = get_or-map-range_with_len (memory_byte m) a n k 
 pub can_access-at : (access : Access) (m : Memory) (a n k x : ℕ) → can_access access m a n ≡ true → k < n → x ≡ a + k → can_access_byte access m x ≡ true
 unfolding can_access
 can_access-at access m a zero k x t h e = absurd (omega arith)
-can_access-at access m a (suc n) zero x t h e =
-    let same : x ≡ a = omega arith in ap (can_access_byte access m) same ∙ (and_parts _ _ t).0
+can_access-at access m a (suc n) zero x t h e = search (arith, and_parts)
 can_access-at access m a (suc n) (suc k) x t h e =
     can_access-at access m (a + 1) n k x (and_parts (can_access_byte access m a) _ t).1 (omega arith) (omega arith)
 
@@ -159,8 +140,7 @@ pub can_access_from : (access : Access) (m : Memory) (a n : ℕ) → ((k : ℕ) 
 unfolding can_access
 can_access_from access m a zero h = refl
 can_access_from access m a (suc n) h =
-    let here : a + 0 ≡ a = omega arith in
-    and_from _ _ (ap (can_access_byte access m) (sym here) ∙ h 0 (omega arith))
+    and_from _ _ (ap (can_access_byte access m) (sym (omega arith)) ∙ h 0 (omega arith))
     (can_access_from access m (a + 1) n (λ k l. let e : (a + 1) + k ≡ a + suc k = omega arith in ap (can_access_byte access m) e ∙ h (suc k) (omega arith)))
 
 pub can_access_not : (access : Access) (m : Memory) (a n k x : ℕ) → k < n → x ≡ a + k → can_access_byte access m x ≡ false → can_access access m a n ≡ false
@@ -169,10 +149,7 @@ can_access_not access m a n k x h e refused =
 
 is_allowed_monitor : (access : Access) (m : Memory) (x : ℕ) → can_access_byte access m x ≡ true → can_access_byte Monitor m x ≡ true
 unfolding can_access_byte
-is_allowed_monitor access m x =
-    of_option (get m x)
-    (λ o. option_map_or (λ c. permits access c.permissions) o false ≡ true → option_map_or (λ c. permits Monitor c.permissions) o false ≡ true)
-    (λ e h. h) (λ c e h. refl)
+is_allowed_monitor access m x = search (arith, nat_tests, of_option)
 
 -- the monitor may access all addresses that a program may access
 pub can_access_monitor : (access : Access) (m : Memory) (a n : ℕ) → can_access access m a n ≡ true → can_access Monitor m a n ≡ true
@@ -195,10 +172,7 @@ unfolding add_cells
 add_cells_more m a n zero t b c e q = let same : n ≡ t = omega arith in ap (λ (j : ℕ). add_cells m a j (λ _. c)) same
 add_cells_more m a n (suc k) zero b c e q = absurd (omega arith)
 add_cells_more m a n (suc k) (suc t) b c e q =
-    let less : t ≡ n + k = omega arith in
-    let place : b + k ≡ a + t = omega arith in
-    let rest = add_cells_more m a n k t b c less q in
-    ap (λ (m : Memory). insert m (b + k) c) rest ∙ ap (λ (j : ℕ). insert (add_cells m a t (λ _. c)) j c) place
+    ap (λ (m : Memory). insert m (b + k) c) (add_cells_more m a n k t b c (omega arith) q) ∙ ap (λ (j : ℕ). insert (add_cells m a t (λ _. c)) j c) (omega arith)
 
 pub with_pages_more : (m : Memory) (page i : ℕ) (permissions : Permissions) → with_pages (with_pages m page i permissions) (page + i) 1 permissions ≡ with_pages m page (i + 1) permissions
 unfolding with_pages
@@ -213,9 +187,7 @@ with_pages_none m page permissions = refl
 pub any_page_mapped_at : (m : Memory) (page count k : ℕ) → k < count → contains_key m (page_size * (page + k)) ≡ true → any_page_mapped m page count ≡ true
 unfolding any_page_mapped
 any_page_mapped_at m page zero k l h = absurd (omega arith)
-any_page_mapped_at m page (suc count) zero l h =
-    let here : contains_key m (page_size * page) ≡ true = ap (λ (p : ℕ). contains_key m (page_size * p)) (sym (add-zero page)) ∙ h in
-    ap (λ (b : Bool). b || any_page_mapped m (page + 1) count) here
+any_page_mapped_at m page (suc count) zero l h = search (arith, nat_tests)
 any_page_mapped_at m page (suc count) (suc k) l h =
     let place : (page + 1) + k ≡ page + suc k = omega arith in
     let rest = any_page_mapped_at m (page + 1) count k (omega arith) (ap (λ (p : ℕ). contains_key m (page_size * p)) place ∙ h) in
@@ -229,11 +201,9 @@ pub any_page_mapped_none : (m : Memory) (page count : ℕ) → ((k : ℕ) → k 
 unfolding any_page_mapped
 any_page_mapped_none m page zero h = refl
 any_page_mapped_none m page (suc count) h =
-    let here : contains_key m (page_size * page) ≡ false = ap (λ (p : ℕ). contains_key m (page_size * p)) (sym (add-zero page)) ∙ h 0 (omega arith) in
-    ap (λ (b : Bool). b || any_page_mapped m (page + 1) count) here
+    ap (λ (b : Bool). b || any_page_mapped m (page + 1) count) (ap (λ (p : ℕ). contains_key m (page_size * p)) (sym (add-zero page)) ∙ h 0 (omega arith))
     ∙ any_page_mapped_none m (page + 1) count (λ k l.
-    let place : (page + 1) + k ≡ page + suc k = omega arith in
-    ap (λ (p : ℕ). contains_key m (page_size * p)) place ∙ h (suc k) (omega arith))
+    ap (λ (p : ℕ). contains_key m (page_size * p)) (omega arith) ∙ h (suc k) (omega arith))
 
 pub map_refusal_quota : (m : Memory) (page count : ℕ) → page_quota < page_count m + count → map_refusal m page count ≡ Some Quota
 unfolding map_refusal
@@ -249,21 +219,10 @@ map_refusal_none m page count room h = cond-false (nat_lt page_quota (page_count
 
 -- the condition for each refusal
 pub map_refusal-Quota : (m : Memory) (page count : ℕ) → (map_refusal m page count ≡ Some Quota) ↔ (page_quota < page_count m + count)
-map_refusal-Quota m page count = (λ h. over h (cases_lt page_quota (page_count m + count)), map_refusal_quota m page count)
-  where
-    over : map_refusal m page count ≡ Some Quota → ((page_quota < page_count m + count) ⊎ (page_count m + count ≤ page_quota)) → page_quota < page_count m + count
-    over h (inl l) = l
-    over h (inr room) =
-        of_bool (any_page_mapped m page count) (λ b. page_quota < page_count m + count)
-        (λ e. let other = map_refusal_mapped m page count room e in absurd (cc)) (λ e. let other = map_refusal_none m page count room e in absurd (cc))
+map_refusal-Quota m page count = search (arith, nat_tests, cases_lt, map_refusal_mapped, map_refusal_none, map_refusal_quota, of_bool)
 
 pub map_refusal-AlreadyMapped : (m : Memory) (page count : ℕ) → (map_refusal m page count ≡ Some AlreadyMapped) ↔ ((page_count m + count ≤ page_quota) × (any_page_mapped m page count ≡ true))
-map_refusal-AlreadyMapped m page count = (λ h. within h (cases_lt page_quota (page_count m + count)), λ h. map_refusal_mapped m page count h.0 h.1)
-  where
-    within : map_refusal m page count ≡ Some AlreadyMapped → ((page_quota < page_count m + count) ⊎ (page_count m + count ≤ page_quota)) → (page_count m + count ≤ page_quota) × (any_page_mapped m page count ≡ true)
-    within h (inl l) = let other = map_refusal_quota m page count l in absurd (cc)
-    within h (inr room) =
-        (room, of_bool (any_page_mapped m page count) (λ b. b ≡ true) (λ e. refl) (λ e. let other = map_refusal_none m page count room e in absurd (cc)))
+map_refusal-AlreadyMapped m page count = search (arith, nat_tests, cases_lt, map_refusal_mapped, map_refusal_none, map_refusal_quota, of_bool)
 
 -- ---- addresses in ranges
 
@@ -272,30 +231,23 @@ byte_by o = option_map_or (λ c. c.byte) o 0
 
 byte_by-with_byte : (b : ℕ) (o : Option Cell) → byte_by (with_byte b o) ≡ cond (allowed_by Monitor o) b (byte_by o)
 unfolding byte_by allowed_by
-byte_by-with_byte b None = refl
-byte_by-with_byte b (Some c) = refl
+byte_by-with_byte b o = search (arith, nat_tests)
 
 pub is_within_true : (a n x : ℕ) → a ≤ x → x < a + n → is_within a n x ≡ true
 is_within_true a n x l h = grind (arith, nat_tests)
 
 pub is_within_false : (a n x : ℕ) → ((x < a) ⊎ (a + n ≤ x)) → is_within a n x ≡ false
-is_within_false a n x (inl l) = grind (arith, nat_tests)
-is_within_false a n x (inr g) = grind (arith, nat_tests)
+is_within_false a n x h = search (arith, nat_tests)
 
 -- an address is either in the range of n addresses from a on or outside it
 pub places : (a n x : ℕ) → ((a ≤ x) × (x < a + n)) ⊎ ((x < a) ⊎ (a + n ≤ x))
-places a n x = elim (cases_lt x a) [
-  | inl below ↦ inr (inl below)
-  | inr above ↦ elim (cases_lt x (a + n)) [ inl less ↦ inl (above, less) | inr past ↦ inr (inr past) ]
-]
+places a n x = search (arith, nat_tests, cases_lt)
 
 pub writes_bytes : WritesBytes
 unfolding memory_byte can_access_byte byte_by allowed_by
 writes_bytes m a bs x = elim (places a (length bs) x) [
   | inl within ↦
-      let k : x - a < length bs = omega (arith, within.0, within.1) in
-      let place : x ≡ a + (x - a) = omega (arith, within.0) in
-      ap byte_by (get-put_bytes_within m a bs (x - a) x k place) ∙ byte_by-with_byte (get_or bs (x - a) 0) (get m x)
+      ap byte_by (get-put_bytes_within m a bs (x - a) x (omega (arith, within.0, within.1)) (omega (arith, within.0))) ∙ byte_by-with_byte (get_or bs (x - a) 0) (get m x)
       ∙ ap (λ (b : Bool). cond (b && can_access_byte Monitor m x) (get_or bs (x - a) 0) (memory_byte m x)) (sym (is_within_true a (length bs) x within.0 within.1))
   | inr far ↦
       ap byte_by (get-put_bytes_outside m a bs x far)

@@ -1,8 +1,9 @@
 -- After any instruction, the vector type still allows the vector length, and the permissions are unchanged.
-use Rattle.std.proofs.Common.{◌≡◌, ℕ, ◌*◌, ◌^◌, ◌≤◌, Bool, true, false, ◌==◌, Option, Some, None, refl, sym, ap, subst, arith}
-use Rattle.std.specs.Prelude.{nat_le, nat_lt, ⊤}
+use Rattle.std.proofs.Common.{◌≡◌, ℕ, ◌≤◌, Bool, true, false, ◌==◌, Option, Some, None, refl, sym, ap, subst, arith}
+use Rattle.std.specs.Prelude.{⊤}
 use Rattle.std.specs.Option.{option_map_or}
 use Rattle.std.proofs.lemmas.Bool.{eqb-true, leb-true}
+use Rattle.std.proofs.lemmas.Bool.Decides.{nat_tests}
 use Rattle.rv_model.specs.accesses.VectorAccess.{VectorAccess, access_of}
 use Rattle.rv_model.specs.declared.instructions.instruction.Instr.{Instr}
 use Rattle.rv_model.specs.declared.instructions.instruction.Instr.TheVariants as instr
@@ -12,23 +13,20 @@ use Rattle.rv_model.specs.declared.memory.Access.{Access}
 use Rattle.rv_model.specs.declared.step.vector_end.VEnd.{VEnd}
 use Rattle.rv_model.specs.declared.step.vector_end.VEnd.TheVariants as vector_end
 use Rattle.rv_model.specs.declared.vector.control_register.ControlRegister.{ControlRegister}
-use Rattle.rv_model.specs.declared.vector.control_register.ControlRegister.TheVariants.{Vstart}
 use Rattle.rv_model.specs.declared.vector.request.RequestedLength.{RequestedLength}
-use Rattle.rv_model.specs.declared.vector.request.RequestedLength.TheVariants.{Keep}
 use Rattle.rv_model.specs.declared.vector.state.VState.{VState}
 use Rattle.rv_model.specs.declared.vector.types.Lmul.{Lmul}
 use Rattle.rv_model.specs.declared.vector.types.Sew.{Sew}
 use Rattle.rv_model.specs.declared.vector.types.VType.{VType}
-use Rattle.rv_model.specs.instructions.FixedBits.{field}
 use Rattle.rv_model.specs.legality.Legality.{is_legal}
 use Rattle.rv_model.specs.memory.Memory.{Memory, can_access_byte}
 use Rattle.rv_model.specs.step.Effects.{StepKeepsConfiguration, StepKeepsPermissions}
 use Rattle.rv_model.specs.step.Hart.{HartState, Stepped}
-use Rattle.rv_model.specs.step.Step.{step, VectorStepped, access_step, accessed, after_vector, operation_step, performed, vector_executed, vector_step, vector_ticks, vset_step}
-use Rattle.rv_model.specs.vector.Groups.{Configuration, IsConfiguration, IsSupported, lmul_eighths, sew_bits, vlmax}
+use Rattle.rv_model.specs.step.Step.{step, VectorStepped, access_step, accessed, after_vector, operation_step, performed, vector_executed, vector_step, vset_step}
+use Rattle.rv_model.specs.vector.Groups.{Configuration, IsConfiguration, IsSupported, vlmax}
 use Rattle.rv_model.proofs.vector_lemmas.Lengths.{IsLength}
 use Rattle.rv_model.specs.vector.Control.{with_control}
-use Rattle.rv_model.specs.vector.TypeRules.{lmul_with_number, requested, sew_with_number, supported_type, vector_type, with_length}
+use Rattle.rv_model.specs.vector.TypeRules.{requested, supported_type, vector_type, with_length}
 use Rattle.rv_model.proofs.memory_lemmas.Memory.{is_allowed-put_bytes}
 use Rattle.rv_model.proofs.step_lemmas.Cuts.{RunFacts, accessed_facts}
 use Rattle.rv_model.proofs.step_lemmas.StepCases.{of_step, operation_is}
@@ -41,35 +39,26 @@ Supports None = ⊤
 Supports (Some t) = IsSupported t
 
 supported_parts : (sew : Option Sew) (lmul : Option Lmul) (tail mask : Bool) → Supports (supported_type sew lmul tail mask)
-supported_parts None lmul tail mask = tt
-supported_parts (Some sew) None tail mask = tt
-supported_parts (Some sew) (Some lmul) tail mask =
-    of_test Supports (nat_le (sew_bits sew) (lmul_eighths lmul * 8)) _ _ (leb-true (sew_bits sew) (lmul_eighths lmul * 8)) (λ e. tt)
+supported_parts sew lmul tail mask = search (arith, nat_tests, leb-true, of_test)
 
 -- a number encodes a supported type or none
 number_supports : (n : ℕ) → Supports (vector_type n)
-number_supports n =
-    of_either Supports (nat_lt n (2 ^ 8)) _ None
-    (supported_parts (sew_with_number (field 3 3 n)) (lmul_with_number (field 0 3 n)) (field 6 1 n == 1) (field 7 1 n == 1)) tt
+number_supports n = search (arith, nat_tests, of_either, supported_parts)
 
 -- whether the old type, if there is one, has the same VLMAX as the new one
 abbrev same_vlmax : Option VType → VType → Bool
 same_vlmax o t = option_map_or (λ u. vlmax u == vlmax t) o false
 
 kept_length : (o : Option VType) (vl : ℕ) (t : VType) → IsLength o vl → same_vlmax o t ≡ true → vl ≤ vlmax t
-kept_length None vl t is e = absurd (cc)
-kept_length (Some u) vl t is e = omega (arith, is.1, eqb-true (vlmax u) (vlmax t) e)
+kept_length o vl t is e = search (arith, eqb-true)
 
 length_configures : (old : Configuration) (t : VType) (length : RequestedLength) → IsConfiguration old → IsSupported t
     → IsConfiguration (with_length old t length)
-length_configures old t Keep is supported =
-    of_test IsConfiguration (same_vlmax old.vtype t) _ _ (λ e. (supported, kept_length old.vtype old.vl t is e)) (λ e. refl)
-length_configures old t _ is supported = (supported, omega arith)
+length_configures old t length is supported = search (arith, nat_tests, kept_length, of_test)
 
 type_configures : (old : Configuration) (o : Option VType) (length : RequestedLength) → IsConfiguration old → Supports o
     → IsConfiguration (option_map_or (λ t. with_length old t length) o (record { vl = 0; vtype = None }))
-type_configures old None length is supported = refl
-type_configures old (Some t) length is supported = length_configures old t length is supported
+type_configures old o length is supported = search (arith, nat_tests, length_configures)
 
 -- ---- shortened lengths
 
@@ -78,12 +67,10 @@ record Shortens (old new : Configuration) : Type 0 where
   length : new.vl ≤ old.vl
 
 below_length : (o : Option VType) (new old : ℕ) → new ≤ old → IsLength o old → IsLength o new
-below_length None new old h is = omega (arith, h, is)
-below_length (Some t) new old h is = (is.0, omega (arith, h, is.1))
+below_length o new old h is = search arith
 
 shorter : (old new : Configuration) → Shortens old new → IsConfiguration old → IsConfiguration new
-shorter old new h is =
-    subst (λ (o : Option VType). IsLength o new.vl) (sym h.vtype) (below_length old.vtype new.vl old.vl h.length is)
+shorter old new h is = search (arith, nat_tests, below_length)
 
 -- the same accesses are allowed
 abbrev AllowsAsBefore : Memory → Memory → Type 0
@@ -146,15 +133,12 @@ after_vector_stays ticks vector_end.Done word s after h = record { configured = 
 after_vector_stays ticks _ word s after h = h
 
 vector_step_stays : (limit : ℕ) (i : Instr) (word : ℕ) (s : HartState) → Stays s (vector_step limit i word s).state
-vector_step_stays limit i word s =
-    let done : VectorStepped = vector_executed limit i s in
-    after_vector_stays (vector_ticks limit i s) done.end word s done.state (vector_stays limit i s)
+vector_step_stays limit i word s = search (after_vector_stays, vector_stays)
 
 -- ---- every instruction
 
 control_stays : (register : ControlRegister) (n : ℕ) (v : VState) → (with_control register n v).conf ≡ v.conf
-control_stays Vstart n v = refl
-control_stays _ n v = refl
+control_stays register n v = search (arith, nat_tests)
 
 step_stays : (limit : ℕ) (s : HartState) → Stays s (step limit s).state
 step_stays limit s = of_step limit s (λ (r : Stepped). Stays s r.state) (record {

@@ -1,20 +1,17 @@
 -- The index of a cut: the number of ticks after vstart. A vector instruction is never cut if this number is at least the largest number
 -- of elements.
-use Rattle.std.proofs.Common.{◌≡◌, ◌≢◌, ℕ, ◌+◌, ◌-◌, ◌*◌, ◌<◌, ◌≤◌, Option, Some, None, refl, sym, ◌∙◌, subst, ap, lit≤, arith}
+use Rattle.std.proofs.Common.{◌≡◌, ◌≢◌, ℕ, ◌+◌, ◌-◌, ◌*◌, ◌<◌, ◌≤◌, Option, Some, None, sym, ◌∙◌, subst, ap, arith}
 use Rattle.std.specs.Option.{option_map, option_map_or}
 use Rattle.std.specs.Prelude.{⊤}
+use Rattle.std.proofs.lemmas.Bool.Decides.{nat_tests}
 use Rattle.rv_model.specs.declared.instructions.instruction.Instr.{Instr}
 use Rattle.rv_model.specs.declared.instructions.instruction.Instr.TheVariants as instr
 use Rattle.rv_model.specs.declared.instructions.vector.VectorInstr.{VectorInstr}
 use Rattle.rv_model.specs.declared.instructions.access.AccessInstr.{AccessInstr}
-use Rattle.rv_model.specs.declared.instructions.access.AccessInstr.TheVariants.{UnitStride, Strided, Indexed, WholeLoad, WholeStore, MaskAccess}
 use Rattle.rv_model.specs.declared.instructions.operations.Direction.{Direction}
 use Rattle.rv_model.specs.declared.instructions.operations.RegisterCount.{RegisterCount}
-use Rattle.rv_model.specs.declared.instructions.operations.RegisterCount.TheVariants.{One}
 use Rattle.rv_model.specs.declared.instructions.operations.Eew.{Eew}
-use Rattle.rv_model.specs.declared.instructions.operations.Eew.TheVariants as width
 use Rattle.rv_model.specs.declared.step.memory_end.MemEnd.{MemEnd}
-use Rattle.rv_model.specs.declared.step.memory_end.MemEnd.TheVariants as memory_end
 use Rattle.rv_model.specs.declared.step.step_end.StepEnd.TheVariants as step_end
 use Rattle.rv_model.specs.declared.step.vector_end.VEnd.{VEnd}
 use Rattle.rv_model.specs.declared.step.vector_end.VEnd.TheVariants as vector_end
@@ -22,12 +19,11 @@ use Rattle.rv_model.specs.declared.vector.sizes.TheConstants.{GROUP_BYTES, VLENB
 use Rattle.rv_model.specs.declared.vector.state.VState.{VState}
 use Rattle.rv_model.specs.declared.vector.types.VType.{VType}
 use Rattle.rv_model.specs.declared.scalar.Scalar.{Scalar}
-use Rattle.rv_model.specs.accesses.AccessRuns.{AccessRun}
 use Rattle.rv_model.specs.accesses.VectorAccess.{VectorAccess, access_of, index_count, vector_access, whole_length}
 use Rattle.rv_model.specs.legality.Legality.{is_legal}
 use Rattle.rv_model.specs.vector.Groups.{register_count}
 use Rattle.rv_model.specs.step.Hart.{HartState}
-use Rattle.rv_model.specs.step.MemoryStep.{access_end, load_fills_masked_off}
+use Rattle.rv_model.specs.step.MemoryStep.{access_end}
 use Rattle.rv_model.specs.step.Resumes.{StopsShort}
 use Rattle.rv_model.specs.step.Step.{VectorStepped, access_step, accessed, after_vector, operation_step, performed, vector_executed, vector_ticks}
 use Rattle.rv_model.proofs.access_lemmas.Runs.{AtStop, CutAt, FaultAt, Facts, run_facts, stop_means}
@@ -49,9 +45,7 @@ operation_once i s = operation_is s (λ (r : VectorStepped). AtOnce r.end) i (re
 })
 
 once_whole : (end : VEnd) → AtOnce end → StopsShort end → ⊥
-once_whole vector_end.Done h stops = stops.undone refl
-once_whole vector_end.Illegal h stops = stops.legal refl
-once_whole _ h stops = h
+once_whole end h stops = search (arith, nat_tests)
 
 pub operation_whole : (i : VectorInstr) (s : HartState) → StopsShort (operation_step i s).end → ⊥
 operation_whole i s = once_whole (operation_step i s).end (operation_once i s)
@@ -61,8 +55,7 @@ cut_short end index e = record { undone = λ q. cc; legal = λ q. cc }
 
 -- if a step is cut, its instruction is cut
 pub cut_index : (ticks : ℕ) (end : VEnd) (word : ℕ) (s : HartState) → (after_vector ticks end word s).end ≡ step_end.Cut → (index : ℕ) × (end ≡ vector_end.Cut index)
-cut_index ticks (vector_end.Cut index) word s e = (index, refl)
-cut_index ticks _ word s e = absurd (cc)
+cut_index ticks end word s e = search (arith, nat_tests)
 
 -- ---- loads and stores
 
@@ -82,32 +75,27 @@ abbrev Cuts : ℕ → Instr → HartState → VectorStepped → Type 0
 Cuts limit i s d = VectorCut d.end (IsCutAt limit i s d.state)
 
 once_uncut : (end : VEnd) (P : ℕ → Type 0) → AtOnce end → VectorCut end P
-once_uncut (vector_end.Cut index) P h = absurd h
-once_uncut _ P h = tt
+once_uncut end P h = search (arith, nat_tests)
 
 access_end_cut : (d : Direction) (end : MemEnd) (P : ℕ → Type 0) → AtStop end P (λ index. ⊤) → VectorCut (access_end d end) P
-access_end_cut d (memory_end.Cut index) P h = h
-access_end_cut d _ P h = tt
+access_end_cut d end P h = search (arith, nat_tests)
 
 -- the facts about the run of an access in a state
 abbrev pub RunFacts : ℕ → VectorAccess → HartState → Type 0
 RunFacts limit a s = Facts limit s.vector.vstart a.body.end a.direction a.first_only s.vector s.memory (accessed limit a s)
 
 pub accessed_facts : (limit : ℕ) (i : AccessInstr) (a : VectorAccess) (s : HartState) → access_of i s.vector s.scalar ≡ Some a → RunFacts limit a s
-accessed_facts limit i a s e =
-    run_facts limit (load_fills_masked_off a s) i s.vector s.scalar s.memory a e
+accessed_facts limit i a s e = search run_facts
 
 access_cut : (limit : ℕ) (i : AccessInstr) (s : HartState) (o : Option VectorAccess) → access_of i s.vector s.scalar ≡ o
     → Cuts limit (instr.Access i) s (access_step limit i o s)
 access_cut limit i s None e = tt
 access_cut limit i s (Some a) e =
-    let f : RunFacts limit a s = accessed_facts limit i a s e in
-    let run : AccessRun = accessed limit a s in
     let vstart : ℕ = s.vector.vstart in
     let after : HartState = (access_step limit i (Some a) s).state in
-    access_end_cut a.direction run.end (IsCutAt limit (instr.Access i) s after)
-    (stop_means run.end (CutAt limit vstart a.body.end s.vector run) (FaultAt limit vstart a.body.end s.vector run)
-    (IsCutAt limit (instr.Access i) s after) (λ index. ⊤) f.stop
+    access_end_cut a.direction (accessed limit a s).end (IsCutAt limit (instr.Access i) s after)
+    (stop_means (accessed limit a s).end (CutAt limit vstart a.body.end s.vector (accessed limit a s)) (FaultAt limit vstart a.body.end s.vector (accessed limit a s))
+    (IsCutAt limit (instr.Access i) s after) (λ index. ⊤) (accessed_facts limit i a s e).stop
     (λ index at. record {
       at = at.at;
       more = subst (λ (o : Option VectorAccess). index < index_count o) (sym e) at.stopped.below;
@@ -120,9 +108,7 @@ access_cut limit i s (Some a) e =
 
 performed_cut : (limit : ℕ) (i : Instr) (s : HartState) → Cuts limit i s (performed limit i s)
 unfolding performed
-performed_cut limit (instr.Vector i) s = once_uncut (operation_step i s).end (IsCutAt limit (instr.Vector i) s (operation_step i s).state) (operation_once i s)
-performed_cut limit (instr.Access i) s = access_cut limit i s (access_of i s.vector s.scalar) refl
-performed_cut limit _ s = tt
+performed_cut limit i s = search (arith, nat_tests, access_cut, once_uncut, operation_once)
 
 executed_cut : (limit : ℕ) (i : Instr) (s : HartState) → Cuts limit i s (vector_executed limit i s)
 unfolding vector_executed
@@ -137,31 +123,20 @@ cut_at limit i s index e =
 -- ---- no cut with enough ticks for the largest number of elements
 
 whole_length_below : (count : RegisterCount) (w : Eew) → whole_length count w ≤ GROUP_BYTES
-whole_length_below One width.E8 = lit≤ tt
-whole_length_below _ width.E8 = lit≤ tt
-whole_length_below _ _ = lit≤ tt
+whole_length_below count w = search arith
 
 whole_bytes_below : (count : RegisterCount) → register_count count * VLENB ≤ GROUP_BYTES
-whole_bytes_below One = lit≤ tt
-whole_bytes_below _ = lit≤ tt
+whole_bytes_below count = search arith
 
 typed_below : (o : Option VType) (make : VType → VectorAccess) → ((t : VType) → (make t).body.end ≤ GROUP_BYTES) → index_count (option_map make o) ≤ GROUP_BYTES
-typed_below None make each = omega arith
-typed_below (Some t) make each = each t
+typed_below o make each = search arith
 
 -- no load or store has more indices than the largest group has bytes
 index_count_below : (i : Instr) (v : VState) (x : Scalar) → v.conf.vl ≤ GROUP_BYTES → index_count (vector_access i v x) ≤ GROUP_BYTES
-index_count_below (instr.Access (UnitStride op width nf vd rs1 vm)) v x h = typed_below v.conf.vtype _ (λ t. h)
-index_count_below (instr.Access (Strided direction width nf vd rs1 rs2 vm)) v x h = typed_below v.conf.vtype _ (λ t. h)
-index_count_below (instr.Access (Indexed direction order width nf vd rs1 vs2 vm)) v x h = typed_below v.conf.vtype _ (λ t. h)
-index_count_below (instr.Access (WholeLoad count width vd rs1)) v x h = whole_length_below count width
-index_count_below (instr.Access (WholeStore count vd rs1)) v x h = whole_bytes_below count
-index_count_below (instr.Access (MaskAccess direction vd rs1)) v x h = typed_below v.conf.vtype _ (λ t. omega (arith, h))
-index_count_below _ v x h = omega arith
+index_count_below i v x h = search (arith, typed_below, whole_bytes_below, whole_length_below)
 
 -- `GROUP_BYTES` ticks are enough for any vector instruction
 pub uncut : (limit : ℕ) (i : Instr) (s : HartState) (index : ℕ) → s.vector.conf.vl ≤ GROUP_BYTES → GROUP_BYTES ≤ limit
     → (vector_executed limit i s).end ≢ vector_end.Cut index
 uncut limit i s index few enough e =
-    let cut : IsCutAt limit i s (vector_executed limit i s).state index = cut_at limit i s index e in
-    omega (arith, cut.at, cut.more, index_count_below i s.vector s.scalar few)
+    omega (arith, (cut_at limit i s index e).at, (cut_at limit i s index e).more, index_count_below i s.vector s.scalar few)

@@ -1,5 +1,6 @@
 -- For any instruction: a fault writes no scalar register, x0 is unchanged, and the output buffer only grows.
 use Rattle.std.proofs.Common.{◌≡◌, ℕ, List, [], refl, sym, subst, append-nil, arith, Option, Some, None}
+use Rattle.std.proofs.lemmas.Bool.Decides.{nat_tests}
 use Rattle.rv_model.specs.declared.instructions.instruction.Instr.{Instr}
 use Rattle.rv_model.specs.declared.instructions.instruction.Instr.TheVariants as instr
 use Rattle.rv_model.specs.declared.instructions.vector.VectorInstr.{VectorInstr}
@@ -8,7 +9,6 @@ use Rattle.rv_model.specs.declared.instructions.operations.Direction.{Direction}
 use Rattle.rv_model.specs.declared.scalar.Scalar.{Scalar}
 use Rattle.rv_model.specs.declared.step.step_end.StepEnd.TheVariants.{Fault}
 use Rattle.rv_model.specs.declared.step.memory_end.MemEnd.{MemEnd}
-use Rattle.rv_model.specs.declared.step.memory_end.MemEnd.TheVariants as memory_end
 use Rattle.rv_model.specs.declared.step.vector_end.VEnd.{VEnd}
 use Rattle.rv_model.specs.declared.step.vector_end.VEnd.TheVariants as vector_end
 use Rattle.rv_model.specs.step.Hart.{HartState, Stepped, StepEnd}
@@ -57,13 +57,11 @@ pub record VectorKeeps (s : HartState) (r : VectorStepped) : Type 0 where
 
 -- no load or store writes a scalar register
 same_unless : (end : VEnd) (x : Scalar) → UnlessDone end (x ≡ x)
-same_unless vector_end.Done x = tt
-same_unless _ x = refl
+same_unless end x = search (arith, nat_tests)
 
 -- the end of an executed load or store is never `Illegal`
 access_is_legal : (d : Direction) (end : MemEnd) (P : Type 0) → IfIllegal (access_end d end) P
-access_is_legal d memory_end.Done P = tt
-access_is_legal d _ P = tt
+access_is_legal d end P = search (arith, nat_tests)
 
 access_keeps : (limit : ℕ) (i : AccessInstr) (o : Option VectorAccess) (s : HartState) → VectorKeeps s (access_step limit i o s)
 access_keeps limit i None s = record { refused = refl; first = refl; output = refl; illegal = refl }
@@ -107,8 +105,7 @@ after_vector_keeps ticks _ word s s' h k same = record { fault = tt; first = k; 
 vector_step_keeps : (limit : ℕ) (i : Instr) (word : ℕ) (s : HartState) → Keeps s (vector_step limit i word s)
 vector_step_keeps limit i word s =
     let done : VectorStepped = vector_executed limit i s in
-    let kept : VectorKeeps s done = vector_keeps limit i s in
-    after_vector_keeps (vector_ticks limit i s) done.end word s done.state kept.refused kept.first kept.output
+    after_vector_keeps (vector_ticks limit i s) done.end word s done.state (vector_keeps limit i s).refused (vector_keeps limit i s).first (vector_keeps limit i s).output
 
 step_keeps : (limit : ℕ) (s : HartState) → Keeps s (step limit s)
 step_keeps limit s = of_step limit s (Keeps s) (record {

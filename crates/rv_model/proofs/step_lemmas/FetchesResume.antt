@@ -1,11 +1,9 @@
 -- A step that is cut or faults and is executed again, with the fetch of its word.
 use Rattle.std.proofs.Common.{◌≡◌, ◌≢◌, ◌⊎◌, inl, inr, ℕ, zero, suc, ◌+◌, ◌-◌, ◌<◌, ◌≤◌, true, Option, Some, refl, sym, ◌∙◌, ap, subst, arith}
 use Rattle.std.specs.FinMap.{get}
-use Rattle.std.specs.Int.{from_le_bytes, w32}
+use Rattle.std.proofs.lemmas.Bool.Decides.{nat_tests}
 use Rattle.rv_model.specs.declared.instructions.instruction.Instr.{Instr}
 use Rattle.rv_model.specs.declared.memory.Access.{Access}
-use Rattle.rv_model.specs.declared.memory.Access.TheVariants as access
-use Rattle.rv_model.specs.declared.scalar.Scalar.{Scalar}
 use Rattle.rv_model.specs.declared.step.step_end.StepEnd.{StepEnd}
 use Rattle.rv_model.specs.declared.step.step_end.StepEnd.TheVariants.{Cut}
 use Rattle.rv_model.specs.declared.step.vector_end.VEnd.{VEnd}
@@ -33,48 +31,26 @@ abbrev AllOrNothing : HartState → Stepped → Type 0
 AllOrNothing s r = IsUndone r.end → (r.state ≡ s) × (r.end ≢ Cut)
 
 whole : (s : HartState) → IsScalarStep (AllOrNothing s) (is_scalar (fetched s.memory s.scalar.pc)) (λ n. step n s) ⊎ IsVector s
-whole s = by_case s (AllOrNothing s) (record {
-  fault = λ cause value u. (refl, λ e. cc);
-  runs = λ scalar first u. absurd u;
-  stores = λ addr bytes u. absurd u;
-  controls = λ register n value u. absurd u;
-  puts = λ addr asked u. absurd u;
-  exits = λ status u. absurd u;
-  breaks = λ u. absurd u;
-  full = λ u. absurd u;
-})
+whole s = search (arith, nat_tests, by_case)
 
 -- ---- the fetched word
 
 bytes_kept : (m other : Memory) (a n : ℕ) → ((x : ℕ) → a ≤ x → x < a + n → get other x ≡ get m x) → bytes_at other a n ≡ bytes_at m a n
 unfolding bytes_at
 bytes_kept m other a zero h = refl
-bytes_kept m other a (suc n) h =
-    let here = byte_by_get m other a (h a (omega arith) (omega arith)) in
-    let rest = bytes_kept m other (a + 1) n (λ x l g. h x (omega (arith, l)) (omega (arith, g))) in
-    cc
+bytes_kept m other a (suc n) h = search (arith, byte_by_get, (bytes_kept m other (a + 1) n (λ x l g. h x (omega (arith, l)) (omega (arith, g)))))
 
 access_kept : (kind : Access) (m other : Memory) (a n : ℕ) → ((x : ℕ) → a ≤ x → x < a + n → get other x ≡ get m x) → can_access kind other a n ≡ can_access kind m a n
 unfolding can_access
 access_kept kind m other a zero h = refl
 access_kept kind m other a (suc n) h =
-    let here = allowed_by_get kind m other a (h a (omega arith) (omega arith)) in
-    let rest = access_kept kind m other (a + 1) n (λ x l g. h x (omega (arith, l)) (omega (arith, g))) in
-    cc
+    search (arith, allowed_by_get, (access_kept kind m other (a + 1) n (λ x l g. h x (omega (arith, l)) (omega (arith, g)))))
 
 fetch_grown : (word : ℕ) (s : HartState) (more : Memory) → Extends s.memory more → Fetches word s → Fetches word (finds more s)
-fetch_grown word s more grown f = record {
-  allowed = can_access_extends access.Fetch s.memory more s.scalar.pc 4 grown f.allowed;
-  reads = ap (λ bs. from_le_bytes w32 bs) (bytes_at_extends access.Fetch s.memory more s.scalar.pc 4 grown f.allowed) ∙ f.reads;
-}
+fetch_grown word s more grown f = search (arith, nat_tests, bytes_at_extends, can_access_extends)
 
 fetch_kept : (word : ℕ) (s left : HartState) → left.scalar ≡ s.scalar → SameWord s.scalar.pc s.memory left.memory → Fetches word s → Fetches word left
-fetch_kept word s left scalar same f = record {
-  allowed = ap (λ (x : Scalar). can_access access.Fetch left.memory x.pc 4) scalar ∙ access_kept access.Fetch s.memory left.memory s.scalar.pc 4 same ∙ f.allowed;
-  reads =
-      ap (λ (x : Scalar). word_at left.memory x.pc) scalar
-      ∙ ap (λ bs. from_le_bytes w32 bs) (bytes_kept s.memory left.memory s.scalar.pc 4 same) ∙ f.reads;
-}
+fetch_kept word s left scalar same f = search (arith, nat_tests, access_kept, bytes_kept)
 
 -- ---- steps without effect
 
@@ -88,14 +64,7 @@ no_ticks : (n : ℕ) (r : Stepped) → n ≡ 0 → after_ticks n r ≡ r
 no_ticks n r none = let same : r.ticks + n ≡ r.ticks = omega (arith, none) in ap (λ (t : ℕ). record r { ticks = t }) same
 
 unchanged_resumes : (make : ℕ → HartState → Stepped) (later : ℕ) (s : HartState) (more : Memory) (left : HartState) → left ≡ s → Extends left.memory more → ResumesFrom make later s more left
-unchanged_resumes make later s more left same grown =
-    let wider : Extends s.memory more = subst (λ (w : HartState). Extends w.memory more) same grown in
-    let none : s.vector.vstart - s.vector.vstart ≡ 0 = omega arith in
-    let all : s.vector.vstart - s.vector.vstart + later ≡ later = omega arith in
-    subst (λ (w : HartState). ResumesFrom make later s more w) (sym same)
-    (ap (λ (n : ℕ). make n (finds (overlay s.memory more) s)) all
-    ∙ ap (λ (m : Memory). make later (finds m s)) (overlay_grown s.memory more wider)
-    ∙ sym (no_ticks (s.vector.vstart - s.vector.vstart) (make later (finds more s)) none))
+unchanged_resumes make later s more left same grown = search (arith, no_ticks, overlay_grown)
 
 -- ---- a vector instruction
 
@@ -208,17 +177,11 @@ cut_step limit s cut = elim (whole s) [
 -- the progress of a vector instruction that is cut
 vector_leaves_off : (limit : ℕ) (i : Instr) (word index : ℕ) (s : HartState) → (vector_executed limit i s).end ≡ vector_end.Cut index
     → (vector_step limit i word s).state.vector.vstart ≡ s.vector.vstart + limit
-vector_leaves_off limit i word index s end =
-    let d : VectorStepped = vector_executed limit i s in
-    let off = instruction_leaves_off limit i s index end in
-    ap (λ (w : HartState). w.vector.vstart) (after_short (vector_ticks limit i s) d.end word d.state (cut_short d.end index end)) ∙ off.1 ∙ off.0
+vector_leaves_off limit i word index s end = search (arith, nat_tests, after_short, cut_short, instruction_leaves_off)
 
 pub cut_vector_step_leaves_off : (limit : ℕ) (i : Instr) (word : ℕ) (s : HartState)
     → (vector_step limit i word s).end ≡ Cut → (vector_step limit i word s).state.vector.vstart ≡ s.vector.vstart + limit
-cut_vector_step_leaves_off limit i word s cut =
-    let d : VectorStepped = vector_executed limit i s in
-    let at = cut_index (vector_ticks limit i s) d.end word d.state cut in
-    vector_leaves_off limit i word at.0 s at.1
+cut_vector_step_leaves_off limit i word s cut = search (arith, nat_tests, cut_index, vector_leaves_off)
 
 pub cut_step_leaves_off : (limit : ℕ) (s : HartState) → (step limit s).end ≡ Cut → (step limit s).state.vector.vstart ≡ s.vector.vstart + limit
 cut_step_leaves_off limit s cut =
@@ -234,7 +197,4 @@ step_uncut limit s is enough cut =
 
 pub vector_step_uncut : (limit : ℕ) (i : Instr) (word : ℕ) (s : HartState) → IsConfiguration s.vector.conf → GROUP_BYTES ≤ limit
     → (vector_step limit i word s).end ≢ Cut
-vector_step_uncut limit i word s is enough cut =
-    let d : VectorStepped = vector_executed limit i s in
-    let at = cut_index (vector_ticks limit i s) d.end word d.state cut in
-    uncut limit i s at.0 (configuration_below s.vector.conf is) enough at.1
+vector_step_uncut limit i word s is enough cut = search (arith, nat_tests, configuration_below, cut_index, uncut)

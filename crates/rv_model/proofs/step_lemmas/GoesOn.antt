@@ -10,7 +10,7 @@ use Rattle.rv_model.specs.step.Resumes.{InstructionGoesOn, InstructionsGoOn, Ste
 use Rattle.rv_model.specs.step.Step.{fetched, step, touches, VectorStepped, vector_executed, vector_step}
 use Rattle.rv_model.specs.vector.Groups.{IsConfiguration}
 use Rattle.rv_model.proofs.access_lemmas.RunsAgain.{ends_whole}
-use Rattle.rv_model.proofs.step_lemmas.Cuts.{IsCutAt, cut_at}
+use Rattle.rv_model.proofs.step_lemmas.Cuts.{cut_at}
 use Rattle.rv_model.proofs.step_lemmas.FetchesResume.{cut_step_leaves_off, cut_vector_step_leaves_off, fetched_resumes, step_uncut, vector_step_resumes, vector_step_uncut}
 use Rattle.rv_model.proofs.step_lemmas.StepTicks.{steps_take_ticks}
 use Rattle.rv_model.proofs.step_lemmas.StepsResume.{instruction_leaves_off, instruction_resumes, instruction_stops}
@@ -20,9 +20,7 @@ use Rattle.rv_model.proofs.step_lemmas.Ticks.{executed_same, vector_steps_take_t
 
 enough_uncut : (whole : ℕ) (i : Instr) (s : HartState) → index_count (vector_access i s.vector s.scalar) ≤ whole
     → (instruction_from i s).IsUncut (vector_executed whole i s)
-enough_uncut whole i s enough index e =
-    let cut : IsCutAt whole i s (vector_executed whole i s).state index = cut_at whole i s index e in
-    omega (arith, cut.at, cut.more, enough)
+enough_uncut whole i s enough index e = search (arith, cut_at)
 
 pub instructions_go_on : InstructionsGoOn
 instructions_go_on limit i s is = record {

@@ -1,25 +1,24 @@
 -- A step whose instruction is a vector load or store changes no byte outside its transfers and the tails that it fills.
-use Rattle.std.proofs.Common.{◌≡◌, ◌∙◌, inl, inr, refl, sym, subst, ap, ℕ, zero, suc, ◌+◌, ◌-◌, ◌*◌, ◌/◌, ◌<◌, ◌≤◌, ◌&&◌, Bool, true, false, cond, List, [], ◌∷◌, ◌++◌, length, drop, get_or, Option, Some, None, arith}
+use Rattle.std.proofs.Common.{◌≡◌, ◌∙◌, refl, subst, ap, ℕ, zero, suc, ◌+◌, ◌-◌, ◌*◌, ◌/◌, ◌<◌, ◌≤◌, ◌&&◌, Bool, false, List, [], ◌∷◌, ◌++◌, length, get_or, Option, Some, None, arith}
 use Rattle.std.specs.Prelude.{All, nat_le, nat_lt}
 use Rattle.std.specs.List.{AllByRecursion}
-use Rattle.std.specs.Option.{option_and_then, option_map_or}
 use Rattle.std.specs.Simd.Lanes.{chunk}
 use Rattle.std.proofs.lemmas.List.{length-take}
 use Rattle.std.proofs.lemmas.List.Elements.{All-weaker, recursion_from_All}
 use Rattle.std.proofs.lemmas.Simd.{length-put_chunk}
+use Rattle.std.proofs.lemmas.Bool.Decides.{nat_tests}
 use Rattle.rv_model.specs.accesses.AccessRuns.{AccessInstr, AccessRun, Direction, MemEnd, VState, VectorAccess, access_ends, access_of, directed_run, load_run, store_run}
-use Rattle.rv_model.specs.accesses.Transfers.{Moved, Ones, Plan, Transfer, TransferKind, memory_stored, registers_loaded, stop_index, transfers, with_element}
+use Rattle.rv_model.specs.accesses.Transfers.{Plan, Transfer, TransferKind, memory_stored, registers_loaded, stop_index, transfers, with_element}
 use Rattle.rv_model.specs.accesses.VectorAccess.{element_start, plan}
 use Rattle.rv_model.specs.declared.instructions.instruction.Instr.TheVariants as instr
 use Rattle.rv_model.specs.declared.instructions.operations.Direction.TheVariants as direction
 use Rattle.rv_model.specs.declared.memory.Access.TheVariants.{Load, Store}
 use Rattle.rv_model.specs.declared.step.memory_end.MemEnd.TheVariants.{Cut, Done, Fault}
-use Rattle.rv_model.specs.elements.Arithmetic.{fills_tail}
 use Rattle.rv_model.specs.elements.Formulas.{ones}
-use Rattle.rv_model.specs.memory.Memory.{Cell, Memory, is_within, memory_byte}
+use Rattle.rv_model.specs.memory.Memory.{Memory, is_within, memory_byte}
 use Rattle.rv_model.specs.step.AccessChanges.{AccessKeeps, AccessesKeepOthers, DirectionKeeps, LoadKeeps, MissesTails, StoreKeeps, body_transfers, covers, covers_memory, covers_register, is_tail}
 use Rattle.rv_model.specs.step.Hart.{HartState}
-use Rattle.rv_model.specs.step.MemoryStep.{filled_type, load_fills_masked_off, reads_memory, tail_type, tails_filled, with_tails}
+use Rattle.rv_model.specs.step.MemoryStep.{filled_type, load_fills_masked_off, tails_filled, with_tails}
 use Rattle.rv_model.specs.step.Step.{access_step, executed, performed}
 use Rattle.rv_model.specs.vector.Groups.{GroupType, registers, width_bytes}
 use Rattle.rv_model.proofs.Choices.{of_either, of_option}
@@ -35,10 +34,7 @@ use Rattle.rv_model.proofs.step_lemmas.KeptSteps.{vector_step_is}
 
 -- an index that isn't within a range is outside it
 beside_range : (a n x : ℕ) → is_within a n x ≡ false → Beside x a n
-beside_range a n x h = elim (places a n x) [
-  | inl within ↦ absurd (let no : true ≡ false = sym (is_within_true a n x within.0 within.1) ∙ h in cc)
-  | inr beside ↦ beside
-]
+beside_range a n x h = search (arith, nat_tests, is_within_true, places)
 
 all_first : (P : Transfer → Type 0) (xs ys : List Transfer) → AllByRecursion P (xs ++ ys) → AllByRecursion P xs
 all_first P [] ys h = tt
@@ -56,11 +52,7 @@ all_before P each start stop end before h =
 element_missed : (x size : ℕ) (m : Memory) (file : List ℕ) (at : ℕ) (kind : TransferKind) → covers x size kind ≡ false
     → memory_byte (with_element m (chunk at size file) kind) x ≡ memory_byte m x
 unfolding memory_byte
-element_missed x size m file at Ones h = refl
-element_missed x size m file at (Moved address) h =
-    let short : length (chunk at size file) ≤ size = omega (arith, length-take size (drop at file)) in
-    let beside : Beside x address (length (chunk at size file)) = elim (beside_range address size x h) [ inl l ↦ inl l | inr g ↦ inr (omega (arith, g, short)) ] in
-    ap (λ (c : Option Cell). option_map_or (λ c. c.byte) c 0) (get-put_bytes_outside m address (chunk at size file) x beside)
+element_missed x size m file at kind h = search (arith, beside_range, get-put_bytes_outside, length-take)
 
 stored_missed : (x : ℕ) (place : Transfer → ℕ) (file : List ℕ) (ts : List Transfer) (m : Memory) → AllByRecursion (λ t. covers_memory x t ≡ false) ts
     → memory_byte (memory_stored m place file ts) x ≡ memory_byte m x
@@ -142,10 +134,7 @@ module _ (limit : ℕ) (i : AccessInstr) (a : VectorAccess) (s : HartState) (lon
       }
 
   no_tails : a.direction ≡ direction.Store → filled_type i a s ≡ None
-  no_tails is =
-      of_option s.vector.conf.vtype
-      (λ o. option_and_then (λ t. cond (reads_memory a.direction && fills_tail s.policy t a.body) (tail_type i t) None) o ≡ None)
-      (λ e. refl) (λ t e. ap (λ (d : Direction). cond (reads_memory d && fills_tail s.policy t a.body) (tail_type i t) None) is)
+  no_tails is = search (arith, nat_tests, of_option)
 
   store_keeps : a.direction ≡ direction.Store → (body_transfers a s ≡ transfers (plan a false) a.body.start (a.body.end - a.body.start))
       → Keeps (StoreKeeps a s) (store_run limit a s.vector s.memory)
@@ -167,12 +156,7 @@ module _ (limit : ℕ) (i : AccessInstr) (a : VectorAccess) (s : HartState) (lon
       }
 
   direction_keeps : (d : Direction) → a.direction ≡ d → Keeps (DirectionKeeps d i a s) (directed_run d limit (load_fills_masked_off a s) a s.vector s.memory)
-  direction_keeps direction.Load is =
-      load_keeps (load_fills_masked_off a s)
-      (ap (λ (d : Direction). transfers (plan a (reads_memory d && load_fills_masked_off a s)) a.body.start (a.body.end - a.body.start)) is)
-  direction_keeps direction.Store is =
-      store_keeps is
-      (ap (λ (d : Direction). transfers (plan a (reads_memory d && load_fills_masked_off a s)) a.body.start (a.body.end - a.body.start)) is)
+  direction_keeps d is = search (arith, nat_tests, load_keeps, store_keeps)
 
 -- ---- steps
 

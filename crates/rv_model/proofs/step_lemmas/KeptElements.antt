@@ -41,24 +41,16 @@ use Rattle.rv_model.proofs.element_lemmas.Packed.{packed_few}
 -- ---- tests
 
 pub second_of : (inside picks : Bool) → (inside && picks) ≡ false → inside ≡ true → picks ≡ false
-second_of true picks h e = h
-second_of false picks h e = absurd (cc)
+second_of inside picks h e = search
 
 -- a bit of the group that belongs to an element that isn't selected
 unchanged : (vd count eew : ℕ) (changed : ℕ → Bool) (n : ℕ) → (in_range (256 * vd) (256 * (vd + count)) n && changed ((n - 256 * vd) / eew)) ≡ false → Unchanged vd count eew changed n
-unchanged vd count eew changed n h from to =
-    second_of (in_range (256 * vd) (256 * (vd + count)) n) (changed ((n - 256 * vd) / eew)) h (inside_range (256 * vd) (256 * (vd + count)) n from to)
+unchanged vd count eew changed n h from to = search (inside_range, second_of)
 
 -- ---- permutations that leave some elements of the body unchanged
 
 less : (x y on off tail : Bool) → (x ≡ true → y ≡ true) → ((y && on) || ((off && (y && not on)) || tail)) ≡ false → ((x && on) || ((off && (x && not on)) || tail)) ≡ false
-less true true on off tail h e = e
-less true false on off tail h e = absurd (let no : false ≡ true = h refl in cc)
-less false true true off tail h e = absurd (cc)
-less false true false true tail h e = absurd (cc)
-less false true false false tail h e = e
-less false false on true tail h e = e
-less false false on false tail h e = e
+less x y on off tail h e = search (arith, nat_tests)
 
 later : (start more end e : ℕ) → in_range (max start more) end e ≡ true → in_range start end e ≡ true
 later start more end e h = inside_range start end e (omega (arith, from_start (max start more) end e h)) (to_end (max start more) end e h)
@@ -66,10 +58,7 @@ later start more end e h = inside_range start end e (omega (arith, from_start (m
 -- ---- packed elements
 
 fewer : (size vl e : ℕ) (fill : Bool) → size ≤ vl → (nat_lt e vl || (fill && nat_le vl e)) ≡ false → (nat_lt e size || (fill && nat_le vl e)) ≡ false
-fewer size vl e fill h is =
-    of_bool (nat_lt e size) (λ b. (b || (fill && nat_le vl e)) ≡ false)
-    (λ low. absurd (let also : nat_lt e vl ≡ true = grind (arith, nat_tests, low, h) in let no : true ≡ false = rw also at is in cc))
-    (λ high. of_bool (nat_lt e vl) (λ b. (b || (fill && nat_le vl e)) ≡ false → (fill && nat_le vl e) ≡ false) (λ low no. absurd (cc)) (λ past rest. rest) is)
+fewer size vl e fill h is = search (arith, nat_tests, of_bool)
 
 module _ (s : HartState) (long : length s.vector.file ≡ 1024) where
   -- ---- writes of a group
@@ -125,8 +114,7 @@ module _ (s : HartState) (long : length s.vector.file ≡ 1024) where
   packs : (g : GroupType) (vd count vl : ℕ) (tail : Bool) (numbers : List ℕ) → registers g.emul ≤ count → length numbers ≤ vl
       → Wrote vd count (bits g.width) (λ e. nat_lt e vl || (tail && nat_le vl e)) (with_packed g vd vl tail numbers s.vector.file)
   unfolding with_packed
-  packs g vd count vl tail numbers fits small =
-      elements_wrote g vd count _ (λ e. nat_lt e vl || (tail && nat_le vl e)) _ fits (λ e. fewer (length numbers) vl e tail small)
+  packs g vd count vl tail numbers fits small = search (elements_wrote, fewer)
 
   -- ---- each instruction
 

@@ -1,22 +1,19 @@
 -- A step of a vector operation changes no element outside `changes`. The first part covers the step of any vector instruction.
-use Rattle.std.proofs.Common.{◌≡◌, ◌∙◌, refl, sym, subst, ap, ℕ, Bool, cond, false, List, length, Option, Some, None}
+use Rattle.std.proofs.Common.{◌≡◌, ◌∙◌, refl, sym, subst, ℕ, Bool, false, List, length, Option, Some, None, arith}
 use Rattle.std.specs.Option.{option_map_or}
+use Rattle.std.proofs.lemmas.Bool.Decides.{nat_tests}
 use Rattle.rv_model.specs.declared.instructions.instruction.Instr.{Instr}
 use Rattle.rv_model.specs.declared.instructions.instruction.Instr.TheVariants as instr
 use Rattle.rv_model.specs.declared.instructions.vector.VectorInstr.{VectorInstr}
 use Rattle.rv_model.specs.declared.instructions.vector.VectorInstr.TheVariants.{SetVli, SetIvli, SetVl}
 use Rattle.rv_model.specs.declared.legality.Operand.{Operand}
-use Rattle.rv_model.specs.declared.memory.Access.TheVariants as access
-use Rattle.rv_model.specs.declared.step.step_end.Cause.TheVariants.{FetchAccess}
 use Rattle.rv_model.specs.declared.step.vector_end.VEnd.{VEnd}
-use Rattle.rv_model.specs.declared.step.vector_end.VEnd.TheVariants as vector_end
 use Rattle.rv_model.specs.declared.vector.types.VType.{VType}
 use Rattle.rv_model.specs.elements.Bodies.{operation_body}
-use Rattle.rv_model.specs.instructions.Table.{scan, table}
 use Rattle.rv_model.specs.legality.Legality.{is_legal}
-use Rattle.rv_model.specs.memory.Memory.{Memory, can_access}
+use Rattle.rv_model.specs.memory.Memory.{Memory}
 use Rattle.rv_model.specs.step.Changes.{DiffersAtMost, StepsKeepOthers, changes, changes_in, destination_of}
-use Rattle.rv_model.specs.step.Hart.{HartState, Stepped, faults}
+use Rattle.rv_model.specs.step.Hart.{HartState, Stepped}
 use Rattle.rv_model.specs.step.Step.{VectorStepped, after_vector, executed, fetched, operation_step, performed, step, typed, typed_step, vector_executed, vector_step, vector_ticks, word_at}
 use Rattle.rv_model.proofs.Choices.{of_bool, of_either}
 use Rattle.rv_model.proofs.step_lemmas.KeptElements.{typed_keeps}
@@ -26,11 +23,7 @@ use Rattle.rv_model.proofs.step_lemmas.KeptElements.{typed_keeps}
 -- the step of a fetched instruction
 fetched_step : (limit : ℕ) (i : Instr) (s : HartState) → fetched s.memory s.scalar.pc ≡ Some i → step limit s ≡ executed limit (Some i) (word_at s.memory s.scalar.pc) s
 unfolding step
-fetched_step limit i s =
-    let word : ℕ = word_at s.memory s.scalar.pc in
-    of_bool (can_access access.Fetch s.memory s.scalar.pc 4)
-    (λ b. cond b (scan table word) None ≡ Some i → cond b (executed limit (scan table word) word s) (faults FetchAccess s.scalar.pc s) ≡ executed limit (Some i) word s)
-    (λ e is. ap (λ (o : Option Instr). executed limit o word s) is) (λ e is. absurd (cc))
+fetched_step limit i s = search (arith, nat_tests, of_bool)
 
 -- a property of the vector registers and the memory holds after the step of a vector instruction, if it holds before the step and after
 -- each legal instruction
@@ -39,8 +32,7 @@ module _ (P : List ℕ → Memory → Type 0) where
   Of w = P w.vector.file w.memory
 
   after_is : (ticks : ℕ) (end : VEnd) (word : ℕ) (w : HartState) → Of w → Of (after_vector ticks end word w).state
-  after_is ticks vector_end.Done word w is = is
-  after_is ticks _ word w is = is
+  after_is ticks end word w is = search (arith, nat_tests)
 
   executed_is : (limit : ℕ) (i : Instr) (s : HartState) → Of s → Of (performed limit i s).state → Of (vector_executed limit i s).state
   unfolding vector_executed
@@ -61,8 +53,7 @@ module _ (s : HartState) (long : length s.vector.file ≡ 1024) where
   Stays i file = DiffersAtMost (destination_of i s.vector.conf.vtype) (changes_in s i) s.vector.file file
 
   untouched : (o : Option Operand) (selected : ℕ → Bool) → DiffersAtMost o selected s.vector.file s.vector.file
-  untouched None selected = refl
-  untouched (Some o) selected = record { size = refl; outside = λ k out. refl; elements = λ n h. refl }
+  untouched o selected = search (arith, nat_tests)
 
   typed_stays : (i : VectorInstr) (o : Option VType)
       → DiffersAtMost (destination_of i o) (λ e. option_map_or (λ t. changes i t s.policy (operation_body i t s.vector) e) o false) s.vector.file (typed o (typed_step i) s).state.vector.file

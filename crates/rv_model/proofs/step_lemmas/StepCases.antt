@@ -1,7 +1,7 @@
 -- The ends of a step without a vector instruction: a law that holds for each of them holds for all such steps.
-use Rattle.std.proofs.Common.{◌≡◌, ◌≢◌, ◌-◌, ◌⊎◌, inl, inr, ℕ, ◌%◌, ◌^◌, Bool, true, false, ◌&&◌, ◌||◌, ◌==◌, cond, List, ◌++◌, Option, Some, None, refl, sym, ◌∙◌, ap, subst, arith}
-use Rattle.std.specs.Prelude.{not, slice_set}
-use Rattle.std.specs.Int.{byte_len, w64, to_le_bytes}
+use Rattle.std.proofs.Common.{◌≡◌, ◌-◌, ◌⊎◌, inl, inr, ℕ, Bool, true, false, ◌==◌, cond, List, ◌++◌, Option, Some, None, refl, sym, ◌∙◌, ap, subst, arith}
+use Rattle.std.specs.Prelude.{slice_set}
+use Rattle.std.specs.Int.{w64}
 use Rattle.std.proofs.lemmas.Bool.Decides.{nat_tests}
 use Rattle.std.proofs.lemmas.List.{get_or-set_other}
 use Rattle.rv_model.specs.declared.instructions.instruction.Instr.{Instr}
@@ -9,42 +9,35 @@ use Rattle.rv_model.specs.declared.instructions.instruction.Instr.TheVariants as
 use Rattle.rv_model.specs.declared.instructions.scalar.ScalarInstr.{ScalarInstr}
 use Rattle.rv_model.specs.declared.instructions.scalar.ScalarInstr.TheVariants.{Upper, Jump, JumpRegister, Branch, Load, Store, RegisterImmediate, ShiftImmediate, ShiftImmediateWord, RegisterRegister, Fence, System}
 use Rattle.rv_model.specs.declared.instructions.csr.CsrInstr.{CsrInstr}
-use Rattle.rv_model.specs.declared.instructions.csr.CsrInstr.TheVariants.{Register, Immediate}
 use Rattle.rv_model.specs.declared.instructions.operations.CsrOp.{CsrOp}
 use Rattle.rv_model.specs.declared.instructions.operations.SystemOp.TheVariants as system
 use Rattle.rv_model.specs.declared.memory.Access.TheVariants as access
 use Rattle.rv_model.specs.declared.scalar.Scalar.{Scalar}
 use Rattle.rv_model.specs.declared.step.step_end.Cause.{Cause}
-use Rattle.rv_model.specs.declared.step.step_end.Cause.TheVariants.{FetchAccess, IllegalInstruction, LoadAccess, MisalignedTarget, StoreAccess}
+use Rattle.rv_model.specs.declared.step.step_end.Cause.TheVariants.{FetchAccess, IllegalInstruction}
 use Rattle.rv_model.specs.declared.step.step_end.StepEnd.TheVariants.{Ran, Exit, Ebreak, OutputFull}
 use Rattle.rv_model.specs.declared.vector.control_register.ControlRegister.{ControlRegister}
 use Rattle.rv_model.specs.declared.instructions.operations.MaskUnaryOp.{MaskUnaryOp}
-use Rattle.rv_model.specs.declared.instructions.operations.MaskUnaryOp.TheVariants.{Scan, Viota}
 use Rattle.rv_model.specs.declared.instructions.operations.VectorOp.{VectorOp}
-use Rattle.rv_model.specs.declared.instructions.operations.VectorOp.TheVariants.{Binary, FixedPoint, Clip}
 use Rattle.rv_model.specs.declared.instructions.source.Source.{Source}
 use Rattle.rv_model.specs.declared.instructions.vector.VectorInstr.{VectorInstr}
-use Rattle.rv_model.specs.declared.instructions.vector.VectorInstr.TheVariants.{SetVli, SetIvli, SetVl, Arith, MaskToScalar, MaskUnary, MoveToScalar}
+use Rattle.rv_model.specs.declared.instructions.vector.VectorInstr.TheVariants.{MaskUnary}
 use Rattle.rv_model.specs.declared.step.vector_end.VEnd.TheVariants.{Illegal}
 use Rattle.rv_model.specs.declared.vector.request.RequestedLength.{RequestedLength}
-use Rattle.rv_model.specs.declared.vector.request.RequestedLength.TheVariants.{Elements}
 use Rattle.rv_model.specs.declared.vector.types.VType.{VType}
-use Rattle.rv_model.specs.vector.Groups.{GroupType, group_type, wide_type}
-use Rattle.rv_model.specs.instructions.Immediates.{i_immediate, s_immediate}
+use Rattle.rv_model.specs.vector.Groups.{GroupType}
 use Rattle.rv_model.specs.instructions.Table.{scan, table}
 use Rattle.rv_model.specs.memory.Memory.{bytes_at, can_access, put_bytes}
 use Rattle.rv_model.specs.scalar.Arithmetic.{sum}
 use Rattle.rv_model.specs.scalar.ControlTransfer.{is_taken}
-use Rattle.rv_model.specs.scalar.LoadsAndStores.{load_width, store_width}
 use Rattle.rv_model.specs.scalar.Registers.{advanced, read_register, with_register}
 use Rattle.rv_model.specs.step.Hart.{HartState, Stepped, ends, faults, gives, retires}
 use Rattle.rv_model.specs.step.ScalarStep.{csr_executed, csr_step, environment_call, jumps, scalar_step}
-use Rattle.rv_model.specs.step.Step.{executed, fetched, step, touches, word_at, VectorStepped, arith_step, leaves, operation_step, requested_length, typed, typed_step, vector_ends, vector_step, vset_step}
+use Rattle.rv_model.specs.step.Step.{executed, fetched, step, touches, word_at, VectorStepped, arith_step, leaves, operation_step, typed, typed_step, vector_ends, vector_step, vset_step}
 use Rattle.rv_model.specs.step.Targets.{Wrote, scalar_target, target_at, target_of, target_of_scalar, target_of_vector}
 use Rattle.rv_model.specs.step.Ticks.{is_scalar}
-use Rattle.rv_model.specs.step.WriteCall.{output_room, write_call, write_count}
-use Rattle.rv_model.specs.vector.Control.{control_value, csr_form, is_write, with_control, written_value}
-use Rattle.rv_model.specs.vector.ControlRegisters.{control_register, is_read_only}
+use Rattle.rv_model.specs.step.WriteCall.{write_call, write_count}
+use Rattle.rv_model.specs.vector.Control.{with_control}
 use Rattle.rv_model.proofs.Choices.{of_bool, of_either, of_test}
 
 -- x0 has the same value
@@ -52,9 +45,7 @@ abbrev pub SameFirst : Scalar → Scalar → Type 0
 SameFirst old new = read_register new 0 ≡ read_register old 0
 
 pub first-with_register : (rd value : ℕ) (s : Scalar) → SameFirst s (with_register rd value s)
-first-with_register rd value s =
-    of_test (SameFirst s) (rd == 0) s (record s { x = slice_set s.x rd value }) (λ e. refl)
-    (λ e. let other : 0 ≢ rd = grind (arith, nat_tests, e) in get_or-set_other s.x rd 0 value 0 other)
+first-with_register rd value s = search (arith, nat_tests, get_or-set_other, of_test)
 
 -- a register has a new value
 pub wrote : (rd value pc : ℕ) (x : Scalar) → Wrote rd x (record (with_register rd value x) { pc = pc })
@@ -92,26 +83,14 @@ module _ (s : HartState) (P : Stepped → Type 0) where
   goes_is c = c.runs (advanced s.scalar) (wrote 0 0 _ s.scalar)
 
   jumps_is : (target rd value : ℕ) → Cases s rd P → P (jumps target (with_register rd value s.scalar) s)
-  jumps_is target rd value c =
-      of_either P (target % 4 == 0) _ _ (c.runs (record (with_register rd value s.scalar) { pc = target }) (wrote rd value target s.scalar)) (c.fault MisalignedTarget target)
+  jumps_is target rd value c = search (arith, nat_tests, of_either, wrote)
 
   csr_is : (register : Option ControlRegister) (op : CsrOp) (rd source operand word : ℕ) → Cases s rd P → P (csr_step register op rd source operand word s)
-  csr_is None op rd source operand word c = c.fault IllegalInstruction word
-  csr_is (Some register) op rd source operand word c =
-      of_either P (is_write op source && is_read_only register) _ _ (c.fault IllegalInstruction word)
-      (of_either P (is_write op source) _ _
-      (c.controls register (written_value op (control_value register s.vector) operand) (control_value register s.vector))
-      (gives_is rd (control_value register s.vector) c))
+  csr_is register op rd source operand word c = search (arith, nat_tests, gives_is, of_either)
 
   write_is : Cases s 10 P → P (write_call s)
   unfolding write_call
-  write_is c =
-      let asked : ℕ = read_register s.scalar 12 in
-      let addr : ℕ = read_register s.scalar 11 in
-      of_either P (not (read_register s.scalar 10 == 1)) _ _ (gives_is 10 (2 ^ 64 - 9) c)
-      (of_either P (asked == 0) _ _ (gives_is 10 0 c)
-      (of_either P (output_room s.output == 0) _ _ c.full
-      (of_either P (can_access access.Load s.memory addr (write_count asked s.output)) _ _ (c.puts addr asked) (gives_is 10 (2 ^ 64 - 14) c))))
+  write_is c = search (arith, nat_tests, gives_is, of_either)
 
   scalar_is : (i : ScalarInstr) → Cases s (target_of_scalar i) P → P (scalar_step i s)
   unfolding environment_call
@@ -120,17 +99,10 @@ module _ (s : HartState) (P : Stepped → Type 0) where
   scalar_is (JumpRegister rd rs1 imm) c = jumps_is _ rd (sum w64 s.scalar.pc 4) c
   scalar_is (Branch op rs1 rs2 imm) c =
       of_either P (is_taken op (read_register s.scalar rs1) (read_register s.scalar rs2)) _ _ (jumps_is _ 0 0 c) (goes_is c)
-  scalar_is (Load op rd rs1 imm) c =
-      let addr : ℕ = sum w64 (read_register s.scalar rs1) (i_immediate imm) in
-      of_either P (can_access access.Load s.memory addr (byte_len (load_width op))) _ _ (gives_is rd _ c) (c.fault LoadAccess addr)
-  scalar_is (Store op rs1 rs2 imm) c =
-      let addr : ℕ = sum w64 (read_register s.scalar rs1) (s_immediate imm) in
-      of_either P (can_access access.Store s.memory addr (byte_len (store_width op))) _ _
-      (c.stores addr (to_le_bytes (store_width op) (read_register s.scalar rs2))) (c.fault StoreAccess addr)
+  scalar_is (Load op rd rs1 imm) c = search (arith, nat_tests, gives_is, of_either)
+  scalar_is (Store op rs1 rs2 imm) c = search (arith, nat_tests, of_either)
   scalar_is (Fence rd rs1 ordering) c = goes_is c
-  scalar_is (System system.Ecall) c =
-      of_either P (read_register s.scalar 17 == 93 || read_register s.scalar 17 == 94) _ _ (c.exits (read_register s.scalar 10 % 256))
-      (of_either P (read_register s.scalar 17 == 64) _ _ (write_is c) (gives_is 10 (2 ^ 64 - 38) c))
+  scalar_is (System system.Ecall) c = search (arith, nat_tests, gives_is, of_either, write_is)
   scalar_is (System system.Ebreak) c = c.breaks
   scalar_is (RegisterImmediate op rd rs1 imm) c = gives_is rd _ c
   scalar_is (ShiftImmediate op rd rs1 shamt) c = gives_is rd _ c
@@ -138,8 +110,7 @@ module _ (s : HartState) (P : Stepped → Type 0) where
   scalar_is (RegisterRegister op rd rs1 rs2) c = gives_is rd _ c
 
   controls_is : (i : CsrInstr) (word : ℕ) → Cases s (scalar_target (instr.Csr i)) P → P (csr_executed i word s)
-  controls_is (Register op rd rs1 csr) word = csr_is (control_register csr) op rd rs1 (read_register s.scalar rs1) word
-  controls_is (Immediate op rd imm csr) word = csr_is (control_register csr) (csr_form op) rd imm imm word
+  controls_is i word = search (arith, nat_tests, csr_is)
 
 -- ---- steps with the fetched instruction
 
@@ -173,9 +144,7 @@ pub record Fetches (word : ℕ) (s : HartState) : Type 0 where
 
 pub step_of : (n word : ℕ) (s : HartState) → Fetches word s → step n s ≡ executed n (scan table word) word s
 unfolding step
-step_of n word s f =
-    ap (λ (b : Bool). cond b (executed n (scan table (word_at s.memory s.scalar.pc)) (word_at s.memory s.scalar.pc) s) (faults FetchAccess s.scalar.pc s)) f.allowed
-    ∙ ap (λ (k : ℕ). executed n (scan table k) k s) f.reads
+step_of n word s f = search
 
 pub record IsVector (s : HartState) : Type 0 where
   pub fetches : Fetches (word_at s.memory s.scalar.pc) s
@@ -222,26 +191,14 @@ module _ (s : HartState) (P : VectorStepped → Type 0) where
   none_wrote = wrote 0 0 s.scalar.pc s.scalar
 
   typed_is : (rd : ℕ) → Operations s rd P → (o : Option VType) (done : VType → HartState → VectorStepped) → ((t : VType) → P (done t s)) → P (typed o done s)
-  typed_is rd c None done each = c.illegal
-  typed_is rd c (Some t) done each = each t
+  typed_is rd c o done each = search (arith, nat_tests)
 
   arith_is : (t : VType) (g w : GroupType) (op : VectorOp) (source : Source) (vd vs2 : ℕ) (vm : Bool) → Operations s 0 P → P (arith_step t g w op source vd vs2 vm s)
-  arith_is t g w (Binary op) source vd vs2 vm c = c.leaves s.scalar none_wrote _ s.vector.vxsat
-  arith_is t g w (FixedPoint op) source vd vs2 vm c = c.leaves s.scalar none_wrote _ _
-  arith_is t g w (Clip op) source vd vs2 vm c = c.leaves s.scalar none_wrote _ _
-  arith_is t g w _ source vd vs2 vm c = c.leaves s.scalar none_wrote _ s.vector.vxsat
+  arith_is t g w op source vd vs2 vm c = search (arith, nat_tests, none_wrote)
 
   mask_unary_is : (t : VType) (op : MaskUnaryOp) (vd vs2 : ℕ) (vm : Bool) → Operations s 0 P → P (typed_step (MaskUnary op vd vs2 vm) t s)
-  mask_unary_is t (Scan op) vd vs2 vm c = c.leaves s.scalar none_wrote _ s.vector.vxsat
-  mask_unary_is t Viota vd vs2 vm c = c.leaves s.scalar none_wrote _ s.vector.vxsat
+  mask_unary_is t op vd vs2 vm c = search (arith, nat_tests, none_wrote)
 
   pub operation_is : (i : VectorInstr) → Operations s (target_of_vector i) P → P (operation_step i s)
   unfolding operation_step
-  operation_is (SetVli rd rs1 vtype) c = c.sets vtype (requested_length rd rs1 s.scalar)
-  operation_is (SetIvli rd avl vtype) c = c.sets vtype (Elements avl)
-  operation_is (SetVl rd rs1 rs2) c = c.sets (read_register s.scalar rs2) (requested_length rd rs1 s.scalar)
-  operation_is (Arith a vd vs2 vm) c = typed_is 0 c s.vector.conf.vtype _ (λ t. arith_is t (group_type t) (wide_type t) a.0 a.1 vd vs2 vm c)
-  operation_is (MaskUnary op vd vs2 vm) c = typed_is 0 c s.vector.conf.vtype _ (λ t. mask_unary_is t op vd vs2 vm c)
-  operation_is (MaskToScalar op rd vs2 vm) c = typed_is rd c s.vector.conf.vtype _ (λ t. c.leaves _ (wrote_alone rd _ s.scalar) s.vector.file s.vector.vxsat)
-  operation_is (MoveToScalar rd vs2) c = typed_is rd c s.vector.conf.vtype _ (λ t. c.leaves _ (wrote_alone rd _ s.scalar) s.vector.file s.vector.vxsat)
-  operation_is _ c = typed_is 0 c s.vector.conf.vtype _ (λ t. c.leaves s.scalar none_wrote _ s.vector.vxsat)
+  operation_is i c = search (arith, nat_tests, arith_is, mask_unary_is, none_wrote, typed_is, wrote_alone)

@@ -3,6 +3,7 @@ use Rattle.std.proofs.Common.{◌≡◌, ◌≢◌, ℕ, ◌+◌, ◌-◌, ◌�
 use Rattle.std.specs.Option.{option_and_then, option_map_or}
 use Rattle.std.specs.Prelude.{IfSome, IsSomeAnd, nat_lt}
 use Rattle.std.proofs.lemmas.Bool.{lt-ltb}
+use Rattle.std.proofs.lemmas.Bool.Decides.{nat_tests}
 use Rattle.rv_model.specs.declared.instructions.instruction.Instr.{Instr}
 use Rattle.rv_model.specs.declared.instructions.instruction.Instr.TheVariants as instr
 use Rattle.rv_model.specs.declared.instructions.access.AccessInstr.{AccessInstr}
@@ -34,22 +35,17 @@ use Rattle.rv_model.proofs.step_lemmas.StoredWords.{SameWord, run_keeps_word}
 -- ---- an access that stops leaves its tail unchanged
 
 kept_file : (g : Option GroupType) (a : VectorAccess) (end : MemEnd) (file : List ℕ) → end ≢ memory_end.Done → with_tails g a end file ≡ file
-kept_file None a end file h = refl
-kept_file (Some g) a memory_end.Done file h = absurd (h refl)
-kept_file (Some g) a _ file h = refl
+kept_file g a end file h = search (arith, nat_tests)
 
 tails_alike : (g : Option GroupType) (a : VectorAccess) (mask : List ℕ) (start : ℕ) (address : ℕ → ℕ) (end : MemEnd) (file : List ℕ)
     → with_tails g (access_again a mask start address) end file ≡ with_tails g a end file
-tails_alike None a mask start address end file = refl
-tails_alike (Some g) a mask start address memory_end.Done file = refl
-tails_alike (Some g) a mask start address _ file = refl
+tails_alike g a mask start address end file = search (arith, nat_tests)
 
 unless_done : (d : Direction) (end : MemEnd) → StopsShort (access_end d end) → end ≢ memory_end.Done
 unless_done d end h e = h.undone (ap (access_end d) e)
 
 not_illegal : (d : Direction) (end : MemEnd) → access_end d end ≢ vector_end.Illegal
-not_illegal d memory_end.Done e = absurd (cc)
-not_illegal d _ e = absurd (cc)
+not_illegal d end e = search (arith, nat_tests)
 
 -- ---- the effect of an instruction, by the remaining ticks and the state
 
@@ -268,27 +264,17 @@ instruction_stops limit i s is stops = (executed_part limit 0 s (vector_executed
 
 after_more : (ticks more : ℕ) (end : VEnd) (word : ℕ) (s : HartState) → end ≢ vector_end.Illegal
     → after_vector (ticks + more) end word s ≡ after_ticks more (after_vector ticks end word s)
-after_more ticks more vector_end.Illegal word s legal = absurd (legal refl)
-after_more ticks more _ word s legal = refl
+after_more ticks more end word s legal = search (arith, nat_tests)
 
 -- a step that is cut or faults leaves the state that its instruction leaves
 pub after_short : (ticks : ℕ) (end : VEnd) (word : ℕ) (s : HartState) → StopsShort end → (after_vector ticks end word s).state ≡ s
-after_short ticks vector_end.Done word s stops = absurd (stops.undone refl)
-after_short ticks vector_end.Illegal word s stops = absurd (stops.legal refl)
-after_short ticks _ word s stops = refl
+after_short ticks end word s stops = search (arith, nat_tests)
 
 part_resumes : (limit later : ℕ) (i : Instr) (word : ℕ) (s : HartState) (more : Memory) → IsConfiguration s.vector.conf
     → StopsShort (vector_executed limit i s).end → Extends (vector_executed limit i s).state.memory more
     → vector_step ((vector_executed limit i s).state.vector.vstart - s.vector.vstart + later) i word (finds (overlay s.memory more) s)
     ≡ after_ticks ((vector_executed limit i s).state.vector.vstart - s.vector.vstart) (vector_step later i word (finds more (vector_executed limit i s).state))
-part_resumes limit later i word s more is stops grown =
-    let part : HartState = (vector_executed limit i s).state in
-    let done : ℕ = part.vector.vstart - s.vector.vstart in
-    let r : IsPart limit later s more i (λ n w. vector_executed n i w) (vector_executed limit i s) = executed_part limit later s more i is stops grown in
-    let d : VectorStepped = vector_executed later i (finds more part) in
-    ap (λ (e : VectorStepped). after_vector (vector_ticks (done + later) i (finds (overlay s.memory more) s)) e.end word e.state) (sym r.same)
-    ∙ ap (λ (n : ℕ). after_vector n d.end word d.state) r.ticks
-    ∙ after_more (vector_ticks later i (finds more part)) done d.end word d.state r.legal
+part_resumes limit later i word s more is stops grown = search (arith, nat_tests, after_more, executed_part)
 
 pub step_resumes : (limit later : ℕ) (i : Instr) (word : ℕ) (s : HartState) (more : Memory) → IsConfiguration s.vector.conf
     → StopsShort (vector_executed limit i s).end → Extends (vector_step limit i word s).state.memory more

@@ -1,17 +1,18 @@
 -- A vector store without a byte in its own word leaves this word unchanged; no load changes a word.
-use Rattle.std.proofs.Common.{◌≡◌, ◌≢◌, ℕ, zero, suc, ◌+◌, ◌-◌, ◌<◌, ◌≤◌, ◌⊎◌, inl, inr, Bool, false, ◌&&◌, List, [], ◌∷◌, length, drop, refl, ◌∙◌, ap, arith, length-take}
-use Rattle.std.specs.Prelude.{All, nat_le, nat_lt}
+use Rattle.std.proofs.Common.{◌≡◌, ◌≢◌, ℕ, zero, suc, ◌+◌, ◌-◌, ◌<◌, ◌≤◌, inl, inr, Bool, false, List, [], ◌∷◌, length, drop, refl, ◌∙◌, ap, arith, length-take}
+use Rattle.std.specs.Prelude.{All, nat_le}
 use Rattle.std.specs.FinMap.{get}
 use Rattle.std.specs.Simd.Lanes.{chunk}
 use Rattle.std.proofs.lemmas.List.Elements.{All-head, All-tail}
+use Rattle.std.proofs.lemmas.Bool.Decides.{nat_tests}
 use Rattle.rv_model.specs.declared.instructions.operations.Direction.{Direction}
 use Rattle.rv_model.specs.declared.instructions.operations.Direction.TheVariants as direction
 use Rattle.rv_model.specs.declared.memory.Access.TheVariants as access
 use Rattle.rv_model.specs.declared.step.memory_end.MemEnd.{MemEnd}
-use Rattle.rv_model.specs.declared.step.memory_end.MemEnd.TheVariants.{Done, Fault}
+use Rattle.rv_model.specs.declared.step.memory_end.MemEnd.TheVariants.{Done}
 use Rattle.rv_model.specs.declared.vector.state.VState.{VState}
 use Rattle.rv_model.specs.accesses.AccessRuns.{AccessRun, access_ends, directed_run, load_run, store_run}
-use Rattle.rv_model.specs.accesses.Transfers.{Moved, Ones, Plan, Transfer, TransferKind, end_at, registers_loaded, stop_index, memory_stored, transfers, with_element}
+use Rattle.rv_model.specs.accesses.Transfers.{Moved, Ones, Plan, Transfer, TransferKind, end_at, stop_index, memory_stored, transfers, with_element}
 use Rattle.rv_model.specs.accesses.VectorAccess.{VectorAccess, element_start, plan}
 use Rattle.rv_model.specs.memory.Memory.{Memory}
 use Rattle.rv_model.specs.step.Resumes.{IsApart}
@@ -26,8 +27,7 @@ SameWord pc m other = (x : ℕ) → pc ≤ x → x < pc + 4 → get other x ≡ 
 element_kept : (m : Memory) (size : ℕ) (bs : List ℕ) (kind : TransferKind) (pc x : ℕ) → length bs ≤ size → IsApart pc size kind → pc ≤ x → x < pc + 4
     → get (with_element m bs kind) x ≡ get m x
 element_kept m size bs (Moved address) pc x short h a b =
-    let apart : (x < address) ⊎ (address + length bs ≤ x) = elim (h x a b) [ inl l ↦ inl l | inr g ↦ inr (omega arith) ] in
-    get-put_bytes_outside m address bs x apart
+    get-put_bytes_outside m address bs x (elim (h x a b) [ inl l ↦ inl l | inr g ↦ inr (omega arith) ])
 element_kept m size bs Ones pc x short h a b = refl
 
 -- a transfer leaves the word at an address unchanged
@@ -39,9 +39,8 @@ unfolding memory_stored
 stored_kept m place file [] pc h x a b = refl
 stored_kept m place file (t ∷ ts) pc h x a b =
     let bs : List ℕ = chunk (place t) t.size file in
-    let short : length bs ≤ t.size = omega (arith, length-take t.size (drop (place t) file)) in
     stored_kept (with_element m bs t.kind) place file ts pc (All-tail (Leaves pc) t ts h) x a b
-    ∙ element_kept m t.size bs t.kind pc x short (All-head (Leaves pc) t ts h) a b
+    ∙ element_kept m t.size bs t.kind pc x (omega (arith, length-take t.size (drop (place t) file))) (All-head (Leaves pc) t ts h) a b
 
 transfers_kept : (m : Memory) (place : Transfer → ℕ) (file : List ℕ) (each : Plan) (i n pc : ℕ)
     → ((k : ℕ) → i ≤ k → k < i + n → All (Leaves pc) (each k)) → SameWord pc m (memory_stored m place file (transfers each i n))
@@ -78,15 +77,11 @@ store_keeps limit a v m pc =
         run.end ≢ Done → TransfersApart pc run.vector.vstart a → SameWord pc m run.memory
 
 ends_memory : (first_only : Bool) (count : ℕ) (v : VState) (m : Memory) (end : MemEnd) → (access_ends first_only count v m end).memory ≡ m
-ends_memory first_only count v m (Fault index addr) = of_either (λ (r : AccessRun). r.memory ≡ m) (first_only && nat_lt 0 index) _ _ refl refl
-ends_memory first_only count v m _ = refl
+ends_memory first_only count v m end = search (arith, nat_tests, of_either)
 
 load_keeps : (limit : ℕ) (fill : Bool) (a : VectorAccess) (v : VState) (m : Memory) (pc : ℕ) → SameWord pc m (load_run limit fill a v m).memory
 unfolding load_run
-load_keeps limit fill a v m pc x low high =
-    let stop : ℕ = stop_index access.Load m (plan a fill) a.body.start (a.body.start + limit) a.body.end in
-    ap (λ (o : Memory). get o x)
-    (ends_memory a.first_only a.body.end (record v { file = registers_loaded m (element_start a) v.file (transfers (plan a fill) a.body.start (stop - a.body.start)) }) m _)
+load_keeps limit fill a v m pc x low high = search ends_memory
 
 pub run_keeps_word : (d : Direction) (limit : ℕ) (fill : Bool) (a : VectorAccess) (v : VState) (m : Memory) (pc : ℕ)
     → (directed_run d limit fill a v m).end ≢ Done

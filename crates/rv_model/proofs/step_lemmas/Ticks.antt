@@ -15,7 +15,7 @@ use Rattle.rv_model.specs.accesses.AccessRuns.{AccessRun}
 use Rattle.rv_model.specs.accesses.VectorAccess.{VectorAccess, access_of}
 use Rattle.rv_model.specs.legality.Legality.{is_legal}
 use Rattle.rv_model.specs.step.Hart.{HartState}
-use Rattle.rv_model.specs.step.MemoryStep.{access_end, after_access, filled_type, load_fills_masked_off}
+use Rattle.rv_model.specs.step.MemoryStep.{access_end, after_access, filled_type}
 use Rattle.rv_model.specs.step.Ticks.{TakesTicks}
 use Rattle.rv_model.specs.step.Step.{VectorStepped, access_step, accessed, after_vector, performed, vector_ends, vector_executed, vector_step, vector_ticks}
 use Rattle.rv_model.proofs.access_lemmas.RunsAgain.{IsUncut, directed_same}
@@ -35,14 +35,11 @@ ticks_within limit _ s some = (omega arith, omega (arith, some))
 -- the ticks of an instruction are those of its step
 after_within : (limit ticks : ℕ) (end : VEnd) (word : ℕ) (s : HartState) → 1 ≤ limit → (1 ≤ ticks) × (ticks ≤ limit)
     → (1 ≤ (after_vector ticks end word s).ticks) × ((after_vector ticks end word s).ticks ≤ limit)
-after_within limit ticks vector_end.Illegal word s some h = (omega arith, omega (arith, some))
-after_within limit ticks _ word s some h = h
+after_within limit ticks end word s some h = search arith
 
 ticks_are_within : (limit : ℕ) (i : Instr) (word : ℕ) (s : HartState) → 1 ≤ limit
     → (1 ≤ (vector_step limit i word s).ticks) × ((vector_step limit i word s).ticks ≤ limit)
-ticks_are_within limit i word s some =
-    let done : VectorStepped = vector_executed limit i s in
-    after_within limit (vector_ticks limit i s) done.end word done.state some (ticks_within limit i s some)
+ticks_are_within limit i word s some = search (after_within, ticks_within)
 
 -- ---- a cut
 
@@ -72,9 +69,7 @@ module _ (limit larger : ℕ) (more : limit ≤ larger) (s : HartState) where
   IsSame done = IsWhole (done limit).end → done larger ≡ done limit
 
   accessed_same : (a : VectorAccess) → IsWhole (access_end a.direction (accessed limit a s).end) → accessed larger a s ≡ accessed limit a s
-  accessed_same a whole =
-      directed_same limit larger (load_fills_masked_off a s) s.vector s.memory more
-      a.direction a (uncut_access a.direction (accessed limit a s).end whole)
+  accessed_same a whole = search (directed_same, uncut_access)
 
   -- the end of a load or store, by its run
   abbrev ended : AccessInstr → VectorAccess → AccessRun → VectorStepped
@@ -122,8 +117,4 @@ module _ (limit larger : ℕ) (more : limit ≤ larger) (s : HartState) where
       named false _ = λ uncut. refl
 
 pub vector_steps_take_ticks : (i : Instr) (word : ℕ) → TakesTicks (λ limit. vector_step limit i word)
-vector_steps_take_ticks i word = record {
-  within = λ limit s some. ticks_are_within limit i word s some;
-  cut = λ limit s cut. cut_takes_all_ticks limit i word s cut;
-  more = λ limit larger s more uncut. step_same limit larger more s i word uncut;
-}
+vector_steps_take_ticks i word = search (cut_takes_all_ticks, step_same, ticks_are_within)

@@ -1,5 +1,5 @@
 -- The ticks of a load or store, computed from the vector states before and after it, for code that counts ticks from these states.
-use Rattle.std.proofs.Common.{◌≡◌, ℕ, ◌+◌, ◌-◌, Bool, true, false, ◌&&◌, cond, max, Option, Some, inl, inr, refl, sym, ◌∙◌, ap, arith}
+use Rattle.std.proofs.Common.{◌≡◌, ℕ, ◌+◌, ◌-◌, Bool, true, ◌&&◌, cond, max, Option, Some, refl, sym, ◌∙◌, ap, arith}
 use Rattle.std.specs.Option.{option_map_or}
 use Rattle.std.specs.Prelude.{nat_lt}
 use Rattle.std.proofs.lemmas.Bool.{and_from, le-ltb, lt-ltb}
@@ -38,14 +38,7 @@ module _ (limit : ℕ) (a : VectorAccess) (s : HartState) (f : RunFacts limit a 
   taken : (end : MemEnd) → AtEnd end (AllOrShorter s.vector.vstart a.body.end a.first_only s.vector run)
       → AtStop end (CutAt limit s.vector.vstart a.body.end s.vector run) (FaultAt limit s.vector.vstart a.body.end s.vector run)
       → run.reached - s.vector.vstart ≡ access_ticks limit a s.vector after (access_end a.direction end)
-  taken memory_end.Done (inl h) stop =
-      omega (arith, h.1) ∙ sym (ap (λ (b : Bool). cond b (after.conf.vl - s.vector.vstart + 1) (max 1 (a.body.end - s.vector.vstart)))
-      (of_bool a.first_only (λ b. (b && nat_lt after.conf.vl s.vector.conf.vl) ≡ false) (λ e. le-ltb after.conf.vl s.vector.conf.vl (omega (arith, h.0))) (λ e. refl)))
-  taken memory_end.Done (inr h) stop =
-      let shorter : (a.first_only && nat_lt after.conf.vl s.vector.conf.vl) ≡ true = and_from _ _ h.0 (lt-ltb after.conf.vl s.vector.conf.vl h.1.1.0) in
-      omega (arith, h.1.0, h.1.1.1) ∙ sym (ap (λ (b : Bool). cond b (after.conf.vl - s.vector.vstart + 1) (max 1 (a.body.end - s.vector.vstart))) shorter)
-  taken (memory_end.Cut index) done stop = omega (arith, stop.reached, stop.at)
-  taken (memory_end.Fault index addr) done stop = omega (arith, stop.reached, stop.stopped.vstart, stop.stopped.from)
+  taken end done stop = search (arith, and_from, le-ltb, lt-ltb, of_bool)
 
 -- the ticks of a legal load or store
 pub ticks_show : (limit : ℕ) (i : AccessInstr) (a : VectorAccess) (s : HartState) → access_of i s.vector s.scalar ≡ Some a
@@ -55,13 +48,12 @@ pub ticks_show : (limit : ℕ) (i : AccessInstr) (a : VectorAccess) (s : HartSta
 unfolding vector_executed performed
 ticks_show limit i a s e legal =
     let f : RunFacts limit a s = accessed_facts limit i a s e in
-    let run : AccessRun = accessed limit a s in
     let executed : vector_executed limit (instr.Access i) s ≡ access_step limit i (Some a) s =
     ap (λ (b : Bool). cond b (access_step limit i (access_of i s.vector s.scalar) s) (vector_ends vector_end.Illegal s)) legal
     ∙ ap (λ (o : Option VectorAccess). access_step limit i o s) e in
     ap (λ (o : Option VectorAccess). option_map_or (λ a. (accessed limit a s).reached - s.vector.vstart) o 1) e
-    ∙ taken limit a s f run.end f.done f.stop
-    ∙ same run.end
+    ∙ taken limit a s f (accessed limit a s).end f.done f.stop
+    ∙ same (accessed limit a s).end
     ∙ ap (λ (d : VectorStepped). access_ticks limit a s.vector d.state.vector d.end) (sym executed)
   where
     -- the tails don't affect the ticks

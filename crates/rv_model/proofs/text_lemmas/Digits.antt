@@ -1,23 +1,19 @@
 -- Digits read from the left, with a value limited to a cap.
 use Rattle.rv_model.specs.text.Digits.{digit, digits_after}
 use Rattle.rv_model.specs.lending.Text.{capped}
-use Rattle.std.proofs.Common.{◌≡◌, ℕ, ◌+◌, ◌*◌, ◌<◌, ◌≤◌, Bool, true, false, cond, ltb, List, [], ◌∷◌, length, get_or, drop, Option, Some, None, refl, sym, ap, ◌∙◌, arith, inl, inr, min}
+use Rattle.std.proofs.Common.{◌≡◌, ℕ, ◌+◌, ◌*◌, ◌<◌, ◌≤◌, Bool, cond, ltb, List, [], ◌∷◌, length, get_or, drop, Option, Some, None, sym, ap, ◌∙◌, arith, min}
 use Rattle.std.proofs.Math.Nat.{mul-le-mul_left}
 use Rattle.std.proofs.lemmas.Bool.{cases_lt, lt-ltb, le-ltb, cond-true, cond-false}
 use Rattle.std.proofs.lemmas.List.{at_drop_more, at_drop_all}
+use Rattle.std.proofs.lemmas.Bool.Decides.{nat_tests}
 
 -- two numbers that are equal up to the cap are still so after a further digit
 min_step : (cap r d m n : ℕ) → 1 ≤ r → min m cap ≡ min n cap → min (m * r + d) cap ≡ min (n * r + d) cap
-min_step cap r d m n h e =
-    elim (cases_lt m cap) [
-      | inl lt ↦ let same : m ≡ n = omega arith in ap (λ (x : ℕ). min (x * r + d) cap) same
-      | inr le ↦ let n_le : cap ≤ n = omega arith in omega (arith, mul-le-mul_left m h, mul-le-mul_left n h)
-    ]
+min_step cap r d m n h e = search (arith, cases_lt, mul-le-mul_left)
 
 -- equal capped numbers are still equal under a test
 cond_capped : (cap : ℕ) (b : Bool) (x y : Option ℕ) → capped cap x ≡ capped cap y → capped cap (cond b x None) ≡ capped cap (cond b y None)
-cond_capped cap true x y e = e
-cond_capped cap false x y e = refl
+cond_capped cap b x y e = search (arith, nat_tests)
 
 -- numbers that are equal up to the cap give the same capped number after further digits
 capped_same : (cap r : ℕ) (cs : List ℕ) (m n : ℕ) → 1 ≤ r → min m cap ≡ min n cap → capped cap (digits_after r m cs) ≡ capped cap (digits_after r n cs)
@@ -48,5 +44,4 @@ digit_stops cap r v i text total lt d so_far =
 pub digits_end : (cap r v i : ℕ) (text : List ℕ) (total : Option ℕ) → length text ≤ i → v ≤ cap → capped cap (digits_after r v (drop i text)) ≡ total → Some v ≡ total
 unfolding digits_after
 digits_end cap r v i text total le small so_far =
-    let least : v ≡ min v cap = omega arith in
-    ap Some least ∙ sym (ap (capped cap) (at_drop_all (digits_after r v) text i le)) ∙ so_far
+    ap Some (omega arith) ∙ sym (ap (capped cap) (at_drop_all (digits_after r v) text i le)) ∙ so_far

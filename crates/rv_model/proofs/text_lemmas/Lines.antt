@@ -1,7 +1,8 @@
 -- The lines of an output.
-use Rattle.std.proofs.Common.{◌≡◌, ℕ, ◌+◌, List, [], ◌∷◌, ◌++◌, Bool, true, false, refl, ap, ◌∙◌, append_assoc, eqb, cond, get_or, drop}
+use Rattle.std.proofs.Common.{◌≡◌, ℕ, ◌+◌, List, [], ◌∷◌, ◌++◌, Bool, true, false, refl, ap, ◌∙◌, append_assoc, eqb, cond, get_or, drop, arith}
 use Rattle.std.specs.Prelude.{not, if◌then◌else◌, filter, map}
 use Rattle.std.proofs.lemmas.Bool.{and_parts, and_from, not-true}
+use Rattle.std.proofs.lemmas.Bool.Decides.{nat_tests}
 use Rattle.rv_model.specs.text.Lines.{is_newline, pieces, tagged, text}
 use Rattle.rv_model.proofs.text_lemmas.Newlines.{is_line, IsLine, are_lines, AreLines}
 use Rattle.rv_model.specs.machine.Script.{lines}
@@ -11,24 +12,20 @@ pub pieces_at : (line rest : List ℕ) → IsLine line → pieces (line ++ 10 �
 pieces_at [] rest h = refl
 pieces_at (b ∷ bs) rest h =
     let two = and_parts (not (is_newline b)) (is_line bs) h in
-    let other : eqb b 10 ≡ false = not-true (is_newline b) two.0 in
-    rw (other, pieces_at bs rest two.1) refl
+    rw ((not-true (is_newline b) two.0), pieces_at bs rest two.1) refl
 
 -- a line without a newline after it is the only piece
 pub pieces_of_line : (line : List ℕ) → IsLine line → pieces line ≡ line ∷ []
 pieces_of_line [] h = refl
 pieces_of_line (b ∷ bs) h =
     let two = and_parts (not (is_newline b)) (is_line bs) h in
-    let other : eqb b 10 ≡ false = not-true (is_newline b) two.0 in
-    rw (other, pieces_of_line bs two.1) refl
+    rw ((not-true (is_newline b) two.0), pieces_of_line bs two.1) refl
 
 shown : (b : Bool) (line : List ℕ) (ps : List (List ℕ)) (tag : ℕ) → map (λ (l : List ℕ). drop 2 l) (cond b ((tag ∷ 32 ∷ line) ∷ ps) ps) ≡ cond b (line ∷ map (λ (l : List ℕ). drop 2 l) ps) (map (λ (l : List ℕ). drop 2 l) ps)
-shown true line ps tag = refl
-shown false line ps tag = refl
+shown b line ps tag = search (arith, nat_tests)
 
 joined : (b : Bool) (l : List ℕ) (ls all rest : List (List ℕ)) → all ≡ cond b ls [] ++ rest → cond b (l ∷ all) all ≡ cond b (l ∷ ls) [] ++ rest
-joined true l ls all rest h = ap (λ (x : List (List ℕ)). l ∷ x) h
-joined false l ls all rest h = h
+joined b l ls all rest h = search (arith, nat_tests)
 
 abbrev of_user : ℕ → List (List ℕ) → List (List ℕ)
 of_user u all = map (λ line. drop 2 line) (filter (λ line. eqb (get_or line 0 0) (48 + u)) all)

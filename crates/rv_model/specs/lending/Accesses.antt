@@ -3,11 +3,6 @@ use Rattle.std.specs.Prelude.{Bool, true, false}
 use Rattle.rv_model.specs.instructions.Variants.{Instr, UnitStride, Strided, Indexed, MaskAccess}
 use Rattle.rv_model.specs.declared.instructions.instruction.Instr.TheVariants as instr
 
--- the vector instructions of the opcodes LOAD-FP and STORE-FP
-abbrev pub is_access : Instr → Bool
-is_access (instr.Access i) = true
-is_access _ = false
-
 -- vector loads and stores that need a vector type: all but those of whole registers (sections 7.4 to 7.8)
 abbrev pub is_typed_access : Instr → Bool
 is_typed_access (instr.Access (UnitStride op width nf vd rs1 vm)) = true

@@ -1,5 +1,6 @@
 //! The names of instructions, each with the form of its text and the word bits that it fixes.
-use crate::assembler::forms::{Form, SourceKind};
+use crate::assembler::forms::Form;
+use crate::assembler::forms::SourceKind::{Immediate, Scalar, Vector};
 
 /// A name, padded with spaces; the form of its text; and its word with all operands zero.
 #[derive(Clone, Copy)]
@@ -141,111 +142,27 @@ pub static MNEMONICS: [Mnemonic; ROW_COUNT] = [
     Mnemonic(*b"vmulhsu.vx      ", Form::VectorScalar, 0x9800_6057),
     Mnemonic(*b"vmulh.vv        ", Form::VectorVector, 0x9c00_2057),
     Mnemonic(*b"vmulh.vx        ", Form::VectorScalar, 0x9c00_6057),
-    Mnemonic(
-        *b"vadc.vvm        ",
-        Form::Carry(SourceKind::Vector),
-        0x4000_0057,
-    ),
-    Mnemonic(
-        *b"vadc.vxm        ",
-        Form::Carry(SourceKind::Scalar),
-        0x4000_4057,
-    ),
-    Mnemonic(
-        *b"vadc.vim        ",
-        Form::Carry(SourceKind::Immediate),
-        0x4000_3057,
-    ),
-    Mnemonic(
-        *b"vmadc.vvm       ",
-        Form::Carry(SourceKind::Vector),
-        0x4400_0057,
-    ),
-    Mnemonic(
-        *b"vmadc.vxm       ",
-        Form::Carry(SourceKind::Scalar),
-        0x4400_4057,
-    ),
-    Mnemonic(
-        *b"vmadc.vim       ",
-        Form::Carry(SourceKind::Immediate),
-        0x4400_3057,
-    ),
-    Mnemonic(
-        *b"vmadc.vv        ",
-        Form::Unmasked(SourceKind::Vector),
-        0x4600_0057,
-    ),
-    Mnemonic(
-        *b"vmadc.vx        ",
-        Form::Unmasked(SourceKind::Scalar),
-        0x4600_4057,
-    ),
-    Mnemonic(
-        *b"vmadc.vi        ",
-        Form::Unmasked(SourceKind::Immediate),
-        0x4600_3057,
-    ),
-    Mnemonic(
-        *b"vsbc.vvm        ",
-        Form::Carry(SourceKind::Vector),
-        0x4800_0057,
-    ),
-    Mnemonic(
-        *b"vsbc.vxm        ",
-        Form::Carry(SourceKind::Scalar),
-        0x4800_4057,
-    ),
-    Mnemonic(
-        *b"vmsbc.vvm       ",
-        Form::Carry(SourceKind::Vector),
-        0x4c00_0057,
-    ),
-    Mnemonic(
-        *b"vmsbc.vxm       ",
-        Form::Carry(SourceKind::Scalar),
-        0x4c00_4057,
-    ),
-    Mnemonic(
-        *b"vmsbc.vv        ",
-        Form::Unmasked(SourceKind::Vector),
-        0x4e00_0057,
-    ),
-    Mnemonic(
-        *b"vmsbc.vx        ",
-        Form::Unmasked(SourceKind::Scalar),
-        0x4e00_4057,
-    ),
-    Mnemonic(
-        *b"vmerge.vvm      ",
-        Form::Carry(SourceKind::Vector),
-        0x5c00_0057,
-    ),
-    Mnemonic(
-        *b"vmerge.vxm      ",
-        Form::Carry(SourceKind::Scalar),
-        0x5c00_4057,
-    ),
-    Mnemonic(
-        *b"vmerge.vim      ",
-        Form::Carry(SourceKind::Immediate),
-        0x5c00_3057,
-    ),
-    Mnemonic(
-        *b"vmv.v.v         ",
-        Form::Move(SourceKind::Vector),
-        0x5e00_0057,
-    ),
-    Mnemonic(
-        *b"vmv.v.x         ",
-        Form::Move(SourceKind::Scalar),
-        0x5e00_4057,
-    ),
-    Mnemonic(
-        *b"vmv.v.i         ",
-        Form::Move(SourceKind::Immediate),
-        0x5e00_3057,
-    ),
+    Mnemonic(*b"vadc.vvm        ", Form::Carry(Vector), 0x4000_0057),
+    Mnemonic(*b"vadc.vxm        ", Form::Carry(Scalar), 0x4000_4057),
+    Mnemonic(*b"vadc.vim        ", Form::Carry(Immediate), 0x4000_3057),
+    Mnemonic(*b"vmadc.vvm       ", Form::Carry(Vector), 0x4400_0057),
+    Mnemonic(*b"vmadc.vxm       ", Form::Carry(Scalar), 0x4400_4057),
+    Mnemonic(*b"vmadc.vim       ", Form::Carry(Immediate), 0x4400_3057),
+    Mnemonic(*b"vmadc.vv        ", Form::Unmasked(Vector), 0x4600_0057),
+    Mnemonic(*b"vmadc.vx        ", Form::Unmasked(Scalar), 0x4600_4057),
+    Mnemonic(*b"vmadc.vi        ", Form::Unmasked(Immediate), 0x4600_3057),
+    Mnemonic(*b"vsbc.vvm        ", Form::Carry(Vector), 0x4800_0057),
+    Mnemonic(*b"vsbc.vxm        ", Form::Carry(Scalar), 0x4800_4057),
+    Mnemonic(*b"vmsbc.vvm       ", Form::Carry(Vector), 0x4c00_0057),
+    Mnemonic(*b"vmsbc.vxm       ", Form::Carry(Scalar), 0x4c00_4057),
+    Mnemonic(*b"vmsbc.vv        ", Form::Unmasked(Vector), 0x4e00_0057),
+    Mnemonic(*b"vmsbc.vx        ", Form::Unmasked(Scalar), 0x4e00_4057),
+    Mnemonic(*b"vmerge.vvm      ", Form::Carry(Vector), 0x5c00_0057),
+    Mnemonic(*b"vmerge.vxm      ", Form::Carry(Scalar), 0x5c00_4057),
+    Mnemonic(*b"vmerge.vim      ", Form::Carry(Immediate), 0x5c00_3057),
+    Mnemonic(*b"vmv.v.v         ", Form::Move(Vector), 0x5e00_0057),
+    Mnemonic(*b"vmv.v.x         ", Form::Move(Scalar), 0x5e00_4057),
+    Mnemonic(*b"vmv.v.i         ", Form::Move(Immediate), 0x5e00_3057),
     Mnemonic(*b"vmseq.vv        ", Form::VectorVector, 0x6000_0057),
     Mnemonic(*b"vmseq.vx        ", Form::VectorScalar, 0x6000_4057),
     Mnemonic(*b"vmseq.vi        ", Form::VectorImmediate, 0x6000_3057),
@@ -362,46 +279,14 @@ pub static MNEMONICS: [Mnemonic; ROW_COUNT] = [
     Mnemonic(*b"vwredsumu.vs    ", Form::VectorVector, 0xc000_0057),
     Mnemonic(*b"vwredsum.vs     ", Form::VectorVector, 0xc400_0057),
     // Vector masks
-    Mnemonic(
-        *b"vmandn.mm       ",
-        Form::Unmasked(SourceKind::Vector),
-        0x6200_2057,
-    ),
-    Mnemonic(
-        *b"vmand.mm        ",
-        Form::Unmasked(SourceKind::Vector),
-        0x6600_2057,
-    ),
-    Mnemonic(
-        *b"vmor.mm         ",
-        Form::Unmasked(SourceKind::Vector),
-        0x6a00_2057,
-    ),
-    Mnemonic(
-        *b"vmxor.mm        ",
-        Form::Unmasked(SourceKind::Vector),
-        0x6e00_2057,
-    ),
-    Mnemonic(
-        *b"vmorn.mm        ",
-        Form::Unmasked(SourceKind::Vector),
-        0x7200_2057,
-    ),
-    Mnemonic(
-        *b"vmnand.mm       ",
-        Form::Unmasked(SourceKind::Vector),
-        0x7600_2057,
-    ),
-    Mnemonic(
-        *b"vmnor.mm        ",
-        Form::Unmasked(SourceKind::Vector),
-        0x7a00_2057,
-    ),
-    Mnemonic(
-        *b"vmxnor.mm       ",
-        Form::Unmasked(SourceKind::Vector),
-        0x7e00_2057,
-    ),
+    Mnemonic(*b"vmandn.mm       ", Form::Unmasked(Vector), 0x6200_2057),
+    Mnemonic(*b"vmand.mm        ", Form::Unmasked(Vector), 0x6600_2057),
+    Mnemonic(*b"vmor.mm         ", Form::Unmasked(Vector), 0x6a00_2057),
+    Mnemonic(*b"vmxor.mm        ", Form::Unmasked(Vector), 0x6e00_2057),
+    Mnemonic(*b"vmorn.mm        ", Form::Unmasked(Vector), 0x7200_2057),
+    Mnemonic(*b"vmnand.mm       ", Form::Unmasked(Vector), 0x7600_2057),
+    Mnemonic(*b"vmnor.mm        ", Form::Unmasked(Vector), 0x7a00_2057),
+    Mnemonic(*b"vmxnor.mm       ", Form::Unmasked(Vector), 0x7e00_2057),
     Mnemonic(*b"vcpop.m         ", Form::MaskToScalar, 0x4008_2057),
     Mnemonic(*b"vfirst.m        ", Form::MaskToScalar, 0x4008_a057),
     Mnemonic(*b"vmsbf.m         ", Form::VectorUnary, 0x5000_a057),
@@ -411,11 +296,7 @@ pub static MNEMONICS: [Mnemonic; ROW_COUNT] = [
     Mnemonic(*b"vid.v           ", Form::ElementIndex, 0x5008_a057),
     // Vector permutations
     Mnemonic(*b"vmv.x.s         ", Form::MoveToScalar, 0x4200_2057),
-    Mnemonic(
-        *b"vmv.s.x         ",
-        Form::Move(SourceKind::Scalar),
-        0x4200_6057,
-    ),
+    Mnemonic(*b"vmv.s.x         ", Form::Move(Scalar), 0x4200_6057),
     Mnemonic(*b"vslideup.vx     ", Form::VectorScalar, 0x3800_4057),
     Mnemonic(*b"vslideup.vi     ", Form::VectorUnsigned, 0x3800_3057),
     Mnemonic(*b"vslidedown.vx   ", Form::VectorScalar, 0x3c00_4057),
@@ -426,11 +307,7 @@ pub static MNEMONICS: [Mnemonic; ROW_COUNT] = [
     Mnemonic(*b"vrgather.vx     ", Form::VectorScalar, 0x3000_4057),
     Mnemonic(*b"vrgather.vi     ", Form::VectorUnsigned, 0x3000_3057),
     Mnemonic(*b"vrgatherei16.vv ", Form::VectorVector, 0x3800_0057),
-    Mnemonic(
-        *b"vcompress.vm    ",
-        Form::Unmasked(SourceKind::Vector),
-        0x5e00_2057,
-    ),
+    Mnemonic(*b"vcompress.vm    ", Form::Unmasked(Vector), 0x5e00_2057),
     Mnemonic(*b"vmv1r.v         ", Form::WholeMove, 0x9e00_3057),
     Mnemonic(*b"vmv2r.v         ", Form::WholeMove, 0x9e00_b057),
     Mnemonic(*b"vmv4r.v         ", Form::WholeMove, 0x9e01_b057),

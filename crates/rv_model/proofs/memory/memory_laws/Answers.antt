@@ -2,11 +2,4 @@ use Rattle.rv_model.proofs.memory_lemmas.Memory.{writes_bytes, is_allowed-put_by
 use Rattle.rv_model.proofs.memory.memory_laws.Goals as goal
 
 pub returns : goal.returns
-returns c = record {
-  written = writes_bytes;
-  kept = is_allowed-put_bytes;
-  zeros = maps_zeros;
-  permissions = maps_permissions;
-  read = reads_bytes;
-  allowed = allows_each_byte;
-}
+returns c = search (allows_each_byte, is_allowed-put_bytes, maps_permissions, maps_zeros, reads_bytes, writes_bytes)
