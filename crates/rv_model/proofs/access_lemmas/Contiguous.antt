@@ -81,24 +81,20 @@ module _ (a : VectorAccess) (fill : Bool) (start n address : ℕ) (c : IsContigu
 
   index_more : (k : ℕ) → k < n → so_far (suc k) ≡ so_far k ++ element (start + k) (address + k * a.size) a.size ∷ []
   index_more k h =
-      let count : suc k ≡ ((start + k) + 1) - start = omega arith in
-      let before : (start + k) - start ≡ k = omega arith in
-      ap so_far count ∙ transfers_more (plan a fill) start (start + k) (omega arith)
-      ∙ ap (λ x. so_far x ++ plan a fill (start + k)) before ∙ ap (λ ts. so_far k ++ ts) (element_moved k h)
+      ap so_far (omega arith) ∙ transfers_more (plan a fill) start (start + k) (omega arith)
+      ∙ ap (λ x. so_far x ++ plan a fill (start + k)) (omega arith) ∙ ap (λ ts. so_far k ++ ts) (element_moved k h)
 
   -- ---- allowed transfers
 
   pub block_allowed : (access : Access) (m : Memory) → can_access access m address (n * a.size) ≡ true → AllAllowed access m (plan a fill) start (start + n)
   unfolding are_allowed
   block_allowed access m all i low high =
-      let k : ℕ = i - start in
-      let here : start + k ≡ i = omega (arith, low) in
-      let less : k < n = omega (arith, low, high) in
-      let one : can_access access m (address + k * a.size) a.size ≡ true =
-      can_access_from access m (address + k * a.size) a.size
-      (λ j l. can_access-at access m address (n * a.size) (k * a.size + j) (address + k * a.size + j) all
-      (omega (arith, mul-add-lt k a.size j n less l)) (omega arith)) in
-      ap (λ x. are_allowed access m (plan a fill x)) (sym here) ∙ ap (are_allowed access m) (element_moved k less) ∙ ap (λ b. b && true) one
+      let less : (i - start) < n = omega (arith, low, high) in
+      let one : can_access access m (address + (i - start) * a.size) a.size ≡ true =
+      can_access_from access m (address + (i - start) * a.size) a.size
+      (λ j l. can_access-at access m address (n * a.size) ((i - start) * a.size + j) (address + (i - start) * a.size + j) all
+      (omega (arith, mul-add-lt (i - start) a.size j n less l)) (omega arith)) in
+      ap (λ x. are_allowed access m (plan a fill x)) (sym (omega (arith, low))) ∙ ap (are_allowed access m) (element_moved (i - start) less) ∙ ap (λ b. b && true) one
 
   -- ---- results
 

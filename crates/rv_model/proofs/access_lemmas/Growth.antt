@@ -27,12 +27,9 @@ allowed_mapped : (access : Access) (m : Memory) (x : ℕ) → memory.can_access_
 unfolding memory.can_access_byte
 allowed_mapped access m x h = mapped access (get m x) h
 
-monitored : (o : Option Cell) (c : Cell) → o ≡ Some c → option_map_or (λ c. permits Monitor c.permissions) o false ≡ true
-monitored o c e = search
-
 mapped_allowed : (m : Memory) (x : ℕ) (c : Cell) → get m x ≡ Some c → memory.can_access_byte Monitor m x ≡ true
 unfolding memory.can_access_byte
-mapped_allowed m x c e = monitored (get m x) c e
+mapped_allowed m x c e = search
 
 -- ---- allowed addresses stay allowed and keep their bytes
 
@@ -64,18 +61,12 @@ bytes_at_extends access m more a (suc n) grown h =
     let rest = bytes_at_extends access m more (a + 1) n grown parts.1 in
     cc
 
-can_move_extends : (access : Access) (m more : Memory) (size : ℕ) (kind : TransferKind) → Extends m more → can_move access m size kind ≡ true → can_move access more size kind ≡ true
-can_move_extends access m more size kind grown h = search (arith, nat_tests, can_access_extends)
-
-bytes_loaded_extends : (m more : Memory) (size : ℕ) (kind : TransferKind) → Extends m more → can_move Load m size kind ≡ true → bytes_loaded more size kind ≡ bytes_loaded m size kind
-bytes_loaded_extends m more size kind grown h = search (arith, nat_tests, bytes_at_extends)
-
 pub are_allowed_extends : (access : Access) (m more : Memory) (ts : List Transfer) → Extends m more → are_allowed access m ts ≡ true → are_allowed access more ts ≡ true
 unfolding are_allowed
 are_allowed_extends access m more [] grown h = refl
 are_allowed_extends access m more (t ∷ ts) grown h =
     let parts = and_parts (can_transfer access m t) (list_all (can_transfer access m) ts) h in
-    and_from _ _ (can_move_extends access m more t.size t.kind grown parts.0) (are_allowed_extends access m more ts grown parts.1)
+    and_from _ _ (search (arith, nat_tests, can_access_extends)) (are_allowed_extends access m more ts grown parts.1)
 
 -- allowed transfers of a load leave the same registers in the grown memory
 pub loaded_extends : (m more : Memory) (place : Transfer → ℕ) (file : List ℕ) (ts : List Transfer) → Extends m more → are_allowed Load m ts ≡ true → registers_loaded more place file ts ≡ registers_loaded m place file ts
@@ -83,7 +74,7 @@ unfolding registers_loaded are_allowed
 loaded_extends m more place file [] grown h = refl
 loaded_extends m more place file (t ∷ ts) grown h =
     let parts = and_parts (can_transfer Load m t) (list_all (can_transfer Load m) ts) h in
-    ap (λ (bytes : List ℕ). registers_loaded more place (put_chunk (place t) file bytes) ts) (bytes_loaded_extends m more t.size t.kind grown parts.0)
+    ap (λ (bytes : List ℕ). registers_loaded more place (put_chunk (place t) file bytes) ts) (search (arith, nat_tests, bytes_at_extends))
     ∙ loaded_extends m more place (put_chunk (place t) file (bytes_loaded m t.size t.kind)) ts grown parts.1
 
 -- ---- overlays
@@ -120,24 +111,17 @@ overlay_same m more same = same_memory _ _ (λ x. at x (get m x) (get more x) re
 
 -- ---- stores
 
--- the result of a write at an address depends only on the memory at that address
-put_byte_local : (m other : Memory) (a b x : ℕ) → get m x ≡ get other x → get (put_byte m a b) x ≡ get (put_byte other a b) x
-put_byte_local m other a b x e = search (arith, nat_tests, cases_eq, get-put_byte_other, get-put_byte_same)
-
 put_bytes_local : (m other : Memory) (a : ℕ) (bs : List ℕ) (x : ℕ) → get m x ≡ get other x → get (put_bytes m a bs) x ≡ get (put_bytes other a bs) x
 unfolding put_bytes
 put_bytes_local m other a [] x e = e
-put_bytes_local m other a (b ∷ bs) x e = put_bytes_local (put_byte m a b) (put_byte other a b) (a + 1) bs x (put_byte_local m other a b x e)
-
-element_local : (m other : Memory) (bytes : List ℕ) (kind : TransferKind) (x : ℕ) → get m x ≡ get other x → get (with_element m bytes kind) x ≡ get (with_element other bytes kind) x
-element_local m other bytes kind x e = search (arith, nat_tests, put_bytes_local)
+put_bytes_local m other a (b ∷ bs) x e = put_bytes_local (put_byte m a b) (put_byte other a b) (a + 1) bs x (search (arith, nat_tests, cases_eq, get-put_byte_other, get-put_byte_same))
 
 stored_local : (m other : Memory) (place : Transfer → ℕ) (file : List ℕ) (ts : List Transfer) (x : ℕ) → get m x ≡ get other x → get (memory_stored m place file ts) x ≡ get (memory_stored other place file ts) x
 unfolding memory_stored
 stored_local m other place file [] x e = e
 stored_local m other place file (t ∷ ts) x e =
     let bs = chunk (place t) t.size file in
-    stored_local (with_element m bs t.kind) (with_element other bs t.kind) place file ts x (element_local m other bs t.kind x e)
+    stored_local (with_element m bs t.kind) (with_element other bs t.kind) place file ts x (search (arith, nat_tests, put_bytes_local))
 
 -- an allowed access covers only mapped addresses
 outside : (m : Memory) (a n x : ℕ) → get m x ≡ None → can_access Store m a n ≡ true → ((x < a) ⊎ (a + n ≤ x))

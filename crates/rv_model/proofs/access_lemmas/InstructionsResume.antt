@@ -45,12 +45,11 @@ module _ (limit later : ℕ) (fill : Bool) (x : Scalar) (v : VState) (m more : M
       → (make v).body.start ≡ v.vstart → (make v).body.mask ≡ v0_of v.file → ((make v).body.unmasked ≡ false → 1 ≤ (make v).register)
       → Resumes (λ limit v m. load_run limit fill (make v) v m) limit later v m more
   masked_load make again begins masked above =
-      let a : VectorAccess = make v in
-      let stop : ℕ = (load_transfers limit fill a v.file m).stop in
-      let left : List ℕ = (load_transfers limit fill a v.file m).left in
-      load_resumes make v0_of (λ file. a.address) limit later fill v m more (record { begins = begins; again = again })
-      (λ k low high. plan_same a (access_again a (v0_of left) stop a.address) fill k
-      (let_kept a.body.unmasked (v0_of left) a.body.mask k (λ e. mask_kept m a fill v.file stop (above e) ∙ sym masked)) refl refl refl)
+      let stop : ℕ = (load_transfers limit fill (make v) v.file m).stop in
+      let left : List ℕ = (load_transfers limit fill (make v) v.file m).left in
+      load_resumes make v0_of (λ file. (make v).address) limit later fill v m more (record { begins = begins; again = again })
+      (λ k low high. plan_same (make v) (access_again (make v) (v0_of left) stop (make v).address) fill k
+      (let_kept (make v).body.unmasked (v0_of left) (make v).body.mask k (λ e. mask_kept m (make v) fill v.file stop (above e) ∙ sym masked)) refl refl refl)
 
   -- ---- loads with addresses from a register group
 
@@ -114,11 +113,10 @@ typed_resumes make limit later fill v m more each =
     let run : Run = λ limit v m. made_run limit fill (make t v) v m in
     let is : (n : ℕ) (w : VState) (k : Memory) → w.conf ≡ v.conf → typed n w k ≡ run n w k =
     λ n w k c. ap (λ (o : Option VType). run_or_nothing n fill (option_map (λ t. make t w) o) w k) (ap (λ c. c.vtype) c ∙ e) in
-    let left : AccessRun = run limit v m in
-    let r : IsResumed run later v m more left = each t e ended grown in
+    let r : IsResumed run later v m more (run limit v m) = each t e ended grown in
     record {
       conf = r.conf;
-      same = is later left.vector more r.conf ∙ r.same ∙ sym (is (left.vector.vstart - v.vstart + later) v (overlay m more) refl);
+      same = is later (run limit v m).vector more r.conf ∙ r.same ∙ sym (is ((run limit v m).vector.vstart - v.vstart + later) v (overlay m more) refl);
     })
 
 -- ---- each instruction

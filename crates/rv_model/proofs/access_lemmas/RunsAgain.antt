@@ -58,16 +58,14 @@ module _ (access : Access) (m : Memory) (each : Plan) where
         stop_past access m each i larger n (omega (arith, past)) ∙ same ∙ sym (stop_past access m each i cut n (omega (arith, past)))
     | inr within ↦ elim (cases_lt (first_bad access m each i c none) (i + c)) [
       | inl early ↦
-          let longer : min n larger - i ≡ c + (min n larger - i - c) = omega (arith, more) in
           stop_is access m each i larger n
-          ∙ ap (λ (k : ℕ). first_bad access m each i k (min n larger)) longer
+          ∙ ap (λ (k : ℕ). first_bad access m each i k (min n larger)) (omega (arith, more))
           ∙ first_bad_more i c (min n larger - i - c) none (min n larger) (omega (arith, within, low)) early
           ∙ sym (stop_is access m each i cut n)
       | inr whole ↦ elim (cases_lt cut n) [
         | inl less ↦ absurd (stops (omega (arith, whole, within, low, less, stop_is access m each i cut n, stop_most access m each i cut n)) less)
         | inr most ↦
-            let same : min n larger ≡ min n cut = omega (arith, most, more) in
-            stop_is access m each i larger n ∙ ap (λ (k : ℕ). first_bad access m each i (k - i) k) same ∙ sym (stop_is access m each i cut n)
+            stop_is access m each i larger n ∙ ap (λ (k : ℕ). first_bad access m each i (k - i) k) (omega (arith, most, more)) ∙ sym (stop_is access m each i cut n)
       ]
     ]
   ]
@@ -132,10 +130,9 @@ pub whole_uncut : (i : AccessInstr) (whole : ℕ) (fill : Bool) (v : VState) (x 
 whole_uncut i whole fill v x m =
     of_access whole fill i v x m (λ o run. index_count o ≤ whole → IsUncut run.end) (λ enough index e. absurd (cc))
     (λ a is enough index e.
-    let f = run_facts whole fill i v x m a is in
     let run : AccessRun = directed_run a.direction whole fill a v m in
     let at : CutAt whole v.vstart a.body.end v run index =
-    subst (λ (end : MemEnd). AtStop end (CutAt whole v.vstart a.body.end v run) (FaultAt whole v.vstart a.body.end v run)) e f.stop in
+    subst (λ (end : MemEnd). AtStop end (CutAt whole v.vstart a.body.end v run) (FaultAt whole v.vstart a.body.end v run)) e (run_facts whole fill i v x m a is).stop in
     omega (arith, at.at, at.stopped.below, enough))
 
 -- ---- any number of runs
@@ -147,9 +144,8 @@ module _ (R : Type 0) (k : Restartable R) (on : (limit : ℕ) (m : Memory) → G
   last_is_one limit m [] resumed = (limit, refl)
   last_is_one limit m (next ∷ rest) resumed =
       let done : ℕ = k.done (k.whole limit m) + next.limit in
-      let all : Memory = overlay m next.memory in
-      let same : k.again next.limit next.memory (k.whole limit m) ≡ k.whole done all = on limit m next.limit next.memory resumed.0 in
-      let others = last_is_one done all rest (subst (λ (r : R). AreResumed k all r rest) same resumed.1) in
+      let same : k.again next.limit next.memory (k.whole limit m) ≡ k.whole done (overlay m next.memory) = on limit m next.limit next.memory resumed.0 in
+      let others = last_is_one done (overlay m next.memory) rest (subst (λ (r : R). AreResumed k (overlay m next.memory) r rest) same resumed.1) in
       (others.0, ap (λ (r : R). last_run k r rest) same ∙ others.1)
 
   -- all limits without a cut give the same result

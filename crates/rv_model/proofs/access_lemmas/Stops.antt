@@ -78,11 +78,10 @@ module _ (access : Access) (m : Memory) (plan : Plan) where
   first_bad_skip i zero b none h = search arith
   first_bad_skip i (suc a) b none h =
       let next : suc a + b ≡ suc (a + b) = omega arith in
-      let at : (i + 1) + a ≡ i + suc a = omega arith in
       ap (λ (n : ℕ). first_bad access m plan i n none) next
       ∙ ap (λ (t : Bool). cond t (first_bad access m plan (i + 1) (a + b) none) i) (h i (omega arith) (omega arith))
       ∙ first_bad_skip (i + 1) a b none (λ k l g. h k (omega arith) (omega arith))
-      ∙ ap (λ (j : ℕ). first_bad access m plan j b none) at
+      ∙ ap (λ (j : ℕ). first_bad access m plan j b none) (omega arith)
 
   -- an index that isn't allowed
   stop_found : (i cut n j : ℕ) → i ≤ j → j < n → j < cut → AllAllowed i j → are_allowed access m (plan j) ≡ false

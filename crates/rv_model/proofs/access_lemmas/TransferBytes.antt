@@ -1,8 +1,8 @@
 -- The result of lists of transfers for each byte: its value comes from the last transfer that covers it.
-use Rattle.std.proofs.Common.{◌≡◌, ℕ, zero, suc, ◌+◌, ◌-◌, ◌<◌, ◌≤◌, Bool, true, cond, List, [], ◌∷◌, length, get_or, Option, Some, None, refl, sym, ◌∙◌, ap, arith}
+use Rattle.std.proofs.Common.{◌≡◌, ℕ, zero, suc, ◌+◌, ◌-◌, ◌<◌, ◌≤◌, Bool, true, cond, List, [], ◌∷◌, length, get_or, Option, refl, sym, ◌∙◌, ap, arith}
 use Rattle.std.specs.Prelude.{All, reverse, slice_index}
 use Rattle.std.specs.List.{find}
-use Rattle.std.specs.Option.{option_map_or, option_or}
+use Rattle.std.specs.Option.{option_map_or}
 use Rattle.std.specs.Simd.Lanes.{chunk, put_chunk}
 use Rattle.std.proofs.lemmas.Bool.{and_from, cond-false, cond-true}
 use Rattle.std.proofs.lemmas.List.{reverse-append}
@@ -22,14 +22,11 @@ use Rattle.rv_model.proofs.memory_lemmas.Memory.{is_within_false, is_within_true
 
 -- in a list with an element in front: the last match in the rest, or else the element
 module _ (p : Transfer → Bool) (f : Transfer → ℕ) (t : Transfer) (d : ℕ) where
-  found_or : (o : Option Transfer) (b : Bool) → option_map_or f (option_or o (cond b (Some t) None)) d ≡ option_map_or f o (cond b (f t) d)
-  found_or o b = search (arith, nat_tests)
-
   last_found : (ts : List Transfer) → option_map_or f (find p (reverse (t ∷ ts))) d ≡ option_map_or f (find p (reverse ts)) (cond (p t) (f t) d)
   last_found ts =
       ap (λ (us : List Transfer). option_map_or f (find p us) d) (reverse-append (t ∷ []) ts)
       ∙ ap (λ (o : Option Transfer). option_map_or f o d) (find-append p (reverse ts) (t ∷ []))
-      ∙ found_or (find p (reverse ts)) (p t)
+      ∙ (search (arith, nat_tests))
 
 -- ---- loads
 

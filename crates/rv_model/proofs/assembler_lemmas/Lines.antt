@@ -11,7 +11,7 @@ use Rattle.rv_model.specs.declared.assembler.forms.Form.TheVariants as form
 use Rattle.rv_model.specs.declared.assembler.mnemonics.Mnemonic.{Mnemonic}
 use Rattle.rv_model.specs.declared.assembler.mnemonics.TheConstants.{MNEMONICS, ROW_COUNT}
 use Rattle.rv_model.specs.assembler.Fields.{value_of}
-use Rattle.rv_model.specs.assembler.Numbers.{hex_digit, hex_digits}
+use Rattle.rv_model.specs.assembler.Numbers.{hex_digits}
 use Rattle.rv_model.specs.assembler.Slots.{half, signed_text, vtype_named, vtype_text, printed}
 use Rattle.rv_model.specs.assembler.Table.{operands_text, printed_operands, canonical}
 use Rattle.rv_model.proofs.text_lemmas.Newlines.{is_line, IsLine}
@@ -28,13 +28,10 @@ use Rattle.rv_model.specs.lending.NameTable.{unpadded, row_at, name_at}
 use Rattle.rv_model.proofs.assembler_lemmas.ListedTexts.{text_at, IsNamed}
 use Rattle.rv_model.proofs.assembler_lemmas.Spellings.{canonical_directive, canonical_named, cases_named}
 
-no_newline_in_hex_digit : (d : ℕ) → IsLine (hex_digit d ∷ [])
-no_newline_in_hex_digit d = search (arith, nat_tests, and_from, of_either)
-
 no_newline_in_hex_digits : (k n : ℕ) → IsLine (hex_digits k n)
 unfolding hex_digits
 no_newline_in_hex_digits zero n = refl
-no_newline_in_hex_digits (suc k) n = is_line-append (hex_digits k (n / 16)) _ (no_newline_in_hex_digits k (n / 16)) (no_newline_in_hex_digit (n % 16))
+no_newline_in_hex_digits (suc k) n = is_line-append (hex_digits k (n / 16)) _ (no_newline_in_hex_digits k (n / 16)) (search (arith, nat_tests, and_from, of_either))
 
 -- the name of each control register
 register_name_is_line : ControlRegister → Bool

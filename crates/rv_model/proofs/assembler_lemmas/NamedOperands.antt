@@ -65,5 +65,4 @@ has_slots row word lt is =
     let named = of_name row word lt is in
     let i = named.r.instr (row_at row).2 in
     let own = its_slots row lt in
-    let Q : Option Instr → Type 0 = λ o. IsSomeAnd o (λ i. slots i ≡ slots_of (row_at row).1) in
-    subst Q (sym named.is) (same_in_row named.r named.of_table word (row_at row).2 named.agrees ∙ cc)
+    subst (λ o. IsSomeAnd o (λ i. slots i ≡ slots_of (row_at row).1)) (sym named.is) (same_in_row named.r named.of_table word (row_at row).2 named.agrees ∙ cc)

@@ -56,9 +56,6 @@ full_fence_is_named = lit< tt
 some_from_is_some : (o : Option Instr) → IsSome o → (i : Instr) × (o ≡ Some i)
 some_from_is_some o h = search (arith, nat_tests)
 
-none_from_is_none : (o : Option Instr) → IsNone o → o ≡ None
-none_from_is_none o h = search (arith, nat_tests)
-
 -- only the fence of all memory and device accesses has a name
 fence_with_name : (fence full : Bool) (w : ℕ) → nat_eq (bit_and w 0x707f) 0x0f ≡ fence → nat_eq w 0x0ff0000f ≡ full → cond fence full true ≡ true → IsFence w → w ≡ 0x0ff0000f
 fence_with_name fence full w f e h is = search (arith, nat_tests, eq-eqb, eqb-true)
@@ -86,7 +83,7 @@ word_without_name_is_not_named : (w : ℕ) → w < 2 ^ 32 → HasNoName w → ro
 word_without_name_is_not_named w small (inl no_row) lt =
     let n = has_name_of w lt in
     let r = name_of_row n.0 w n.1 n.2 in
-    none_is_not_some (r.0.instr w) (sym (none_from_is_none (scan table w) no_row) ∙ found table table_apart r.0 r.1 w r.2)
+    none_is_not_some (r.0.instr w) (sym (search (arith, nat_tests)) ∙ found table table_apart r.0 r.1 w r.2)
 word_without_name_is_not_named w small (inr fence) lt = search (arith, nat_tests, fence_named, has_name_of)
 
 last_row : (row : ℕ) → row < ROW_COUNT → (row < NAME_COUNT → ⊥) → row ≡ NAME_COUNT

@@ -5,7 +5,7 @@ use Rattle.std.specs.Int.Bits.{bit_and, and_comm}
 use Rattle.std.proofs.Math.Nat.{mod-eq_of_lt}
 use Rattle.std.proofs.lemmas.Nat.{and_assoc, and_mask}
 use Rattle.std.proofs.lemmas.Nat.Bits.{and_high}
-use Rattle.std.proofs.lemmas.Bool.{cases_Bool, and_parts, eqb-true, eq-eqb}
+use Rattle.std.proofs.lemmas.Bool.{cases_Bool, and_parts, eqb-true}
 use Rattle.std.proofs.lemmas.List.{get_or-map, get_or-take}
 use Rattle.std.proofs.lemmas.Bool.Decides.{nat_tests}
 use Rattle.rv_model.specs.declared.assembler.forms.Form.TheVariants as form
@@ -205,9 +205,6 @@ pub name_of_row : (n w : ℕ) → n < length names → bit_and w (get_or names n
 name_of_row n w lt is =
     ((row_of_name n lt).0, (row_of_name n lt).1, covers_all (pattern_of_row (row_of_name n lt).0) (get_or names n (0, 0)) w (row_of_name n lt).2 is)
 
-not_both : (b : Bool) → b ≡ true → not b ≡ true → ⊥
-not_both b h k = search (arith, nat_tests)
-
 -- a fence with the bits of a name is the one with a name
 pub fence_named : (n w : ℕ) → w < 2 ^ 32 → n < length names → bit_and w (get_or names n (0, 0)).0 ≡ (get_or names n (0, 0)).1 → IsFence w → w ≡ 0x0ff0000f
 fence_named n w small lt is fence =
@@ -222,5 +219,5 @@ fence_named n w small lt is fence =
       | inr other ↦
           let e : bit_and name.1 0x707f ≡ bit_and 0x0f name.0 =
           ap (λ x. bit_and x 0x707f) (sym is) ∙ and_assoc 0x707f w name.0 ∙ ap (bit_and w) (and_comm name.0 0x707f) ∙ sym (and_assoc name.0 w 0x707f) ∙ ap (λ x. bit_and x name.0) fence in
-          absurd (not_both same (eq-eqb (bit_and name.1 0x707f) (bit_and 0x0f name.0) e) (other_of_or exact (not same) h other))
+          absurd (search (arith, nat_tests))
     ]

@@ -124,11 +124,8 @@ same_reading end column ts row s h = search (arith, nat_tests)
 not_some : (o : Option ℕ) → o ≡ None → is_some o ≡ true → ⊥
 not_some o e h = cc
 
-by_spelling : (end column : ℕ) (ts : List Token) (n : List ℕ) (s : Option Spelling) → spelling_named n ≡ s → row_named n ≡ None → with_spelling end column ts s ≡ Err column
-by_spelling end column ts n s e no_row = search (arith, nat_tests, bytes_eq-Decides, each_has_row, found_is, found_passes, not_some)
-
 by_row : (end column : ℕ) (ts : List Token) (n : List ℕ) (row : Option ℕ) → no_spaces n ≡ true → row_named n ≡ row → with_spelling end column ts (spelling_named n) ≡ with_row end column ts row
-by_row end column ts n None h e = by_spelling end column ts n (spelling_named n) refl e
+by_row end column ts n None h e = search (arith, nat_tests, bytes_eq-Decides, each_has_row, found_is, found_passes, not_some)
 by_row end column ts n (Some row) h e =
     let P : List ℕ → Type 0 = λ x. spelled_slots (spelling_named x) ≡ own_slots (row_at row) in
     same_reading end column ts row (spelling_named n) (subst P (row_has_name n row h e).1 (row_spelled row (row_has_name n row h e).0))
@@ -150,20 +147,14 @@ NoName w = HasName w → ⊥
 abbrev pub spelling_by : Bool → Option Instr → Spelling
 spelling_by named i = cond named (option_map_or spelling_of i directive) directive
 
-no_some : (o : Option Instr) → o ≡ None → IsSome o → ⊥
-no_some o e h = search (arith, nat_tests)
-
 unnamed_none : (w : ℕ) → scan table w ≡ None → NoName w
-unnamed_none w e has = no_some (scan table w) e has.0
+unnamed_none w e has = search (arith, nat_tests)
 
 some_is : (i : Instr) → IsSome (Some i)
 some_is i = refl
 
-named_or_not : (w : ℕ) (named : Bool) (i : Option Instr) → has_name w ≡ named → scan table w ≡ i → HasName w ⊎ (NoName w × (spelling_by named i ≡ directive))
-named_or_not w named i e f = search (arith, nat_tests, some_is, true≢false, unnamed_none)
-
 pub cases_named : (w : ℕ) → HasName w ⊎ (NoName w × (spelling_by (has_name w) (scan table w) ≡ directive))
-cases_named w = named_or_not w (has_name w) (scan table w) refl refl
+cases_named w = search (arith, nat_tests, some_is, true≢false, unnamed_none)
 
 pub canonical_directive : (w : ℕ) → NoName w × (spelling_by (has_name w) (scan table w) ≡ directive) → canonical w ≡ text_by directive w
 unfolding canonical

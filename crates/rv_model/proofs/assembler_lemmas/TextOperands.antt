@@ -1,6 +1,6 @@
 -- The slots of an instruction hold its operands.
-use Rattle.std.proofs.Common.{◌≡◌, ℕ, Bool, false, List, [], ◌∷◌, ◌++◌, Option, refl, ap, arith}
-use Rattle.std.specs.Prelude.{IfSome, flat_map}
+use Rattle.std.proofs.Common.{◌≡◌, ℕ, Bool, false, List, [], ◌∷◌, ◌++◌, ap, arith}
+use Rattle.std.specs.Prelude.{flat_map}
 use Rattle.std.proofs.lemmas.Bool.Decides.{nat_tests}
 use Rattle.rv_model.specs.declared.instructions.operations.VectorOp.{VectorOp}
 use Rattle.rv_model.specs.declared.instructions.operations.Form.{Form}
@@ -9,7 +9,7 @@ use Rattle.rv_model.specs.declared.assembler.forms.Slot.{Slot}
 use Rattle.rv_model.specs.instructions.FixedBits.{field, flag}
 use Rattle.rv_model.specs.lending.Families.{filled}
 use Rattle.rv_model.specs.instructions.Operations.{form_of, source_of}
-use Rattle.rv_model.specs.instructions.Table.{Row, table, scan}
+use Rattle.rv_model.specs.instructions.Table.{Row, table}
 use Rattle.rv_model.proofs.instruction_lemmas.Scans.{In, some_row}
 use Rattle.rv_model.proofs.instruction_lemmas.RoundTrips.{template_of}
 use Rattle.rv_model.specs.assembler.InstructionTexts.{slots}
@@ -47,8 +47,5 @@ held t w = search (arith, arith_held, carry_held, second_held)
 held_in_row : (r : Row) → In r table → (w : ℕ) → operands_in w (slots (r.instr w)) ≡ text_operands (r.instr w)
 held_in_row r here w = search (arith, nat_tests, held, template_of)
 
-held_in : (w : ℕ) (o : Option Instr) → scan table w ≡ o → IfSome o (λ i. operands_in w (slots i) ≡ text_operands i)
-held_in w o e = search (arith, nat_tests, held_in_row, some_row)
-
 pub slots_hold_operands : SlotsHoldOperands
-slots_hold_operands w = held_in w (scan table w) refl
+slots_hold_operands w = search (arith, nat_tests, held_in_row, some_row)

@@ -18,21 +18,17 @@ use Rattle.rv_model.specs.declared.commands.registers.RegisterCommand.{RegisterC
 use Rattle.rv_model.specs.declared.commands.registers.RegisterCommand.TheVariants.{Regs, Vreg, Vcsr}
 use Rattle.rv_model.specs.declared.commands.running.RunningCommand.{RunningCommand}
 use Rattle.rv_model.specs.declared.images.ElfFault.{ElfFault}
-use Rattle.rv_model.specs.declared.memory.MapRefusal.{MapRefusal}
-use Rattle.rv_model.specs.declared.memory.Permissions.{Permissions}
 use Rattle.rv_model.specs.declared.step.step_end.Stop.{Stop}
-use Rattle.rv_model.specs.commands.Arguments.{Pages}
 use Rattle.rv_model.specs.commands.Breakpoints.{breakpoint_command, breaks_line}
 use Rattle.rv_model.specs.commands.Commands.{Parsed, needs_stopped, of_absent, of_present, command_outcome, commanded}
 use Rattle.rv_model.specs.commands.Entering.{entering_absent, entering}
-use Rattle.rv_model.specs.commands.Memory.{mapping, peek_line, memory_command}
+use Rattle.rv_model.specs.commands.Memory.{peek_line, memory_command}
 use Rattle.rv_model.specs.commands.Printing.{refused}
-use Rattle.rv_model.specs.commands.Programs.{image_named, loaded_line, loading, loading_named, assembling, dis_line, word_in, dis_lines, program_command}
+use Rattle.rv_model.specs.commands.Programs.{loaded_line, loading, assembling, dis_line, word_in, dis_lines, program_command}
 use Rattle.rv_model.specs.commands.Registers.{register_text, register_line, register_lines, regs_lines, vreg_line, vcsr_line, register_command}
 use Rattle.rv_model.specs.commands.Running.{step_line, running_line, stopped_line, state_line, trace_line, out_line, running_command}
 use Rattle.rv_model.specs.machine.UserMachine.{Present, Private, Outcome, refuses}
 use Rattle.rv_model.specs.machine.Setup.{Image}
-use Rattle.rv_model.specs.memory.Memory.{map_refusal}
 use Rattle.rv_model.specs.declared.scalar.Scalar.{Scalar}
 use Rattle.rv_model.proofs.Choices.{of_either}
 use Rattle.rv_model.proofs.machine_lemmas.Configurations.{StaysAs, steps_stay}
@@ -83,12 +79,9 @@ module _ (images : List Image) (p : Present) where
   refuses_now : (reason : Refusal) → Here (refuses (Some p) reason)
   refuses_now reason = inl (reason, refl)
 
-  mapping_answers : (reason : Option MapRefusal) (pages : Pages) (allowed : Permissions) → Here (mapping reason pages allowed p)
-  mapping_answers reason pages allowed = search (arith, nat_tests, refuses_now)
-
   memory_answers : (c : MemoryCommand) → CommandAnswers (Memory c)
   unfolding of_present memory_command peek_line
-  memory_answers (Map pages allowed) = mapping_answers (map_refusal p.hart.memory pages.first pages.count) pages allowed
+  memory_answers (Map pages allowed) = search (arith, nat_tests, refuses_now)
   memory_answers (Poke addr bytes) = search (arith, nat_tests, of_either, refuses_now)
   memory_answers (Peek addr count) = search (arith, nat_tests, no_newline_in_peek_line, of_either, prints, refuses_now)
 
@@ -108,9 +101,6 @@ module _ (images : List Image) (p : Present) where
   unfolding loaded_line initial_vector
   loading_answers image fault = search (arith, nat_tests, no_newline_in_loaded_line, of_either, prints, refuses_now)
 
-  load_answers : (image : Option (List ℕ)) → Here (loading_named image p)
-  load_answers image = search (arith, nat_tests, loading_answers, refuses_now)
-
   assembling_answers : (addr : ℕ) (word : Result ℕ ℕ) → Here (assembling addr word p)
   assembling_answers addr word = search (arith, nat_tests, asm_plain, no_newline_in_asm_line, prints, refuses_now)
 
@@ -120,7 +110,7 @@ module _ (images : List Image) (p : Present) where
 
   programs_answer : (c : ProgramCommand) → CommandAnswers (Programs c)
   unfolding of_present program_command dis_lines
-  programs_answer (Load name) = load_answers (image_named images name)
+  programs_answer (Load name) = search (arith, nat_tests, loading_answers, refuses_now)
   programs_answer (Asm addr text) = search (arith, nat_tests, assembling_answers, of_either, refuses_now)
   programs_answer (Dis addr count) = search (arith, nat_tests, dis_lines_are_lines, dis_lines_plain, of_either, refuses_now)
 

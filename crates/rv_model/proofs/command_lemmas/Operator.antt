@@ -7,9 +7,8 @@ use Rattle.rv_model.specs.declared.commands.operator.OperatorCommand.{OperatorCo
 use Rattle.rv_model.specs.declared.commands.refusal.Refusal.TheVariants.{UnknownCommand}
 use Rattle.rv_model.specs.declared.commands.operator.OperatorCommand.TheVariants.{Slices, Run}
 use Rattle.rv_model.specs.commands.Arguments.{within, number_between}
-use Rattle.rv_model.specs.commands.Operator.{OperatorParsed, operator_named, operator_of_words, operator_parse}
+use Rattle.rv_model.specs.commands.Operator.{OperatorParsed, operator_named, operator_parse}
 use Rattle.rv_model.specs.commands.Reading.{done, in_group, one_argument}
-use Rattle.rv_model.specs.text.Words.{words}
 use Rattle.rv_model.proofs.Choices.{of_either, of_option, of_test}
 
 abbrev pub NamesUser : OperatorCommand → Type 0
@@ -54,9 +53,6 @@ with_args o h = search (arith, nat_tests)
 named_names : (name : List ℕ) (args : List (List ℕ)) → NamedNamesUser (operator_named name args)
 named_names name args = search (arith, nat_tests, done, done_names, of_either, run_names, slices_name, with_args)
 
-of_words_names : (ws : List (List ℕ)) → ParsedNamesUser (operator_of_words ws)
-of_words_names ws = search (arith, nat_tests, named_names)
-
 pub parsed_names_user : (line : List ℕ) → ParsedNamesUser (operator_parse line)
 unfolding operator_parse
-parsed_names_user line = of_words_names (words line)
+parsed_names_user line = search (arith, nat_tests, named_names)

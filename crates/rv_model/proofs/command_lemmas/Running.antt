@@ -40,6 +40,4 @@ spaced_bytes all = if nat_lt 0 (length all) then codes " " ++ encode_lower all e
 pub no_newline_in_out_line : (all : List ℕ) → IsLine (out_line all)
 unfolding out_line
 no_newline_in_out_line all =
-    let word : Piece = (codes "out ", refl) in
-    let after : Piece = (spaced_bytes all, (of_either IsLine (nat_lt 0 (length all)) _ [] (space ▸ bytes all).1 refl)) in
-    (word ▸ number (length all) ▸ after).1
+    ((codes "out ", refl) ▸ number (length all) ▸ (spaced_bytes all, (of_either IsLine (nat_lt 0 (length all)) _ [] (space ▸ bytes all).1 refl))).1

@@ -43,8 +43,7 @@ module _ (body : Body) (test : ℕ → Bool) where
   pub some_begins : (i : ℕ) → i ≤ body.start → some_before i ≡ false
   some_begins zero h = refl
   some_begins (suc i) h =
-      let before : is_active body i ≡ false = outside i (λ b. omega (arith, from_start body.start body.end i b)) in
-      ap some_before (sym (add-one i)) ∙ some_kept i before ∙ some_begins i (omega arith)
+      ap some_before (sym (add-one i)) ∙ some_kept i (outside i (λ b. omega (arith, from_start body.start body.end i b))) ∙ some_begins i (omega arith)
 
   -- at an element of the body
   pub some_step : (i : ℕ) → body.start ≤ i → i < body.end → is_enabled body i ≡ true → some_before (i + 1) ≡ (some_before i || test i)
@@ -57,9 +56,7 @@ module _ (body : Body) (test : ℕ → Bool) where
   past_end : (k : ℕ) → some_before (body.end + k) ≡ some_active body test
   past_end zero = let e : body.end + 0 ≡ body.end = omega arith in ap some_before e
   past_end (suc k) =
-      let after : is_active body (body.end + k) ≡ false = outside (body.end + k) (λ b. omega (arith, to_end body.start body.end (body.end + k) b)) in
-      let e : body.end + suc k ≡ body.end + k + 1 = omega arith in
-      ap some_before e ∙ some_kept (body.end + k) after ∙ past_end k
+      ap some_before (omega arith) ∙ some_kept (body.end + k) (outside (body.end + k) (λ b. omega (arith, to_end body.start body.end (body.end + k) b))) ∙ past_end k
 
   pub some_ends : (i : ℕ) → body.end ≤ i → some_before i ≡ some_active body test
   some_ends i h = let e : i ≡ body.end + (i - body.end) = omega arith in ap some_before e ∙ past_end (i - body.end)

@@ -23,9 +23,8 @@ same_bit xs ys n e = ap (λ (b : ℕ). b / 2 ^ (n % 8) % 2 == 1) e
 
 pub group_length : (file : List ℕ) (vd emul : ℕ) → length file ≡ 1024 → (length (group_of file vd emul) ≤ 32 * registers emul) × (length (group_of file vd emul) ≤ 1024 - 32 * vd)
 group_length file vd emul long =
-    let rest : length (drop (32 * vd) file) ≡ 1024 - 32 * vd = length-drop (32 * vd) file ∙ ap (λ (m : ℕ). m - 32 * vd) long in
     let whole = length-take (32 * registers emul) (drop (32 * vd) file) in
-    (omega (arith, whole), omega (arith, whole, rest))
+    (omega (arith, whole), omega (arith, whole, (length-drop (32 * vd) file ∙ ap (λ (m : ℕ). m - 32 * vd) long)))
 
 module _ (file bytes : List ℕ) (vd emul : ℕ) (long : length file ≡ 1024) (size : length bytes ≡ length (group_of file vd emul)) where
   -- a property of the byte at an index holds after the write if it holds before and the write preserves it in the group
@@ -46,8 +45,7 @@ Unchanged vd count eew changed n = 256 * vd ≤ n → n < 256 * (vd + count) →
 
 element_of_byte : (k n vd b : ℕ) → b ≡ 8 * k → 32 * vd ≤ n / 8 → (n - 256 * vd) / b ≡ (n / 8 - 32 * vd) / k
 element_of_byte k n vd b is from =
-    let byte : (n - 256 * vd) / 8 ≡ n / 8 - 32 * vd = omega (arith, from) in
-    ap (λ (m : ℕ). (n - 256 * vd) / m) is ∙ sym (div-div-eq-div-mul (n - 256 * vd) 8 k) ∙ ap (λ (m : ℕ). m / k) byte
+    ap (λ (m : ℕ). (n - 256 * vd) / m) is ∙ sym (div-div-eq-div-mul (n - 256 * vd) 8 k) ∙ ap (λ (m : ℕ). m / k) (omega (arith, from))
 
 -- the bytes of such elements
 pub bytes_kept : (file : List ℕ) (g : GroupType) (vd : ℕ) (changed : ℕ → Bool) (number : ℕ → ℕ) (byte : ℕ) → length file ≡ 1024
@@ -89,19 +87,14 @@ pub bits_kept : (file : List ℕ) (vd count : ℕ) (changed bit : ℕ → Bool) 
     → mask_bit (with_group file vd (written_bits changed bit (group_of file vd 8))) n ≡ mask_bit file n
 unfolding written_bits
 bits_kept file vd count changed bit n long fits unchanged =
-    let group : List ℕ = group_of file vd 8 in
-    let new : List ℕ = written_bits changed bit group in
-    let f : ℕ → ℕ = byte_with_bits changed bit group in
-    let size : length new ≡ length group = length-map-range_with_len f 0 (length group) in
-    let lengths = group_length file vd 8 long in
-    let q : ℕ = n / 8 in
-    let r : ℕ = n % 8 in
-    by_place file new vd 8 long size (λ (b : ℕ). (b / 2 ^ r % 2 == 1) ≡ mask_bit file n) q refl (λ from inside old.
-    let j : ℕ = q - 32 * vd in
-    let low : r < 8 = omega arith in
-    let place : (n - 256 * vd) / 1 ≡ 8 * j + r = omega (arith, from) in
-    let here : changed (8 * j + r) ≡ false =
-    sym (ap changed place) ∙ unchanged (omega (arith, from)) (omega (arith, from, inside, lengths.0, fits)) in
-    let put : get_or new j 0 ≡ f j = get_or-map-range_with_len f 0 (length group) j j 0 inside (zero-add j) in
-    ap (λ (b : ℕ). b / 2 ^ r % 2 == 1) put ∙ bit_is (λ i. bit_or changed bit group (8 * j + i)) r low
-    ∙ ap (λ (b : Bool). cond b (bit (8 * j + r)) (mask_bit group (8 * j + r))) here ∙ mask_bit_in group j r low ∙ old)
+    let new : List ℕ = written_bits changed bit (group_of file vd 8) in
+    let f : ℕ → ℕ = byte_with_bits changed bit (group_of file vd 8) in
+    let size : length new ≡ length (group_of file vd 8) = length-map-range_with_len f 0 (length (group_of file vd 8)) in
+    by_place file new vd 8 long size (λ (b : ℕ). (b / 2 ^ (n % 8) % 2 == 1) ≡ mask_bit file n) (n / 8) refl (λ from inside old.
+    let j : ℕ = (n / 8) - 32 * vd in
+    let low : (n % 8) < 8 = omega arith in
+    let here : changed (8 * j + (n % 8)) ≡ false =
+    sym (ap changed (omega (arith, from))) ∙ unchanged (omega (arith, from)) (omega (arith, from, inside, (group_length file vd 8 long).0, fits)) in
+    let put : get_or new j 0 ≡ f j = get_or-map-range_with_len f 0 (length (group_of file vd 8)) j j 0 inside (zero-add j) in
+    ap (λ (b : ℕ). b / 2 ^ (n % 8) % 2 == 1) put ∙ bit_is (λ i. bit_or changed bit (group_of file vd 8) (8 * j + i)) (n % 8) low
+    ∙ ap (λ (b : Bool). cond b (bit (8 * j + (n % 8))) (mask_bit (group_of file vd 8) (8 * j + (n % 8)))) here ∙ mask_bit_in (group_of file vd 8) j (n % 8) low ∙ old)

@@ -29,9 +29,6 @@ is_packed numbers j = nat_lt j (length numbers)
 below : (n e : ℕ) → nat_lt e n ≡ true → e < n
 below n e h = grind (arith, nat_tests)
 
-both_below : (m n e : ℕ) → n ≤ m → (nat_lt e m && nat_lt e n) ≡ nat_lt e n
-both_below m n e h = grind (arith, nat_tests)
-
 module _ (select : List ℕ) (element : ℕ → ℕ) where
   packed_next : (n : ℕ) (b : Bool) → mask_bit select n ≡ b → packed select element (n + 1) ≡ packed select element n ++ map element (cond b (n ∷ []) [])
   packed_next n b h = search (arith, nat_tests, filter-append, map-append, range_more)
@@ -70,7 +67,7 @@ module _ (select : List ℕ) (element : ℕ → ℕ) where
       let here : slice_index more count ≡ element i = ap (slice_index more) was.many ∙ get_or-append_seam before (element i) [] 0 in
       let kept : Writes k (λ x. is_packed more x && nat_lt x count) (slice_index more) old mid =
       writes_same k (is_packed before) (λ x. is_packed more x && nat_lt x count) (slice_index before) (slice_index more) old mid was.writes
-      (λ x l. both_below (length more) count x (omega (arith, long)) ∙ ap (nat_lt x) was.many)
+      (λ x l. (grind (arith, nat_tests)) ∙ ap (nat_lt x) was.many)
       (λ x t. get_or_append_left before (element i ∷ []) 0 x (below (length before) x t)) in
       let step : Writes k (λ x. is_packed more x && nat_lt x (count + 1)) (slice_index more) old new =
       step_written k (is_packed more) (slice_index more) old mid new count kept (lt-ltb count (length more) (omega (arith, long))) fits

@@ -39,22 +39,18 @@ module _ (k : ℕ) (body : Body) (fill_masked_off : Bool) (i : ℕ) (result : �
   abbrev So : ℕ → List ℕ → Type 0
   So j bytes = Writes k (λ e. changed e && nat_lt e j) number old bytes
 
-  enabled_changes : (l : Bool) → l ≡ true → ((true && l) || ((fill_masked_off && (true && not l)) || (false && nat_le body.end i))) ≡ true
-  enabled_changes l h = rw h refl
-
   pub step_result : So i mid → k * i + k ≤ length old → is_enabled body i ≡ true
       → new ≡ put_chunk (k * i) mid (bytes_low_first 0 k (result i)) → So (i + 1) new
   step_result was fits h e =
       let is : number i ≡ result i = rw (inside, h) refl in
-      let does : changed i ≡ true = rw inside (enabled_changes (is_enabled body i) h) in
+      let does : changed i ≡ true = rw inside (rw h refl) in
       step_written k changed number old mid new i was does fits (rw is e)
 
   pub step_ones : So i mid → k * i + k ≤ length old → is_enabled body i ≡ false → fill_masked_off ≡ true
       → new ≡ put_chunk (k * i) mid (bytes_low_first 0 k ones) → So (i + 1) new
   step_ones was fits h off e =
       let is : number i ≡ ones = rw (inside, h) refl in
-      let does : changed i ≡ true = rw (inside, h, off) refl in
-      step_written k changed number old mid new i was does fits (rw is e)
+      step_written k changed number old mid new i was (rw (inside, h, off) refl) fits (rw is e)
 
   pub step_off : So i mid → is_enabled body i ≡ false → fill_masked_off ≡ false → new ≡ mid → So (i + 1) new
   step_off was h off e = search (arith, nat_tests, inside, step_kept)

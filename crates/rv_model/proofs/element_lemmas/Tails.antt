@@ -21,11 +21,9 @@ pub tail_is_filled : (g : GroupType) (vd vl n : ℕ) (file new : List ℕ) → l
     → Writes (width_bytes g.width) (in_range vl n) (λ e. ones g.width) (group_of file vd g.emul) new
     → with_group file vd new ≡ tail_filled g vd vl file
 tail_is_filled g vd vl n file new long filled =
-    let k : ℕ = width_bytes g.width in
-    let group : List ℕ = group_of file vd g.emul in
     ap (λ bytes. with_group file vd bytes)
-    (writes_are k (nat_le vl) (λ e. ones g.width) group new (bytes_positive g.width)
-    (writes_same k (in_range vl n) (nat_le vl) (λ e. ones g.width) (λ e. ones g.width) group new filled
+    (writes_are (width_bytes g.width) (nat_le vl) (λ e. ones g.width) (group_of file vd g.emul) new (bytes_positive g.width)
+    (writes_same (width_bytes g.width) (in_range vl n) (nat_le vl) (λ e. ones g.width) (λ e. ones g.width) (group_of file vd g.emul) new filled
     (λ e h. of_bool (nat_le vl e) (λ a. a ≡ (a && nat_lt e n)) (λ is. sym (lt-ltb e n (below e (omega (arith, h, long))))) (λ is. refl)) (λ e h. refl)))
   where
     below : (e : ℕ) → width_bytes g.width * e < width_bytes g.width * n → e < n
@@ -45,15 +43,14 @@ pub first_result_is : (width : Width) (vd : ℕ) (policy : Policy) (t : VType) (
     ≡ with_first_result width vd body (fills_tail policy t body) result file
 unfolding with_results with_first_result
 first_result_is width vd policy t body result file =
-    let k : ℕ = width_bytes width in
     let one : Body = element_zero body in
     let group : List ℕ = group_of file vd 8 in
     let fill : Bool = fills_tail policy t body in
     ap (λ bytes. with_group file vd bytes)
-    (writes_are k (λ i. nat_lt body.start body.end && (eqb i 0 || fill)) (λ i. cond (eqb i 0) result (ones width)) group _ (bytes_positive width)
-    (writes_same k (is_changed one false fill) (λ i. nat_lt body.start body.end && (eqb i 0 || fill))
+    (writes_are (width_bytes width) (λ i. nat_lt body.start body.end && (eqb i 0 || fill)) (λ i. cond (eqb i 0) result (ones width)) group _ (bytes_positive width)
+    (writes_same (width_bytes width) (is_changed one false fill) (λ i. nat_lt body.start body.end && (eqb i 0 || fill))
     (result_or_ones one (λ i. result) (ones width)) (λ i. cond (eqb i 0) result (ones width)) group _
-    (written_are k (is_changed one false fill) (result_or_ones one (λ i. result) (ones width)) group (bytes_positive width))
+    (written_are (width_bytes width) (is_changed one false fill) (result_or_ones one (λ i. result) (ones width)) group (bytes_positive width))
     (λ e h. same_set (is_ones policy) t.tail_agnostic (nat_lt body.start body.end) e)
     (λ e h. same_number (is_ones policy) t.tail_agnostic (nat_lt body.start body.end) e h)))
   where

@@ -1,9 +1,8 @@
 -- The widths of elements in bits and in bytes.
-use Rattle.std.proofs.Common.{◌≡◌, ℕ, ◌*◌, ◌/◌, ◌^◌, ◌<◌, arith, refl, lit<}
+use Rattle.std.proofs.Common.{◌≡◌, ◌*◌, ◌/◌, ◌^◌, ◌<◌, arith, refl, lit<}
 use Rattle.std.specs.Int.{Width, w8}
 use mir.Val.{bits}
-use Rattle.rv_model.specs.declared.vector.sizes.TheConstants.{VLEN, VLENB}
-use Rattle.rv_model.specs.declared.vector.types.Sew.{Sew}
+use Rattle.rv_model.specs.declared.vector.sizes.TheConstants.{VLENB}
 use Rattle.rv_model.specs.declared.vector.types.VType.{VType}
 use Rattle.rv_model.specs.vector.Groups.{lmul_eighths, sew_bits, vlmax, width_bytes}
 
@@ -22,9 +21,5 @@ pub power_positive : (w : Width) → 0 < 2 ^ bits w
 power_positive w8 = lit< tt
 power_positive _ = lit< tt
 
--- the number of elements from the bytes of a register equals that from its bits
-elements_by_bytes : (s : Sew) (n : ℕ) → n * VLENB / sew_bits s ≡ n * VLEN / (8 * sew_bits s)
-elements_by_bytes s n = search arith
-
 pub vlmax_by_bytes : (t : VType) → lmul_eighths t.lmul * VLENB / sew_bits t.sew ≡ vlmax t
-vlmax_by_bytes t = elements_by_bytes t.sew (lmul_eighths t.lmul)
+vlmax_by_bytes t = search arith

@@ -53,8 +53,7 @@ set_is_put (x ∷ xs) (suc i) y = ap (λ l. x ∷ l) (set_is_put xs i y)
 -- a write of the first bytes of the rest of a slice
 pub rest_is_put : (at : ℕ) (xs ys buf : List ℕ) → at + length ys ≤ length xs → buf ≡ ys ++ drop (length ys) (drop at xs) → put_mid at (length xs - at) xs buf ≡ put_chunk at xs ys
 rest_is_put at xs ys buf h e =
-    let over : length (drop at xs) ≤ length xs - at = omega (arith, length-drop at xs) in
-    rw (drop_all (length xs - at) (drop at xs) over, append-nil buf, e, put_chunk_is at xs ys h) refl
+    rw (drop_all (length xs - at) (drop at xs) (omega (arith, length-drop at xs)), append-nil buf, e, put_chunk_is at xs ys h) refl
 
 -- no write
 pub writes_none : (k : ℕ) (W : ℕ → Bool) (F : ℕ → ℕ) (xs : List ℕ) → ((e : ℕ) → W e ≡ false) → Writes k W F xs xs
@@ -71,22 +70,17 @@ writes_more : (k : ℕ) (W V : ℕ → Bool) (F : ℕ → ℕ) (old mid : List �
 writes_more k W V F old mid i fits was here others =
     let ys = bytes_low_first 0 k (F i) in
     let long : length ys ≡ k = length-bytes 0 k (F i) in
-    let same : length mid ≡ length old = was.same_length in
     record {
-      same_length = length-put_chunk (k * i) mid ys ∙ same;
+      same_length = length-put_chunk (k * i) mid ys ∙ was.same_length;
       bytes = λ e m h l. elim (cases_order e i) [
         | inr (inl low) ↦
             let apart : k * suc e ≤ k * i = mul-le-mul_left k low in
-            let below : k * e + m < k * i = omega (arith, mul-suc k e) in
-            rw (get_or-put_chunk_below (k * i) mid ys (k * e + m) 0 below, others e (λ q. omega (arith, q))) (was.bytes e m h l)
+            rw (get_or-put_chunk_below (k * i) mid ys (k * e + m) 0 (omega (arith, mul-suc k e)), others e (λ q. omega (arith, q))) (was.bytes e m h l)
         | inl is ↦
-            let room : k * i + length ys ≤ length mid = omega arith in
-            let inside : m < length ys = omega arith in
-            rw (is, here, get_or-put_chunk_at (k * i) mid ys m 0 inside room) (get_or-bytes 0 k (F i) m h ∙ ap (λ n. byte_at n (F i)) (zero-add m))
+            rw (is, here, get_or-put_chunk_at (k * i) mid ys m 0 (omega arith) (omega arith)) (get_or-bytes 0 k (F i) m h ∙ ap (λ n. byte_at n (F i)) (zero-add m))
         | inr (inr high) ↦
             let apart : k * suc i ≤ k * e = mul-le-mul_left k high in
-            let above : k * i + length ys ≤ k * e + m = omega (arith, mul-suc k i) in
-            rw (get_or-put_chunk_above (k * i) mid ys (k * e + m) 0 above, others e (λ q. omega (arith, q))) (was.bytes e m h l)
+            rw (get_or-put_chunk_above (k * i) mid ys (k * e + m) 0 (omega (arith, mul-suc k i)), others e (λ q. omega (arith, q))) (was.bytes e m h l)
       ];
     }
 

@@ -1,6 +1,6 @@
 -- Words as sums of parts without common bits
 use Rattle.std.proofs.Common.{◌≡◌, refl, ap, ap₂, ◌∙◌, sym, ℕ, ◌+◌, ◌-◌, ◌*◌, ◌/◌, ◌%◌, ◌^◌, ◌<◌, List, [], ◌∷◌, Bool, true, nat_eq, ◌&&◌, min, max, arith, add-zero, zero-add}
-use Rattle.std.specs.Int.Bits.{bit_and, bit_or, and_comm, and_zero_r, or_disjoint, and_high, and_zero_l}
+use Rattle.std.specs.Int.Bits.{bit_and, and_comm, and_zero_r, or_disjoint, and_high, and_zero_l}
 use Rattle.std.proofs.lemmas.Nat.Bits.{same_from_bits, bit_at_and, bit_at_or}
 use Rattle.std.proofs.lemmas.Nat.{and_assoc, and_mask, pow_pos}
 use Rattle.std.proofs.lemmas.Bool.{and_parts, eqb-true}
@@ -34,9 +34,6 @@ Reads word (p ∷ ps) = (word / 2 ^ p.low % 2 ^ p.len ≡ p.value) × Reads word
 min_max : (x y z : ℕ) → min x (max y z) ≡ max (min x y) (min x z)
 min_max x y z = omega arith
 
-and_or_distrib : (n a b : ℕ) → bit_and n (bit_or a b) ≡ bit_or (bit_and n a) (bit_and n b)
-and_or_distrib n a b = search (bit_at_and, bit_at_or, min_max, same_from_bits)
-
 none_shared : (n a b : ℕ) → bit_and a b ≡ 0 → bit_and (bit_and n a) (bit_and n b) ≡ 0
 none_shared n a b h =
     and_assoc (bit_and n b) n a
@@ -46,7 +43,7 @@ none_shared n a b h =
 pub and_sum : (n a b : ℕ) → bit_and a b ≡ 0 → bit_and n (a + b) ≡ bit_and n a + bit_and n b
 and_sum n a b h =
     ap (bit_and n) (sym (or_disjoint a b h))
-    ∙ and_or_distrib n a b
+    ∙ (search (bit_at_and, bit_at_or, min_max, same_from_bits))
     ∙ or_disjoint (bit_and n a) (bit_and n b) (none_shared n a b h)
 
 sum_and : (a b n : ℕ) → bit_and a b ≡ 0 → bit_and (a + b) n ≡ bit_and a n + bit_and b n

@@ -17,11 +17,8 @@ use Rattle.rv_model.specs.instructions.Table.{parts, bits}
 use Rattle.rv_model.specs.lending.Families.{filled}
 use Rattle.rv_model.proofs.instruction_lemmas.Parts.{share_none, clear, Reads, of_word}
 
-bit_back : (n : ℕ) → n < 2 → flag_bit (nat_eq n 1) ≡ n
-bit_back n h = search arith
-
 flag_back : (word : ℕ) → flag_bit (flag word) ≡ field 25 1 word
-flag_back word = bit_back (field 25 1 word) (mod_below (word / 2 ^ 25) 2 (omega arith))
+flag_back word = search arith
 
 bit_pair : (b : Bool) → nat_eq (flag_bit b) 1 ≡ b
 bit_pair b = search (arith, nat_tests)

@@ -198,9 +198,6 @@ pub record ArithInside (target first_source second_source vd vs2 : ℕ) (from : 
   pub second : SourceIsInside from second_source
 
 module _ (vd vs2 : ℕ) (t : VType) where
-  target_inside : (shape : Shape) → IsGroup (destination shape vd t) → IsInside vd (target_emul shape t)
-  target_inside shape g = search (arith, nat_tests, inside, wide_group)
-
   first_inside : (shape : Shape) → IsGroup (first_source shape vs2 t) → IsInside vs2 (first_emul shape t)
   first_inside shape g = search (arith, nat_tests, sew_group, wide_group)
 
@@ -209,7 +206,7 @@ module _ (vd vs2 : ℕ) (t : VType) where
 
   shape_inside : (shape : Shape) (from : Source) → ShapeGroups shape vd vs2 from t
       → ArithInside (target_emul shape t) (first_emul shape t) (vector_source shape 0 t).emul vd vs2 from
-  shape_inside shape from g = record { destination = target_inside shape g.target; first = first_inside shape g.first; second = second_inside shape from g.second }
+  shape_inside shape from g = record { destination = (search (arith, nat_tests, inside, wide_group)); first = first_inside shape g.first; second = second_inside shape from g.second }
 
 -- the operands of an operation with the vector type's multiplier for each
 abbrev pub SingleInside : ℕ → ℕ → Source → VType → Type 0
@@ -346,11 +343,6 @@ index_inside vd vm t vstart h = sew_group vd t (first_of (group Write vd (group_
 
 -- ---- sources with a fraction of SEW
 
--- elements of a fraction of SEW have that fraction of the vector type's multiplier
-emul-part : (o : ExtendOp) (s : Sew) (e : ℕ) → 8 ≤ sew_bits s / extension_divisor o
-    → bits (part_width o (sew_width s)) * e / sew_bits s ≡ e / extension_divisor o
-emul-part o s e wide = search arith
-
 -- with the same fraction of the width and of the multiplier, a group has room for VLMAX elements
 part_fits : (o : ExtendOp) (s : Sew) (l : Lmul)
     → (nat_lt (sew_bits s / extension_divisor o) 8 || (nat_lt (lmul_eighths l / extension_divisor o) 1
@@ -385,7 +377,7 @@ pub extension_inside : (o : ExtendOp) (vd vs2 : ℕ) (vm : Bool) (t : VType) (vs
 unfolding operands
 extension_inside o vd vs2 vm t vstart h =
     let source = second_of (group Write vd (group_type t)) (extension_source o vs2 t) (v0 vm) (legal_groups _ _ _ h) in
-    let same : (part_type o t).emul ≡ lmul_eighths t.lmul / extension_divisor o = emul-part o t.sew (lmul_eighths t.lmul) source.width.0 in
+    let same : (part_type o t).emul ≡ lmul_eighths t.lmul / extension_divisor o = (search arith) in
     record {
       wide = source.width.0;
       least = subst (λ n. 1 ≤ n) same source.least;

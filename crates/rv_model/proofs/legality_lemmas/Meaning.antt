@@ -12,7 +12,7 @@ use Rattle.rv_model.specs.declared.legality.Content.{Content}
 use Rattle.rv_model.specs.declared.legality.Content.TheVariants.{Mask, Elements}
 use Rattle.rv_model.specs.declared.instructions.instruction.Instr.{Instr}
 use Rattle.rv_model.specs.declared.vector.types.VType.{VType}
-use Rattle.rv_model.specs.legality.RegisterOperands.{eew, end, Overlap, AreLegal, is_width, is_group, overlaps, may_overlap, may_share, allows, are_legal}
+use Rattle.rv_model.specs.legality.RegisterOperands.{eew, end, Overlap, AreLegal, is_group, overlaps, may_overlap, may_share, allows, are_legal}
 use Rattle.rv_model.specs.legality.Legality.{operands, starts_at_zero, is_below_64, IsLegal, is_legal}
 use Rattle.rv_model.specs.vector.Groups.{sew_bits, registers}
 use Rattle.rv_model.specs.vector.Types.{VECTOR_REGISTERS}
@@ -47,13 +47,10 @@ pub record IsGroup (o : Operand) : Type 0 where
   pub aligned : o.first % registers o.emul ≡ 0
   pub inside : end o ≤ VECTOR_REGISTERS
 
-width_means : (c : Content) → Decides (is_width c) (IsWidth c)
-width_means c = search (arith, nat_tests, Decides-and, always, decides_le)
-
 group_means : (o : Operand) → Decides (is_group o) (IsGroup o)
 group_means o =
     let all =
-    Decides-and _ _ (width_means o.content)
+    Decides-and _ _ (search (arith, nat_tests, Decides-and, always, decides_le))
     (Decides-and _ _ (decides_le 1 o.emul)
     (Decides-and _ _ (decides_le o.emul 64)
     (Decides-and _ _ (decides_le (o.emul * o.fields) 64)
@@ -100,9 +97,6 @@ groups_are legal = λ i d l. (group_means _).0 (legal.groups i d l)
 pub are_legal_means : (xs : List Operand) → (are_legal xs ≡ true) ↔ AreLegal xs
 are_legal_means xs = are_legal_decides xs
 
-has_legal_decides : (xs : Option (List Operand)) → Decides (option_map_or are_legal xs false) (IsSomeAnd xs AreLegal)
-has_legal_decides xs = search (arith, nat_tests, are_legal_decides, never)
-
 narrow_decides : (t : Option VType) → Decides (option_map_or (λ t. not (sew_bits t.sew == 64)) t false) (IsSomeAnd t (λ t. sew_bits t.sew ≢ 64))
 narrow_decides t = search (arith, nat_tests, Decides-eqb, Decides-not, never)
 
@@ -111,7 +105,7 @@ pub is_legal_means : (i : Instr) (t : Option VType) (vstart : ℕ) → (is_legal
 unfolding is_legal
 is_legal_means i t vstart =
     Decides-like _ (λ p. record { operands = p.0; start = p.1.0; width = p.1.1 }) (λ l. (l.operands, (l.start, l.width)))
-    (Decides-and _ _ (has_legal_decides (operands i t))
+    (Decides-and _ _ (search (arith, nat_tests, are_legal_decides, never))
     (Decides-and _ _
     (decides_when (starts_at_zero i) (vstart == 0) (itself (starts_at_zero i)) (Decides-eqb vstart 0))
     (decides_when (is_below_64 i) _ (itself (is_below_64 i)) (narrow_decides t))))

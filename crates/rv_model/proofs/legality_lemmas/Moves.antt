@@ -1,14 +1,12 @@
 -- Consequences of legality for the registers of a compression and of whole-register moves.
 use Rattle.std.specs.Prelude.{Some}
-use Rattle.std.proofs.Common.{◌≡◌, ℕ, ◌*◌, ◌/◌, true, refl, lit<, arith}
+use Rattle.std.proofs.Common.{◌≡◌, ℕ, ◌*◌, true, refl, lit<, arith}
 use Rattle.rv_model.specs.declared.instructions.instruction.Instr.TheVariants as instr
 use Rattle.rv_model.specs.declared.instructions.vector.VectorInstr.TheVariants.{Compress, WholeMove}
 use Rattle.rv_model.specs.declared.instructions.operations.RegisterCount.{RegisterCount}
 use Rattle.rv_model.specs.declared.legality.Role.TheVariants.{Read}
-use Rattle.rv_model.specs.declared.vector.types.Sew.{Sew}
 use Rattle.rv_model.specs.declared.vector.types.VType.{VType}
-use Rattle.rv_model.specs.declared.vector.sizes.TheConstants.{VLEN}
-use Rattle.rv_model.specs.vector.Groups.{element_count, lmul_eighths, sew_bits, sew_width, whole_type, register_count}
+use Rattle.rv_model.specs.vector.Groups.{element_count, lmul_eighths, sew_width, whole_type, register_count}
 use Rattle.rv_model.specs.lending.GroupBounds.{HoldsBody, IsInside}
 use Rattle.rv_model.specs.legality.Legality.{is_legal, operands}
 use Rattle.rv_model.specs.legality.OperandShapes.{mask}
@@ -44,11 +42,6 @@ whole_move_inside count vd vs2 t vstart h =
       source = inside vs2 (8 * register_count count) (8 * register_count count) refl (groups 1 (mask Read 0) (lit< tt)).inside;
     }
 
--- the registers hold all of their elements
-whole_hold : (s : Sew) (count : RegisterCount)
-    → HoldsBody (sew_width s) (8 * register_count count) (8 * register_count count * VLEN / (8 * sew_bits s)) (8 * register_count count * VLEN / (8 * sew_bits s))
-whole_hold s count = search arith
-
 pub whole_groups_hold_body : (t : VType) (count : RegisterCount)
     → HoldsBody (sew_width t.sew) (8 * register_count count) (element_count (whole_type t count)) (element_count (whole_type t count))
-whole_groups_hold_body t count = whole_hold t.sew count
+whole_groups_hold_body t count = search arith

@@ -1,7 +1,7 @@
 -- Consequences of legality for the overlaps of a vector load: it changes neither its mask nor the indices that it still needs.
 use Rattle.std.specs.Prelude.{IsTrue, Some, nat_le, nat_lt, ◌==◌}
 use Rattle.std.proofs.Common.{◌≡◌, ◌∷◌, inl, inr, ℕ, ◌+◌, ◌-◌, ◌*◌, ◌/◌, ◌%◌, ◌<◌, ◌≤◌, Bool, true, false, ◌&&◌, ◌||◌, cond, refl, sym, ap, ◌∙◌, subst, arith, lit<}
-use Rattle.std.proofs.Math.Nat.{add-mul, mod-add-div', mul_comm}
+use Rattle.std.proofs.Math.Nat.{add-mul, mul_comm}
 use Rattle.std.proofs.lemmas.Bool.{and_parts, both_ways, cases_order, eqb-true, leb-true, ltb-true, or_cases}
 use Rattle.std.proofs.lemmas.Nat.{mul-le, row_fits}
 use Rattle.std.proofs.lemmas.Bool.Decides.{nat_tests}
@@ -60,8 +60,6 @@ group_fits s t = omega (arith, elements_fit s t (vlmax t) (omega arith), mul_com
 -- aligned groups of the same size that overlap start at the same register
 aligned_same : (z a b : ℕ) → a % z ≡ 0 → b % z ≡ 0 → a < b + z → b < a + z → a ≡ b
 aligned_same z a b p q h g =
-    let x = mod-add-div' a z in
-    let y = mod-add-div' b z in
     elim (cases_order (a / z) (b / z)) [
       | inl e ↦ let same : a / z * z ≡ b / z * z = ap (λ (n : ℕ). n * z) e in omega arith
       | inr s ↦ elim s [
@@ -80,13 +78,10 @@ byte_register first n f z k v i b hf hi room h = search (arith, row_fits)
 clear : (b : Bool) (d s : Operand) (w : ℕ) → d.content ≡ Elements w → (Overlap d s → IsTrue (may_share (cond b Write Apart) Control d s)) → ¬ Overlap d s
 clear b d s w e h o = search (arith, nat_tests, both_ways)
 
-above_v0 : (d : Operand) → ¬ Overlap d (mask Control 0) → 1 ≤ d.fields → 1 ≤ d.first
-above_v0 d h some = search (arith, cases_order, registers, row_fits)
-
 -- a masked load writes no part of v0
 fields_above : (b : Bool) (d : Operand) (w : ℕ) → d.content ≡ Elements w → 1 ≤ d.fields
     → (Overlap d (mask Control 0) → IsTrue (may_share (cond b Write Apart) Control d (mask Control 0))) → 1 ≤ d.first
-fields_above b d w is some h = above_v0 d (clear b d (mask Control 0) w is h) some
+fields_above b d w is some h = search (arith, cases_order, registers, row_fits)
 
 pub unit_above : (first_only vm : Bool) (w : Eew) (nf vd rs1 : ℕ) (t : VType) (vstart : ℕ)
     → IsLegal (instr.Access (UnitStride (cond first_only unit.FaultOnlyFirst unit.Load) w nf vd rs1 vm)) (Some t) vstart → vm ≡ false → 1 ≤ vd
@@ -150,15 +145,11 @@ later_stay w nf vd vs2 t legal f i k b hf hi hk x y =
     let of_sew : emul (sew_bits t.sew) t ≡ lmul_eighths t.lmul = emul-sew t.sew (lmul_eighths t.lmul) in
     let z : ℕ = registers (lmul_eighths t.lmul) in
     let zs : ℕ = registers (emul (sew_bits (element_width w)) t) in
-    let v : ℕ = vlmax t in
     let dk : ℕ = width_bytes (sew_width t.sew) in
     let sk : ℕ = width_bytes (sew_width (element_width w)) in
-    let dg = legal.fields in
-    let sg = legal.indices in
-    let droom : v * dk ≤ VLENB * z = subst (λ e. v * dk ≤ VLENB * registers e) of_sew (group_fits t.sew t) in
-    let sroom : v * sk ≤ VLENB * zs = group_fits (element_width w) t in
-    let dhas = byte_register vd (nf + 1) f z dk v i b (omega arith) (omega arith) droom x in
-    let shas = byte_register vs2 1 0 zs sk v k b (omega arith) hk sroom (omega arith, omega arith) in
+    let droom : (vlmax t) * dk ≤ VLENB * z = subst (λ e. (vlmax t) * dk ≤ VLENB * registers e) of_sew (group_fits t.sew t) in
+    let dhas = byte_register vd (nf + 1) f z dk (vlmax t) i b (omega arith) (omega arith) droom x in
+    let shas = byte_register vs2 1 0 zs sk (vlmax t) k b (omega arith) hk (group_fits (element_width w) t) (omega arith, omega arith) in
     let both = legal.overlap (b / 32, (dhas, shas)) in
     let one : nf ≡ 0 = eqb-true nf 0 both.0 in
     let only : f ≡ 0 = omega arith in
@@ -168,8 +159,8 @@ later_stay w nf vd vs2 t legal f i k b hf hi hk x y =
       | inl same ↦
           let sizes : z ≡ zs = ap registers (sym of_sew) ∙ ap (λ (n : ℕ). registers (emul n t)) same in
           let widths : k * dk ≡ k * sk = ap (λ (n : ℕ). k * (n / 8)) same in
-          let aligned : vs2 % z ≡ 0 = ap (λ (q : ℕ). vs2 % q) sizes ∙ sg.aligned in
-          let together : vd ≡ vs2 = aligned_same z vd vs2 dg.aligned aligned (omega arith) (omega arith) in
+          let aligned : vs2 % z ≡ 0 = ap (λ (q : ℕ). vs2 % q) sizes ∙ legal.indices.aligned in
+          let together : vd ≡ vs2 = aligned_same z vd vs2 legal.fields.aligned aligned (omega arith) (omega arith) in
           omega arith
       | inr other ↦ elim other [
         | inl narrow ↦
@@ -178,13 +169,12 @@ later_stay w nf vd vs2 t legal f i k b hf hi hk x y =
             omega arith
         | inr wide ↦
             let less : sk ≤ dk = omega arith in
-            let whole : (nf + 1) * z ≡ z = ap (λ (j : ℕ). (j + 1) * z) one ∙ omega arith in
-            let full : v * dk ≡ VLENB * z =
-            subst (λ e. v * dk ≡ VLENB * registers e) of_sew (group_filled t.sew t (wider (element_width w) t wide.1 (omega arith))) in
-            let filled : v * sk ≡ VLENB * zs = group_filled (element_width w) t wide.1 in
-            let left : v * sk ≡ k * sk + (v - k) * sk = ap (λ (j : ℕ). j * sk) (omega arith) ∙ add-mul k (v - k) sk in
-            let over : v * dk ≡ k * dk + (v - k) * dk = ap (λ (j : ℕ). j * dk) (omega arith) ∙ add-mul k (v - k) dk in
-            let shorter : (v - k) * sk ≤ (v - k) * dk = mul-le (v - k) sk (v - k) dk (omega arith) less in
+            let full : (vlmax t) * dk ≡ VLENB * z =
+            subst (λ e. (vlmax t) * dk ≡ VLENB * registers e) of_sew (group_filled t.sew t (wider (element_width w) t wide.1 (omega arith))) in
+            let filled : (vlmax t) * sk ≡ VLENB * zs = group_filled (element_width w) t wide.1 in
+            let left : (vlmax t) * sk ≡ k * sk + ((vlmax t) - k) * sk = ap (λ (j : ℕ). j * sk) (omega arith) ∙ add-mul k ((vlmax t) - k) sk in
+            let over : (vlmax t) * dk ≡ k * dk + ((vlmax t) - k) * dk = ap (λ (j : ℕ). j * dk) (omega arith) ∙ add-mul k ((vlmax t) - k) dk in
+            let shorter : ((vlmax t) - k) * sk ≤ ((vlmax t) - k) * dk = mul-le ((vlmax t) - k) sk ((vlmax t) - k) dk (omega arith) less in
             omega arith
       ]
     ]

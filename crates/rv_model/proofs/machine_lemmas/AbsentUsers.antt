@@ -12,7 +12,7 @@ use Rattle.rv_model.specs.declared.commands.refusal.Refusal.TheVariants as refus
 use Rattle.rv_model.specs.commands.Commands.{Parsed, command_outcome, commanded, needs_stopped, of_absent, of_present, parse}
 use Rattle.rv_model.specs.commands.Entering.{entering, entering_absent}
 use Rattle.rv_model.specs.machine.AbsentUsers.{AbsentUsersHaveNothing, AbsentUsersLeaveTheUnit, UserEventsKeepNothing, HasNothing, ScriptsKeepNothing}
-use Rattle.rv_model.specs.machine.World.{Private, Event, Command, Slice, event, sliced, World, UserEvent, after_events, after_one, outcome_of, unit_after, with_unit, user_machine, with_user_machine}
+use Rattle.rv_model.specs.machine.World.{Private, Event, Command, Slice, event, sliced, World, UserEvent, after_events, after_one, outcome_of, unit_after, user_machine, with_user_machine}
 use Rattle.rv_model.specs.machine.Script.{after_all, after_script, events_of, kind_of, new_world, world_after}
 use Rattle.rv_model.specs.machine.Setup.{Image, Setup}
 use Rattle.rv_model.specs.machine.UserMachine.{Outcome, Present, Use, refuses}
@@ -77,9 +77,8 @@ module _ (user : ℕ) (low : 1 ≤ user) (high : user ≤ 8) where
       (record {
         owner = λ known. known;
         others = λ u here other known nothing.
-            let user_owns = subst OwnerIsUser is known in
             let apart = not_owner owner u (sym (ap (λ o. is_owned_by o u) is) ∙ nothing.0) in
-            (nothing.0, other_mark owner u true unit.saved user_owns.0 here apart ∙ nothing.1);
+            (nothing.0, other_mark owner u true unit.saved (subst OwnerIsUser is known).0 here apart ∙ nothing.1);
       })
       (still user unit)
 
@@ -119,17 +118,11 @@ module _ (user : ℕ) (low : 1 ≤ user) (high : user ≤ 8) where
     );
   }
 
-  -- a user whose vector state is discarded neither owns the unit nor has a saved state
-  nothing_left : (unit : VectorUnit) → HasNothing user (unit_discarded user unit)
-  nothing_left unit = search (arith, nat_tests, of_test, unmarked)
-
   -- discarding the vector state of a user without one changes nothing
   nothing_dropped : (unit : VectorUnit) → HasNothing user unit → unit_discarded user unit ≡ unit
   nothing_dropped unit nothing =
-      let marks : with_mark user false unit.saved ≡ unit.saved =
-      ap (set unit.saved (user - 1)) (sym nothing.1) ∙ set-get_or unit.saved (user - 1) false in
       ap (λ (b : Bool). record unit { owner = (if b then None else unit.owner); saved = with_mark user false unit.saved }) nothing.0
-      ∙ ap (λ (saved : List Bool). record unit { saved = saved }) marks
+      ∙ ap (λ (saved : List Bool). record unit { saved = saved }) (ap (set unit.saved (user - 1)) (sym nothing.1) ∙ set-get_or unit.saved (user - 1) false)
 
   -- ---- uses
 
@@ -159,7 +152,7 @@ module _ (user : ℕ) (low : 1 ≤ user) (high : user ≤ 8) where
 
   left : (images : List Image) (p : Present) (c : Cmd) (unit : VectorUnit) → LeavesNothing (of_present images c p) unit
   unfolding of_present entering
-  left images p (Entering Leave) unit none = nothing_left unit
+  left images p (Entering Leave) unit none = search (arith, nat_tests, of_test, unmarked)
   left images p c unit none = absurd (not_gone p (of_present images c p).next (stays_there images p c) none)
 
   present_leaves : (images : List Image) (p : Present) (c : Cmd) (unit : VectorUnit) → LeavesNothing (command_outcome images c (Some p)) unit
@@ -186,11 +179,8 @@ pub new_world_has_nothing : AbsentUsersHaveNothing new_world
 unfolding new_world
 new_world_has_nothing = (tt, λ u low high absent. (refl, get_or-replicate 8 (u - 1) false false (omega (arith, low, high))))
 
-unit_after_turn : (turn : Bool) (u : ℕ) (w : World) → (if turn then record w { cursor = u } else w).unit ≡ w.unit
-unit_after_turn turn u w = search (arith, nat_tests)
-
 unit_after_one : (s : Setup) (w : World) (h : UserEvent) → (after_one s w h).unit ≡ unit_after s w h
-unit_after_one s w h = unit_after_turn h.turn h.user (with_unit (unit_after s w h) (with_user_machine h.user (outcome_of s w h).next w))
+unit_after_one s w h = search (arith, nat_tests)
 
 pub user_events_keep_nothing : UserEventsKeepNothing
 user_events_keep_nothing s w h low high eight nothing =
@@ -208,8 +198,7 @@ user_events_keep_nothing s w h low high eight nothing =
                 subst (λ (v : ℕ). HasNothing v (unit_after s w h)) (sym same)
                 (absent_after h.user low high s (user_machine h.user w) h.event w.unit (nothing.1 h.user low high) gone)
             | inr other ↦
-                let before : user_machine u w ≡ None = sym (part_other u h.user next w here low (λ e. other (sym e))) ∙ found in
-                moves.others u here other nothing.0 (nothing.1 u here there before)
+                moves.others u here other nothing.0 (nothing.1 u here there (sym (part_other u h.user next w here low (λ e. other (sym e))) ∙ found))
           ]),
     )
 

@@ -61,9 +61,8 @@ new_users_are_configured u = nobody 8 (u - 1)
 
 pub user_events_keep_configurations : UserEventsKeepConfigurations
 user_events_keep_configurations s w h are = λ u.
-    let next : Private = (outcome_of s w h).next in
     subst IsConfigured (sym (part_after_one s u w h))
-    (of_element IsConfigured w.parts (h.user - 1) (u - 1) next None (event_keeps s (user_machine h.user w) h.event (are h.user)) (are u))
+    (of_element IsConfigured w.parts (h.user - 1) (u - 1) ((outcome_of s w h).next) None (event_keeps s (user_machine h.user w) h.event (are h.user)) (are u))
 
 all_keep : (s : Setup) (w : World) (hs : List UserEvent) → UsersAreConfigured w → UsersAreConfigured (after_events s w hs)
 all_keep s w [] are = are

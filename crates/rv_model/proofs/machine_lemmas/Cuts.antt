@@ -42,14 +42,11 @@ resumed : (limit later : ℕ) (s : HartState) → IsConfiguration s.vector.conf 
     → KeepsOwnWord (s.vector.vstart + limit) (fetched s.memory s.scalar.pc) s
     → step (limit + later) s ≡ after_ticks limit (step later (step limit s).state)
 resumed limit later s is cut keeps =
-    let left : HartState = (step limit s).state in
-    let same : overlay s.memory left.memory ≡ s.memory =
-    overlay_same s.memory left.memory (step_keeps_permissions Monitor limit s) in
-    let off : left.vector.vstart ≡ s.vector.vstart + limit = cut_step_leaves_off limit s cut in
-    let done : left.vector.vstart - s.vector.vstart ≡ limit = omega (arith, off) in
-    ap (λ (m : Memory). step (limit + later) (finds m s)) (sym same)
-    ∙ subst (λ (n : ℕ). step (n + later) (finds (overlay s.memory left.memory) s) ≡ after_ticks n (step later left)) done
-    (fetched_step_resumes limit later s left.memory is (subst IsUndone (sym cut) tt)
+    let off : ((step limit s).state).vector.vstart ≡ s.vector.vstart + limit = cut_step_leaves_off limit s cut in
+    let done : ((step limit s).state).vector.vstart - s.vector.vstart ≡ limit = omega (arith, off) in
+    ap (λ (m : Memory). step (limit + later) (finds m s)) (sym (overlay_same s.memory ((step limit s).state).memory (step_keeps_permissions Monitor limit s)))
+    ∙ subst (λ (n : ℕ). step (n + later) (finds (overlay s.memory ((step limit s).state).memory) s) ≡ after_ticks n (step later ((step limit s).state))) done
+    (fetched_step_resumes limit later s ((step limit s).state).memory is (subst IsUndone (sym cut) tt)
     (subst (λ (n : ℕ). KeepsOwnWord n (fetched s.memory s.scalar.pc) s) (sym off) keeps) (λ x c e. e))
 
 -- an instruction retires, is cut, or stops the program
@@ -66,9 +63,6 @@ ended Cut = inr (inl refl)
 after_resumed : (e : StepEnd) (state half : HartState) (p : Present) → half.scalar ≡ p.hart.scalar
     → after e state (after Cut half p) ≡ after e state p
 after_resumed e state half p h = search (arith, nat_tests)
-
-running_after : (e : StepEnd) (state : HartState) (p : Present) → (after e state p).running ≡ p.running
-running_after e state p = search (arith, nat_tests)
 
 -- ---- a run of instructions
 
@@ -143,15 +137,11 @@ follows_resumed b c left more p half two h lb lc some least = search (arith, nat
 abbrev goes_on : Halted → (Present → Halted) → Halted
 goes_on first more = if is_none first.stop then more first.state else first
 
-adds_none : (a b c more : ℕ) (p : Present) → more ≤ b → more ≤ c
-    → comes_to b (0 + more) p ≡ goes_on (comes_to a 0 p) (λ q. comes_to c more q)
-adds_none a b c more p lb lc = search (arith, nat_tests, fuel_is_enough, steps_none)
-
 adds : (a b c left more : ℕ) (p : Present) → left ≤ a → left + more ≤ b → more ≤ c → 1 ≤ more
     → IsConfiguration p.hart.vector.conf
     → All KeepsWordIfCut (slice_steps a left p).uses
     → comes_to b (left + more) p ≡ goes_on (comes_to a left p) (λ q. comes_to c more q)
-adds a b c zero more p la lb lc some is keeps = adds_none a b c more p (omega (arith, lb)) lc
+adds a b c zero more p la lb lc some is keeps = search (arith, nat_tests, fuel_is_enough, steps_none)
 adds zero b c (suc left) more p la lb lc some is keeps = absurd (omega (arith, la))
 adds (suc a) zero c (suc left) more p la lb lc some is keeps = absurd (omega (arith, lb))
 adds (suc a) (suc b) zero (suc left) more p la lb lc some is keeps = absurd (omega (arith, lc, some))
@@ -213,7 +203,7 @@ steps_run (suc a) zero p = refl
 steps_run (suc a) (suc left) p =
     let one : Stepped = step (suc left) p.hart in
     let q : Present = after one.end one.state p in
-    let on : q.running ≡ p.running = running_after one.end one.state p in
+    let on : q.running ≡ p.running = (search (arith, nat_tests)) in
     of_either (λ (r : Halted). r.state.running ≡ p.running) (should_break p) _ _ refl
     (of_either (λ (r : Halted). r.state.running ≡ p.running) (is_none (stop_of one.end)) (slice_steps a (suc left - one.ticks) q)
     (halted q (stop_of one.end)) (steps_run a (suc left - one.ticks) q ∙ on) on)
@@ -243,16 +233,9 @@ sliced_absent quantum = refl
 ends_uses : (run : Halted) (reason : Option Stop) → (slice_ends run reason).uses ≡ run.uses
 ends_uses run reason = search (arith, nat_tests)
 
-uses_running : (quantum : ℕ) (p : Present) → p.running ≡ true → (sliced quantum (Some p)).uses ≡ (ticked quantum p).uses
-uses_running quantum p h = search (arith, nat_tests, ends_uses, sliced_running)
-
--- the visible part of an ended slice doesn't depend on the uses
-ends_bare : (run : Halted) (reason : Option Stop) → seen (slice_ends run reason) ≡ seen (slice_ends (bare run) reason)
-ends_bare run reason = search (arith, nat_tests)
-
 seen_running : (quantum : ℕ) (p : Present) → p.running ≡ true
     → seen (sliced quantum (Some p)) ≡ seen (slice_ends (comes_to quantum quantum p) (comes_to quantum quantum p).stop)
-seen_running quantum p h = ap seen (sliced_running quantum p h) ∙ ends_bare (ticked quantum p) (ticked quantum p).stop
+seen_running quantum p h = ap seen (sliced_running quantum p h) ∙ (search (arith, nat_tests))
 
 ends_stay : (p : Present) (run : Halted) (reason : Option Stop) → StaysAs p (Some run.state) → StaysAs p (slice_ends run reason).next
 ends_stay p run reason stays = search (arith, nat_tests)
@@ -291,7 +274,7 @@ cuts_add_up m (suc n) (Some p) is keeps = elim (cases_Bool p.running) [
       ∙ ends_joined (suc n) run run.stop on
       ∙ ap (λ (r : Halted). seen (slice_ends r r.stop))
       (sym (adds m (m + suc n) (suc n) m (suc n) p (omega arith) (omega arith) (omega arith) (omega arith) is
-      (All-same KeepsWordIfCut _ _ (sym (uses_running m p h)) keeps)))
+      (All-same KeepsWordIfCut _ _ (sym (search (arith, nat_tests, ends_uses, sliced_running))) keeps)))
       ∙ sym (seen_running (m + suc n) p h)
   | inr h ↦
       ap (λ (first : Outcome). seen (joined first (sliced (suc n) first.next))) (sliced_stopped m p h)
@@ -305,16 +288,13 @@ all_add_up : (k quantum : ℕ) (p : Private) → IsConfigured p → All KeepsWor
     → seen (slices k quantum p) ≡ seen (sliced (k * quantum) p)
 unfolding slices
 all_add_up zero quantum p is keeps =
-    let none : 0 ≡ 0 * quantum = omega arith in
-    ap seen (sym (sliced_nothing p)) ∙ ap (λ (q : ℕ). seen (sliced q p)) none
+    ap seen (sym (sliced_nothing p)) ∙ ap (λ (q : ℕ). seen (sliced q p)) (omega arith)
 all_add_up (suc k) quantum p is keeps =
-    let first : Outcome = sliced quantum p in
-    let rest : Outcome = slices k quantum first.next in
-    let more : quantum + k * quantum ≡ suc k * quantum = omega arith in
-    ap (λ (o : Outcome). seen (joined first o))
-    (all_add_up k quantum first.next (slice_keeps_configuration quantum p is) (All-right KeepsWordIfCut first.uses rest.uses keeps))
-    ∙ cuts_add_up quantum (k * quantum) p is (All-left KeepsWordIfCut first.uses rest.uses keeps)
-    ∙ ap (λ (q : ℕ). seen (sliced q p)) more
+    let rest : Outcome = slices k quantum (sliced quantum p).next in
+    ap (λ (o : Outcome). seen (joined (sliced quantum p) o))
+    (all_add_up k quantum (sliced quantum p).next (slice_keeps_configuration quantum p is) (All-right KeepsWordIfCut (sliced quantum p).uses rest.uses keeps))
+    ∙ cuts_add_up quantum (k * quantum) p is (All-left KeepsWordIfCut (sliced quantum p).uses rest.uses keeps)
+    ∙ ap (λ (q : ℕ). seen (sliced q p)) (omega arith)
 
 pub slices_add_up : SlicesAddUp
 slices_add_up k quantum p is keeps = search (arith, nat_tests, all_add_up, come_to_the_same)

@@ -78,14 +78,11 @@ no_newline_in_granted_line : (n : ℕ) → IsLine (granted_line n)
 unfolding granted_line
 no_newline_in_granted_line n = let word : Piece = (codes "granted ", refl) in (word ▸ number n).1
 
-no_newline_in_run_state : (s : RunState) → IsLine (run_state_word s)
-no_newline_in_run_state s = search (arith, nat_tests)
-
 no_newline_in_listed_user : (run_states : List RunState) (u : ℕ) → IsLine (listed_user run_states u)
 unfolding listed_user
 no_newline_in_listed_user run_states u =
     let run_state : RunState = slice_index_or run_states (u - 1) Absent in
-    ((codes " ", refl) ▸ number u ▸ (codes ":", refl) ▸ (run_state_word run_state, no_newline_in_run_state run_state)).1
+    ((codes " ", refl) ▸ number u ▸ (codes ":", refl) ▸ (run_state_word run_state, (search (arith, nat_tests)))).1
 
 no_newline_in_list_line : (run_states : List RunState) → IsLine (list_line run_states)
 unfolding list_line

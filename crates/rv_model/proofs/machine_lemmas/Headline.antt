@@ -66,15 +66,14 @@ pub lines_printed_by_events : (s : Setup) (u : ℕ) (w : World) (es : List UserE
 lines_printed_by_events s u w [] rest low high eight users = refl
 lines_printed_by_events s u w (h ∷ es) rest low high eight users =
     let v = h.user in
-    let e = h.event in
     let w' : World = after_one s w h in
     let ih = lines_printed_by_events s u w' es rest low high (length-after_one s w h ∙ eight) users.2 in
-    ap (lines u) (append_assoc (text (48 + v) (event s (user_machine v w) e).lines) (printed_by_events s w' es) rest)
-    ∙ lines_text u (48 + v) (event s (user_machine v w) e).lines (printed_by_events s w' es ++ rest) (no_newline v) (event_lines s (user_machine v w) e)
-    ∙ ap (λ (b : Bool). cond b (event s (user_machine v w) e).lines [] ++ lines u (printed_by_events s w' es ++ rest)) (grind (arith, nat_tests))
-    ∙ ap (λ (x : List (List ℕ)). cond (eqb v u) (event s (user_machine v w) e).lines [] ++ x) ih
-    ∙ ap (λ (q : Private). cond (eqb v u) (event s (user_machine v w) e).lines [] ++ (solo_from s q (mine u es) ++ lines u rest)) (part_after_one s u w h)
-    ∙ splits s u (lines u rest) w e es v low (omega (arith, high, eight)) users.0
+    ap (lines u) (append_assoc (text (48 + v) (event s (user_machine v w) h.event).lines) (printed_by_events s w' es) rest)
+    ∙ lines_text u (48 + v) (event s (user_machine v w) h.event).lines (printed_by_events s w' es ++ rest) (no_newline v) (event_lines s (user_machine v w) h.event)
+    ∙ ap (λ (b : Bool). cond b (event s (user_machine v w) h.event).lines [] ++ lines u (printed_by_events s w' es ++ rest)) (grind (arith, nat_tests))
+    ∙ ap (λ (x : List (List ℕ)). cond (eqb v u) (event s (user_machine v w) h.event).lines [] ++ x) ih
+    ∙ ap (λ (q : Private). cond (eqb v u) (event s (user_machine v w) h.event).lines [] ++ (solo_from s q (mine u es) ++ lines u rest)) (part_after_one s u w h)
+    ∙ splits s u (lines u rest) w h.event es v low (omega (arith, high, eight)) users.0
 
 -- the user's machine after events
 abbrev Ends : Setup → ℕ → World → Event → List UserEvent → ℕ → Type 0
@@ -95,21 +94,14 @@ pub length-after_events : (s : Setup) (w : World) (es : List UserEvent) → leng
 length-after_events s w [] = refl
 length-after_events s w (h ∷ hs) = length-after_events s (after_one s w h) hs ∙ length-after_one s w h
 
--- the events of a line are those of one of the eight users
-users_prefixed : (s : Setup) (w : World) (line : List ℕ) → AreUsers (events_of s w (prefixed line))
-users_prefixed s w line = search (arith, and_parts, grants_to_users, leb-true, parsed_names_user)
-
 pub users_of : (s : Setup) (w : World) (line : List ℕ) → AreUsers (events_of s w (kind_of line))
 unfolding kind_of
-users_of s w line = of_either (λ k. AreUsers (events_of s w k)) (nat_lt 1024 (length line)) Long (prefixed line) tt (users_prefixed s w line)
+users_of s w line = of_either (λ k. AreUsers (events_of s w k)) (nat_lt 1024 (length line)) Long (prefixed line) tt (search (arith, and_parts, grants_to_users, leb-true, parsed_names_user))
 
 -- replies without a user's digit appear in no user's lines
 common_lines : (s : Setup) (w : World) (k : Kind) → AreLines (common s w k)
 unfolding common
 common_lines s w k = search (arith, nat_tests, no_newline_in_operator_line, one_line)
-
-lines_common : (s : Setup) (u : ℕ) (w : World) (k : Kind) (rest : List ℕ) → lines u (text 42 (common s w k) ++ rest) ≡ lines u rest
-lines_common s u w k rest = search (arith, nat_tests, common_lines, lines_text)
 
 solo-append : (s : Setup) (p : Private) (a b : List Event) → solo_from s p (a ++ b) ≡ solo_from s p a ++ solo_from s (end_of s p a) b
 solo-append s p [] b = refl
@@ -133,7 +125,7 @@ lines_printed_by_line s u w line rest low high eight =
     let es : List UserEvent = events_of s w (kind_of line) in
     ap (lines u) (append_assoc (printed_by_events s w es) (text 42 (common s w (kind_of line))) rest)
     ∙ lines_printed_by_events s u w es (text 42 (common s w (kind_of line)) ++ rest) low high eight (users_of s w line)
-    ∙ ap (λ (x : List (List ℕ)). solo_from s (user_machine u w) (mine u es) ++ x) (lines_common s u w (kind_of line) rest)
+    ∙ ap (λ (x : List (List ℕ)). solo_from s (user_machine u w) (mine u es) ++ x) (search (arith, nat_tests, common_lines, lines_text))
 
 lines_none : (u : ℕ) → lines u [] ≡ []
 unfolding lines

@@ -244,11 +244,6 @@ own_slices : (s : Setup) (u : ℕ) (w : World) (k : Kind) → 1 ≤ u → u ≤ 
     → own_lines s (user_machine u w) u (run_lines (events_of s w k)) ≡ mine u (events_of s w k)
 own_slices s u w k low high eight is = search (arith, nat_tests, false≢true, own_granted)
 
--- so has each line
-own_line : (s : Setup) (u : ℕ) (w : World) (l : List ℕ) → 1 ≤ u → u ≤ 8 → length w.parts ≡ 8
-    → own_lines s (user_machine u w) u (line_with_runs s w l) ≡ mine u (events_of s w (kind_of l))
-own_line s u w l low high eight = search (arith, nat_tests, of_bool, own_events, own_slices)
-
 own_lines-append : (s : Setup) (p : Private) (u : ℕ) (a b : List (List ℕ))
     → own_lines s p u (a ++ b) ≡ own_lines s p u a ++ own_lines s (end_of s p (own_lines s p u a)) u b
 own_lines-append s p u [] b = refl
@@ -266,7 +261,7 @@ own_with_runs s u w (l ∷ ls) low high eight =
     let es : List UserEvent = events_of s w (kind_of l) in
     let rest : List (List ℕ) = lines_with_runs s (world_after s w l) ls in
     own_lines-append s (user_machine u w) u (line_with_runs s w l) rest
-    ∙ ap (λ (x : List Event). x ++ own_lines s (end_of s (user_machine u w) x) u rest) (own_line s u w l low high eight)
+    ∙ ap (λ (x : List Event). x ++ own_lines s (end_of s (user_machine u w) x) u rest) (search (arith, nat_tests, of_bool, own_events, own_slices))
     ∙ ap (λ (q : Private). mine u es ++ own_lines s q u rest) (sym (part_after s u w l low high eight))
     ∙ ap (λ (x : List Event). mine u es ++ x) (own_with_runs s u (world_after s w l) ls low high (length-after s w l ∙ eight))
     ∙ sym (mine-append u es (schedule s (world_after s w l) ls))

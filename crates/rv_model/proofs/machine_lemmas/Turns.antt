@@ -45,10 +45,9 @@ found_first : (p : ℕ → Bool) (xs : List ℕ) (j x : ℕ) → j < length xs �
 found_first p [] j x within passes found = absurd (omega (arith, within))
 found_first p (y ∷ ys) zero x within passes found = search (arith, picked, same_Some)
 found_first p (y ∷ ys) (suc j) x within passes found =
-    let later = found_first p ys j x (omega (arith, within)) passes in
     elim (cases_Bool (p y)) [
       | inl h ↦ (0, omega arith, same_Some y x (sym (picked p y ys true h) ∙ found))
-      | inr h ↦ let i = later (sym (picked p y ys false h) ∙ found) in (suc i.0, omega (arith, i.1), i.2)
+      | inr h ↦ let i = (found_first p ys j x (omega (arith, within)) passes) (sym (picked p y ys false h) ∙ found) in (suc i.0, omega (arith, i.1), i.2)
     ]
 
 -- the user with the next turn is at or before every user whose flag is set
@@ -207,13 +206,11 @@ each_running_user_has_a_turn s w hs u low high in_turn running eight = search (a
 
 pub one_turn_between_turns : OneTurnBetweenTurns
 one_turn_between_turns s w script before between later u v split none running =
-    let one : List UserEvent = slice_of u true ∷ [] in
     let rest : List UserEvent = between ++ slice_of u true ∷ later in
     let all : AreInTurn s w (before ++ slice_of u true ∷ rest) = subst (AreInTurn s w) split (scripts_are_in_turn s w script) in
-    let mine = at_each-rest IsTurn s w before (slice_of u true ∷ rest) all in
     let here : World = after_events s w before in
-    let user = subst IsUserIfAny (mine.0 refl).1 (next_is_user here.cursor (map runs here.parts)) in
-    let joined : AreInTurn s w ((before ++ one) ++ rest) = subst (AreInTurn s w) (sym (append_assoc before one rest)) all in
-    let after_mine = at_each-rest IsTurn s w (before ++ one) rest joined in
-    let in_turn = at_each-front IsTurn s (after_events s w (before ++ one)) between (slice_of u true ∷ later) after_mine in
-    nobody_has_two_turns s (after_events s w (before ++ one)) between u v user.0 user.1 in_turn running none
+    let user = subst IsUserIfAny ((at_each-rest IsTurn s w before (slice_of u true ∷ rest) all).0 refl).1 (next_is_user here.cursor (map runs here.parts)) in
+    let joined : AreInTurn s w ((before ++ (slice_of u true ∷ [])) ++ rest) = subst (AreInTurn s w) (sym (append_assoc before (slice_of u true ∷ []) rest)) all in
+    let after_mine = at_each-rest IsTurn s w (before ++ (slice_of u true ∷ [])) rest joined in
+    let in_turn = at_each-front IsTurn s (after_events s w (before ++ (slice_of u true ∷ []))) between (slice_of u true ∷ later) after_mine in
+    nobody_has_two_turns s (after_events s w (before ++ (slice_of u true ∷ []))) between u v user.0 user.1 in_turn running none

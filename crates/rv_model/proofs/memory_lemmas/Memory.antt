@@ -189,8 +189,7 @@ unfolding any_page_mapped
 any_page_mapped_at m page zero k l h = absurd (omega arith)
 any_page_mapped_at m page (suc count) zero l h = search (arith, nat_tests)
 any_page_mapped_at m page (suc count) (suc k) l h =
-    let place : (page + 1) + k ≡ page + suc k = omega arith in
-    let rest = any_page_mapped_at m (page + 1) count k (omega arith) (ap (λ (p : ℕ). contains_key m (page_size * p)) place ∙ h) in
+    let rest = any_page_mapped_at m (page + 1) count k (omega arith) (ap (λ (p : ℕ). contains_key m (page_size * p)) (omega arith) ∙ h) in
     or_from_right (contains_key m (page_size * page)) (any_page_mapped m (page + 1) count) rest
   where
     or_from_right : (a b : Bool) → b ≡ true → (a || b) ≡ true

@@ -22,7 +22,7 @@ use Rattle.rv_model.specs.legality.Legality.{is_legal}
 use Rattle.rv_model.specs.memory.Memory.{Memory, can_access_byte}
 use Rattle.rv_model.specs.step.Effects.{StepKeepsConfiguration, StepKeepsPermissions}
 use Rattle.rv_model.specs.step.Hart.{HartState, Stepped}
-use Rattle.rv_model.specs.step.Step.{step, VectorStepped, access_step, accessed, after_vector, operation_step, performed, vector_executed, vector_step, vset_step}
+use Rattle.rv_model.specs.step.Step.{step, VectorStepped, access_step, accessed, after_vector, operation_step, performed, vector_executed, vset_step}
 use Rattle.rv_model.specs.vector.Groups.{Configuration, IsConfiguration, IsSupported, vlmax}
 use Rattle.rv_model.proofs.vector_lemmas.Lengths.{IsLength}
 use Rattle.rv_model.specs.vector.Control.{with_control}
@@ -40,10 +40,6 @@ Supports (Some t) = IsSupported t
 
 supported_parts : (sew : Option Sew) (lmul : Option Lmul) (tail mask : Bool) → Supports (supported_type sew lmul tail mask)
 supported_parts sew lmul tail mask = search (arith, nat_tests, leb-true, of_test)
-
--- a number encodes a supported type or none
-number_supports : (n : ℕ) → Supports (vector_type n)
-number_supports n = search (arith, nat_tests, of_either, supported_parts)
 
 -- whether the old type, if there is one, has the same VLMAX as the new one
 abbrev same_vlmax : Option VType → VType → Bool
@@ -94,7 +90,7 @@ still s after conf memory = record {
 vset_stays : (rd vtype : ℕ) (length : RequestedLength) (s : HartState) → Stays s (vset_step rd vtype length s).state
 unfolding requested
 vset_stays rd vtype length s = record {
-  configured = λ is. type_configures s.vector.conf (vector_type vtype) length is (number_supports vtype);
+  configured = λ is. type_configures s.vector.conf (vector_type vtype) length is (search (arith, nat_tests, of_either, supported_parts));
   allowed = λ access x. refl;
 }
 
@@ -132,9 +128,6 @@ after_vector_stays : (ticks : ℕ) (end : VEnd) (word : ℕ) (s after : HartStat
 after_vector_stays ticks vector_end.Done word s after h = record { configured = h.configured; allowed = h.allowed }
 after_vector_stays ticks _ word s after h = h
 
-vector_step_stays : (limit : ℕ) (i : Instr) (word : ℕ) (s : HartState) → Stays s (vector_step limit i word s).state
-vector_step_stays limit i word s = search (after_vector_stays, vector_stays)
-
 -- ---- every instruction
 
 control_stays : (register : ControlRegister) (n : ℕ) (v : VState) → (with_control register n v).conf ≡ v.conf
@@ -150,7 +143,7 @@ step_stays limit s = of_step limit s (λ (r : Stepped). Stays s r.state) (record
   exits = λ status. still s s refl refl;
   breaks = still s s refl refl;
   full = still s s refl refl;
-}) (λ i word is. vector_step_stays limit i word s)
+}) (λ i word is. (search (after_vector_stays, vector_stays)))
 
 pub step_keeps_configuration : StepKeepsConfiguration
 step_keeps_configuration limit s is = (step_stays limit s).configured is

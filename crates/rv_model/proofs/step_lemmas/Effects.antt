@@ -6,7 +6,6 @@ use Rattle.rv_model.specs.declared.instructions.instruction.Instr.TheVariants as
 use Rattle.rv_model.specs.declared.instructions.vector.VectorInstr.{VectorInstr}
 use Rattle.rv_model.specs.declared.instructions.access.AccessInstr.{AccessInstr}
 use Rattle.rv_model.specs.declared.instructions.operations.Direction.{Direction}
-use Rattle.rv_model.specs.declared.scalar.Scalar.{Scalar}
 use Rattle.rv_model.specs.declared.step.step_end.StepEnd.TheVariants.{Fault}
 use Rattle.rv_model.specs.declared.step.memory_end.MemEnd.{MemEnd}
 use Rattle.rv_model.specs.declared.step.vector_end.VEnd.{VEnd}
@@ -55,10 +54,6 @@ pub record VectorKeeps (s : HartState) (r : VectorStepped) : Type 0 where
   output : r.state.output ≡ s.output
   pub illegal : IfIllegal r.end (r.state ≡ s)
 
--- no load or store writes a scalar register
-same_unless : (end : VEnd) (x : Scalar) → UnlessDone end (x ≡ x)
-same_unless end x = search (arith, nat_tests)
-
 -- the end of an executed load or store is never `Illegal`
 access_is_legal : (d : Direction) (end : MemEnd) (P : Type 0) → IfIllegal (access_end d end) P
 access_is_legal d end P = search (arith, nat_tests)
@@ -67,7 +62,7 @@ access_keeps : (limit : ℕ) (i : AccessInstr) (o : Option VectorAccess) (s : Ha
 access_keeps limit i None s = record { refused = refl; first = refl; output = refl; illegal = refl }
 access_keeps limit i (Some a) s =
     record {
-      refused = same_unless (access_step limit i (Some a) s).end s.scalar;
+      refused = (search (arith, nat_tests));
       first = refl;
       output = refl;
       illegal = access_is_legal a.direction (accessed limit a s).end _;

@@ -4,7 +4,6 @@ use Rattle.std.specs.FinMap.{get}
 use Rattle.std.proofs.lemmas.Bool.Decides.{nat_tests}
 use Rattle.rv_model.specs.declared.instructions.instruction.Instr.{Instr}
 use Rattle.rv_model.specs.declared.memory.Access.{Access}
-use Rattle.rv_model.specs.declared.step.step_end.StepEnd.{StepEnd}
 use Rattle.rv_model.specs.declared.step.step_end.StepEnd.TheVariants.{Cut}
 use Rattle.rv_model.specs.declared.step.vector_end.VEnd.{VEnd}
 use Rattle.rv_model.specs.declared.step.vector_end.VEnd.TheVariants as vector_end
@@ -49,9 +48,6 @@ access_kept kind m other a (suc n) h =
 fetch_grown : (word : ℕ) (s : HartState) (more : Memory) → Extends s.memory more → Fetches word s → Fetches word (finds more s)
 fetch_grown word s more grown f = search (arith, nat_tests, bytes_at_extends, can_access_extends)
 
-fetch_kept : (word : ℕ) (s left : HartState) → left.scalar ≡ s.scalar → SameWord s.scalar.pc s.memory left.memory → Fetches word s → Fetches word left
-fetch_kept word s left scalar same f = search (arith, nat_tests, access_kept, bytes_kept)
-
 -- ---- steps without effect
 
 -- a step from the state that an earlier part left equals the uninterrupted step
@@ -95,7 +91,7 @@ module _ (limit later : ℕ) (s : HartState) (more : Memory) (is : IsConfigurati
       let same : SameWord s.scalar.pc s.memory left.memory =
       subst (λ (w : HartState). SameWord s.scalar.pc s.memory w.memory) (sym leaves_part)
       (part_keeps_word limit i s is stops (subst (λ (w : HartState). KeepsOwnWord w.vector.vstart (Some i) s) leaves_part keeps)) in
-      let again : Fetches word (finds more left) = fetch_grown word left more grown (fetch_kept word s left scalar same f) in
+      let again : Fetches word (finds more left) = fetch_grown word left more grown (search (arith, nat_tests, access_kept, bytes_kept)) in
       let first : Fetches word (finds (overlay s.memory more) s) = fetch_grown word s (overlay s.memory more) (overlay_extends s.memory more) f in
       let done : ℕ = left.vector.vstart - s.vector.vstart in
       step_of (done + later) word (finds (overlay s.memory more) s) first
@@ -109,8 +105,7 @@ module _ (limit later : ℕ) (s : HartState) (more : Memory) (is : IsConfigurati
       → Extends (vector_step limit v.instr word s).state.memory more
       → ResumesFrom step later s more (vector_step limit v.instr word s).state
   vector_resumes word f v undone keeps grown =
-      let d : VectorStepped = vector_executed limit v.instr s in
-      elim (short_or_same (vector_ticks limit v.instr s) word d s (vector_keeps limit v.instr s).illegal undone) [
+      elim (short_or_same (vector_ticks limit v.instr s) word (vector_executed limit v.instr s) s (vector_keeps limit v.instr s).illegal undone) [
         | inl stops ↦ short_resumes word f v stops keeps grown
         | inr same ↦ unchanged_resumes step later s more (vector_step limit v.instr word s).state same grown
       ]
@@ -120,16 +115,12 @@ pub vector_step_resumes : (limit later : ℕ) (i : Instr) (word : ℕ) (s : Hart
     → IsUndone (vector_step limit i word s).end → Extends (vector_step limit i word s).state.memory more
     → ResumesFrom (λ n. vector_step n i word) later s more (vector_step limit i word s).state
 vector_step_resumes limit later i word s more is undone grown =
-    let d : VectorStepped = vector_executed limit i s in
-    elim (short_or_same (vector_ticks limit i s) word d s (vector_keeps limit i s).illegal undone) [
+    elim (short_or_same (vector_ticks limit i s) word (vector_executed limit i s) s (vector_keeps limit i s).illegal undone) [
       | inl stops ↦ step_resumes limit later i word s more is stops grown
       | inr same ↦ unchanged_resumes (λ n. vector_step n i word) later s more (vector_step limit i word s).state same grown
     ]
 
 -- ---- a step
-
-cut_is_undone : (e : StepEnd) → e ≡ Cut → IsUndone e
-cut_is_undone e is = subst IsUndone (sym is) tt
 
 -- an incomplete step resumes if the vector type allows the vector length, which is needed only for instructions that touch the vector
 -- unit
@@ -142,15 +133,13 @@ pub fetched_resumes : (limit later : ℕ) (s : HartState) (more : Memory)
 fetched_resumes limit later s more is undone keeps grown = elim (whole s) [
   | inl t ↦ unchanged_resumes step later s more (step limit s).state (subst (AllOrNothing s) (sym (t.same limit)) t.holds undone).0 grown
   | inr t ↦
-      let i : Instr = t.vector.instr in
       let word : ℕ = word_at s.memory s.scalar.pc in
-      let at : step limit s ≡ vector_step limit i word s = t.same limit in
-      subst (λ (r : Stepped). ResumesFrom step later s more r.state) (sym at)
+      subst (λ (r : Stepped). ResumesFrom step later s more r.state) (sym (t.same limit))
       (vector_resumes limit later s more (is (ap touches t.is_fetched ∙ sym (ap touches t.vector.is) ∙ t.vector.touching)) word t.fetches t.vector
-      (subst (λ (r : Stepped). IsUndone r.end) at undone)
-      (subst (λ (r : Stepped). KeepsOwnWord r.state.vector.vstart (Some i) s) at
+      (subst (λ (r : Stepped). IsUndone r.end) (t.same limit) undone)
+      (subst (λ (r : Stepped). KeepsOwnWord r.state.vector.vstart (Some t.vector.instr) s) (t.same limit)
       (subst (λ (o : Option Instr). KeepsOwnWord (step limit s).state.vector.vstart o s) t.is_fetched keeps))
-      (subst (λ (r : Stepped). Extends r.state.memory more) at grown))
+      (subst (λ (r : Stepped). Extends r.state.memory more) (t.same limit) grown))
 ]
 
 pub fetched_step_resumes : (limit later : ℕ) (s : HartState) (more : Memory) → IsConfiguration s.vector.conf → IsUndone (step limit s).end
@@ -166,7 +155,7 @@ record CutIndex (limit : ℕ) (s : HartState) : Type 0 where
 
 cut_step : (limit : ℕ) (s : HartState) → (step limit s).end ≡ Cut → CutIndex limit s
 cut_step limit s cut = elim (whole s) [
-  | inl t ↦ absurd ((subst (AllOrNothing s) (sym (t.same limit)) t.holds (cut_is_undone (step limit s).end cut)).1 cut)
+  | inl t ↦ absurd ((subst (AllOrNothing s) (sym (t.same limit)) t.holds (subst IsUndone (sym cut) tt)).1 cut)
   | inr t ↦
       let word : ℕ = word_at s.memory s.scalar.pc in
       let d : VectorStepped = vector_executed limit t.vector.instr s in
@@ -185,15 +174,13 @@ cut_vector_step_leaves_off limit i word s cut = search (arith, nat_tests, cut_in
 
 pub cut_step_leaves_off : (limit : ℕ) (s : HartState) → (step limit s).end ≡ Cut → (step limit s).state.vector.vstart ≡ s.vector.vstart + limit
 cut_step_leaves_off limit s cut =
-    let c : CutIndex limit s = cut_step limit s cut in
-    ap (λ (r : Stepped). r.state.vector.vstart) (c.vector.same limit)
-    ∙ vector_leaves_off limit c.vector.vector.instr (word_at s.memory s.scalar.pc) c.index s c.end
+    ap (λ (r : Stepped). r.state.vector.vstart) ((cut_step limit s cut).vector.same limit)
+    ∙ vector_leaves_off limit (cut_step limit s cut).vector.vector.instr (word_at s.memory s.scalar.pc) (cut_step limit s cut).index s (cut_step limit s cut).end
 
 -- `GROUP_BYTES` ticks are enough for any step
 pub step_uncut : (limit : ℕ) (s : HartState) → IsConfiguration s.vector.conf → GROUP_BYTES ≤ limit → (step limit s).end ≢ Cut
 step_uncut limit s is enough cut =
-    let c : CutIndex limit s = cut_step limit s cut in
-    uncut limit c.vector.vector.instr s c.index (configuration_below s.vector.conf is) enough c.end
+    uncut limit (cut_step limit s cut).vector.vector.instr s (cut_step limit s cut).index (configuration_below s.vector.conf is) enough (cut_step limit s cut).end
 
 pub vector_step_uncut : (limit : ℕ) (i : Instr) (word : ℕ) (s : HartState) → IsConfiguration s.vector.conf → GROUP_BYTES ≤ limit
     → (vector_step limit i word s).end ≢ Cut

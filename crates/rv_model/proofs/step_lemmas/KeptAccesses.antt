@@ -113,9 +113,8 @@ module _ (limit : ℕ) (i : AccessInstr) (a : VectorAccess) (s : HartState) (lon
   load_keeps : (fill : Bool) → (body_transfers a s ≡ transfers (plan a fill) a.body.start (a.body.end - a.body.start)) → Keeps (LoadKeeps i a s) (load_run limit fill a s.vector s.memory)
   unfolding load_run
   load_keeps fill is =
-      let each : Plan = plan a fill in
-      let stop : ℕ = stop_index Load s.memory each a.body.start (a.body.start + limit) a.body.end in
-      let done : List Transfer = transfers each a.body.start (stop - a.body.start) in
+      let stop : ℕ = stop_index Load s.memory (plan a fill) a.body.start (a.body.start + limit) a.body.end in
+      let done : List Transfer = transfers (plan a fill) a.body.start (stop - a.body.start) in
       let file : List ℕ = registers_loaded s.memory (element_start a) s.vector.file done in
       let r : AccessRun = load_run limit fill a s.vector s.memory in
       let left : Leaves file s.memory r = ends_leave a.first_only a.body.end (record s.vector { file = file }) s.memory _ in
@@ -129,7 +128,7 @@ module _ (limit : ℕ) (i : AccessInstr) (a : VectorAccess) (s : HartState) (lon
         registers = λ k h outside.
             tails.bytes k outside ∙ ap (λ (f : List ℕ). get_or f k 0) left.registers
             ∙ missed s.memory (element_start a) k done s.vector.file
-            (all_before _ each a.body.start stop a.body.end (omega (arith, stop_most Load s.memory each a.body.start (a.body.start + limit) a.body.end))
+            (all_before _ (plan a fill) a.body.start stop a.body.end (omega (arith, stop_most Load s.memory (plan a fill) a.body.start (a.body.start + limit) a.body.end))
             (All-weaker (λ t. covers_register a k t ≡ false) _ (λ t e. beside_range (element_start a t) t.size k e) _ (subst (All (λ t. covers_register a k t ≡ false)) is h)));
       }
 

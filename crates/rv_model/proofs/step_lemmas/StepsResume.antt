@@ -200,8 +200,7 @@ module _ (limit later : ℕ) (s : HartState) (more : Memory) where
   access_part : (i : AccessInstr) → IsLegal (instr.Access i) s.vector.conf.vtype s.vector.vstart → IsConfiguration s.vector.conf → IsLegalAnywhere (instr.Access i)
       → Part (instr.Access i) (λ n w. access_step n i (access_of i w.vector w.scalar) w)
   access_part i legal is anywhere =
-      let does : Does = λ n w. access_step n i (access_of i w.vector w.scalar) w in
-      of_option (access_of i s.vector s.scalar) (λ o. PartIf (instr.Access i) does (access_step limit i o s))
+      of_option (access_of i s.vector s.scalar) (λ o. PartIf (instr.Access i) (λ n w. access_step n i (access_of i w.vector w.scalar) w) (access_step limit i o s))
       (λ e stops. absurd (stops.legal refl))
       (λ a e stops grown.
       let n : ℕ = in_all (access_step limit i (Some a) s).state in
