@@ -33,4 +33,4 @@ stride_address base i n h = named (nat_lt n (2 ^ hbits w64)) refl
 pub stride_sum : (base i n : ℕ) → n < 2 ^ 64 → (base + (n * i) % 2 ^ 64) % 2 ^ 64 ≡ wrap w64 (pos base +ℤ pos i *ℤ cast_signed w64 n)
 stride_sum base i n h =
     ap (λ x. x % 2 ^ 64) (omega arith) ∙ mod_sum (n * i) base (2 ^ 64)
-    ∙ ap (λ x. x % 2 ^ 64) (omega (arith, (mul_comm n i))) ∙ stride_address base i n h
+    ∙ ap (λ x. x % 2 ^ 64) (omega (arith, mul_comm n i)) ∙ stride_address base i n h

@@ -81,7 +81,7 @@ loaded_extends m more place file (t ∷ ts) grown h =
 
 find_append : (q : ℕ) (xs ys : List (ℕ × Cell)) → find nat_cmp q (xs ++ ys) ≡ option_or (find nat_cmp q xs) (find nat_cmp q ys)
 find_append q [] ys = refl
-find_append q (e ∷ xs) ys = search (arith, nat_tests, (find_append q xs ys))
+find_append q (e ∷ xs) ys = search (arith, nat_tests, find_append q xs ys)
 
 pub get-overlay : OverlayIsEither
 unfolding overlay

@@ -57,7 +57,7 @@ all_append P (x ∷ xs) ys h g = (h.0, all_append P xs ys h.1 g)
 pub all_transfers : (P : Transfer → Type 0) (each : Plan) (i n : ℕ) → ((k : ℕ) → i ≤ k → k < i + n → AllByRecursion P (each k)) → AllByRecursion P (transfers each i n)
 unfolding transfers
 all_transfers P each i zero h = tt
-all_transfers P each i (suc n) h = search (arith, all_append, (all_transfers P each (i + 1) n (λ k l g. h k (omega arith) (omega arith))))
+all_transfers P each i (suc n) h = search (arith, all_append, all_transfers P each (i + 1) n (λ k l g. h k (omega arith) (omega arith)))
 
 -- the transfers of index i have this index, a field below n and this size
 abbrev IsOf : ℕ → ℕ → ℕ → Transfer → Type 0
@@ -66,7 +66,7 @@ IsOf i size n t = (t.index ≡ i) × (t.field < n) × (t.size ≡ size)
 all_fields : (P : Transfer → Type 0) (make : ℕ → Transfer) (i size a n : ℕ) → ((f : ℕ) → (make f).index ≡ i × (make f).field ≡ f × (make f).size ≡ size)
     → ((t : Transfer) → IsOf i size (a + n) t → P t) → AllByRecursion P (map make (range_with_len a n))
 all_fields P make i size a zero is h = tt
-all_fields P make i size a (suc n) is h = search (arith, (all_fields P make i size (a + 1) n is (λ t x. h t (x.0, omega (arith, x.1), x.2))))
+all_fields P make i size a (suc n) is h = search (arith, all_fields P make i size (a + 1) n is (λ t x. h t (x.0, omega (arith, x.1), x.2)))
 
 all_planned : (P : Transfer → Type 0) (a : VectorAccess) (fill : Bool) (i : ℕ) → ((t : Transfer) → IsOf i a.size a.fields t → P t) → AllByRecursion P (plan a fill i)
 unfolding plan

@@ -58,7 +58,7 @@ pub stored_allows : (access : Access) (m : Memory) (place : Transfer → ℕ) (f
 unfolding memory_stored
 stored_allows access m place file [] x = refl
 stored_allows access m place file (t ∷ ts) x =
-    search (element_allows, (stored_allows access (with_element m (chunk (place t) t.size file) t.kind) place file ts x))
+    search (element_allows, stored_allows access (with_element m (chunk (place t) t.size file) t.kind) place file ts x)
 
 -- two memories that allow an access at the same addresses
 abbrev pub AllowTheSame : Access → Memory → Memory → Type 0
@@ -75,12 +75,12 @@ can_move_same access m n size kind same = search (arith, nat_tests, can_access_s
 pub are_allowed_same : (access : Access) (m n : Memory) (ts : List Transfer) → AllowTheSame access m n → are_allowed access m ts ≡ are_allowed access n ts
 unfolding are_allowed
 are_allowed_same access m n [] same = refl
-are_allowed_same access m n (t ∷ ts) same = search (arith, nat_tests, can_move_same, (are_allowed_same access m n ts same))
+are_allowed_same access m n (t ∷ ts) same = search (arith, nat_tests, can_move_same, are_allowed_same access m n ts same)
 
 pub bad_address_same : (access : Access) (m n : Memory) (ts : List Transfer) → AllowTheSame access m n → bad_address access m ts ≡ bad_address access n ts
 unfolding bad_address
 bad_address_same access m n [] same = refl
-bad_address_same access m n (t ∷ ts) same = search (arith, nat_tests, can_move_same, (bad_address_same access m n ts same))
+bad_address_same access m n (t ∷ ts) same = search (arith, nat_tests, can_move_same, bad_address_same access m n ts same)
 
 pub are_allowed-stored : (access : Access) (m : Memory) (place : Transfer → ℕ) (file : List ℕ) (done ts : List Transfer) → are_allowed access (memory_stored m place file done) ts ≡ are_allowed access m ts
 are_allowed-stored access m place file done ts = are_allowed_same access _ m ts (stored_allows access m place file done)

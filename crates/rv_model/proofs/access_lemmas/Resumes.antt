@@ -18,7 +18,7 @@ use Rattle.rv_model.proofs.access_lemmas.Stops.{AllAllowed, first_bad, first_bad
 transfers_same : (each other : Plan) (i n : ℕ) → ((k : ℕ) → i ≤ k → k < i + n → each k ≡ other k) → transfers each i n ≡ transfers other i n
 unfolding transfers
 transfers_same each other i zero h = refl
-transfers_same each other i (suc n) h = search (arith, (transfers_same each other (i + 1) n (λ k l g. h k (omega arith) (omega arith))))
+transfers_same each other i (suc n) h = search (arith, transfers_same each other (i + 1) n (λ k l g. h k (omega arith) (omega arith)))
 
 -- and tests that are equal
 first_bad_same : (access : Access) (m other : Memory) (each rest : Plan) (i n none : ℕ)
@@ -27,7 +27,7 @@ first_bad_same : (access : Access) (m other : Memory) (each rest : Plan) (i n no
 unfolding first_bad
 first_bad_same access m other each rest i zero none h = refl
 first_bad_same access m other each rest i (suc n) none h =
-    search (arith, (first_bad_same access m other each rest (i + 1) n none (λ k l g. h k (omega arith) (omega arith))))
+    search (arith, first_bad_same access m other each rest (i + 1) n none (λ k l g. h k (omega arith) (omega arith)))
 
 stop_same : (access : Access) (m other : Memory) (each rest : Plan) (i cut n : ℕ)
     → ((k : ℕ) → i ≤ k → k < n → are_allowed access m (each k) ≡ are_allowed access other (rest k))
@@ -46,7 +46,7 @@ module _ (access : Access) (m : Memory) (each : Plan) where
   pub first_bad_bounds : (i n none : ℕ) → i + n ≤ none → (i ≤ first_bad access m each i n none) × (first_bad access m each i n none ≤ none)
   unfolding first_bad
   first_bad_bounds i zero none h = (omega (arith, h), omega arith)
-  first_bad_bounds i (suc n) none h = search (arith, (first_bad_bounds (i + 1) n none (omega (arith, h))))
+  first_bad_bounds i (suc n) none h = search (arith, first_bad_bounds (i + 1) n none (omega (arith, h)))
 
   allowed_before : (i n none k : ℕ) → i ≤ k → k < i + n → k < first_bad access m each i n none → are_allowed access m (each k) ≡ true
   unfolding first_bad
@@ -80,7 +80,7 @@ module _ (access : Access) (m : Memory) (each : Plan) where
   all_allowed : (i n : ℕ) → AllAllowed access m each i (i + n) → are_allowed access m (transfers each i n) ≡ true
   unfolding transfers
   all_allowed i zero h = allowed_none access m
-  all_allowed i (suc n) h = search (arith, and_from, are_allowed-append, (all_allowed (i + 1) n (λ k l g. h k (omega arith) (omega arith))))
+  all_allowed i (suc n) h = search (arith, and_from, are_allowed-append, all_allowed (i + 1) n (λ k l g. h k (omega arith) (omega arith)))
 
   -- the completed transfers were allowed
   done_allowed : (i cut n : ℕ) → are_allowed access m (transfers each i (stop_index access m each i cut n - i)) ≡ true

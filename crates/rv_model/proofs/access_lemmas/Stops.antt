@@ -53,7 +53,7 @@ found_is : (access : Access) (m : Memory) (plan : Plan) (i n none : ℕ)
     → unwrap_or (find (λ k. not (are_allowed access m (plan k))) (range_with_len i n)) none ≡ first_bad access m plan i n none
 unfolding first_bad
 found_is access m plan i zero none = refl
-found_is access m plan i (suc n) none = search (arith, nat_tests, of_bool, (found_is access m plan (i + 1) n none))
+found_is access m plan i (suc n) none = search (arith, nat_tests, of_bool, found_is access m plan (i + 1) n none)
 
 module _ (access : Access) (m : Memory) (plan : Plan) where
   pub stop_is : (i cut n : ℕ) → stop_index access m plan i cut n ≡ first_bad access m plan i (min n cut - i) (min n cut)

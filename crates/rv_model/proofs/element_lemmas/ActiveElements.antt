@@ -17,7 +17,7 @@ or_last a = search (arith, nat_tests)
 -- one more number
 any_more : (test : ℕ → Bool) (a n : ℕ) → list_any test (range_with_len a (suc n)) ≡ (list_any test (range_with_len a n) || test (a + n))
 any_more test a zero = let e : a + 0 ≡ a = omega arith in or_last (test a) ∙ ap test (sym e)
-any_more test a (suc n) = search (arith, or_joined, (any_more test (a + 1) n))
+any_more test a (suc n) = search (arith, or_joined, any_more test (a + 1) n)
 
 -- ---- tests of active elements
 

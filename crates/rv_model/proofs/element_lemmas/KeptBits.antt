@@ -24,7 +24,7 @@ same_bit xs ys n e = ap (λ (b : ℕ). b / 2 ^ (n % 8) % 2 == 1) e
 pub group_length : (file : List ℕ) (vd emul : ℕ) → length file ≡ 1024 → (length (group_of file vd emul) ≤ 32 * registers emul) × (length (group_of file vd emul) ≤ 1024 - 32 * vd)
 group_length file vd emul long =
     let whole = length-take (32 * registers emul) (drop (32 * vd) file) in
-    (omega (arith, whole), omega (arith, whole, (length-drop (32 * vd) file ∙ ap (λ (m : ℕ). m - 32 * vd) long)))
+    (omega (arith, whole), omega (arith, whole, length-drop (32 * vd) file ∙ ap (λ (m : ℕ). m - 32 * vd) long))
 
 module _ (file bytes : List ℕ) (vd emul : ℕ) (long : length file ≡ 1024) (size : length bytes ≡ length (group_of file vd emul)) where
   -- a property of the byte at an index holds after the write if it holds before and the write preserves it in the group

@@ -18,8 +18,8 @@ pub below_multiple : (m q n : ℕ) → 0 < m → n < m * q → (m * q - suc n) %
 below_multiple m q n p h =
     let less : (n / m) < q = (div-lt_iff_lt-mul p).1 (rw (mul_comm q m) h) in
     let up : m * q ≡ m * suc (n / m) + m * (q - suc (n / m)) = ap (λ x. m * x) (omega (arith, less)) ∙ mul-add m (suc (n / m)) (q - suc (n / m)) in
-    let split : m * q - suc n ≡ m * (q - suc (n / m)) + (m - suc (n % m)) = omega (arith, up, mul-suc m (n / m), div-add-mod n m, (mod-lt n p)) in
-    ap (λ x. x % m) split ∙ mul-add-mod_self_left m (q - suc (n / m)) (m - suc (n % m)) ∙ mod-eq_of_lt (omega (arith, (mod-lt n p)))
+    let split : m * q - suc n ≡ m * (q - suc (n / m)) + (m - suc (n % m)) = omega (arith, up, mul-suc m (n / m), div-add-mod n m, mod-lt n p) in
+    ap (λ x. x % m) split ∙ mul-add-mod_self_left m (q - suc (n / m)) (m - suc (n % m)) ∙ mod-eq_of_lt (omega (arith, mod-lt n p))
 
 -- the low bits of a signed number in a wider type are its remainder modulo the power of 2
 pub low_bits_of : (v w : Width) → bits w ≤ bits v → (z : ℤ) → mag z < 2 ^ bits v → cast_unsigned v z % 2 ^ bits w ≡ wrap w z

@@ -36,7 +36,7 @@ positive_power (suc k) = rw pow-suc (omega (arith, positive_power k))
 
 number_bytes : (i k n : ℕ) → number_l 256 (bytes_low_first i k n) ≡ n / 256 ^ i % 256 ^ k
 number_bytes i zero n = omega arith
-number_bytes i (suc k) n = search (arith, byte_at-is, div-div-eq-div-mul, mod-mul, positive_power, pow-suc, (number_bytes (suc i) k n))
+number_bytes i (suc k) n = search (arith, byte_at-is, div-div-eq-div-mul, mod-mul, positive_power, pow-suc, number_bytes (suc i) k n)
 
 -- ---- writes one after another
 

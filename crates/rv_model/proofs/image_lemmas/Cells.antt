@@ -20,7 +20,7 @@ get-with_cell_same m a o e = search (arith, nat_tests, get-insert_same)
 pub get-memory_below_outside : (cells : ℕ → Option Cell) (n x : ℕ) → n ≤ x → get (memory_below cells n) x ≡ None
 unfolding memory_below
 get-memory_below_outside cells zero x l = get-empty nat_cmp x
-get-memory_below_outside cells (suc n) x l = search (arith, get-with_cell_other, (get-memory_below_outside cells n x (omega arith)))
+get-memory_below_outside cells (suc n) x l = search (arith, get-with_cell_other, get-memory_below_outside cells n x (omega arith))
 
 pub get-memory_below : (cells : ℕ → Option Cell) (n x : ℕ) → x < n → get (memory_below cells n) x ≡ cells x
 unfolding memory_below

@@ -28,7 +28,7 @@ back i fit ok =
 
 sum-split : (code : ℕ) (ps : List Part) → sum_of code ps ≡ code + sum_of 0 ps
 sum-split code [] = sym (add-zero code)
-sum-split code (p ∷ ps) = search (arith, nat_tests, (sum-split code ps))
+sum-split code (p ∷ ps) = search (arith, nat_tests, sum-split code ps)
 
 -- the word of an instruction is the sum of its fixed bits and operands
 pub word_sum : (i : Instr) → word_of i ≡ bits i + sum_of 0 (parts i)

@@ -49,7 +49,7 @@ is_inside r = nat_eq (bit_and r.bits r.mask) r.bits
 pub scan_append : (xs ys : List Row) (word : ℕ) → scan (xs ++ ys) word ≡ option_or (scan xs word) (scan ys word)
 unfolding scan
 scan_append [] ys word = refl
-scan_append (r ∷ xs) ys word = search (arith, nat_tests, of_bool, (scan_append xs ys word))
+scan_append (r ∷ xs) ys word = search (arith, nat_tests, of_bool, scan_append xs ys word)
 
 and_swap : (w a b : ℕ) → bit_and (bit_and w a) b ≡ bit_and (bit_and w b) a
 and_swap w a b = and_assoc b w a ∙ ap (bit_and w) (and_comm a b) ∙ sym (and_assoc a w b)
@@ -74,7 +74,7 @@ narrowed-step word r rs n b ne e = search (arith, nat_tests)
 
 pub scan_narrow : (m v word : ℕ) → bit_and word m ≡ v → (t : List Row) → scan t word ≡ scan (narrowed m v t) word
 scan_narrow m v word is [] = refl
-scan_narrow m v word is (r ∷ rs) = search (cannot, narrowed-step, (scan_narrow m v word is rs))
+scan_narrow m v word is (r ∷ rs) = search (cannot, narrowed-step, scan_narrow m v word is rs)
 
 pub same_narrow : (m v word : ℕ) → bit_and word m ≡ v → (t s : List Row) → narrowed m v t ≡ narrowed m v s
     → scan t word ≡ scan s word

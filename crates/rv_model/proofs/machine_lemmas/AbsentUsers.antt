@@ -206,14 +206,14 @@ all_keep_nothing : (s : Setup) (w : World) (hs : List UserEvent) → length w.pa
     → AbsentUsersHaveNothing (after_events s w hs)
 all_keep_nothing s w [] eight users nothing = nothing
 all_keep_nothing s w (h ∷ hs) eight users nothing =
-    search (arith, nat_tests, length-after_one, user_events_keep_nothing, (all_keep_nothing s (after_one s w h) hs (length-after_one s w h ∙ eight) users.2 (user_events_keep_nothing s w h users.0 users.1 eight nothing)))
+    search (arith, nat_tests, length-after_one, user_events_keep_nothing, all_keep_nothing s (after_one s w h) hs (length-after_one s w h ∙ eight) users.2 (user_events_keep_nothing s w h users.0 users.1 eight nothing))
 
 lines_keep_nothing : (s : Setup) (w : World) (lines : List (List ℕ)) → length w.parts ≡ 8 → AbsentUsersHaveNothing w
     → AbsentUsersHaveNothing (after_all s w lines)
 unfolding world_after
 lines_keep_nothing s w [] eight nothing = nothing
 lines_keep_nothing s w (line ∷ lines) eight nothing =
-    search (arith, nat_tests, all_keep_nothing, length-after, users_of, (lines_keep_nothing s (world_after s w line) lines (length-after s w line ∙ eight) (all_keep_nothing s w (events_of s w (kind_of line)) eight (users_of s w line) nothing)))
+    search (arith, nat_tests, all_keep_nothing, length-after, users_of, lines_keep_nothing s (world_after s w line) lines (length-after s w line ∙ eight) (all_keep_nothing s w (events_of s w (kind_of line)) eight (users_of s w line) nothing))
 
 pub scripts_keep_nothing : ScriptsKeepNothing
 unfolding after_script

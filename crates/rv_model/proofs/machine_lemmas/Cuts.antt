@@ -42,11 +42,11 @@ resumed : (limit later : ℕ) (s : HartState) → IsConfiguration s.vector.conf 
     → KeepsOwnWord (s.vector.vstart + limit) (fetched s.memory s.scalar.pc) s
     → step (limit + later) s ≡ after_ticks limit (step later (step limit s).state)
 resumed limit later s is cut keeps =
-    let off : ((step limit s).state).vector.vstart ≡ s.vector.vstart + limit = cut_step_leaves_off limit s cut in
-    let done : ((step limit s).state).vector.vstart - s.vector.vstart ≡ limit = omega (arith, off) in
-    ap (λ (m : Memory). step (limit + later) (finds m s)) (sym (overlay_same s.memory ((step limit s).state).memory (step_keeps_permissions Monitor limit s)))
-    ∙ subst (λ (n : ℕ). step (n + later) (finds (overlay s.memory ((step limit s).state).memory) s) ≡ after_ticks n (step later ((step limit s).state))) done
-    (fetched_step_resumes limit later s ((step limit s).state).memory is (subst IsUndone (sym cut) tt)
+    let off : (step limit s).state.vector.vstart ≡ s.vector.vstart + limit = cut_step_leaves_off limit s cut in
+    let done : (step limit s).state.vector.vstart - s.vector.vstart ≡ limit = omega (arith, off) in
+    ap (λ (m : Memory). step (limit + later) (finds m s)) (sym (overlay_same s.memory (step limit s).state.memory (step_keeps_permissions Monitor limit s)))
+    ∙ subst (λ (n : ℕ). step (n + later) (finds (overlay s.memory (step limit s).state.memory) s) ≡ after_ticks n (step later ((step limit s).state))) done
+    (fetched_step_resumes limit later s (step limit s).state.memory is (subst IsUndone (sym cut) tt)
     (subst (λ (n : ℕ). KeepsOwnWord n (fetched s.memory s.scalar.pc) s) (sym off) keeps) (λ x c e. e))
 
 -- an instruction retires, is cut, or stops the program

@@ -88,7 +88,7 @@ ends_other s u w e es v low low' ne = search (other_number, part_other)
 pub part_after_events : (s : Setup) (u : ℕ) (w : World) (es : List UserEvent) → 1 ≤ u → u ≤ 8 → length w.parts ≡ 8 → AreUsers es → user_machine u (after_events s w es) ≡ end_of s (user_machine u w) (mine u es)
 part_after_events s u w [] low high eight users = refl
 part_after_events s u w (h ∷ es) low high eight users =
-    search (arith, cases_eq, ends_other, ends_same, length-after_one, part_after_one, (part_after_events s u (after_one s w h) es low high (length-after_one s w h ∙ eight) users.2))
+    search (arith, cases_eq, ends_other, ends_same, length-after_one, part_after_one, part_after_events s u (after_one s w h) es low high (length-after_one s w h ∙ eight) users.2)
 
 pub length-after_events : (s : Setup) (w : World) (es : List UserEvent) → length (after_events s w es).parts ≡ length w.parts
 length-after_events s w [] = refl
@@ -109,7 +109,7 @@ solo-append s p (e ∷ a) b = ap (λ (x : List (List ℕ)). (event s p e).lines 
 
 pub mine-append : (u : ℕ) (a b : List UserEvent) → mine u (a ++ b) ≡ mine u a ++ mine u b
 mine-append u [] b = refl
-mine-append u (h ∷ a) b = search (arith, nat_tests, of_bool, (mine-append u a b))
+mine-append u (h ∷ a) b = search (arith, nat_tests, of_bool, mine-append u a b)
 
 pub length-after : (s : Setup) (w : World) (line : List ℕ) → length (world_after s w line).parts ≡ length w.parts
 unfolding world_after
@@ -135,7 +135,7 @@ lines_none u = search (arith, nat_tests)
 pub lines_printed_by_lines : (s : Setup) (u : ℕ) (w : World) (ls : List (List ℕ)) → 1 ≤ u → u ≤ 8 → length w.parts ≡ 8 → lines u (printed_by_lines s w ls) ≡ solo_from s (user_machine u w) (mine u (schedule s w ls))
 lines_printed_by_lines s u w [] low high eight = lines_none u
 lines_printed_by_lines s u w (l ∷ ls) low high eight =
-    search (length-after, lines_printed_by_line, mine-append, part_after, solo-append, (lines_printed_by_lines s u (world_after s w l) ls low high (length-after s w l ∙ eight)))
+    search (length-after, lines_printed_by_line, mine-append, part_after, solo-append, lines_printed_by_lines s u (world_after s w l) ls low high (length-after s w l ∙ eight))
 
 pub headline : (s : Setup) (u : ℕ) (w : World) (script : List ℕ) → 1 ≤ u → u ≤ 8 → length w.parts ≡ 8 → lines u (whole_from s w script) ≡ solo_from s (user_machine u w) (own_from s u w script)
 unfolding whole_from own_from
@@ -153,7 +153,7 @@ end_of-append s p (e ∷ a) b = end_of-append s (event s p e).next a b
 part_after_all : (s : Setup) (u : ℕ) (w : World) (ls : List (List ℕ)) → 1 ≤ u → u ≤ 8 → length w.parts ≡ 8 → user_machine u (after_all s w ls) ≡ end_of s (user_machine u w) (mine u (schedule s w ls))
 part_after_all s u w [] low high eight = refl
 part_after_all s u w (l ∷ ls) low high eight =
-    search (end_of-append, length-after, mine-append, part_after, (part_after_all s u (world_after s w l) ls low high (length-after s w l ∙ eight)))
+    search (end_of-append, length-after, mine-append, part_after, part_after_all s u (world_after s w l) ls low high (length-after s w l ∙ eight))
 
 pub each_user_alone : EachUserAlone
 each_user_alone s w script u eight low high = headline s u w script low high eight

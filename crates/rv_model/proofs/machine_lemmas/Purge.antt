@@ -41,7 +41,7 @@ onto_first_lines b ps other h = search (arith, nat_tests, and_from, and_parts)
 -- the pieces of a text contain no newline
 pieces_are_lines : (text : List ℕ) → AreLines (pieces text)
 pieces_are_lines [] = refl
-pieces_are_lines (b ∷ bs) = search (arith, nat_tests, of_bool, onto_first_lines, (pieces_are_lines bs))
+pieces_are_lines (b ∷ bs) = search (arith, nat_tests, of_bool, onto_first_lines, pieces_are_lines bs)
 
 -- lines without a newline, none of them a `slices`
 abbrev ArePlain : List (List ℕ) → Type 0
@@ -68,12 +68,12 @@ plain-append (l ∷ a) b h k = (h.0, h.1, plain-append a b h.2 k)
 
 plain-filter : (p : List ℕ → Bool) (ls : List (List ℕ)) → ArePlain ls → ArePlain (filter p ls)
 plain-filter p [] h = tt
-plain-filter p (l ∷ ls) h = search (arith, nat_tests, of_either, (plain-filter p ls h.2))
+plain-filter p (l ∷ ls) h = search (arith, nat_tests, of_either, plain-filter p ls h.2)
 
 -- the pieces of a script from at least one line are its lines
 pieces_of_script : (l : List ℕ) (ls : List (List ℕ)) → ArePlain (l ∷ ls) → pieces (script_of (l ∷ ls)) ≡ l ∷ ls
 pieces_of_script l [] plain = pieces_of_line l plain.0
-pieces_of_script l (m ∷ ls) plain = search (pieces_at, (pieces_of_script m ls plain.2))
+pieces_of_script l (m ∷ ls) plain = search (pieces_at, pieces_of_script m ls plain.2)
 
 no_slices_in_script : (ls : List (List ℕ)) → ArePlain ls → HasNoSlices (script_of ls)
 unfolding kind_of
@@ -155,7 +155,7 @@ remaining u ls = filter (λ line. not (is_of_other u (kind_of line))) ls
 own_remaining : (s : Setup) (p : Private) (u : ℕ) (ls : List (List ℕ)) → own_lines s p u (remaining u ls) ≡ own_lines s p u ls
 own_remaining s p u [] = refl
 own_remaining s p u (l ∷ ls) =
-    search (arith, nat_tests, no_own_event, of_bool, (own_remaining s (end_of s p (own_kind p u (kind_of l))) u ls), (own_remaining s p u ls))
+    search (arith, nat_tests, no_own_event, of_bool, own_remaining s (end_of s p (own_kind p u (kind_of l))) u ls, own_remaining s p u ls)
 
 plain_pieces : (script : List ℕ) → HasNoSlices script → ArePlain (pieces script)
 plain_pieces script none = plain_from (pieces script) (pieces_are_lines script) none
@@ -192,7 +192,7 @@ run_lines hs = map (λ h. run_line h.user) hs
 
 plain_runs : (hs : List UserEvent) → AreUsers hs → ArePlain (run_lines hs)
 plain_runs [] users = tt
-plain_runs (h ∷ hs) users = search (decimal_line, is_line-append, no_slices_in_run_line, (plain_runs hs users.2))
+plain_runs (h ∷ hs) users = search (decimal_line, is_line-append, no_slices_in_run_line, plain_runs hs users.2)
 
 plain_with_runs : (s : Setup) (w : World) (ls : List (List ℕ)) → AreLines ls → ArePlain (lines_with_runs s w ls)
 plain_with_runs s w [] lines = tt

@@ -90,11 +90,11 @@ turns hs = length (filter (λ h. h.turn) hs)
 
 turns_are : (hs : List UserEvent) → turns hs ≡ length (turn_users hs)
 turns_are [] = refl
-turns_are (h ∷ hs) = search (arith, nat_tests, of_bool, (turns_are hs))
+turns_are (h ∷ hs) = search (arith, nat_tests, of_bool, turns_are hs)
 
 turns_of_are : (u : ℕ) (hs : List UserEvent) → turns_of u hs ≡ count u (turn_users hs)
 turns_of_are u [] = refl
-turns_of_are u (h ∷ hs) = search (arith, of_bool, (turns_of_are u hs))
+turns_of_are u (h ∷ hs) = search (arith, of_bool, turns_of_are u hs)
 
 first_counts : (u x : ℕ) (xs : List ℕ) → x ≡ u → count u (x ∷ xs) ≡ suc (count u xs)
 first_counts u x xs same = search (arith, same_number)
@@ -112,8 +112,8 @@ none_later : (u v cursor : ℕ) (xs : List ℕ) → IsUser u → IsUser v → cu
 none_later u v cursor [] is_u is_v low later turns none = refl
 none_later u v cursor (x ∷ xs) is_u is_v low later turns none =
     let still : ahead x u < ahead x v =
-    omega (arith, low, later, (turns.1 low), (absent u x xs none).0, is_u.0, is_u.1, is_v.0, is_v.1, turns.0.0, turns.0.1) in
-    others_count v x xs (λ same. omega (arith, later, (turns.1 low), ap (ahead cursor) same))
+    omega (arith, low, later, turns.1 low, (absent u x xs none).0, is_u.0, is_u.1, is_v.0, is_v.1, turns.0.0, turns.0.1) in
+    others_count v x xs (λ same. omega (arith, later, turns.1 low, ap (ahead cursor) same))
     ∙ none_later u v x xs is_u is_v turns.0.1 still turns.2 (absent u x xs none).1
 
 -- while user u has no turn, no user has two
@@ -122,15 +122,15 @@ one_at_most u v cursor [] is_u turns none = omega arith
 one_at_most u v cursor (x ∷ xs) is_u turns none =
     let later : ahead x u < ahead x x = omega (arith, (absent u x xs none).0, is_u.0, is_u.1, turns.0.0, turns.0.1) in
     elim (cases_eq x v) [
-      | inl same ↦ omega (arith, first_counts v x xs same, ap (λ y. count y xs) same, (none_later u x x xs is_u turns.0 turns.0.1 later turns.2 (absent u x xs none).1))
-      | inr other ↦ omega (arith, (one_at_most u v x xs is_u turns.2 (absent u x xs none).1), others_count v x xs other)
+      | inl same ↦ omega (arith, first_counts v x xs same, ap (λ y. count y xs) same, none_later u x x xs is_u turns.0 turns.0.1 later turns.2 (absent u x xs none).1)
+      | inr other ↦ omega (arith, one_at_most u v x xs is_u turns.2 (absent u x xs none).1, others_count v x xs other)
     ]
 
 -- while user u has no turn, the number of turns is at most the number of users before u
 few : (u cursor : ℕ) (xs : List ℕ) → IsUser u → cursor ≤ 8 → NoneIsLater u cursor xs → count u xs ≡ 0 → length xs ≤ ahead cursor u
 few u cursor [] is_u low turns none = omega arith
 few u cursor (x ∷ xs) is_u low turns none =
-    omega (arith, low, turns.1 low, (few u x xs is_u turns.0.1 turns.2 (absent u x xs none).1), (absent u x xs none).0, is_u.0, is_u.1, turns.0.0, turns.0.1)
+    omega (arith, low, turns.1 low, few u x xs is_u turns.0.1 turns.2 (absent u x xs none).1, (absent u x xs none).0, is_u.0, is_u.1, turns.0.0, turns.0.1)
 
 below_eight : (u cursor : ℕ) (xs : List ℕ) → IsUser u → NoneIsLater u cursor xs → count u xs ≡ 0 → length xs < 8
 below_eight u cursor [] is_u turns none = omega arith
@@ -156,7 +156,7 @@ none_is_later : (s : Setup) (w : World) (hs : List UserEvent) (u : ℕ) → IsUs
     → NoneIsLater u w.cursor (turn_users hs)
 none_is_later s w [] u is_u in_turn running = tt
 none_is_later s w (h ∷ hs) u is_u in_turn running =
-    search (arith, nat_tests, cursor_after, flag_of, next_comes_first, next_is_user, of_bool, runs, (none_is_later s (after_one s w h) hs u is_u in_turn.1 running.1))
+    search (arith, nat_tests, cursor_after, flag_of, next_comes_first, next_is_user, of_bool, runs, none_is_later s (after_one s w h) hs u is_u in_turn.1 running.1)
 
 -- ---- events in turn
 
@@ -191,7 +191,7 @@ events_in_turn s w k = search (arith, nat_tests, false≢true, grants_are_in_tur
 lines_in_turn : (s : Setup) (w : World) (all : List (List ℕ)) → AreInTurn s w (schedule s w all)
 unfolding world_after
 lines_in_turn s w [] = tt
-lines_in_turn s w (line ∷ lines) = search (at_each-append, events_in_turn, (lines_in_turn s (world_after s w line) lines))
+lines_in_turn s w (line ∷ lines) = search (at_each-append, events_in_turn, lines_in_turn s (world_after s w line) lines)
 
 pub scripts_are_in_turn : ScriptsAreInTurn
 scripts_are_in_turn s w script = lines_in_turn s w (pieces script)

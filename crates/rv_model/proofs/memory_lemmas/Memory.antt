@@ -69,7 +69,7 @@ unfolding put_bytes
 get-put_bytes_within m a [] k x h e = absurd (omega arith)
 get-put_bytes_within m a (b ∷ bs) zero x h e = search (arith, get-put_byte_same, get-put_bytes_outside)
 get-put_bytes_within m a (b ∷ bs) (suc k) x h e =
-    search (arith, get-put_byte_other, (get-put_bytes_within (put_byte m a b) (a + 1) bs k x (omega arith) (omega arith)))
+    search (arith, get-put_byte_other, get-put_bytes_within (put_byte m a b) (a + 1) bs k x (omega arith) (omega arith))
 
 allowed_by : Access → Option Cell → Bool
 allowed_by access o = option_map_or (λ c. permits access c.permissions) o false
@@ -91,7 +91,7 @@ is_allowed-put_bytes access m a (b ∷ bs) x = is_allowed-put_bytes access (put_
 pub put_bytes-append : (m : Memory) (a : ℕ) (bs cs : List ℕ) → put_bytes m a (bs ++ cs) ≡ put_bytes (put_bytes m a bs) (a + length bs) cs
 unfolding put_bytes
 put_bytes-append m a [] cs = ap (λ (x : ℕ). put_bytes m x cs) (omega arith)
-put_bytes-append m a (b ∷ bs) cs = search (arith, (put_bytes-append (put_byte m a b) (a + 1) bs cs))
+put_bytes-append m a (b ∷ bs) cs = search (arith, put_bytes-append (put_byte m a b) (a + 1) bs cs)
 
 pub get-add_cells_outside : (m : Memory) (a n : ℕ) (f : ℕ → Cell) (x : ℕ) → ((x < a) ⊎ (a + n ≤ x)) → get (add_cells m a n f) x ≡ get m x
 unfolding add_cells
@@ -119,7 +119,7 @@ len-add_cells m a (suc n) f h =
     let new : get (add_cells m a n f) (a + n) ≡ None = get-add_cells_outside m a n f (a + n) (inr (omega arith)) ∙ h n (omega arith) in
     len-insert nat_cmp_total (add_cells m a n f) (a + n) (f n)
     ∙ ap (λ (o : Option Cell). cond (is_some o) (len (add_cells m a n f)) (len (add_cells m a n f) + 1)) new
-    ∙ omega (arith, (len-add_cells m a n f (λ k l. h k (omega arith))))
+    ∙ omega (arith, len-add_cells m a n f (λ k l. h k (omega arith)))
 
 pub length-bytes_at : (m : Memory) (a n : ℕ) → length (bytes_at m a n) ≡ n
 unfolding bytes_at

@@ -37,13 +37,13 @@ whole s = search (arith, nat_tests, by_case)
 bytes_kept : (m other : Memory) (a n : ℕ) → ((x : ℕ) → a ≤ x → x < a + n → get other x ≡ get m x) → bytes_at other a n ≡ bytes_at m a n
 unfolding bytes_at
 bytes_kept m other a zero h = refl
-bytes_kept m other a (suc n) h = search (arith, byte_by_get, (bytes_kept m other (a + 1) n (λ x l g. h x (omega (arith, l)) (omega (arith, g)))))
+bytes_kept m other a (suc n) h = search (arith, byte_by_get, bytes_kept m other (a + 1) n (λ x l g. h x (omega (arith, l)) (omega (arith, g))))
 
 access_kept : (kind : Access) (m other : Memory) (a n : ℕ) → ((x : ℕ) → a ≤ x → x < a + n → get other x ≡ get m x) → can_access kind other a n ≡ can_access kind m a n
 unfolding can_access
 access_kept kind m other a zero h = refl
 access_kept kind m other a (suc n) h =
-    search (arith, allowed_by_get, (access_kept kind m other (a + 1) n (λ x l g. h x (omega (arith, l)) (omega (arith, g)))))
+    search (arith, allowed_by_get, access_kept kind m other (a + 1) n (λ x l g. h x (omega (arith, l)) (omega (arith, g))))
 
 fetch_grown : (word : ℕ) (s : HartState) (more : Memory) → Extends s.memory more → Fetches word s → Fetches word (finds more s)
 fetch_grown word s more grown f = search (arith, nat_tests, bytes_at_extends, can_access_extends)

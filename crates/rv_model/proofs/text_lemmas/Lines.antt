@@ -12,14 +12,14 @@ pub pieces_at : (line rest : List ℕ) → IsLine line → pieces (line ++ 10 �
 pieces_at [] rest h = refl
 pieces_at (b ∷ bs) rest h =
     let two = and_parts (not (is_newline b)) (is_line bs) h in
-    rw ((not-true (is_newline b) two.0), pieces_at bs rest two.1) refl
+    rw (not-true (is_newline b) two.0, pieces_at bs rest two.1) refl
 
 -- a line without a newline after it is the only piece
 pub pieces_of_line : (line : List ℕ) → IsLine line → pieces line ≡ line ∷ []
 pieces_of_line [] h = refl
 pieces_of_line (b ∷ bs) h =
     let two = and_parts (not (is_newline b)) (is_line bs) h in
-    rw ((not-true (is_newline b) two.0), pieces_of_line bs two.1) refl
+    rw (not-true (is_newline b) two.0, pieces_of_line bs two.1) refl
 
 shown : (b : Bool) (line : List ℕ) (ps : List (List ℕ)) (tag : ℕ) → map (λ (l : List ℕ). drop 2 l) (cond b ((tag ∷ 32 ∷ line) ∷ ps) ps) ≡ cond b (line ∷ map (λ (l : List ℕ). drop 2 l) ps) (map (λ (l : List ℕ). drop 2 l) ps)
 shown b line ps tag = search (arith, nat_tests)

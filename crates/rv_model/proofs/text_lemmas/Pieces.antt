@@ -26,7 +26,7 @@ digit_line (c ∷ t) (suc k) h = digit_line t k (and_parts (not (is_newline c)) 
 pub encode_line : (t bytes : List ℕ) → IsLine t → IsLine (encode_with t bytes)
 unfolding encode_with
 encode_line t [] h = refl
-encode_line t (b ∷ bs) h = search (and_from, digit_line, (encode_line t bs h))
+encode_line t (b ∷ bs) h = search (and_from, digit_line, encode_line t bs h)
 
 pub hex8_line : (n : ℕ) → IsLine (hex8 n)
 unfolding hex8
