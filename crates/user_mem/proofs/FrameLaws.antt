@@ -7,9 +7,9 @@ use Rattle.std.proofs.lemmas.Bool.{cases_eq, cases_lt}
 use Rattle.std.specs.FinMap.{get}
 use Rattle.rv_model.specs.memory.Memory.{Cell, Memory, with_pages}
 use Rattle.rv_model.proofs.memory_lemmas.Memory.{same_memory, get-add_cells_within, get-add_cells_outside}
-use Rattle.rv_model.specs.memory.Sizes.{page_size, page_limit}
+use Rattle.rv_model.specs.memory.Sizes.{page_size}
 use Rattle.user_mem.specs.declared.entry.Entry.{Entry}
-use Rattle.user_mem.specs.Table.{entry_at, memory_of, AreBelow}
+use Rattle.user_mem.specs.Table.{entry_at, memory_of}
 use Rattle.user_mem.proofs.TableLaws.{cell_of_page, get-memory_of, memory_of_same}
 use Rattle.user_mem.specs.Frames.{times_used}
 
@@ -99,14 +99,3 @@ memory_of-page frames after es new e looked_up zeros kept unused = same_memory _
         ∙ sym (get-memory_of after es x)
         ∙ ap (λ (m : Memory). get m x) (memory_of-unused_frame frames after e.frame es kept unused)
         ∙ sym (get-add_cells_outside (memory_of frames es) (page_size * e.page) page_size (λ _. record { byte = 0; permissions = e.permissions }) x (beside x n))
-
--- adding a page below the limit keeps all pages below it
-pub AreBelow-added : (es new : List Entry) (e : Entry) → e.page < page_limit → AreBelow es → ((p : ℕ) → entry_at new p ≡ cond (nat_eq e.page p) (Some e) (entry_at es p)) → AreBelow new
-AreBelow-added es new e low below looked_up p f h = elim (cases_eq e.page p) [
-  | inl same ↦ omega arith
-  | inr differ ↦ below p f (ap (λ (b : Bool). cond b (Some e) (entry_at es p)) (sym (ne_eqb e.page p differ)) ∙ sym (looked_up p) ∙ h)
-]
-
--- adding a page leaves the lookup of a higher page unchanged
-pub entry_at-elsewhere : (es new : List Entry) (e : Entry) (p : ℕ) → e.page < p → ((p : ℕ) → entry_at new p ≡ cond (nat_eq e.page p) (Some e) (entry_at es p)) → entry_at new p ≡ entry_at es p
-entry_at-elsewhere es new e p above looked_up = looked_up p ∙ ap (λ (b : Bool). cond b (Some e) (entry_at es p)) (ne_eqb e.page p (λ same. omega arith))

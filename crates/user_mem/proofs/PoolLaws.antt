@@ -103,18 +103,6 @@ IsPool-set tables free after frames now u t p h same own_table own len =
       total = let s = used_in_all-set tables u t within in let old = p.total in omega arith;
     }
 
--- replacing the frames' bytes preserves the invariant
-pub IsPool-written : (tables : List (List Entry)) (free frames now : List ℕ) → IsPool tables free frames → length now ≡ length frames → IsPool tables free now
-IsPool-written tables free frames now p same = record {
-  users = p.users;
-  size = same ∙ p.size;
-  few = p.few;
-  sorted = p.sorted;
-  below = p.below;
-  once = p.once;
-  total = p.total;
-}
-
 pub used_at_most_once : (tables : List (List Entry)) (free frames : List ℕ) (u f : ℕ) → IsPool tables free frames → u < user_count → times_used f (table_at tables u) ≤ 1
 used_at_most_once tables free frames u f p h = let m = pool_shares_no_frame tables free frames u p h in let o = m.once f in omega arith
 

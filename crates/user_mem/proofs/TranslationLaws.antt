@@ -3,9 +3,9 @@ use Rattle.std.proofs.Common.{◌≡◌, ◌≢◌, ℕ, ◌+◌, ◌*◌, ◌/�
 use Rattle.std.proofs.lemmas.Bool.{cases_eq}
 use Rattle.std.proofs.lemmas.List.{get_or-replicate, length-replicate}
 use Rattle.rv_model.specs.declared.memory.Access.{Access}
-use Rattle.rv_model.specs.memory.Memory.{can_access, can_access_byte, permits}
+use Rattle.rv_model.specs.memory.Memory.{can_access, can_access_byte}
 use Rattle.rv_model.proofs.memory_lemmas.Memory.{can_access_from}
-use Rattle.rv_model.specs.memory.Sizes.{page_size, page_limit, frame_count}
+use Rattle.rv_model.specs.memory.Sizes.{page_size}
 use Rattle.rv_model.specs.machine.Setup.{user_count}
 use Rattle.user_mem.specs.declared.entry.Entry.{Entry}
 use Rattle.user_mem.specs.declared.translations.Translation.{Translation}
@@ -65,31 +65,6 @@ none_translated es access zero one low high i d within = elim (cases_eq i 0) [
 -- the lookup of an entry's page in a sorted table returns that entry
 pub entry_there : (es : List Entry) (i : ℕ) (d : Entry) → IsSorted es → i < length es → entry_at es (get_or es i d).page ≡ Some (get_or es i d)
 entry_there es i d sorted within = entry_at_first es (get_or es i d).page i d within refl (λ j less same. omega (arith, sorted j i d less within))
-
--- a page of the table that permits the access satisfies the invariant in any slot
-pub entry_lies : (es : List Entry) (access : Access) (e : Entry) (page : Translation) → entry_at es e.page ≡ Some e → e.page < page_limit → page_size * e.frame + page_size ≤ page_size * frame_count
-    → permits access e.permissions ≡ true → page.first ≡ page_size * e.page → page.start ≡ page_size * e.frame → (place : ℕ) → IsTranslated es access place page
-entry_lies es access e page there below fits permitted first start place =
-    let number : page.first / page_size ≡ e.page = omega arith in
-    record {
-      begins = omega arith;
-      lies = λ same. record {
-        entry = e;
-        there = ap (entry_at es) number ∙ there;
-        permitted = permitted;
-        place = omega arith;
-        one_page = omega arith;
-        fits = omega arith;
-      };
-    }
-
--- putting such a page into a slot preserves the invariant
-pub more_translated : (es : List Entry) (access : Access) (pages : List Translation) (place : ℕ) (page : Translation) → length pages ≡ place_count → place < place_count → IsTranslated es access place page
-    → AreTranslated es access pages → AreTranslated es access (set pages place page)
-more_translated es access pages place page long low here before i d within = elim (cases_eq i place) [
-  | inl same ↦ subst (λ (j : ℕ). IsTranslated es access j (get_or (set pages place page) j d)) (sym same) (subst (λ (p : Translation). IsTranslated es access place p) (sym (get_or-set_same pages place page d (omega arith))) here)
-  | inr other ↦ subst (λ (p : Translation). IsTranslated es access i p) (sym (get_or-set_other pages place i page d other)) (before i d within)
-]
 
 -- rebuilding one user's translations preserves the invariant
 pub all_translate_one : (tables : List (List Entry)) (all : List Translations) (user : ℕ) (now : Translations) → length all ≡ user_count → user < user_count → Translates (table_at tables user) now

@@ -1,9 +1,9 @@
 -- Replacing one user's memory in the memories of all users
-use Rattle.std.proofs.Common.{◌≡◌, ℕ, ◌-◌, ◌<◌, List, length, arith, get_or-set_same, get_or-set_other}
+use Rattle.std.proofs.Common.{◌≡◌, ℕ, ◌-◌, ◌<◌, List, length, arith, get_or-set_same}
 use Rattle.std.specs.FinMap.{empty}
 use Rattle.std.proofs.lemmas.List.{set-set, set-get_or}
 use Rattle.rv_model.specs.memory.Memory.{Memory}
-use Rattle.user_mem.specs.Users.{ReplacesOwn, KeepsOthers, memory_of_user, with_memory}
+use Rattle.user_mem.specs.Users.{ReplacesOwn, memory_of_user, with_memory}
 
 -- replacing a user's memory with itself changes nothing
 pub same_memory : (memories : List Memory) (user : ℕ) → with_memory memories user (memory_of_user memories user) ≡ memories
@@ -19,6 +19,3 @@ memory_there memories user memory within = get_or-set_same memories (user - 1) m
 
 pub replaces_own : ReplacesOwn
 replaces_own memories user memory low high = memory_there memories user memory (omega arith)
-
-pub keeps_others : KeepsOthers
-keeps_others memories user other memory low lower differs = get_or-set_other memories (user - 1) (other - 1) memory empty (λ same. differs (omega arith))

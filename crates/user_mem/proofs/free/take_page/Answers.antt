@@ -1,5 +1,4 @@
 use Rattle.std.proofs.Common.{length}
-use Rattle.user_mem.proofs.FrameLaws.{AreBelow-added, entry_at-elsewhere}
 use Rattle.user_mem.proofs.CountLaws.{popped_is_free, free_is_unused, owners_when_taken, fewer_when_popped}
 use Rattle.user_mem.proofs.free.take_page.Goals as goal
 
@@ -17,9 +16,3 @@ returns-clause-owners c = λ f. owners_when_taken f c.args.free.now.items c.pop.
 
 pub returns-clause-fewer : goal.returns-clause-fewer
 returns-clause-fewer c = λ f. fewer_when_popped f c.args.free.now.items c.pop.new.self.items c.in-Some.frame c.in-Some.ensures.items
-
-pub returns-clause-below : goal.returns-clause-below
-returns-clause-below c = λ low below. AreBelow-added c.args.table.now.items c.map_page.new.table.items (record { page = c.args.page; frame = c.in-Some.frame; permissions = c.args.permissions }) low below c.map_page.ensures.looked_up
-
-pub returns-clause-elsewhere : goal.returns-clause-elsewhere
-returns-clause-elsewhere c = λ p above. entry_at-elsewhere c.args.table.now.items c.map_page.new.table.items (record { page = c.args.page; frame = c.in-Some.frame; permissions = c.args.permissions }) p above c.map_page.ensures.looked_up

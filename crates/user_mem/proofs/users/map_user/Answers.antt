@@ -11,14 +11,6 @@ use Rattle.user_mem.proofs.users.map_user.Goals as goal
 pub take_pages-requires-clause-some : goal.take_pages-requires-clause-some
 take_pages-requires-clause-some c = frames_left (map (λ t. t.items) c.args.tables.now) c.args.free.now.items c.args.frames.now c.args.user c.args.pages.count c.requires.pool c.requires.user c.requires.room
 
-pub take_pages-requires-clause-sorted : goal.take_pages-requires-clause-sorted
-take_pages-requires-clause-sorted c =
-    rw (← get_or-map (λ t. t.items) c.args.tables.now c.args.user c.index-tables-user.result [] (omega arith)) (c.requires.pool.sorted c.args.user)
-
-pub take_pages-requires-clause-below : goal.take_pages-requires-clause-below
-take_pages-requires-clause-below c =
-    rw (← get_or-map (λ t. t.items) c.args.tables.now c.args.user c.index-tables-user.result [] (omega arith)) (c.requires.pool.below c.args.user)
-
 pub take_pages-requires-clause-disjoint : goal.take_pages-requires-clause-disjoint
 take_pages-requires-clause-disjoint c =
     rw (← get_or-map (λ t. t.items) c.args.tables.now c.args.user c.index-tables-user.result [] (omega arith))

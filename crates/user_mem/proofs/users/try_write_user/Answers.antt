@@ -2,7 +2,7 @@ use Rattle.std.proofs.Common.{◌∙◌, ap, map, List}
 use Rattle.rv_model.specs.memory.Memory.{put_bytes}
 use Rattle.user_mem.specs.declared.entry.Entry.{Entry}
 use Rattle.user_mem.specs.Table.{memory_of}
-use Rattle.user_mem.proofs.PoolLaws.{table_fits, table_is_separate, IsPool-written, memories_of-written}
+use Rattle.user_mem.proofs.PoolLaws.{table_fits, table_is_separate, memories_of-written}
 use Rattle.user_mem.proofs.users.try_write_user.Goals as goal
 
 pub try_write-requires : goal.try_write-requires
@@ -14,9 +14,6 @@ try_write-requires c =
       fit = table_fits tables c.requires.pool.0 c.args.frames.now c.args.user c.requires.pool.1 c.requires.user;
       separate = table_is_separate tables c.requires.pool.0 c.args.frames.now c.args.user c.requires.pool.1 c.requires.user;
     })
-
-pub returns-clause-pool : goal.returns-clause-pool
-returns-clause-pool c free pool = IsPool-written (map (λ t. t.items) c.args.tables.now) free c.args.frames.now c.try_write.new.frames pool c.try_write.ensures.size
 
 pub returns-clause-value : goal.returns-clause-value
 returns-clause-value c = λ done.

@@ -6,9 +6,6 @@ use Rattle.user_mem.specs.Users.{memory_of_user}
 use Rattle.user_mem.proofs.ViewLaws.{memory_at, refused_for, refused_is, accepted_is}
 use Rattle.user_mem.proofs.pool.Pool.map.Goals as goal
 
-pub refusal-requires-clause-sorted : goal.refusal-requires-clause-sorted
-refusal-requires-clause-sorted g c = rw c.user_entries.ensures (c.self.invariant.0.sorted c.index-user.result)
-
 -- a refusal of the table is the refusal of the memory
 refused : goal.returns-in-Some-clause-refused
 refused g c =
