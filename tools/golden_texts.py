@@ -204,7 +204,8 @@ def _law(vector: Vector) -> str:
 
 
 def source_text(title: str, crate: str, module: str, file: str, vectors: Sequence[Vector]) -> str:
-    """The file of `src` whose function says that the cases of a module agree."""
+    """The file of `src` whose function says that the cases of a module agree; module: its path in the crate, with dots."""
+    function = f"{module.rpartition('.')[2]}_agree"
     names, laws = names_of(vectors), [_law(it) for it in vectors]
     uses = "".join(
         f"ghost use Rattle.{crate}.specs.{file}.{{{', '.join(names[at:at + 6])}}};\n" for at in range(0, len(names), 6)
@@ -216,7 +217,7 @@ def source_text(title: str, crate: str, module: str, file: str, vectors: Sequenc
     return f"""//! {title}
 {states}{uses}
 /// The definition of a step agrees with QEMU on each of these cases.
-pub fn {module}_agree()
+pub fn {function}()
 {clauses}{{}}
 """
 
@@ -231,6 +232,7 @@ PROOFS = {
 
 def proof_text(crate: str, module: str, file: str, vectors: Sequence[Vector]) -> str:
     """The proof of that function."""
+    function = f"{module.rpartition('.')[2]}_agree"
     names, laws = names_of(vectors), [_law(it) for it in vectors]
     fields = "".join(f"      {name} = {PROOFS[law].format(name)};\n" for name, law in zip(names, laws))
     uses = "use Rattle.test_definitions.proofs.Steps.{agrees, execution}\n" if "Agrees" in laws else ""
@@ -241,7 +243,7 @@ def proof_text(crate: str, module: str, file: str, vectors: Sequence[Vector]) ->
         unfolded.append("execution_defined")
     return f"""use Rattle.std.proofs.Common.{{refl}}
 use Rattle.{crate}.specs.{file}.{{{", ".join(names)}}}
-{uses}use Rattle.{crate}.proofs.{module}.{module}_agree.Goals as goal
+{uses}use Rattle.{crate}.proofs.{module}.{function}.Goals as goal
 
 pub returns : goal.returns
 unfolding {" ".join(unfolded)}

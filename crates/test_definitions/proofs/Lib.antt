@@ -1,4 +1,7 @@
--- `Steps`: the step on a fetched word. `Lookups` and `Accesses`: loads and stores by the cells of a memory.
+-- `Steps`: the step on a fetched word. `Lookups` and `Accesses`: loads and stores by the cells of a memory. `ListLaws`: functions of the
+-- kit by index. `StepLaws`: steps of vector instructions by their legality.
 pub mod Accesses
+pub mod ListLaws
 pub mod Lookups
+pub mod StepLaws
 pub mod Steps
