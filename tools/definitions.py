@@ -101,8 +101,8 @@ def module_of(crate: str, module: str) -> tuple[dict[str, Text], dict[str, str],
             blocks[name] = Text(path, body, scope)
             constructors = re.findall(r"^  (\w+) :", body, re.MULTILINE) if re.match(r"(pub )?data ", body) else []
             owners |= {it: name for it in [name, *constructors]}
-    for name, owner in owners.items():
-        scope.setdefault(name, Name(crate, module, owner))
+    for name in owners:
+        scope.setdefault(name, Name(crate, module, name))
     return blocks, owners, scope
 
 
@@ -356,15 +356,22 @@ def exported(crate: str) -> Iterator[Contract]:
             yield it
 
 
-def cited(text: Text, clause: str = "") -> set[Name]:
-    """The names that a contract or one of its clauses cites, with the types of its signature."""
+def clause_of(text: Text, clause: str) -> Text:
+    """A contract without its other clauses: the head of the function and this clause; the whole contract if no clause is named."""
     kept: list[str] = []
     is_asked_for = True
     for line in text.text.split("\n"):
         started = CLAUSE.match(line)
         is_asked_for = not clause or started[1] == clause if started else is_asked_for
         kept += [line] if is_asked_for else []
-    return set(met(Text(text.path, "\n".join(kept), text.scope)))
+    return Text(text.path, "\n".join(kept), text.scope)
+
+
+def asked(word: str) -> list[Text]:
+    """The contracts that a word names, or the clause of each; none for a definition."""
+    crate, _, rest = word.partition("::")
+    name, _, clause = rest.partition(".")
+    return [clause_of(it.text, clause) for it in exported(crate) if it.name == name]
 
 
 def start_of(word: str) -> set[Name]:
@@ -375,11 +382,10 @@ def start_of(word: str) -> set[Name]:
         if not text_of(resolved(Name("rv_model", module, name))):
             sys.exit(f"tools/definitions.py: rv_model defines no {word}")
         return {Name("rv_model", module, name)}
-    name, _, clause = rest.partition(".")
-    found = [it for it in exported(crate) if it.name == name]
+    found = asked(word)
     if not found:
-        sys.exit(f"tools/definitions.py: {crate} hands out no {name}")
-    return {it for contract in found for it in cited(contract.text, clause)}
+        sys.exit(f"tools/definitions.py: {crate} hands out no {rest.partition('.')[0]}")
+    return {it for text in found for it in met(text)}
 
 
 def is_counted(name: Name) -> bool:
