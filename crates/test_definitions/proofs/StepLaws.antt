@@ -2,12 +2,15 @@
 use Rattle.std.proofs.Common.{◌≡◌, ◌∙◌, ℕ, Bool, true, false, Option, Some, None, ap, refl, sym}
 use Rattle.std.specs.Prelude.{if◌then◌else◌, is_some}
 use Rattle.std.proofs.lemmas.Bool.{false≢true}
+use Rattle.rv_model.specs.accesses.VectorAccess.{access_of}
+use Rattle.rv_model.specs.declared.instructions.access.AccessInstr.{AccessInstr}
 use Rattle.rv_model.specs.declared.instructions.instruction.Instr.{Instr}
 use Rattle.rv_model.specs.declared.instructions.instruction.Instr.TheVariants as instr
 use Rattle.rv_model.specs.declared.instructions.operations.MaskUnaryOp.TheVariants.{Scan, Viota}
 use Rattle.rv_model.specs.declared.instructions.operations.VectorOp.{VectorOp}
 use Rattle.rv_model.specs.declared.instructions.operations.VectorOp.TheVariants.{Binary}
 use Rattle.rv_model.specs.declared.instructions.source.Source.{Source}
+use Rattle.rv_model.specs.declared.instructions.vector.VectorInstr.{VectorInstr}
 use Rattle.rv_model.specs.declared.instructions.vector.VectorInstr.TheVariants.{SetVli, SetIvli, SetVl, Arith, MaskUnary}
 use Rattle.rv_model.specs.declared.memory.Access.TheVariants.{Fetch}
 use Rattle.rv_model.specs.declared.step.step_end.Cause.TheVariants.{IllegalInstruction}
@@ -21,10 +24,10 @@ use Rattle.rv_model.specs.instructions.Table.{scan, table}
 use Rattle.rv_model.specs.legality.Legality.{is_legal}
 use Rattle.rv_model.specs.memory.Memory.{can_access}
 use Rattle.rv_model.specs.step.Hart.{HartState}
-use Rattle.rv_model.specs.step.Step.{after_vector, arith_over, executed, fetched, is_legal_end, is_vector, step, vector_ends, vector_executed, vector_step, vector_ticks, word_at}
+use Rattle.rv_model.specs.step.Step.{after_vector, arith_over, executed, fetched, is_legal_end, is_vector, operation_step, performed, step, vector_ends, vector_executed, vector_step, vector_ticks, word_at}
 use Rattle.rv_model.specs.vector.Groups.{GroupType, group_type, wide_type}
 use Rattle.rv_model.proofs.step_lemmas.LegalEnds.{legal_instructions_execute}
-use Rattle.test_definitions.specs.StepLaws.{IllegalStepsFault, LegalStepsExecute, OperationsHaveEquations}
+use Rattle.test_definitions.specs.StepLaws.{AccessesExist, IllegalStepsFault, LegalStepsExecute, OperationsHaveEquations, OperationsHaveTypes, OthersHaveEquations, is_legal_in, sets_length}
 
 -- ---- the step of a fetched instruction
 
@@ -98,3 +101,33 @@ operations_have_equations (Arith arith vd vs2 vm) body t s e = arith_is_done t (
 operations_have_equations (MaskUnary (Scan op) vd vs2 vm) body t s e = refl
 operations_have_equations (MaskUnary Viota vd vs2 vm) body t s e = refl
 operations_have_equations _ body t s e = refl
+
+-- ---- types, accesses, and other kinds of instructions
+
+not_illegal : (limit : ℕ) (i : Instr) (s : HartState) → is_vector i ≡ true → is_legal_in i s ≡ true
+    → vector_executed limit i s ≡ vector_ends vector_end.Illegal s → ⊥
+not_illegal limit i s vector legal e =
+    false≢true (ap (λ x. is_legal_end x.end) (sym e) ∙ legal_instructions_execute limit i s vector legal)
+
+untyped : (limit : ℕ) (i : VectorInstr) (s : HartState) → sets_length i ≡ false → is_legal_in (instr.Vector i) s ≡ true
+    → s.vector.conf.vtype ≡ None → vector_executed limit (instr.Vector i) s ≡ vector_ends vector_end.Illegal s
+unfolding vector_executed performed operation_step
+untyped limit (SetVli rd rs1 vtype) s e legal none = absurd (false≢true (sym e))
+untyped limit (SetIvli rd avl vtype) s e legal none = absurd (false≢true (sym e))
+untyped limit (SetVl rd rs1 rs2) s e legal none = absurd (false≢true (sym e))
+untyped limit i s e legal none = rw (legal, none) refl
+
+pub operations_have_types : OperationsHaveTypes
+operations_have_types i s e legal none = not_illegal 0 (instr.Vector i) s refl legal (untyped 0 i s e legal none)
+
+without_access : (limit : ℕ) (i : AccessInstr) (s : HartState) → is_legal_in (instr.Access i) s ≡ true
+    → access_of i s.vector s.scalar ≡ None → vector_executed limit (instr.Access i) s ≡ vector_ends vector_end.Illegal s
+unfolding vector_executed performed
+without_access limit i s legal none = rw (legal, none) refl
+
+pub accesses_exist : AccessesExist
+accesses_exist i s legal none = not_illegal 0 (instr.Access i) s refl legal (without_access 0 i s legal none)
+
+pub others_have_equations : OthersHaveEquations
+unfolding executed
+others_have_equations limit word s = (λ i. refl, λ i. refl)
