@@ -5,10 +5,10 @@ Each file begins with its path as a comment. Of a definition the lines are print
 
 import re
 from collections import defaultdict
-from collections.abc import Sequence
+from dataclasses import dataclass
 from pathlib import Path
 
-from definitions import ADDITION, CRATES, HEADLINE, Part, Text, closure, is_counted, lines_of, source_of, start_of
+from definitions import ADDITION, CRATES, HEADLINE, Name, Part, Text, closure, is_counted, lines_of, source_of, start_of
 
 PAGE = Path("docs/DEFINITIONS.md")
 PATHS = {"headline": (HEADLINE, Part()), "vadd.vv": (HEADLINE, ADDITION)}
@@ -36,29 +36,55 @@ def reading_order() -> list[Path]:
 
 def comment_above(source: str, text: str) -> str:
     """The comment directly above a declaration in its file."""
-    before = source.partition(text.split("\n")[0])[0].split("\n")[:-1]
+    above, is_there, _ = source.partition(text.split("\n")[0])
+    before = above.split("\n")[:-1] if is_there else []
     lines = list[str]()
     while before and re.match(r"(--|///?)", before[-1]):
         lines.insert(0, f"{before.pop()}\n")
     return "".join(lines)
 
 
+@dataclass(frozen=True)
+class Definition:
+    """A definition with the comment above it. Of `text` the lines are counted."""
+
+    name: Name
+    text: Text
+    comment: str
+
+    @property
+    def shown(self) -> str:
+        """The comment and the definition."""
+        return f"{self.comment}{self.text.text.strip()}\n"
+
+
+def closure_of(word: str) -> dict[Name, Text]:
+    """The definitions and types behind `headline`, `vadd.vv`, a clause or a definition."""
+    start, part = PATHS.get(word, (word, Part()))
+    return closure(start_of(start), part)
+
+
+def by_file(found: dict[Name, Text]) -> dict[Path, list[Definition]]:
+    """Definitions or types by their files, in reading order."""
+    files = defaultdict[Path, list[Definition]](list)
+    for name, text in found.items():
+        source = source_of(text.path)
+        files[text.path].append(Definition(name, text, comment_above(source, text.text)))
+    order = {path: place for place, path in enumerate(reading_order())}
+    return {
+        path: sorted(files[path], key=lambda it: source_of(path).find(it.text.text.split("\n")[0]))
+        for path in sorted(files, key=lambda path: (order.get(path, len(order)), path))
+    }
+
+
+def counted_of(found: dict[Name, Text]) -> dict[Name, Text]:
+    """The definitions whose lines are counted: no types of `src`, and nothing of the kit."""
+    return {name: text for name, text in found.items() if text.text and is_counted(name)}
+
+
 def texts(word: str) -> str:
     """The definitions behind `headline`, `vadd.vv` or a clause, in reading order, with the number of their lines and files."""
-    start, part = PATHS.get(word, (word, Part()))
-    by_file = defaultdict[Path, list[Text]](list)
-    for name, text in closure(start_of(start), part).items():
-        if text.text and is_counted(name):
-            by_file[text.path].append(text)
-    order = {path: place for place, path in enumerate(reading_order())}
-    files = sorted(by_file, key=lambda path: (order.get(path, len(order)), path))
-    pages = [_file_text(path, by_file[path]) for path in files]
-    lines = sum(lines_of(text.text) for those in by_file.values() for text in those)
-    return "\n".join([*pages, f"-- {lines:,} lines in {len(files)} files"])
-
-
-def _file_text(path: Path, those: Sequence[Text]) -> str:
-    source = source_of(path)
-    placed = sorted(those, key=lambda text: source.find(text.text.split("\n")[0]))
-    blocks = (f"{comment_above(source, text.text)}{text.text.strip()}\n" for text in placed)
-    return "\n".join([f"---- {path}\n", *blocks])
+    found = counted_of(closure_of(word))
+    files = by_file(found)
+    pages = ("\n".join([f"---- {path}\n", *(it.shown for it in those)]) for path, those in files.items())
+    return "\n".join([*pages, f"-- {sum(lines_of(it.text) for it in found.values()):,} lines in {len(files)} files"])

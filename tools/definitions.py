@@ -385,6 +385,9 @@ def start_of(word: str) -> set[Name]:
     found = asked(word)
     if not found:
         sys.exit(f"tools/definitions.py: {crate} hands out no {rest.partition('.')[0]}")
+    clause = rest.partition(".")[2]
+    if clause and not any(it[1] == clause for text in found for it in map(CLAUSE.match, text.text.split("\n")) if it):
+        sys.exit(f"tools/definitions.py: {word.removesuffix(f'.{clause}')} has no clause {clause}")
     return {it for text in found for it in met(text)}
 
 

@@ -8,6 +8,7 @@ import sys
 import tempfile
 from pathlib import Path
 
+from book_html.definition_pages import write_definition_pages
 from book_html.instruction_pages import write_instruction_pages
 from book_html.navigation import NavigationError, read_groups
 from book_html.sources import stage_sources
@@ -53,6 +54,7 @@ def build(out: Path, room: Path, top: Path = TOP) -> int:
     try:
         stage_sources(top, read_groups(top), sources)
         write_instruction_pages(sources)
+        write_definition_pages(sources)
     except NavigationError as error:
         print(f"tools/book: {error}", file=sys.stderr)
         return 1
