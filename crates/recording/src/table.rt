@@ -1,8 +1,10 @@
 //! The table of counts: a row for each key.
-ghost use Rattle.std.specs.Prelude.{◌≡◌, ◌↔◌, ◌<◌, ℕ, [], IsTrue, length, true, IfOk, IfSome, OnOk};
+ghost use Rattle.std.specs.Prelude.{◌≡◌, ◌↔◌, ◌<◌, ◌≤◌, ℕ, [], IsTrue, length, true, IfOk, IfSome, OnErr, OnOk};
+ghost use Rattle.std.specs.Vec.{vec_capacity};
 ghost use Rattle.rv_model.specs.instructions.Table.{scan, table};
 ghost use Rattle.recording.specs.Classes.{class_of as class_of_instruction};
 ghost use Rattle.recording.specs.Sums.{HasMore, IsRowOf, more_of, no_more, no_sums, once};
+ghost use Rattle.recording.specs.Rows.{AreFull};
 ghost use Rattle.recording.specs.declared.key.Key.{Key};
 ghost use Rattle.recording.specs.declared.key.Key.TheVariants.{Jump, Length, Word};
 
@@ -127,7 +129,8 @@ fn row_at(rows: &[Row], index: u32, key: Key) -> Option<usize>
 impl<A: Allocator + Copy> Table<A> {
     /// Return a table without rows. Fails if the allocator has no room for the largest number of rows.
     pub fn new(alloc: A) -> Result<Self, AllocError>
-        ensures { IfOk result (λ table. table.rows.items ≡ []) }
+        ensures empty { IfOk result (λ table. table.rows.items ≡ []) }
+        ensures room { IfOk result (λ table. vec_capacity table.rows ≡ 131072) }
     {
         Ok(Table {
             rows: Vec::with_capacity(alloc, ROWS)?,
@@ -138,21 +141,22 @@ impl<A: Allocator + Copy> Table<A> {
 }
 
 impl<A: Allocator> Table<A> {
-    /// Add a row for a key, and put its index into a slot. Return its index, or an index past the last row if the table
-    /// is full.
-    fn add_row(&mut self, key: Key, place: usize) -> usize
-        requires { place < length self.old.places.items }
+    /// Add a row for a key, and put its index into a slot, if one is given. Return its index, or an index past the last
+    /// row if the table is full.
+    fn add_row(&mut self, key: Key, place: Option<usize>) -> usize
+        requires { IfSome place (λ place. place < length self.old.places.items) }
         ensures row { result < length self.new.rows.items → IsRowOf key result self.new.rows.items }
         ensures totals { HasMore no_more self.old.rows.items self.new.rows.items }
+        ensures full { length self.new.rows.items ≤ result → AreFull (vec_capacity self.new.rows) self.new.rows.items }
     {
         let index = self.rows.len();
-        if index >= ROWS {
+        if index >= ROWS || index >= self.rows.capacity() {
             return index;
         }
-        let Ok(()) = self.rows.push(new_row(key)) else {
-            return index;
-        };
-        self.places[place] = index as u32;
+        self.rows.push_reserved(new_row(key));
+        if let Some(place) = place {
+            self.places[place] = index as u32;
+        }
         index
     }
 
@@ -176,13 +180,15 @@ impl<A: Allocator> Table<A> {
     fn found_row(&mut self, key: Key, start: usize) -> usize
         ensures row { result < length self.new.rows.items → IsRowOf key result self.new.rows.items }
         ensures totals { HasMore no_more self.old.rows.items self.new.rows.items }
+        ensures full { length self.new.rows.items ≤ result → AreFull (vec_capacity self.new.rows) self.new.rows.items }
     {
+        // While the table has room for a row, a slot is empty; the proof doesn't need that.
         let Some(place) = self.find(key, start) else {
-            return self.rows.len();
+            return self.add_row(key, None);
         };
         match row_at(self.rows.as_slice(), self.places[place], key) {
             Some(index) => index,
-            None => self.add_row(key, place),
+            None => self.add_row(key, Some(place)),
         }
     }
 
@@ -191,6 +197,7 @@ impl<A: Allocator> Table<A> {
     fn row_of(&mut self, key: Key, start: usize) -> Result<usize, TableFull>
         ensures row { IfOk result (λ i. IsRowOf key i self.new.rows.items) }
         ensures totals { HasMore no_more self.old.rows.items self.new.rows.items }
+        ensures full { OnErr result (AreFull (vec_capacity self.new.rows) self.new.rows.items) }
     {
         let index = self.found_row(key, start);
         if index < self.rows.len() {
@@ -204,6 +211,7 @@ impl<A: Allocator> Table<A> {
     pub(crate) fn word_row(&mut self, pc: u64, word: u32) -> Result<usize, TableFull>
         ensures row { IfOk result (λ i. IsRowOf (Word pc word) i self.new.rows.items) }
         ensures totals { HasMore no_more self.old.rows.items self.new.rows.items }
+        ensures full { OnErr result (AreFull (vec_capacity self.new.rows) self.new.rows.items) }
     {
         let start = start_of(pc, u64::from(word));
         if start < self.places.len() {
@@ -220,6 +228,7 @@ impl<A: Allocator> Table<A> {
     fn length_row(&mut self, vtype: u64, vl: u16) -> Result<usize, TableFull>
         ensures row { IfOk result (λ i. IsRowOf (Length vtype vl) i self.new.rows.items) }
         ensures totals { HasMore no_more self.old.rows.items self.new.rows.items }
+        ensures full { OnErr result (AreFull (vec_capacity self.new.rows) self.new.rows.items) }
     {
         let last = self.last_length;
         if last < self.rows.len() && is_of_length(&self.rows[last], vtype, vl) {
@@ -244,7 +253,8 @@ impl<A: Allocator> Table<A> {
     /// Count a vector type and length once. Fails if the table is full.
     #[inline(always)]
     pub(crate) fn count_length(&mut self, vtype: u64, vl: u16) -> Result<(), TableFull>
-        ensures { OnOk result (HasMore (more_of (Length vtype vl) once) self.old.rows.items self.new.rows.items) }
+        ensures counted { OnOk result (HasMore (more_of (Length vtype vl) once) self.old.rows.items self.new.rows.items) }
+        ensures full { OnErr result (AreFull (vec_capacity self.new.rows) self.new.rows.items) }
     {
         let index = self.length_row(vtype, vl)?;
         self.count_at(index, Sums::once());
@@ -254,7 +264,8 @@ impl<A: Allocator> Table<A> {
     /// Count a jump from one address to another once. Fails if the table is full.
     #[inline(never)]
     pub(crate) fn count_jump(&mut self, pc: u64, target: u64) -> Result<(), TableFull>
-        ensures { OnOk result (HasMore (more_of (Jump pc target) once) self.old.rows.items self.new.rows.items) }
+        ensures counted { OnOk result (HasMore (more_of (Jump pc target) once) self.old.rows.items self.new.rows.items) }
+        ensures full { OnErr result (AreFull (vec_capacity self.new.rows) self.new.rows.items) }
     {
         let index = self.row_of(Key::Jump { pc, target }, start_of(pc, target))?;
         self.count_at(index, Sums::once());

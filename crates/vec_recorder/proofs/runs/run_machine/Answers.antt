@@ -13,7 +13,7 @@ returns-clause-records g c =
     let s = state_of own_memory c.args.machine.now in
     let rows = c.in_ok-end.both.second.table.rows.items in
     let same : IsPermutation rows c.write_counts.new.rows = subst (λ them. IsPermutation them c.write_counts.new.rows) c.as_mut_slice-rows.ensures.value c.write_counts.ensures.same in
-    let counts = counted (ran c.args.asked.logged.ticks s).found _ rows c.write_counts.new.rows c.in_ok-counts.ensures c.in_ok-end.ensures.run.recorded.1 same in
+    let counts = counted (ran c.args.asked.logged.ticks s).found _ rows c.write_counts.new.rows c.in_ok-counts.ensures.empty c.in_ok-end.ensures.run.recorded.1 same in
     rw c.in-Some.is (record {
       empty = c.in_ok-counts_file.counts_file;
       full = c.write_counts.new.file;

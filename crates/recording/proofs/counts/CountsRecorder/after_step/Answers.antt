@@ -42,4 +42,4 @@ returns-clause-recorded g c =
     rows c.count_second_key.new.table.rows.items prepared.1
     (class_noted c.index-row.result.now found c.args.self.now.index c.args.self.now.found rows prepared.1 c.index-row.ensures) made (sym c.is_counted.ensures ∙ c.if-not-is_counted.false)
     c.count_at-2.new.self.rows.items (sym c.is_plain.ensures ∙ c.if-is_plain.false) c.with_elements-sums.ensures (c.count_at-2.ensures (Word found.scalar.pc prepared.1.word) prepared.1.row)
-    c.in_ok-count_second_key.ensures)
+    c.in_ok-count_second_key.ensures.counted)
