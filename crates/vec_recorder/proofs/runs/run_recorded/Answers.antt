@@ -27,7 +27,7 @@ returns-clause-log g c =
       others = refl;
       ended = c.close.ensures.closed;
       says = log_printed g.F.Created.Sink.took g.met.F.Created.Sink.took_more c.in_ok-log.log c.run.new.recorder.second.second _ _ _ c.args.asked.window (ran c.args.asked.ticks s).found _ _
-          made.sink made.window made.number made.text printed.1 c.in_ok-finish.ensures
+          made.sink made.window made.number made.text printed.1 c.in_ok-finish.ensures.printed
           (end_by_totals c.args.asked.ticks _ _ _ _ s (state_of own_memory c.run.new.machine) c.in_ok-end.end c.write_last.ensures.times c.write_last.ensures.ticks c.none.ensures.times c.none.ensures.ticks
           printed.0.0 printed.0.1 c.in_ok-end.ensures.machine c.in_ok-end.ensures.end)
           c.in-Ok.ensures.text;
