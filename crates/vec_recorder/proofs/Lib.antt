@@ -1,4 +1,5 @@
 mod CommandLineLaws
 mod MemoryArgumentLaws
 mod RunLaws
+mod StopLaws
 mod WatchArgumentLaws

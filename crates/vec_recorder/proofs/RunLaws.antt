@@ -1,6 +1,6 @@
--- The counts of a run that starts with empty rows, the output of a run that stops, and the files of its initial machine
-use Rattle.std.proofs.Common.{◌≡◌, ◌∙◌, ◌<◌, ◌+◌, ◌++◌, [], ◌∷◌, ℕ, Bool, true, false, List, ap, ap₂, append-nil, arith, drop, inl, inr, length, refl, subst, sym, take, Option, Result, Ok, Err, flat_map, IfErr, IsErrAnd}
-use Rattle.std.specs.Prelude.{IsPermutation, ◌%◌, ◌^◌, ◌⊎◌, ⊤, if◌then◌else◌}
+-- The counts of a run that starts with empty rows, its records, and the files of its initial machine
+use Rattle.std.proofs.Common.{◌≡◌, ◌∙◌, ◌<◌, ◌+◌, ◌++◌, [], ◌∷◌, ℕ, Bool, true, false, List, ap, ap₂, arith, drop, length, refl, subst, sym, take, Option, flat_map}
+use Rattle.std.specs.Prelude.{IsPermutation, ◌%◌, ◌^◌, ⊤, if◌then◌else◌}
 use Rattle.std.specs.List.{slice_index_or, sum_by}
 use Rattle.std.proofs.lemmas.List.Sums.{sum_by-cons}
 use Rattle.std.proofs.lemmas.List.{drop_all, drop_more}
@@ -15,12 +15,10 @@ use Rattle.memory_changes.specs.Recorded.{IsRecorded}
 use Rattle.memory_changes.specs.declared.changes.Changes.{Changes}
 use Rattle.memory_changes.proofs.Lists.{first_more}
 use Rattle.recording.specs.Classes.{class_of}
-use Rattle.recording.specs.Runs.{TakesFirst, is_counted, second_key, once_more, output_of, ran, share, shares, word_of as found_word}
+use Rattle.recording.specs.Runs.{is_counted, second_key, once_more, ran, share, shares, word_of as found_word}
 use Rattle.recording.specs.Sums.{HasMore, is_word, part_of, total}
 use Rattle.recording.specs.Totals.{AddsUp, counted_ticks, times_of}
 use Rattle.recording.specs.declared.class.Class.{Class}
-use Rattle.recording.specs.declared.fault.RecordFault.{RecordFault}
-use Rattle.recording.specs.declared.fault.RecordFault.TheVariants.{TableFull, Unmapped, Write}
 use Rattle.recording.specs.declared.class.Class.TheVariants as class
 use Rattle.recording.specs.declared.key.Key.{Key}
 use Rattle.recording.specs.declared.row.Row.{Row}
@@ -33,11 +31,8 @@ use Rattle.rv_model.specs.step.Step.{step}
 use Rattle.rv_model.specs.vector.Groups.{Configuration}
 use Rattle.vec_recorder.specs.InitialMachine.{ArePlaced}
 use Rattle.vec_recorder.specs.RecordLines.{last_line, row_line}
-use Rattle.vec_recorder.specs.Recorded.{AreCountsOf, IsStopped, Recorded, end_of}
-use Rattle.vec_recorder.specs.Statuses.{IsRunFault, program_status, record_fault}
+use Rattle.vec_recorder.specs.Recorded.{AreCountsOf, Recorded, end_of}
 use Rattle.vec_recorder.specs.declared.memory_arguments.MemoryPath.{MemoryPath}
-use Rattle.vec_recorder.specs.declared.program_fault.ProgramFault.{ProgramFault}
-use Rattle.vec_recorder.specs.declared.program_fault.ProgramFault.TheVariants.{NoMemory}
 
 -- ---- lines
 
@@ -145,87 +140,6 @@ log_printed took more first new file mid after window found printed last sink_is
     subst (λ (l : List ℕ). took first.sink l mid) lines (more first.sink new.sink mid printed_all.written new.text printed_all.took gathered) in
     subst (λ f. took f (logged_from window 0 found ++ last) after) sink_is
     (more first.sink mid after (logged_from window 0 found) last written (subst (λ (l : List ℕ). took mid l after) last_is end))
-
--- ---- runs that stop
-
-module _ {K : Type 0} (took : K → List ℕ → K → Type 0) (ticks : ℕ) (s : HartState) where
-  -- before the first instruction
-  pub unstarted : (k : K) (fault : ProgramFault) → took k [] k → IsRunFault fault → IsStopped took ticks s k k fault
-  unstarted k fault none status =
-      record {
-        status = status;
-        first = record { first = []; rest = flat_map output_of (ran ticks s).found; are_first = refl; took = none };
-        nothing = λ _. none;
-      }
-
-  -- after the last instruction
-  pub stopped_late : (before after : K) (fault : ProgramFault) → took before (flat_map output_of (ran ticks s).found) after → program_status fault ≡ 5 → IsStopped took ticks s before after fault
-  stopped_late before after fault whole five =
-      record {
-        status = inr (inl five);
-        first = record { first = flat_map output_of (ran ticks s).found; rest = []; are_first = append-nil (flat_map output_of (ran ticks s).found); took = whole };
-        nothing = λ six. absurd (omega (arith, five, six));
-      }
-
-  stopped_status : (stopped : RecordFault) → (program_status (record_fault stopped) ≡ 4) ⊎ (program_status (record_fault stopped) ≡ 5)
-  stopped_status TableFull = inr refl
-  stopped_status Unmapped = inl refl
-  stopped_status (Write name) = inr refl
-
-  stopped_run : (before after : K) (stopped : RecordFault) (fault : ProgramFault) → TakesFirst took before (flat_map output_of (ran ticks s).found) after → fault ≡ record_fault stopped
-      → IsStopped took ticks s before after fault
-  stopped_run before after stopped fault first is =
-      elim (stopped_status stopped) [
-        | inl four ↦
-            let status : program_status fault ≡ 4 = ap program_status is ∙ four in
-            record { status = inl status; first = first; nothing = λ six. absurd (omega (arith, status, six)) }
-        | inr five ↦
-            let status : program_status fault ≡ 5 = ap program_status is ∙ five in
-            record { status = inr (inl status); first = first; nothing = λ six. absurd (omega (arith, status, six)) }
-      ]
-
-  pub whole_first : (before after : K) → took before (flat_map output_of (ran ticks s).found) after → TakesFirst took before (flat_map output_of (ran ticks s).found) after
-  whole_first before after whole =
-      record { first = flat_map output_of (ran ticks s).found; rest = []; are_first = append-nil (flat_map output_of (ran ticks s).found); took = whole }
-
-  -- while the recorder or the output failed
-  pub stopped_by : {T : Type 0} (before after : K) (stopped : RecordFault) (r : Result T ProgramFault) → TakesFirst took before (flat_map output_of (ran ticks s).found) after
-      → IsErrAnd r (λ fault. fault ≡ record_fault stopped) → IfErr r (IsStopped took ticks s before after)
-  stopped_by before after stopped (Ok x) first is = tt
-  stopped_by before after stopped (Err fault) first is = stopped_run before after stopped fault first is
-
-  -- a fault that is passed on
-  pub passed_on : {T : Type 0} (before after : K) {fault : ProgramFault} (r : Result T ProgramFault) → IsStopped took ticks s before after fault → IsErrAnd r (λ e. e ≡ fault)
-      → IfErr r (IsStopped took ticks s before after)
-  passed_on before after (Ok x) stopped is = tt
-  passed_on before after (Err e) stopped is = subst (IsStopped took ticks s before after) (sym is) stopped
-
-  -- no memory before the first instruction
-  pub unstarted_by : {T : Type 0} (k : K) (r : Result T ProgramFault) → took k [] k → IsErrAnd r (λ e. e ≡ NoMemory) → IfErr r (IsStopped took ticks s k k)
-  unstarted_by k (Ok x) none is = tt
-  unstarted_by k (Err e) none is = unstarted k e none (inr (inr (ap program_status is)))
-
-  not_usage : (before after : K) (fault : ProgramFault) → IsStopped took ticks s before after fault → program_status fault ≡ 2 → ⊥
-  not_usage before after fault stopped two =
-      elim stopped.status [
-        | inl four ↦ omega (arith, four, two)
-        | inr other ↦ elim other [ inl five ↦ omega (arith, five, two) | inr six ↦ omega (arith, six, two) ]
-      ]
-
-  -- the output accepts nothing with exit status 2 or 6
-  pub nothing_by : {T : Type 0} (before after : K) {fault : ProgramFault} (r : Result T ProgramFault) → IsStopped took ticks s before after fault → IsErrAnd r (λ e. e ≡ fault)
-      → IfErr r (λ e. (program_status e ≡ 2) ⊎ (program_status e ≡ 6) → took before [] after)
-  nothing_by before after (Ok x) stopped is = tt
-  nothing_by before after {fault} (Err e) stopped is = λ status. elim status [
-    | inl two ↦ absurd (not_usage before after fault stopped (sym (ap program_status is) ∙ two))
-    | inr six ↦ stopped.nothing (sym (ap program_status is) ∙ six)
-  ]
-
-  -- a run doesn't end with exit status 2
-  pub unused_by : {T : Type 0} (P : Type 0) (before after : K) {fault : ProgramFault} (r : Result T ProgramFault) → IsStopped took ticks s before after fault → IsErrAnd r (λ e. e ≡ fault)
-      → IfErr r (λ e. program_status e ≡ 2 → P)
-  unused_by P before after (Ok x) stopped is = tt
-  unused_by P before after {fault} (Err e) stopped is = λ two. absurd (not_usage before after fault stopped (sym (ap program_status is) ∙ two))
 
 -- a run, whatever is said of it
 pub any_run : (file_bytes : Text → Option (List ℕ)) (arguments : List Text) (Ran : ℕ → List Place → Window → HartState → Type 0) → Recorded file_bytes arguments Ran

@@ -97,11 +97,13 @@ AreRecordsKept created took closed counts changes log places window ticks s =
 
 -- ---- runs
 
--- A run of at most `ticks` ticks ended with a fault. The output accepted the first bytes of the run's whole output, and none if memory ran out.
-pub record IsStopped {K : Type 0} (took : K → List ℕ → K → Type 0) (ticks : ℕ) (s : HartState) (before after : K) (fault : ProgramFault) : Type 0 where
+-- A run of at most `ticks` ticks ended with a fault, with exit status 5 only for the reason `Cause`. The output accepted the first bytes of the
+-- run's whole output, and none if memory ran out.
+pub record IsStopped {K : Type 0} (took : K → List ℕ → K → Type 0) (ticks : ℕ) (s : HartState) (before after : K) (Cause : Type 0) (fault : ProgramFault) : Type 0 where
   pub status : IsRunFault fault
   pub first : TakesFirst took before (flat_map output_of (ran ticks s).found) after
   pub nothing : program_status fault ≡ 6 → took before [] after
+  pub cause : program_status fault ≡ 5 → Cause
 
 -- The output of a run is complete, and its records are in the files that the arguments name. No other file was touched.
 pub record IsComplete {O F : Type 0} (created : O → Text → F → O → Type 0) (took : F → List ℕ → F → Type 0) (closed : O → F → O → Type 0) (put : List ℕ → Type 0) (arguments : RunArguments) (old new : O)

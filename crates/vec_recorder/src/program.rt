@@ -1,12 +1,12 @@
 //! The program: it runs one user's program, and writes the output to a sink and the records to files.
-ghost use Rattle.std.specs.Prelude.{◌≡◌, ◌⊎◌, [], IfErr, OnOk, flat_map, ⊤};
+ghost use Rattle.std.specs.Prelude.{◌≡◌, ◌⊎◌, [], IfErr, IsSome, OnOk, flat_map, ⊤};
 ghost use Rattle.clap.specs.Walk.{texts};
 ghost use Rattle.clap.specs.Words.{IsAmong};
 ghost use Rattle.clap.specs.declared.error.kind.ErrorKind.TheVariants.{DisplayHelp};
 ghost use Rattle.recording.specs.Runs.{TakesFirst, output_of, ran};
 ghost use Rattle.vec_recorder.specs.CommandLine.{option_arguments, arguments_fault, run_arguments};
 ghost use Rattle.vec_recorder.specs.Recorded.{IsComplete, IsHelped, Recorded, RecordedBy, RunBy};
-ghost use Rattle.vec_recorder.specs.Statuses.{program_status};
+ghost use Rattle.vec_recorder.specs.Statuses.{HasCause, program_status};
 
 use crate::arguments::options;
 use crate::command_line::{Options, UsageFault};
@@ -33,7 +33,9 @@ use std::rt::Files;
 fn check_places<'a>(
     machine: &SingleUserMachine<OwnBytes>,
     places: &[Place],
-) -> Result<(), ProgramFault<'a>> {
+) -> Result<(), ProgramFault<'a>>
+    ensures { IfErr result (λ fault. program_status fault ≡ 4) }
+{
     for place in places {
         if !has_memory(&machine.memory, place) {
             return Err(ProgramFault::NoPlace);
@@ -70,8 +72,11 @@ fn run_options<'a, I: Inputs, F: Outputs, K: Sink>(
         values.entry.policy values.entry.memories.items (λ state. TakesFirst K.took output.old
         (flat_map output_of (ran values.entry.ticks state).found) output.new) }
     ensures nothing { IfErr result (λ fault.
-        (program_status fault ≡ 2) ⊎ (program_status fault ≡ 6) → K.took output.old [] output.new) }
+        (program_status fault ≡ 2) ⊎ ((program_status fault ≡ 4) ⊎ (program_status fault ≡ 6)) → K.took output.old [] output.new) }
     ensures unused { IfErr result (λ fault. program_status fault ≡ 2 → files.new ≡ files.old) }
+    ensures failed { IfErr result (λ fault. program_status fault ≡ 5 → HasCause F.Created.failures
+        (IsSome (option_arguments options.now).counts ⊎ IsSome (option_arguments options.now).changes)
+        (K.failures output.old) (K.failures output.new) (F.failures files.old) (F.failures files.new)) }
 {
     let CheckedOptions {
         policy,
@@ -119,8 +124,11 @@ fn record_options<'a, I: Inputs, F: Outputs, K: Sink>(
         ⊎ RecordedBy (I.file_bytes inputs.now) (option_arguments options.now) (λ ticks _ _ state.
         TakesFirst K.took output.old (flat_map output_of (ran ticks state).found) output.new) }
     ensures nothing { IfErr result (λ fault.
-        (program_status fault ≡ 2) ⊎ (program_status fault ≡ 6) → K.took output.old [] output.new) }
+        (program_status fault ≡ 2) ⊎ ((program_status fault ≡ 4) ⊎ (program_status fault ≡ 6)) → K.took output.old [] output.new) }
     ensures unused { IfErr result (λ fault. program_status fault ≡ 2 → files.new ≡ files.old) }
+    ensures failed { IfErr result (λ fault. program_status fault ≡ 5 → HasCause F.Created.failures
+        (IsSome (option_arguments options.now).counts ⊎ IsSome (option_arguments options.now).changes)
+        (K.failures output.old) (K.failures output.new) (F.failures files.old) (F.failures files.new)) }
 {
     let policy = policy(options.policy)?;
     let ticks = ticks(options.ticks)?;
@@ -161,8 +169,11 @@ fn record_arguments<'a, I: Inputs, F: Outputs, K: Sink>(
         ⊎ Recorded (I.file_bytes inputs.now) (texts arguments.now) (λ ticks _ _ state.
         TakesFirst K.took output.old (flat_map output_of (ran ticks state).found) output.new)) }
     ensures nothing { IfErr result (λ fault.
-        (program_status fault ≡ 2) ⊎ (program_status fault ≡ 6) → K.took output.old [] output.new) }
+        (program_status fault ≡ 2) ⊎ ((program_status fault ≡ 4) ⊎ (program_status fault ≡ 6)) → K.took output.old [] output.new) }
     ensures unused { IfErr result (λ fault. program_status fault ≡ 2 → files.new ≡ files.old) }
+    ensures failed { IfErr result (λ fault. program_status fault ≡ 5 → HasCause F.Created.failures
+        (IsSome (run_arguments (texts arguments.now)).counts ⊎ IsSome (run_arguments (texts arguments.now)).changes)
+        (K.failures output.old) (K.failures output.new) (F.failures files.old) (F.failures files.new)) }
 {
     match options(alloc, arguments) {
         Ok(options) => record_options(inputs, alloc, &options, output, files),
@@ -218,8 +229,13 @@ pub fn record_into<R: Inputs + Eprint, F: Outputs, K: Sink>(
         ⊎ (IsHelped (texts arguments.now) (λ printed. K.took output.old printed output.new) files.old files.new
         ⊎ Recorded (R.file_bytes rt.now) (texts arguments.now) (λ ticks _ _ state.
         TakesFirst K.took output.old (flat_map output_of (ran ticks state).found) output.new)) }
-    ensures nothing { (result ≡ 2) ⊎ (result ≡ 6) → K.took output.old [] output.new }
+    ensures nothing { (result ≡ 2) ⊎ ((result ≡ 4) ⊎ (result ≡ 6)) → K.took output.old [] output.new }
     ensures unused { result ≡ 2 → files.new ≡ files.old }
+    // The exit status is 5 only if a write to the output failed, a file couldn't be created, a write to a created file
+    // failed, or the arguments name a counts file or a changes file.
+    ensures failed { result ≡ 5 → HasCause F.Created.failures
+        (IsSome (run_arguments (texts arguments.now)).counts ⊎ IsSome (run_arguments (texts arguments.now)).changes)
+        (K.failures output.old) (K.failures output.new) (F.failures files.old) (F.failures files.new) }
 {
     match record_arguments(rt, alloc, arguments, output, files) {
         Ok(short) => {

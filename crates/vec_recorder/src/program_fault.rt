@@ -86,6 +86,9 @@ pub enum ProgramFault<'a> {
     /// A range of `--watch` isn't mapped.
     #[error("vecmon-record: a place of --watch has no memory\n")]
     NoPlace,
+    /// A range of `--watch` isn't mapped any more. This never happens because a run doesn't change the mapped pages.
+    #[error("vecmon-record: a place of --watch is no longer mapped\n")]
+    LostPlace,
     /// The file at this path, or the stream with this name, can't be written.
     #[error("vecmon-record: cannot write {0}\n")]
     Write(&'a str),
@@ -122,7 +125,9 @@ impl ProgramFault<'_> {
             | ProgramFault::Memory(_, _)
             | ProgramFault::Registers(_, _)
             | ProgramFault::NoPlace => STATUS_INITIAL_STATE,
-            ProgramFault::Write(_) | ProgramFault::TableFull => STATUS_WRITE,
+            ProgramFault::LostPlace | ProgramFault::Write(_) | ProgramFault::TableFull => {
+                STATUS_WRITE
+            }
             ProgramFault::NoMemory => STATUS_NO_MEMORY,
         }
     }
@@ -150,7 +155,7 @@ impl From<RecordFault> for ProgramFault<'_> {
     fn from(stopped: RecordFault) -> Self {
         match stopped {
             RecordFault::TableFull => ProgramFault::TableFull,
-            RecordFault::Unmapped => ProgramFault::NoPlace,
+            RecordFault::Unmapped => ProgramFault::LostPlace,
             RecordFault::Write(name) => ProgramFault::Write(name),
         }
     }

@@ -1,5 +1,5 @@
 //! The lines of a counts file, and the last line of each record.
-ghost use Rattle.std.specs.Prelude.{IsPermutation, ◌≡◌, ◌++◌, ◌+◌, ◌<◌, ◌≤◌, ◌^◌, length, flat_map, OnOk};
+ghost use Rattle.std.specs.Prelude.{IsPermutation, ◌≡◌, ◌++◌, ◌+◌, ◌<◌, ◌≤◌, ◌^◌, length, flat_map, OnErr, OnOk};
 ghost use Rattle.std.specs.Option.{option_and_then};
 ghost use Rattle.rv_model.specs.commands.Running.{running_line};
 ghost use Rattle.rv_model.specs.machine.UserMachine.{stop_of};
@@ -116,7 +116,8 @@ pub(crate) fn sort_rows(rows: &mut [Row])
 
 /// Write the lines of the rows.
 pub(crate) fn write_rows<K: Sink>(sink: &mut K, rows: &[Row]) -> Result<(), DeviceFault>
-    ensures { OnOk result (K.took sink.old (flat_map row_line rows.now) sink.new) }
+    ensures text { OnOk result (K.took sink.old (flat_map row_line rows.now) sink.new) }
+    ensures failed { OnErr result (0 < K.failures sink.new) }
 {
     let mut reply = Reply::new();
     for row in rows {
@@ -194,6 +195,7 @@ pub(crate) fn write_last<K: Sink>(
     ticks: u64,
 ) -> Result<(), DeviceFault>
     ensures text { OnOk result (K.took sink.old (last_line pc end times ticks) sink.new) }
+    ensures failed { OnErr result (0 < K.failures sink.new) }
     ensures times { times < 2 ^ 64 }
     ensures ticks { ticks < 2 ^ 64 }
 {

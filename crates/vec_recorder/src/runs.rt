@@ -1,12 +1,14 @@
 //! A run with its records: counts, changes, and a log, each of them optional.
-ghost use Rattle.std.specs.Prelude.{IsPermutation, ◌≡◌, ◌%◌, ◌^◌, ◌++◌, IfErr, IfOk, OnErr, OnOk, flat_map, option_map};
+ghost use Rattle.std.specs.Prelude.{IsPermutation, ◌≡◌, ◌⊎◌, ◌<◌, ◌%◌, ◌^◌, ◌++◌, IfErr, IfOk, IsSome, OnErr, OnOk, flat_map, option_map};
+ghost use Rattle.devices.specs.Device.{Rose};
 ghost use Rattle.recording.specs.Machines.{state_of};
 ghost use Rattle.recording.specs.Runs.{TakesFirst, output_of, ran};
 ghost use Rattle.recording.specs.Sums.{is_word, total};
+ghost use Rattle.recording.specs.declared.fault.RecordFault.{RecordFault};
 ghost use Rattle.first_state.specs.OwnMemory.{own_memory};
 ghost use Rattle.vec_recorder.specs.RecordLines.{last_line, row_line};
 ghost use Rattle.vec_recorder.specs.Recorded.{AreChangesKept, AreRecordsKept, IsLogKept, IsStopped, RecordsRun};
-ghost use Rattle.vec_recorder.specs.Statuses.{program_status};
+ghost use Rattle.vec_recorder.specs.Statuses.{HasCause, program_status};
 
 use crate::outputs::Outputs;
 use crate::program_fault::ProgramFault;
@@ -29,6 +31,8 @@ fn created_file<'a, F: Outputs>(
 ) -> Result<F::Created, ProgramFault<'a>>
     ensures created { IfOk result (λ file. F.is_created files.old path.entry.now file files.new) }
     ensures refused { IfErr result (λ fault. program_status fault ≡ 5) }
+    ensures kept { OnOk result (F.failures files.new ≡ F.failures files.old) }
+    ensures failed { OnErr result (Rose (F.failures files.old) (F.failures files.new)) }
 {
     match files.create(path) {
         Ok(file) => Ok(file),
@@ -47,6 +51,7 @@ fn write_counts<C: Sink>(
     ensures text { OnOk result (C.took file.old (flat_map row_line rows.new ++ last_line pc end
         (total (λ sums. sums.times) is_word rows.new % 2 ^ 64)
         (total (λ sums. sums.ticks) is_word rows.new % 2 ^ 64)) file.new) }
+    ensures failed { OnErr result (0 < C.failures file.new) }
 {
     sort_rows(&mut *rows);
     write_rows(file, &*rows)?;
@@ -85,6 +90,8 @@ fn run_unlogged<K: Sink, O: Recorder<OwnBytes> + Drop>(
         (state_of own_memory machine.new) output.old output.new recorder) }
     ensures part { OnErr result (TakesFirst K.took output.old
         (flat_map output_of (ran ticks (state_of own_memory machine.old)).found) output.new) }
+    ensures failed { IfErr result (λ fault. Rose (K.failures output.old) (K.failures output.new)
+        ⊎ ((last : O) × O.failed last fault)) }
 {
     let mut only = recorder;
     let end = run(&mut only, machine, output, ticks)?;
@@ -108,7 +115,8 @@ fn run_recorded<'a, F: Outputs, K: Sink, O: Recorder<OwnBytes> + Drop>(
         (option_map (λ path. path.now) asked.entry.log) asked.entry.window asked.entry.ticks
         (state_of own_memory machine.old) files.old files.new) }
     ensures stopped { IfErr result (IsStopped K.took asked.entry.ticks (state_of own_memory machine.old)
-        output.old output.new) }
+        output.old output.new (HasCause F.Created.failures ((last : O) × ((fault : RecordFault) × O.failed last fault))
+        (K.failures output.old) (K.failures output.new) (F.failures files.old) (F.failures files.new))) }
 {
     let LoggedRun { ticks, log, window } = asked;
     let Some(path) = log else {
@@ -155,7 +163,9 @@ fn run_watched<'a, F: Outputs, K: Sink, O: Recorder<OwnBytes> + Drop>(
         asked.entry.places.items asked.entry.logged.window asked.entry.logged.ticks
         (state_of own_memory machine.old) files.old files.new) }
     ensures stopped { IfErr result (IsStopped K.took asked.entry.logged.ticks (state_of own_memory machine.old)
-        output.old output.new) }
+        output.old output.new (HasCause F.Created.failures
+        (((last : O) × ((fault : RecordFault) × O.failed last fault)) ⊎ IsSome (option_map (λ path. path.now) asked.entry.changes))
+        (K.failures output.old) (K.failures output.new) (F.failures files.old) (F.failures files.new))) }
 {
     let RecordedRun {
         logged,
@@ -206,7 +216,10 @@ pub(crate) fn run_machine<'a, F: Outputs, K: Sink>(
         (option_map (λ path. path.now) asked.entry.logged.log) asked.entry.places.items asked.entry.logged.window
         asked.entry.logged.ticks (state_of own_memory machine.old) files.old files.new) }
     ensures stopped { IfErr result (IsStopped K.took asked.entry.logged.ticks (state_of own_memory machine.old)
-        output.old output.new) }
+        output.old output.new (HasCause F.Created.failures
+        (IsSome (option_map (λ path. path.now) asked.entry.counts)
+        ⊎ IsSome (option_map (λ path. path.now) asked.entry.changes))
+        (K.failures output.old) (K.failures output.new) (F.failures files.old) (F.failures files.new))) }
 {
     let short = ShortWrites::none();
     let Some(path) = asked.counts else {

@@ -1,11 +1,12 @@
-use Rattle.std.proofs.Common.{inl, inr, refl, subst}
-use Rattle.std.specs.Prelude.{flat_map}
+use Rattle.std.proofs.Common.{◌≡◌, IfErr, inl, inr, refl, subst}
+use Rattle.std.specs.Prelude.{◌⊎◌, IsSome, flat_map}
 use Rattle.std.proofs.lemmas.Result.{on_ok_weaker}
 use Rattle.clap.specs.Walk.{texts}
 use Rattle.clap.specs.Words.{IsAmong}
 use Rattle.recording.specs.Runs.{TakesFirst, output_of, ran}
 use Rattle.vec_recorder.specs.CommandLine.{arguments_fault, IsRefusedFor}
-use Rattle.vec_recorder.specs.Recorded.{IsComplete, IsHelped, RecordedBy}
+use Rattle.vec_recorder.specs.Recorded.{IsComplete, RecordedBy}
+use Rattle.vec_recorder.specs.Statuses.{HasCause, program_status}
 use Rattle.vec_recorder.proofs.program.record_arguments.Goals as goal
 
 pub returns-in-Ok : goal.returns-in-Ok
@@ -34,6 +35,10 @@ returns-in-Ok g c =
       ];
       nothing = c.record_options.ensures.nothing;
       unused = c.record_options.ensures.unused;
+      failed = subst
+          (λ them. IfErr c.record_options.result (λ fault. program_status fault ≡ 5 → HasCause g.F.Created.Sink.failures (IsSome them.counts ⊎ IsSome them.changes)
+          (g.K.Sink.failures c.args.output.now) (g.K.Sink.failures c.record_options.new.output) (g.F.Outputs.failures c.args.files.now) (g.F.Outputs.failures c.record_options.new.files)))
+          asked.arguments c.record_options.ensures.failed;
     }
 
 pub returns-in-Ok-write_text-clause-recorded : goal.returns-in-Ok-write_text-clause-recorded

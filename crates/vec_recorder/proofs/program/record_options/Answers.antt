@@ -1,12 +1,14 @@
-use Rattle.std.proofs.Common.{inl, inr, refl, subst}
+use Rattle.std.proofs.Common.{ap, inl, inr, refl, subst}
 use Rattle.std.specs.List.{AllZip}
 use Rattle.std.proofs.lemmas.Result.{on_ok_weaker}
 use Rattle.vec_recorder.specs.CommandLine.{option_arguments}
 use Rattle.vec_recorder.specs.MemoryArguments.{IsMemoryAt, IsMemoryOf}
 use Rattle.vec_recorder.specs.Paths.{ArePathsApart}
 use Rattle.vec_recorder.specs.Recorded.{AreValuesOf}
+use Rattle.vec_recorder.specs.Statuses.{program_status}
 use Rattle.vec_recorder.specs.WatchArguments.{IsPlaceAt, IsPlaceOf}
 use Rattle.vec_recorder.proofs.MemoryArgumentLaws.{zip_texts}
+use Rattle.vec_recorder.proofs.StopLaws.{not_five}
 use Rattle.vec_recorder.proofs.program.record_options.Goals as goal
 
 pub returns : goal.returns
@@ -34,4 +36,26 @@ returns g c =
       ];
       nothing = c.run_options.ensures.nothing;
       unused = c.run_options.ensures.unused;
+      failed = c.run_options.ensures.failed;
     }
+
+pub returns-in_err-policy-clause-failed : goal.returns-in_err-policy-clause-failed
+returns-in_err-policy-clause-failed g c = not_five _ c.from_residual.result c.in_err-policy.field-0.0 (inl (ap program_status c.in_err-policy.ensures.0)) c.from_residual.ensures.1
+
+pub returns-in_err-ticks-clause-failed : goal.returns-in_err-ticks-clause-failed
+returns-in_err-ticks-clause-failed g c = not_five _ c.from_residual-in_err-ticks.result c.in_err-ticks.field-0.0 (inl (ap program_status c.in_err-ticks.ensures.0)) c.from_residual-in_err-ticks.ensures.1
+
+pub returns-in_err-window-clause-failed : goal.returns-in_err-window-clause-failed
+returns-in_err-window-clause-failed g c = not_five _ c.from_residual-in_err-window.result c.in_err-window.field-0.0 (inl c.in_err-window.ensures.refused) c.from_residual-in_err-window.ensures.1
+
+pub returns-in_err-check_log-clause-failed : goal.returns-in_err-check_log-clause-failed
+returns-in_err-check_log-clause-failed g c = not_five _ c.from_residual-in_err-check_log.result c.in_err-check_log.field-0.0 (inl c.in_err-check_log.ensures) c.from_residual-in_err-check_log.ensures.1
+
+pub returns-in_err-memories-clause-failed : goal.returns-in_err-memories-clause-failed
+returns-in_err-memories-clause-failed g c = not_five _ c.from_residual-in_err-memories.result c.in_err-memories.field-0.0 (elim c.in_err-memories.ensures.refused [ inl none ↦ inr (inr (ap program_status none)) | inr usage ↦ inl usage.0 ]) c.from_residual-in_err-memories.ensures.1
+
+pub returns-in_err-places-clause-failed : goal.returns-in_err-places-clause-failed
+returns-in_err-places-clause-failed g c = not_five _ c.from_residual-in_err-places.result c.in_err-places.field-0.0 (elim c.in_err-places.ensures.refused [ inl none ↦ inr (inr (ap program_status none)) | inr usage ↦ inl usage.0 ]) c.from_residual-in_err-places.ensures.1
+
+pub returns-in_err-check_paths-clause-failed : goal.returns-in_err-check_paths-clause-failed
+returns-in_err-check_paths-clause-failed g c = not_five _ c.from_residual-in_err-check_paths.result c.in_err-check_paths.field-0.0 (inl c.in_err-check_paths.ensures.refused) c.from_residual-in_err-check_paths.ensures.1

@@ -1,9 +1,9 @@
-use Rattle.std.proofs.Common.{[], append-nil, inr, subst}
+use Rattle.std.proofs.Common.{[], append-nil, inl, inr, subst}
 use Rattle.std.specs.Prelude.{option_map}
 use Rattle.recording.specs.Machines.{state_of}
 use Rattle.first_state.specs.OwnMemory.{own_memory}
 use Rattle.vec_recorder.specs.InitialMachine.{StartsFrom}
-use Rattle.vec_recorder.proofs.RunLaws.{nothing_by, unused_by}
+use Rattle.vec_recorder.proofs.StopLaws.{caused_by, not_five, nothing_by, unused_by}
 use Rattle.vec_recorder.proofs.program.run_options.Goals as goal
 
 pub returns : goal.returns
@@ -22,6 +22,7 @@ returns g c =
       printed = inr (record { state = s; begins = begins; run = record { first = _; rest = []; are_first = append-nil _; took = c.in_ok-short.ensures.output } });
       nothing = tt;
       unused = tt;
+      failed = tt;
     }
 
 pub returns-in_err-short-clause-printed : goal.returns-in_err-short-clause-printed
@@ -35,7 +36,16 @@ returns-in_err-short-clause-printed g c =
     })
 
 pub returns-in_err-short-clause-nothing : goal.returns-in_err-short-clause-nothing
-returns-in_err-short-clause-nothing g c = nothing_by g.K.Sink.took _ _ _ _ c.from_residual-in_err-short.result c.in_err-short.ensures.stopped c.from_residual-in_err-short.ensures.1
+returns-in_err-short-clause-nothing g c = nothing_by g.K.Sink.took _ _ _ _ _ c.from_residual-in_err-short.result c.in_err-short.ensures.stopped c.from_residual-in_err-short.ensures.1
 
 pub returns-in_err-short-clause-unused : goal.returns-in_err-short-clause-unused
-returns-in_err-short-clause-unused g c = unused_by g.K.Sink.took _ _ _ _ _ c.from_residual-in_err-short.result c.in_err-short.ensures.stopped c.from_residual-in_err-short.ensures.1
+returns-in_err-short-clause-unused g c = unused_by g.K.Sink.took _ _ _ _ _ _ c.from_residual-in_err-short.result c.in_err-short.ensures.stopped c.from_residual-in_err-short.ensures.1
+
+pub returns-in_err-short-clause-failed : goal.returns-in_err-short-clause-failed
+returns-in_err-short-clause-failed g c = caused_by g.K.Sink.took _ _ _ _ _ c.from_residual-in_err-short.result c.in_err-short.ensures.stopped c.from_residual-in_err-short.ensures.1
+
+pub returns-in_err-machine-clause-failed : goal.returns-in_err-machine-clause-failed
+returns-in_err-machine-clause-failed g c = not_five _ c.from_residual.result c.in_err-machine.field-0.0 (inr c.in_err-machine.ensures.refused) c.from_residual.ensures.1
+
+pub returns-in_err-check_places-clause-failed : goal.returns-in_err-check_places-clause-failed
+returns-in_err-check_places-clause-failed g c = not_five _ c.from_residual-in_err-check_places.result c.in_err-check_places.field-0.0 (inr (inl c.in_err-check_places.ensures)) c.from_residual-in_err-check_places.ensures.1

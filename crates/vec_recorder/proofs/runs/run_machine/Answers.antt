@@ -5,7 +5,8 @@ use Rattle.recording.specs.Machines.{state_of}
 use Rattle.recording.specs.Runs.{ran}
 use Rattle.first_state.specs.OwnMemory.{own_memory}
 use Rattle.vec_recorder.specs.RecordLines.{row_line}
-use Rattle.vec_recorder.proofs.RunLaws.{counted, end_is, passed_on, stopped_late, unstarted, unstarted_by}
+use Rattle.vec_recorder.proofs.RunLaws.{counted, end_is}
+use Rattle.vec_recorder.proofs.StopLaws.{passed_on, some_is, stopped_late, unstarted, unstarted_by, wider_cause}
 use Rattle.vec_recorder.proofs.runs.run_machine.Goals as goal
 
 pub returns-clause-records : goal.returns-clause-records
@@ -34,24 +35,35 @@ returns-clause-records g c =
 
 pub returns-in_err-short-clause-stopped : goal.returns-in_err-short-clause-stopped
 returns-in_err-short-clause-stopped g c =
-    passed_on g.K.Sink.took c.args.asked.logged.ticks (state_of own_memory c.args.machine.now) _ _ c.from_residual.result c.in_err-short.ensures.stopped c.from_residual.ensures.1
+    passed_on g.K.Sink.took c.args.asked.logged.ticks (state_of own_memory c.args.machine.now) _ _ _ c.from_residual.result
+    (wider_cause g.F.Created.Sink.failures refl
+    (λ other. elim other [
+      | inl never ↦ absurd never.1.1
+      | inr changes ↦ inr (inr changes)
+    ]))
+    c.in_err-short.ensures.stopped c.from_residual.ensures.1
 
 pub returns-in_err-counts-clause-stopped : goal.returns-in_err-counts-clause-stopped
 returns-in_err-counts-clause-stopped g c =
-    unstarted_by g.K.Sink.took c.args.asked.logged.ticks (state_of own_memory c.args.machine.now) c.args.output.now c.from_residual-in_err-counts.result (g.met.K.Sink.took_none c.args.output.now)
+    unstarted_by g.K.Sink.took c.args.asked.logged.ticks (state_of own_memory c.args.machine.now) _ c.args.output.now c.from_residual-in_err-counts.result (g.met.K.Sink.took_none c.args.output.now)
     c.from_residual-in_err-counts.ensures.1
 
 pub returns-in_err-counts_file-clause-stopped : goal.returns-in_err-counts_file-clause-stopped
 returns-in_err-counts_file-clause-stopped g c =
     let none = g.met.K.Sink.took_none c.args.output.now in
-    passed_on g.K.Sink.took c.args.asked.logged.ticks (state_of own_memory c.args.machine.now) _ _ c.from_residual-in_err-counts_file.result
-    (unstarted g.K.Sink.took c.args.asked.logged.ticks (state_of own_memory c.args.machine.now) _ c.in_err-counts_file.field-0.0 none (inr (inl c.in_err-counts_file.ensures.refused)))
+    passed_on g.K.Sink.took c.args.asked.logged.ticks (state_of own_memory c.args.machine.now) _ _ _ c.from_residual-in_err-counts_file.result (λ cause. cause)
+    (unstarted g.K.Sink.took c.args.asked.logged.ticks (state_of own_memory c.args.machine.now) _ _ c.in_err-counts_file.field-0.0 none (inl c.in_err-counts_file.ensures.refused)
+    (λ _. inr (inl c.in_err-counts_file.ensures.failed)))
     c.from_residual-in_err-counts_file.ensures.1
 
+-- counts are requested
 pub returns-in_err-end-clause-stopped : goal.returns-in_err-end-clause-stopped
 returns-in_err-end-clause-stopped g c =
-    passed_on g.K.Sink.took c.args.asked.logged.ticks (state_of own_memory c.args.machine.now) _ _ c.from_residual-in_err-end.result c.in_err-end.ensures.stopped c.from_residual-in_err-end.ensures.1
+    passed_on g.K.Sink.took c.args.asked.logged.ticks (state_of own_memory c.args.machine.now) _ _ _ c.from_residual-in_err-end.result
+    (wider_cause g.F.Created.Sink.failures c.in_ok-counts_file.ensures.kept (λ _. inr (inl (some_is _ c.args.asked.counts _ c.in-Some.is))))
+    c.in_err-end.ensures.stopped c.from_residual-in_err-end.ensures.1
 
 pub returns-in_default-write_counts-clause-stopped : goal.returns-in_default-write_counts-clause-stopped
 returns-in_default-write_counts-clause-stopped g c =
-    stopped_late g.K.Sink.took c.args.asked.logged.ticks (state_of own_memory c.args.machine.now) _ _ _ c.in_ok-end.ensures.run.output refl
+    stopped_late g.K.Sink.took c.args.asked.logged.ticks (state_of own_memory c.args.machine.now) _ _ _ _ c.in_ok-end.ensures.run.output refl
+    (inr (inr (inl (c.write_counts.new.file, c.in_default-write_counts.ensures.failed))))

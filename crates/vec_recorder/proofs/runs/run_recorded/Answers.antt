@@ -2,7 +2,8 @@ use Rattle.std.proofs.Common.{inl, inr, refl}
 use Rattle.recording.specs.Machines.{state_of}
 use Rattle.recording.specs.Runs.{ran}
 use Rattle.first_state.specs.OwnMemory.{own_memory}
-use Rattle.vec_recorder.proofs.RunLaws.{end_by_totals, log_printed, passed_on, stopped_by, stopped_late, unstarted, unstarted_by, whole_first}
+use Rattle.vec_recorder.proofs.RunLaws.{end_by_totals, log_printed}
+use Rattle.vec_recorder.proofs.StopLaws.{passed_on, stopped_by, stopped_late, unstarted, unstarted_by, whole_first}
 use Rattle.vec_recorder.proofs.runs.run_recorded.Goals as goal
 
 pub returns-clause-run : goal.returns-clause-run
@@ -35,27 +36,46 @@ returns-clause-log g c =
 
 pub returns-in_err-run_unlogged-clause-stopped : goal.returns-in_err-run_unlogged-clause-stopped
 returns-in_err-run_unlogged-clause-stopped g c =
-    stopped_by g.K.Sink.took c.args.asked.ticks (state_of own_memory c.args.machine.now) _ _ c.in_err-run_unlogged.field-0.0 c.from_residual.result c.in_err-run_unlogged.ensures.part c.from_residual.ensures.1
+    stopped_by g.K.Sink.took c.args.asked.ticks (state_of own_memory c.args.machine.now) _ _ _ c.in_err-run_unlogged.field-0.0 c.from_residual.result c.in_err-run_unlogged.ensures.part
+    (elim c.in_err-run_unlogged.ensures.failed [
+      | inl rose ↦ inl rose
+      | inr last ↦ inr (inr (inr (last.0, (c.in_err-run_unlogged.field-0.0, last.1))))
+    ])
+    c.from_residual.ensures.1
 
 pub returns-in_err-file-clause-stopped : goal.returns-in_err-file-clause-stopped
 returns-in_err-file-clause-stopped g c =
     let none = g.met.K.Sink.took_none c.args.output.now in
-    passed_on g.K.Sink.took c.args.asked.ticks (state_of own_memory c.args.machine.now) _ _ c.from_residual-in_err-file.result
-    (unstarted g.K.Sink.took c.args.asked.ticks (state_of own_memory c.args.machine.now) _ c.in_err-file.field-0.0 none (inr (inl c.in_err-file.ensures.refused))) c.from_residual-in_err-file.ensures.1
+    passed_on g.K.Sink.took c.args.asked.ticks (state_of own_memory c.args.machine.now) _ _ _ c.from_residual-in_err-file.result (λ cause. cause)
+    (unstarted g.K.Sink.took c.args.asked.ticks (state_of own_memory c.args.machine.now) _ _ c.in_err-file.field-0.0 none (inl c.in_err-file.ensures.refused) (λ _. inr (inl c.in_err-file.ensures.failed)))
+    c.from_residual-in_err-file.ensures.1
 
 pub returns-in_err-log-clause-stopped : goal.returns-in_err-log-clause-stopped
 returns-in_err-log-clause-stopped g c =
-    unstarted_by g.K.Sink.took c.args.asked.ticks (state_of own_memory c.args.machine.now) c.args.output.now c.from_residual-in_err-log.result (g.met.K.Sink.took_none c.args.output.now) c.from_residual-in_err-log.ensures.1
+    unstarted_by g.K.Sink.took c.args.asked.ticks (state_of own_memory c.args.machine.now) _ c.args.output.now c.from_residual-in_err-log.result (g.met.K.Sink.took_none c.args.output.now) c.from_residual-in_err-log.ensures.1
 
 pub returns-in_err-end-clause-stopped : goal.returns-in_err-end-clause-stopped
 returns-in_err-end-clause-stopped g c =
-    stopped_by g.K.Sink.took c.args.asked.ticks (state_of own_memory c.args.machine.now) _ _ c.in_err-end.field-0.0 c.from_residual-in_err-end.result c.in_err-end.ensures.part c.from_residual-in_err-end.ensures.1
+    stopped_by g.K.Sink.took c.args.asked.ticks (state_of own_memory c.args.machine.now) _ _ _ c.in_err-end.field-0.0 c.from_residual-in_err-end.result c.in_err-end.ensures.part
+    (elim c.in_err-end.ensures.failed [
+      | inl rose ↦ inl rose
+      | inr last ↦ elim last [
+        | inl first ↦ inr (inr (inr (c.run.new.recorder.first, (c.in_err-end.field-0.0, first))))
+        | inr second ↦ elim second [
+          | inl never ↦ absurd never
+          | inr write ↦ inr (inr (inl (c.run.new.recorder.second.second.sink, write)))
+        ]
+      ]
+    ])
+    c.from_residual-in_err-end.ensures.1
 
 pub returns-in_err-finish-clause-stopped : goal.returns-in_err-finish-clause-stopped
 returns-in_err-finish-clause-stopped g c =
     let s = state_of own_memory c.args.machine.now in
-    stopped_by g.K.Sink.took c.args.asked.ticks s _ _ c.in_err-finish.field-0.0 c.from_residual-in_err-finish.result (whole_first g.K.Sink.took c.args.asked.ticks s _ _ c.in_ok-end.ensures.output)
-    c.from_residual-in_err-finish.ensures.1
+    stopped_by g.K.Sink.took c.args.asked.ticks s _ _ _ c.in_err-finish.field-0.0 c.from_residual-in_err-finish.result (whole_first g.K.Sink.took c.args.asked.ticks s _ _ c.in_ok-end.ensures.output)
+    (inr (inr (inl (c.finish.new.self.sink, c.in_err-finish.ensures.failed)))) c.from_residual-in_err-finish.ensures.1
 
 pub returns-in_default-write_last-clause-stopped : goal.returns-in_default-write_last-clause-stopped
-returns-in_default-write_last-clause-stopped g c = stopped_late g.K.Sink.took c.args.asked.ticks (state_of own_memory c.args.machine.now) _ _ _ c.in_ok-end.ensures.output refl
+returns-in_default-write_last-clause-stopped g c =
+    stopped_late g.K.Sink.took c.args.asked.ticks (state_of own_memory c.args.machine.now) _ _ _ _ c.in_ok-end.ensures.output refl
+    (inr (inr (inl (c.write_last.new.sink, c.in_default-write_last.ensures.failed))))

@@ -2,7 +2,8 @@ use Rattle.std.proofs.Common.{ap, inl, inr, refl}
 use Rattle.recording.specs.Machines.{state_of}
 use Rattle.recording.specs.Runs.{ran}
 use Rattle.first_state.specs.OwnMemory.{own_memory}
-use Rattle.vec_recorder.proofs.RunLaws.{changes_printed, end_by_totals, passed_on, stopped_late, unstarted, unstarted_by}
+use Rattle.vec_recorder.proofs.RunLaws.{changes_printed, end_by_totals}
+use Rattle.vec_recorder.proofs.StopLaws.{passed_on, some_is, stopped_late, unstarted, unstarted_by, widened, wider_cause}
 use Rattle.vec_recorder.proofs.runs.run_watched.Goals as goal
 
 pub returns-clause-changes : goal.returns-clause-changes
@@ -25,21 +26,35 @@ returns-clause-changes g c =
           c.in-Ok.ensures.text;
     })
 
+pub returns-in_default-clause-stopped : goal.returns-in_default-clause-stopped
+returns-in_default-clause-stopped g c =
+    widened g.K.Sink.took c.args.asked.logged.ticks (state_of own_memory c.args.machine.now) _ _ _ c.run_recorded.result
+    (wider_cause g.F.Created.Sink.failures refl (λ last. inr (inl last))) c.run_recorded.ensures.stopped
+
 pub returns-in_err-file-clause-stopped : goal.returns-in_err-file-clause-stopped
 returns-in_err-file-clause-stopped g c =
     let none = g.met.K.Sink.took_none c.args.output.now in
-    passed_on g.K.Sink.took c.args.asked.logged.ticks (state_of own_memory c.args.machine.now) _ _ c.from_residual.result
-    (unstarted g.K.Sink.took c.args.asked.logged.ticks (state_of own_memory c.args.machine.now) _ c.in_err-file.field-0.0 none (inr (inl c.in_err-file.ensures.refused))) c.from_residual.ensures.1
+    passed_on g.K.Sink.took c.args.asked.logged.ticks (state_of own_memory c.args.machine.now) _ _ _ c.from_residual.result (λ cause. cause)
+    (unstarted g.K.Sink.took c.args.asked.logged.ticks (state_of own_memory c.args.machine.now) _ _ c.in_err-file.field-0.0 none (inl c.in_err-file.ensures.refused) (λ _. inr (inl c.in_err-file.ensures.failed)))
+    c.from_residual.ensures.1
 
 pub returns-in_err-changes-clause-stopped : goal.returns-in_err-changes-clause-stopped
 returns-in_err-changes-clause-stopped g c =
-    unstarted_by g.K.Sink.took c.args.asked.logged.ticks (state_of own_memory c.args.machine.now) c.args.output.now c.from_residual-in_err-changes.result (g.met.K.Sink.took_none c.args.output.now)
+    unstarted_by g.K.Sink.took c.args.asked.logged.ticks (state_of own_memory c.args.machine.now) _ c.args.output.now c.from_residual-in_err-changes.result (g.met.K.Sink.took_none c.args.output.now)
     c.from_residual-in_err-changes.ensures.1
 
+-- a recorder of the pair: the caller's, or the changes, which are requested
 pub returns-in_err-end-clause-stopped : goal.returns-in_err-end-clause-stopped
 returns-in_err-end-clause-stopped g c =
-    passed_on g.K.Sink.took c.args.asked.logged.ticks (state_of own_memory c.args.machine.now) _ _ c.from_residual-in_err-end.result c.in_err-end.ensures.stopped c.from_residual-in_err-end.ensures.1
+    passed_on g.K.Sink.took c.args.asked.logged.ticks (state_of own_memory c.args.machine.now) _ _ _ c.from_residual-in_err-end.result
+    (wider_cause g.F.Created.Sink.failures c.in_ok-file.ensures.kept
+    (λ last. elim last.1.1 [
+      | inl first ↦ inr (inl (last.0.first, (last.1.0, first)))
+      | inr second ↦ inr (inr (some_is _ c.args.asked.changes _ c.in-Some.is))
+    ]))
+    c.in_err-end.ensures.stopped c.from_residual-in_err-end.ensures.1
 
 pub returns-in_default-write_last-clause-stopped : goal.returns-in_default-write_last-clause-stopped
 returns-in_default-write_last-clause-stopped g c =
-    stopped_late g.K.Sink.took c.args.asked.logged.ticks (state_of own_memory c.args.machine.now) _ _ _ c.in_ok-end.ensures.run.output refl
+    stopped_late g.K.Sink.took c.args.asked.logged.ticks (state_of own_memory c.args.machine.now) _ _ _ _ c.in_ok-end.ensures.run.output refl
+    (inr (inr (inl (c.write_last.new.sink, c.in_default-write_last.ensures.failed))))
