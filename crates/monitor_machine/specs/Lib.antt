@@ -1,4 +1,3 @@
-pub mod AddressSets
 pub mod Addressees
 pub mod Images
 pub mod UserAdapters

@@ -13,17 +13,14 @@ pub(crate) struct AddressSet {
 
 impl Model for AddressSet {
     ghost use Rattle.std.specs.Prelude.{List, ℕ};
-    ghost use Rattle.monitor_machine.specs.AddressSets.{IsRising};
 
     ghost Value = { List ℕ };
 
     ghost view = { λ s. s.addresses.items };
-
-    ghost invariant = { λ s. IsRising s.addresses.items };
 }
 
 impl AddressSet {
-    ghost use Rattle.std.specs.Prelude.{◌≡◌, ◌≤◌, ◌<◌, ◌==◌, nat_le, [], length};
+    ghost use Rattle.std.specs.Prelude.{◌≡◌, ◌≤◌, ◌<◌, ◌==◌, nat_le, nat_lt, [], filter, length};
     ghost use Rattle.std.specs.List.{list_any};
     ghost use Rattle.rv_model.specs.commands.Breakpoints.{breakpoint_limit, with_address, without_address};
 
@@ -58,23 +55,32 @@ impl AddressSet {
         self.addresses.is_full()
     }
 
+    /// Return the addresses above an address, in ascending order.
+    fn above(&self, addr: u64) -> ArrayVec<u64, MAX_ADDRESSES>
+        ensures { result.items ≡ filter (λ a. nat_lt addr a) self.now }
+    {
+        let mut above = ArrayVec::new();
+        let _ = above.try_extend_from_slice(self.as_slice());
+        above.retain(|other| *other > addr);
+        above
+    }
+
     /// Add an address, unless the set contains it.
     pub(crate) fn insert(&mut self, addr: u64)
         requires { length self.old < breakpoint_limit }
         ensures { self.new ≡ with_address addr self.old }
     {
-        if let Err(place) = self.addresses.as_slice().binary_search(&addr) {
-            self.addresses.insert(place, addr);
-        }
+        let above = self.above(addr);
+        self.addresses.retain(|other| *other < addr);
+        self.addresses.push(addr);
+        let _ = self.addresses.try_extend_from_slice(above.as_slice());
     }
 
     /// Remove an address, if the set contains it.
     pub(crate) fn remove(&mut self, addr: u64)
         ensures { self.new ≡ without_address addr self.old }
     {
-        if let Ok(place) = self.addresses.as_slice().binary_search(&addr) {
-            self.addresses.remove(place);
-        }
+        self.addresses.retain(|other| *other != addr);
     }
 
     /// Return the addresses, in ascending order.

@@ -1,21 +1,21 @@
-use Rattle.std.proofs.Common.{◌≡◌, sym, ◌∙◌, ap, subst}
+use Rattle.std.proofs.Common.{◌∷◌, ◌++◌, [], ◌∙◌, ap, ap₂, append_assoc, arith, filter, length, nat_lt, rules}
+use Rattle.arrayvec.proofs.ArrayVecLemmas.{filter-from_retain}
 use Rattle.rv_model.specs.commands.Breakpoints.{with_address}
-use Rattle.monitor_machine.specs.AddressSets.{IsRising}
-use Rattle.monitor_machine.proofs.AddressLaws.{with_present, with_absent, rising_with}
+use Rattle.monitor_machine.proofs.AddressLaws.{of_ok, parts_fit}
 use Rattle.monitor_machine.proofs.address_set.AddressSet.insert.Goals as goal
 
-inserted : (c : goal.After-insert) → with_address c.args.addr c.self.inside.addresses.items ≡ c.insert.new.self.items
-inserted c =
-    let gap = rw c.as_slice.ensures.value at c.in-Err.ensures in
-    with_absent c.self.inside.addresses.items c.self.invariant c.args.addr c.in-Err.place gap.bound gap.position ∙ sym c.insert.ensures.items
-
-pub invariant_of-self : goal.invariant_of-self
-invariant_of-self c = subst IsRising (inserted c) (rising_with c.args.addr c.self.inside.addresses.items c.self.invariant)
-
-pub returns-in-Err : goal.returns-in-Err
-returns-in-Err c = sym (inserted c) ∙ ap (with_address c.args.addr) c.self.view_is
-
-pub returns-in_default : goal.returns-in_default
-returns-in_default c =
-    let place = rw c.as_slice.ensures.value at c.in_default.ensures in
-    rw (← c.self.view_is) (sym (with_present c.self.inside.addresses.items c.self.invariant c.args.addr c.in_default.field-0 place.bound place.position))
+pub returns : goal.returns
+unfolding with_address
+returns c =
+    let addr = c.args.addr in
+    let old = c.self.inside.addresses.items in
+    let below = filter-from_retain _ (λ a. nat_lt a addr) _ (λ x b f' y called. search rules) _ _ c.retain.ensures.filtered in
+    let above = c.as_slice.ensures.value ∙ c.above-above.ensures in
+    let same = ap (λ xs. length (filter (λ a. nat_lt addr a) xs)) c.self.view_is in
+    of_ok c.try_extend_from_slice.result _
+    (c.try_extend_from_slice.ensures.variant.1
+    (omega (arith, parts_fit addr old, ap length below, ap length above, ap length c.push.ensures.items, same, ap length c.self.view_is, c.requires)))
+    c.try_extend_from_slice.ensures.ok
+    ∙ ap₂ (λ xs ys. xs ++ ys) (c.push.ensures.items ∙ ap (λ xs. xs ++ addr ∷ []) below) above
+    ∙ append_assoc (filter (λ a. nat_lt a addr) old) (addr ∷ []) _
+    ∙ ap (λ xs. filter (λ a. nat_lt a addr) xs ++ addr ∷ filter (λ a. nat_lt addr a) c.args.self.now) c.self.view_is
