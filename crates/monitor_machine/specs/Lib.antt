@@ -1,4 +1,5 @@
 pub mod Addressees
+pub mod CommandOutcomes
 pub mod Images
 pub mod UserAdapters
 pub mod Lent

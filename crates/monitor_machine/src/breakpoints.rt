@@ -1,10 +1,7 @@
 //! Execution of commands on breakpoints.
-ghost use Rattle.std.specs.Prelude.{◌≡◌, ◌+◌, ℕ, List, Some};
-ghost use Rattle.rv_model.specs.declared.vector.state.VState.{VState};
+ghost use Rattle.std.specs.Prelude.{◌≡◌};
 ghost use Rattle.rv_model.specs.commands.Breakpoints.{breakpoint_command, removes_breakpoint, sets_breakpoint};
-ghost use Rattle.rv_model.specs.memory.Memory.{Memory};
-ghost use Rattle.rv_model.specs.text.Lines.{text};
-ghost use Rattle.monitor_machine.specs.Parts.{present};
+ghost use Rattle.monitor_machine.specs.CommandOutcomes.{LeavesContext, PrintsFromContext};
 
 use crate::answers::{accept, refuse};
 use crate::context::Context;
@@ -19,12 +16,9 @@ pub(crate) fn execute(
     command: &BreakpointCommand,
     reply: &mut Reply,
 )
-    ensures next { (trace : List ℕ) (vector : VState) (memory : Memory)
-        → (breakpoint_command command.now (present context.old trace vector memory)).next
-        ≡ Some (present context.new trace vector memory) }
+    ensures next { LeavesContext (breakpoint_command command.now) context.old context.new }
     ensures entered { context.new.entered ≡ context.old.entered }
-    ensures reply { (trace : List ℕ) (vector : VState) (memory : Memory) → reply.new
-        ≡ text (48 + user) (breakpoint_command command.now (present context.old trace vector memory)).lines }
+    ensures reply { PrintsFromContext (breakpoint_command command.now) context.old user reply.new }
 {
     match command {
         BreakpointCommand::Break(addr) => set(context, user, *addr, reply),
@@ -38,12 +32,9 @@ pub(crate) fn execute(
 
 /// `break`: set a breakpoint, if there are fewer than 16 and none is at this address.
 fn set(context: &mut Context, user: User, addr: u64, reply: &mut Reply)
-    ensures next { (trace : List ℕ) (vector : VState) (memory : Memory)
-        → (sets_breakpoint addr (present context.old trace vector memory)).next
-        ≡ Some (present context.new trace vector memory) }
+    ensures next { LeavesContext (sets_breakpoint addr) context.old context.new }
     ensures entered { context.new.entered ≡ context.old.entered }
-    ensures reply { (trace : List ℕ) (vector : VState) (memory : Memory) → reply.new
-        ≡ text (48 + user) (sets_breakpoint addr (present context.old trace vector memory)).lines }
+    ensures reply { PrintsFromContext (sets_breakpoint addr) context.old user reply.new }
 {
     if context.breakpoints.is_full() {
         refuse(reply, user, Refusal::BreakpointLimit);
@@ -57,12 +48,9 @@ fn set(context: &mut Context, user: User, addr: u64, reply: &mut Reply)
 
 /// `unbreak`: remove the breakpoint at this address, if there is one.
 fn remove(context: &mut Context, user: User, addr: u64, reply: &mut Reply)
-    ensures next { (trace : List ℕ) (vector : VState) (memory : Memory)
-        → (removes_breakpoint addr (present context.old trace vector memory)).next
-        ≡ Some (present context.new trace vector memory) }
+    ensures next { LeavesContext (removes_breakpoint addr) context.old context.new }
     ensures entered { context.new.entered ≡ context.old.entered }
-    ensures reply { (trace : List ℕ) (vector : VState) (memory : Memory) → reply.new
-        ≡ text (48 + user) (removes_breakpoint addr (present context.old trace vector memory)).lines }
+    ensures reply { PrintsFromContext (removes_breakpoint addr) context.old user reply.new }
 {
     if context.breakpoints.contains(addr) {
         context.breakpoints.remove(addr);

@@ -5,7 +5,8 @@ ghost use Rattle.rv_model.specs.commands.Commands.{command_outcome, needs_stoppe
 ghost use Rattle.rv_model.specs.machine.VectorUnit.{unit_after_uses};
 ghost use Rattle.rv_model.specs.text.Lines.{text};
 ghost use Rattle.monitor_machine.specs.Images.{named_images};
-ghost use Rattle.monitor_machine.specs.PartMoves.{PartsMove, machine_of, present_of};
+ghost use Rattle.monitor_machine.specs.PartMoves.{PartsMove, machine_of};
+ghost use Rattle.monitor_machine.specs.CommandOutcomes.{LeavesParts, MovesParts, PrintsFromParts};
 
 use crate::answers::refuse;
 use crate::image::Image;
@@ -84,13 +85,9 @@ fn execute_present<A: Allocator>(
     reply: &mut Reply,
 )
     requires present { parts.old.context.now.entered ≡ true }
-    ensures next { machine_of parts.new trace.new
-        ≡ (of_present (named_images images.now) cmd.now (present_of parts.old trace.old)).next }
-    ensures parts { PartsMove parts.old parts.new (unit_after_uses parts.old.user
-        (of_present (named_images images.now) cmd.now (present_of parts.old trace.old)).uses
-        (record_of parts.old.unit.now)) }
-    ensures reply { reply.new ≡ text (48 + parts.old.user)
-        (of_present (named_images images.now) cmd.now (present_of parts.old trace.old)).lines }
+    ensures next { LeavesParts (of_present (named_images images.now) cmd.now) parts.old trace.old parts.new trace.new }
+    ensures parts { MovesParts (of_present (named_images images.now) cmd.now) parts.old trace.old parts.new }
+    ensures reply { PrintsFromParts (of_present (named_images images.now) cmd.now) parts.old trace.old reply.new }
 {
     let user = parts.user;
     match cmd {

@@ -4,7 +4,8 @@ ghost use Rattle.lazy_context.specs.LazyUnit.{record_of};
 ghost use Rattle.rv_model.specs.commands.Entering.{entering_absent, entering};
 ghost use Rattle.rv_model.specs.machine.VectorUnit.{unit_after_uses};
 ghost use Rattle.rv_model.specs.text.Lines.{text};
-ghost use Rattle.monitor_machine.specs.PartMoves.{PartsMove, machine_of, present_of};
+ghost use Rattle.monitor_machine.specs.PartMoves.{PartsMove, machine_of};
+ghost use Rattle.monitor_machine.specs.CommandOutcomes.{LeavesParts, MovesParts, PrintsFromParts};
 
 use crate::answers::refuse;
 use crate::context::Context;
@@ -54,11 +55,9 @@ pub(crate) fn execute<A: Allocator>(
     reply: &mut Reply,
 )
     requires present { parts.old.context.now.entered ≡ true }
-    ensures next { machine_of parts.new trace.now ≡ (entering command (present_of parts.old trace.now)).next }
-    ensures parts { PartsMove parts.old parts.new (unit_after_uses parts.old.user
-        (entering command (present_of parts.old trace.now)).uses (record_of parts.old.unit.now)) }
-    ensures reply { reply.new
-        ≡ text (48 + parts.old.user) (entering command (present_of parts.old trace.now)).lines }
+    ensures next { LeavesParts (entering command) parts.old trace.now parts.new trace.now }
+    ensures parts { MovesParts (entering command) parts.old trace.now parts.new }
+    ensures reply { PrintsFromParts (entering command) parts.old trace.now reply.new }
 {
     let user = parts.user;
     match command {

@@ -1,11 +1,8 @@
 //! Execution of commands on a user's memory.
-ghost use Rattle.std.specs.Prelude.{◌≡◌, ◌+◌, ◌≤◌, Some, length, List, ℕ};
-ghost use Rattle.rv_model.specs.declared.vector.state.VState.{VState};
+ghost use Rattle.std.specs.Prelude.{◌≡◌, ◌≤◌, length};
 ghost use Rattle.rv_model.specs.commands.Memory.{why_not_mapped as reason_of, maps, pokes, peeks, memory_command};
-ghost use Rattle.rv_model.specs.text.Lines.{text};
 ghost use Rattle.user_mem.specs.Users.{memory_of_user, with_memory};
-ghost use Rattle.monitor_machine.specs.declared.context.Context.{Context};
-ghost use Rattle.monitor_machine.specs.Parts.{present};
+ghost use Rattle.monitor_machine.specs.CommandOutcomes.{LeavesMemory, PrintsFromMemory};
 
 use crate::answers::{accept, refuse};
 use crate::user_adapters::memory_law;
@@ -27,12 +24,9 @@ pub(crate) fn execute<A: Allocator>(
     command: &MemoryCommand,
     reply: &mut Reply,
 )
-    ensures next { (c : Context) (trace : List ℕ) (vector : VState)
-        → (memory_command command.now (present c trace vector (memory_of_user pool.old user))).next
-        ≡ Some (present c trace vector (memory_of_user pool.new user)) }
+    ensures next { LeavesMemory (memory_command command.now) pool.old pool.new user }
     ensures others { pool.new ≡ with_memory pool.old user (memory_of_user pool.new user) }
-    ensures reply { (c : Context) (trace : List ℕ) (vector : VState) → reply.new
-        ≡ text (48 + user) (memory_command command.now (present c trace vector (memory_of_user pool.old user))).lines }
+    ensures reply { PrintsFromMemory (memory_command command.now) pool.old user reply.new }
 {
     match command {
         MemoryCommand::Map { pages, permissions } => map(pool, user, *pages, *permissions, reply),
@@ -60,12 +54,9 @@ fn map<A: Allocator>(
     permissions: Permissions,
     reply: &mut Reply,
 )
-    ensures next { (c : Context) (trace : List ℕ) (vector : VState)
-        → (maps pages permissions (present c trace vector (memory_of_user pool.old user))).next
-        ≡ Some (present c trace vector (memory_of_user pool.new user)) }
+    ensures next { LeavesMemory (maps pages permissions) pool.old pool.new user }
     ensures others { pool.new ≡ with_memory pool.old user (memory_of_user pool.new user) }
-    ensures reply { (c : Context) (trace : List ℕ) (vector : VState) → reply.new
-        ≡ text (48 + user) (maps pages permissions (present c trace vector (memory_of_user pool.old user))).lines }
+    ensures reply { PrintsFromMemory (maps pages permissions) pool.old user reply.new }
 {
     // For the proof alone: the pool has a memory of the user.
     memory_law(&*pool, user);
@@ -84,12 +75,9 @@ fn poke<A: Allocator>(
     bytes: &ByteString,
     reply: &mut Reply,
 )
-    ensures next { (c : Context) (trace : List ℕ) (vector : VState)
-        → (pokes addr bytes.now (present c trace vector (memory_of_user pool.old user))).next
-        ≡ Some (present c trace vector (memory_of_user pool.new user)) }
+    ensures next { LeavesMemory (pokes addr bytes.now) pool.old pool.new user }
     ensures others { pool.new ≡ with_memory pool.old user (memory_of_user pool.new user) }
-    ensures reply { (c : Context) (trace : List ℕ) (vector : VState) → reply.new
-        ≡ text (48 + user) (pokes addr bytes.now (present c trace vector (memory_of_user pool.old user))).lines }
+    ensures reply { PrintsFromMemory (pokes addr bytes.now) pool.old user reply.new }
 {
     // For the proof alone: the pool has a memory of the user.
     memory_law(&*pool, user);
@@ -109,12 +97,8 @@ fn show_bytes<A: Allocator>(
     reply: &mut Reply,
 )
     requires few { length buffer.old ≤ 256 }
-    ensures next { (c : Context) (trace : List ℕ) (vector : VState)
-        → (peeks addr (length buffer.old) (present c trace vector (memory_of_user pool.now user))).next
-        ≡ Some (present c trace vector (memory_of_user pool.now user)) }
-    ensures reply { (c : Context) (trace : List ℕ) (vector : VState) → reply.new
-        ≡ text (48 + user) (peeks addr (length buffer.old)
-        (present c trace vector (memory_of_user pool.now user))).lines }
+    ensures next { LeavesMemory (peeks addr (length buffer.old)) pool.now pool.now user }
+    ensures reply { PrintsFromMemory (peeks addr (length buffer.old)) pool.now user reply.new }
 {
     match pool.read(user, addr, Access::Monitor, buffer) {
         Ok(()) => {
@@ -133,11 +117,8 @@ fn peek<A: Allocator>(
     count: Count<MAX_SHOWN>,
     reply: &mut Reply,
 )
-    ensures next { (c : Context) (trace : List ℕ) (vector : VState)
-        → (peeks addr count (present c trace vector (memory_of_user pool.now user))).next
-        ≡ Some (present c trace vector (memory_of_user pool.now user)) }
-    ensures reply { (c : Context) (trace : List ℕ) (vector : VState) → reply.new
-        ≡ text (48 + user) (peeks addr count (present c trace vector (memory_of_user pool.now user))).lines }
+    ensures next { LeavesMemory (peeks addr count) pool.now pool.now user }
+    ensures reply { PrintsFromMemory (peeks addr count) pool.now user reply.new }
 {
     let mut buffer = [0; MAX_SHOWN];
     show_bytes(pool, user, addr, &mut buffer[..count.get()], reply);

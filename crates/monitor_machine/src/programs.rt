@@ -1,8 +1,6 @@
 //! Execution of commands on programs in a user's memory.
-ghost use Rattle.std.specs.Prelude.{◌≡◌, ◌+◌, ◌*◌, ◌≤◌, Some, None, true, length, List, ℕ, MatchOption};
+ghost use Rattle.std.specs.Prelude.{◌≡◌, ◌*◌, ◌≤◌, Some, None, true, length, MatchOption};
 ghost use Rattle.std.specs.Int.{to_le_bytes, w32};
-ghost use Rattle.lazy_context.specs.LazyUnit.{record_of};
-ghost use Rattle.rv_model.specs.declared.vector.state.VState.{VState};
 ghost use Rattle.rv_model.specs.declared.memory.Access.TheVariants.{Monitor};
 ghost use Rattle.rv_model.specs.images.Faults.{first_fault};
 ghost use Rattle.rv_model.specs.memory.Memory.{can_access, put_bytes};
@@ -14,13 +12,10 @@ ghost use Rattle.rv_model.specs.commands.Programs.{
   shows_instructions,
   program_command,
 };
-ghost use Rattle.rv_model.specs.machine.VectorUnit.{unit_after_uses};
-ghost use Rattle.rv_model.specs.text.Lines.{text};
 ghost use Rattle.user_mem.specs.Users.{memory_of_user, with_memory};
-ghost use Rattle.monitor_machine.specs.declared.context.Context.{Context};
 ghost use Rattle.monitor_machine.specs.Images.{named_images};
-ghost use Rattle.monitor_machine.specs.PartMoves.{PartsMove, machine_of, present_of};
 ghost use Rattle.monitor_machine.specs.Parts.{present};
+ghost use Rattle.monitor_machine.specs.CommandOutcomes.{LeavesMemory, LeavesParts, MovesParts, PrintsFromMemory, PrintsFromParts};
 
 use crate::answers::refuse;
 use crate::context::Context;
@@ -51,13 +46,9 @@ pub(crate) fn execute<A: Allocator>(
     reply: &mut Reply,
 )
     requires present { parts.old.context.now.entered ≡ true }
-    ensures next { machine_of parts.new trace.new
-        ≡ (program_command (named_images images.now) command.now (present_of parts.old trace.old)).next }
-    ensures parts { PartsMove parts.old parts.new (unit_after_uses parts.old.user
-        (program_command (named_images images.now) command.now (present_of parts.old trace.old)).uses
-        (record_of parts.old.unit.now)) }
-    ensures reply { reply.new ≡ text (48 + parts.old.user)
-        (program_command (named_images images.now) command.now (present_of parts.old trace.old)).lines }
+    ensures next { LeavesParts (program_command (named_images images.now) command.now) parts.old trace.old parts.new trace.new }
+    ensures parts { MovesParts (program_command (named_images images.now) command.now) parts.old trace.old parts.new }
+    ensures reply { PrintsFromParts (program_command (named_images images.now) command.now) parts.old trace.old reply.new }
 {
     let user = parts.user;
     match command {
@@ -91,13 +82,9 @@ fn assemble_at<A: Allocator>(
     instruction: &LinePart<'_>,
     reply: &mut Reply,
 )
-    ensures next { (c : Context) (trace : List ℕ) (vector : VState)
-        → (assembles addr instruction.now (present c trace vector (memory_of_user pool.old user))).next
-        ≡ Some (present c trace vector (memory_of_user pool.new user)) }
+    ensures next { LeavesMemory (assembles addr instruction.now) pool.old pool.new user }
     ensures others { pool.new ≡ with_memory pool.old user (memory_of_user pool.new user) }
-    ensures reply { (c : Context) (trace : List ℕ) (vector : VState) → reply.new
-        ≡ text (48 + user) (assembles addr instruction.now
-        (present c trace vector (memory_of_user pool.old user))).lines }
+    ensures reply { PrintsFromMemory (assembles addr instruction.now) pool.old user reply.new }
 {
     // For the proof alone: the pool has a memory of the user.
     memory_law(&*pool, user);
@@ -127,12 +114,8 @@ fn show_words<A: Allocator>(
 )
     requires few { count ≤ 16 }
     requires size { length buffer.old ≡ 4 * count }
-    ensures next { (c : Context) (trace : List ℕ) (vector : VState)
-        → (shows_instructions addr count (present c trace vector (memory_of_user pool.now user))).next
-        ≡ Some (present c trace vector (memory_of_user pool.now user)) }
-    ensures reply { (c : Context) (trace : List ℕ) (vector : VState) → reply.new
-        ≡ text (48 + user) (shows_instructions addr count
-        (present c trace vector (memory_of_user pool.now user))).lines }
+    ensures next { LeavesMemory (shows_instructions addr count) pool.now pool.now user }
+    ensures reply { PrintsFromMemory (shows_instructions addr count) pool.now user reply.new }
 {
     match pool.read(user, addr, Access::Monitor, buffer) {
         Ok(()) => {
@@ -152,12 +135,8 @@ fn show_instructions<A: Allocator>(
     count: Count<MAX_SHOWN>,
     reply: &mut Reply,
 )
-    ensures next { (c : Context) (trace : List ℕ) (vector : VState)
-        → (shows_instructions addr count (present c trace vector (memory_of_user pool.now user))).next
-        ≡ Some (present c trace vector (memory_of_user pool.now user)) }
-    ensures reply { (c : Context) (trace : List ℕ) (vector : VState) → reply.new
-        ≡ text (48 + user) (shows_instructions addr count
-        (present c trace vector (memory_of_user pool.now user))).lines }
+    ensures next { LeavesMemory (shows_instructions addr count) pool.now pool.now user }
+    ensures reply { PrintsFromMemory (shows_instructions addr count) pool.now user reply.new }
 {
     let count = count.get();
     let mut buffer = [0; MAX_SHOWN * WORD_SIZE];
@@ -194,11 +173,9 @@ fn load_plan<A: Allocator>(
 )
     requires sound { first_fault plan.now ≡ None }
     requires present { parts.old.context.now.entered ≡ true }
-    ensures next { machine_of parts.new trace.new ≡ (loading plan.now None (present_of parts.old trace.old)).next }
-    ensures parts { PartsMove parts.old parts.new (unit_after_uses parts.old.user
-        (loading plan.now None (present_of parts.old trace.old)).uses (record_of parts.old.unit.now)) }
-    ensures reply { reply.new
-        ≡ text (48 + parts.old.user) (loading plan.now None (present_of parts.old trace.old)).lines }
+    ensures next { LeavesParts (loading plan.now None) parts.old trace.old parts.new trace.new }
+    ensures parts { MovesParts (loading plan.now None) parts.old trace.old parts.new }
+    ensures reply { PrintsFromParts (loading plan.now None) parts.old trace.old reply.new }
 {
     let user = parts.user;
     // For the proof alone: the pool has a memory of the user.
@@ -226,13 +203,9 @@ fn load<A: Allocator>(
     reply: &mut Reply,
 )
     requires present { parts.old.context.now.entered ≡ true }
-    ensures next { machine_of parts.new trace.new
-        ≡ (loads (named_images images.now) name.now (present_of parts.old trace.old)).next }
-    ensures parts { PartsMove parts.old parts.new (unit_after_uses parts.old.user
-        (loads (named_images images.now) name.now (present_of parts.old trace.old)).uses
-        (record_of parts.old.unit.now)) }
-    ensures reply { reply.new ≡ text (48 + parts.old.user)
-        (loads (named_images images.now) name.now (present_of parts.old trace.old)).lines }
+    ensures next { LeavesParts (loads (named_images images.now) name.now) parts.old trace.old parts.new trace.new }
+    ensures parts { MovesParts (loads (named_images images.now) name.now) parts.old trace.old parts.new }
+    ensures reply { PrintsFromParts (loads (named_images images.now) name.now) parts.old trace.old reply.new }
 {
     let Some(image) = image_named(images, name.as_slice()) else {
         refuse(reply, parts.user, Refusal::ImageName);

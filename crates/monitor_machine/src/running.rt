@@ -1,14 +1,9 @@
 //! Execution of commands that run instructions, and of commands that show a program's state and
 //! output.
-ghost use Rattle.std.specs.Prelude.{◌≡◌, ◌+◌, ℕ, List, Some, true};
-ghost use Rattle.lazy_context.specs.LazyUnit.{record_of};
-ghost use Rattle.rv_model.specs.declared.vector.state.VState.{VState};
+ghost use Rattle.std.specs.Prelude.{◌≡◌, true};
 ghost use Rattle.rv_model.specs.commands.Running.{halts, running_command};
-ghost use Rattle.rv_model.specs.machine.VectorUnit.{unit_after_uses};
-ghost use Rattle.rv_model.specs.memory.Memory.{Memory};
-ghost use Rattle.rv_model.specs.text.Lines.{text};
-ghost use Rattle.monitor_machine.specs.PartMoves.{PartsMove, machine_of, present_of};
 ghost use Rattle.monitor_machine.specs.Parts.{present};
+ghost use Rattle.monitor_machine.specs.CommandOutcomes.{LeavesContext, LeavesParts, MovesParts, PrintsFromContext, PrintsFromParts};
 
 use crate::answers::refuse;
 use crate::context::Context;
@@ -29,12 +24,9 @@ pub(crate) fn execute<A: Allocator>(
     reply: &mut Reply,
 )
     requires present { parts.old.context.now.entered ≡ true }
-    ensures next { machine_of parts.new trace.new
-        ≡ (running_command command.now (present_of parts.old trace.old)).next }
-    ensures parts { PartsMove parts.old parts.new (unit_after_uses parts.old.user
-        (running_command command.now (present_of parts.old trace.old)).uses (record_of parts.old.unit.now)) }
-    ensures reply { reply.new ≡ text (48 + parts.old.user)
-        (running_command command.now (present_of parts.old trace.old)).lines }
+    ensures next { LeavesParts (running_command command.now) parts.old trace.old parts.new trace.new }
+    ensures parts { MovesParts (running_command command.now) parts.old trace.old parts.new }
+    ensures reply { PrintsFromParts (running_command command.now) parts.old trace.old reply.new }
 {
     let user = parts.user;
     let tag = Tag::User(user);
@@ -64,12 +56,9 @@ pub(crate) fn execute<A: Allocator>(
 
 /// `stop`: stop the program at its current program counter, if it is running.
 fn stop(context: &mut Context, user: User, reply: &mut Reply)
-    ensures next { (trace : List ℕ) (vector : VState) (memory : Memory)
-        → (halts (present context.old trace vector memory)).next
-        ≡ Some (present context.new trace vector memory) }
+    ensures next { LeavesContext halts context.old context.new }
     ensures entered { context.new.entered ≡ context.old.entered }
-    ensures reply { (trace : List ℕ) (vector : VState) (memory : Memory) → reply.new
-        ≡ text (48 + user) (halts (present context.old trace vector memory)).lines }
+    ensures reply { PrintsFromContext halts context.old user reply.new }
 {
     if context.running {
         context.running = false;
