@@ -1,4 +1,4 @@
-use Rattle.std.proofs.Common.{◌+◌, ◌-◌, ◌≤◌, ℕ, length, get_or-set_same, ap, refl, subst, ◌++◌, ◌∙◌, sym, arith, None}
+use Rattle.std.proofs.Common.{◌+◌, ◌-◌, ◌<◌, ◌≤◌, ℕ, length, get_or-set_same, ap, refl, subst, ◌++◌, ◌∙◌, sym, arith, None}
 use Rattle.rv_model.specs.machine.Cuts.{IsConfigured}
 use Rattle.rv_model.specs.machine.Grants.{runs}
 use Rattle.rv_model.specs.machine.World.{sliced}
@@ -24,60 +24,30 @@ grant-requires g c =
     let within = stop_room_within c.args.self.now.parts (user - 1) (omega (arith, count, c.index-index.ensures.value, c.index-index.ensures.small)) in
     record { room = omega (arith, ap stop_line_bound before, within, c.requires) }
 
-pub returns-clause-world : goal.returns-clause-world
-returns-clause-world g c =
+pub returns : goal.returns
+returns g c =
     let user : ℕ = c.args.user in
     let low : 1 ≤ user = omega (arith, c.number.ensures.low, c.number.ensures.value) in
     let inside = c.self.inside in
-    world_with _ c.grant.new.parts _ c.grant.ensures.parts inside.contexts inside.traces.items c.index_mut.result.now c.grant.new.trace inside.cursor c.index-index.result c.index-self-index.result (λ p. (sliced c.args.quantum p).next) (λ p r. unit_after_uses user (sliced c.args.quantum p).uses r) c.index-index.ensures.value c.index-index.ensures.small low c.self.invariant refl c.index_mut.ensures.value c.grant.ensures.next refl
-    ∙ ap (λ (w : World). after_slice c.args.quantum user w) c.self.view_is
-
-pub returns-clause-reply : goal.returns-clause-reply
-returns-clause-reply g c =
-    let user : ℕ = c.args.user in
-    let low : 1 ≤ user = omega (arith, c.number.ensures.low, c.number.ensures.value) in
-    let inside = c.self.inside in
-    let before = machine_in inside.contexts inside.traces.items inside.unit inside.pool inside.cursor user c.index-index.result c.index-self-index.result c.index_mut.result.now c.args.self.now c.index-index.ensures.value c.index-index.ensures.small low c.self.invariant c.index_mut.ensures.value c.self.view_is in
-    c.grant.ensures.reply ∙ ap (λ (p : Private). c.args.reply.now ++ text (48 + user) (sliced c.args.quantum p).lines) before
-
-pub returns-clause-ran : goal.returns-clause-ran
-returns-clause-ran g c =
-    let user : ℕ = c.args.user in
-    let low : 1 ≤ user = omega (arith, c.number.ensures.low, c.number.ensures.value) in
-    let inside = c.self.inside in
-    let before = machine_in inside.contexts inside.traces.items inside.unit inside.pool inside.cursor user c.index-index.result c.index-self-index.result c.index_mut.result.now c.args.self.now c.index-index.ensures.value c.index-index.ensures.small low c.self.invariant c.index_mut.ensures.value c.self.view_is in
-    c.grant.ensures.ran ∙ ap runs before
-
-pub returns-clause-bound : goal.returns-clause-bound
-returns-clause-bound g c =
-    let user : ℕ = c.args.user in
-    let low : 1 ≤ user = omega (arith, c.number.ensures.low, c.number.ensures.value) in
-    let inside = c.self.inside in
+    let parts = c.args.self.now.parts in
     let before = machine_in inside.contexts inside.traces.items inside.unit inside.pool inside.cursor user c.index-index.result c.index-self-index.result c.index_mut.result.now c.args.self.now c.index-index.ensures.value c.index-index.ensures.small low c.self.invariant c.index_mut.ensures.value c.self.view_is in
     let after = c.grant.ensures.next ∙ ap (λ (p : Private). (sliced c.args.quantum p).next) before in
     let count =
     sym (ap (λ (w : World). length w.parts) c.self.view_is)
     ∙ eight_parts inside.contexts inside.traces.items inside.unit inside.pool c.self.invariant in
-    let changed = stops_room_set c.args.self.now.parts (user - 1) (sliced c.args.quantum (user_machine user c.args.self.now)).next (omega (arith, count, c.index-index.ensures.value, c.index-index.ensures.small)) in
-    room_left _ _ _ _ _ _ _ _ _ c.grant.ensures.bound (ap stop_line_bound after) (ap stop_line_bound before) (ap (λ (w : World). stop_lines_bound w.parts) (returns-clause-world g c)) changed
-
-pub returns-clause-next : goal.returns-clause-next
-returns-clause-next g c =
-    let user : ℕ = c.args.user in
-    let inside = c.self.inside in
-    let count =
-    sym (ap (λ (w : World). length w.parts) c.self.view_is)
-    ∙ eight_parts inside.contexts inside.traces.items inside.unit inside.pool c.self.invariant in
-    ap (λ (w : World). user_machine user w) (returns-clause-world g c)
-    ∙ get_or-set_same c.args.self.now.parts (user - 1) (sliced c.args.quantum (user_machine user c.args.self.now)).next None (omega (arith, count, c.index-index.ensures.value, c.index-index.ensures.small))
-
-pub returns-clause-configured : goal.returns-clause-configured
-returns-clause-configured g c =
-    let user : ℕ = c.args.user in
-    let low : 1 ≤ user = omega (arith, c.number.ensures.low, c.number.ensures.value) in
-    let inside = c.self.inside in
-    let before = machine_in inside.contexts inside.traces.items inside.unit inside.pool inside.cursor user c.index-index.result c.index-self-index.result c.index_mut.result.now c.args.self.now c.index-index.ensures.value c.index-index.ensures.small low c.self.invariant c.index_mut.ensures.value c.self.view_is in
-    subst (λ (p : Private). IsConfigured p) before c.grant.ensures.configured
+    let index : user - 1 < length parts = omega (arith, count, c.index-index.ensures.value, c.index-index.ensures.small) in
+    let next = (sliced c.args.quantum (user_machine user c.args.self.now)).next in
+    let world =
+    world_with _ c.grant.new.parts _ c.grant.ensures.parts inside.contexts inside.traces.items c.index_mut.result.now c.grant.new.trace inside.cursor c.index-index.result c.index-self-index.result (λ p. (sliced c.args.quantum p).next) (λ p r. unit_after_uses user (sliced c.args.quantum p).uses r) c.index-index.ensures.value c.index-index.ensures.small low c.self.invariant refl c.index_mut.ensures.value c.grant.ensures.next refl
+    ∙ ap (λ (w : World). after_slice c.args.quantum user w) c.self.view_is in
+    record {
+      world = world;
+      reply = c.grant.ensures.reply ∙ ap (λ (p : Private). c.args.reply.now ++ text (48 + user) (sliced c.args.quantum p).lines) before;
+      ran = c.grant.ensures.ran ∙ ap runs before;
+      bound = room_left _ _ _ _ _ _ _ _ _ c.grant.ensures.bound (ap stop_line_bound after) (ap stop_line_bound before) (ap (λ (w : World). stop_lines_bound w.parts) world) (stops_room_set parts (user - 1) next index);
+      next = ap (λ (w : World). user_machine user w) world ∙ get_or-set_same parts (user - 1) next None index;
+      configured = subst (λ (p : Private). IsConfigured p) before c.grant.ensures.configured;
+    }
 
 pub invariant_of-self : goal.invariant_of-self
 invariant_of-self g c =
