@@ -14,6 +14,7 @@ from typing import Any
 
 import aiohttp
 
+from support.message_schema import check_message, check_request, check_view
 from support.places import TOP
 from vecmon_lab.classes import server as class_server
 from vecmon_lab.classes.builds import Builds
@@ -40,8 +41,13 @@ def patched(value: Any, patch: Any) -> Any:
     return result
 
 
+def passed(result: Message) -> list[bool]:
+    """Whether an answer passes each case, by the result of its check."""
+    return [case["passed"] for case in result["cases"]]
+
+
 class Tab:
-    """A tab: its view, its logs, and the messages that came.
+    """A tab: its view, its logs, and the messages that came, each checked against the schema.
 
     From the first `receive` on a task reads the socket, as a browser does: aiohttp answers the server's pings only while
     it reads.
@@ -49,6 +55,7 @@ class Tab:
 
     def __init__(self, socket: aiohttp.ClientWebSocketResponse) -> None:
         self.socket = socket
+        self.who = ""
         self.view: Message = {}
         self.logs: dict[str, list[str]] = {}
         self._number = 0
@@ -72,7 +79,10 @@ class Tab:
             is_close = message.type is aiohttp.WSMsgType.CLOSE
             raise EOFError(message.data if is_close else self.socket.close_code)
         reply: Message = json.loads(message.data)
+        check_message(reply)
+        self.who = reply.get("who", self.who)
         self.view = patched(self.view, reply.get("patch", {}))
+        check_view(self.who, self.view, reply.get("patch", {}) if reply["kind"] != "hello" else None)
         for name, entries in reply.get("logs", {}).items():
             self.logs.setdefault(name, []).extend(entries)
         return reply
@@ -80,10 +90,13 @@ class Tab:
     async def ask(self, kind: str, **words: Any) -> Message:
         """The answer to a request."""
         self._number += 1
-        await self.socket.send_json({"id": self._number, "ask": kind, **words})
+        request = {"id": self._number, "ask": kind, **words}
+        await self.socket.send_json(request)
         while (reply := await self.receive())["kind"] != "answer":
             pass
         assert reply["id"] == self._number
+        if "error" not in reply:
+            check_request(self.who, json.loads(json.dumps(request)))
         return reply
 
     async def do(self, *lines: str, **words: Any) -> list[list[str]]:

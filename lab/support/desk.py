@@ -3,11 +3,12 @@
 from collections.abc import Mapping
 from typing import Any
 
-from vecmon_lab.classes.messages import Message
+from vecmon_lab.classes.messages import Changes, Result
 from vecmon_lab.classes.names import checked_name
 from vecmon_lab.classes.progress import starts_of
 from vecmon_lab.classes.requests import BadRequest, Request, SetName
 from vecmon_lab.classes.shared_machine import Answers
+from vecmon_lab.classes.student import ClassView
 from vecmon_lab.exercises.exercise import Exercise
 from vecmon_lab.machine.process import Vecmon
 from vecmon_lab.machine.session import Session
@@ -32,7 +33,7 @@ class Desk(PageDesk):
         starts = {name: starts_of(each) for name, each in exercises.items()}
         super().__init__(program, Session(program), KeptTexts(), exercises, starts, limit)
 
-    def settle(self) -> Message:
+    def settle(self) -> Changes:
         """Checks what waits, and lets the program run to its end, or its limit; what is new then."""
         while self._checks:
             self._checks.pop()()
@@ -42,7 +43,7 @@ class Desk(PageDesk):
                 self.run(self.machine.show(self.seat, why, self.stopper))
         return self.news()
 
-    def execute(self, request: Request, done: Answers) -> Message:
+    def execute(self, request: Request, done: Answers) -> Result:
         """Executes a request that a page without a server refuses. Raises BadRequest."""
         match request:
             case SetName(_, name):
@@ -54,8 +55,10 @@ class Desk(PageDesk):
         """Ends the machine."""
         self.machine.session.close()
 
-    def _more(self) -> dict[str, object]:
-        return {**super()._more(), "name": self._name, "clock": self.has_clock}
+    def _more(self) -> ClassView:
+        view = super()._more()
+        view["name"], view["clock"] = self._name, self.has_clock
+        return view
 
 
 def untimed(value: Any) -> Any:

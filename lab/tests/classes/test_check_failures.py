@@ -9,7 +9,7 @@ from typing import Any
 
 import pytest
 
-from support.class_tabs import SECONDS, Served, Tab, served
+from support.class_tabs import SECONDS, Served, Tab, passed, served
 from vecmon_lab.exercises.exercise import OURS
 
 pytestmark = pytest.mark.asyncio
@@ -76,7 +76,7 @@ async def test_check_time_limit_starts_when_process_starts(
             assert not waiting.done()
             room.members.checks._workers._seconds = SECONDS  # as other tests may take all cores
         shown = await waiting
-    assert (shown["told"]["cases"], shown["tries"], shown["passed"]) == ([True] * 5, 1, True)
+    assert (passed(shown["told"]), shown["tries"], shown["passed"]) == ([True] * 5, 1, True)
 
 
 async def test_check_repeats_after_killed_checker(tmp_path: pathlib.Path, monkeypatch: pytest.MonkeyPatch) -> None:
@@ -85,7 +85,7 @@ async def test_check_repeats_after_killed_checker(tmp_path: pathlib.Path, monkey
     async with served(tmp_path / "class", exercises=DOUBLES) as room:
         tab, teacher = await room.sit("A1"), await room.sit("teacher")
         shown, _ = await asyncio.gather(check(tab), kill_checkers(1))
-        assert (shown["told"]["cases"], shown["tries"], shown["passed"]) == ([True] * 5, 1, True)
+        assert (passed(shown["told"]), shown["tries"], shown["passed"]) == ([True] * 5, 1, True)
         await teacher.until(lambda view: view["exercises"]["doubles"]["seats"])
         assert teacher.view["failures"] == []
 
@@ -96,7 +96,7 @@ async def test_check_fails_after_two_killed_checkers(tmp_path: pathlib.Path, mon
         tab = await room.sit("A1")
         shown, _ = await asyncio.gather(check(tab), kill_checkers(2))
         await check_not_counted(room, shown, "was ended by the signal SIGKILL")
-        assert (await check(tab))["told"]["cases"] == [True] * 5  # as soon as the cause is gone
+        assert passed((await check(tab))["told"]) == [True] * 5  # as soon as the cause is gone
     async with served(tmp_path / "class") as room:
         assert (await room.sit("A1")).view["exercises"]["doubles"]["tries"] == 1
 

@@ -13,7 +13,7 @@ from typing import Any
 import pytest
 import pytest_asyncio
 
-from support.class_tabs import SECONDS, Served, Tab, process, served
+from support.class_tabs import SECONDS, Message, Served, Tab, passed, process, served
 from vecmon_lab import LabError
 from vecmon_lab.classes.builds import Builds
 from vecmon_lab.classes.languages import LANGUAGES, C
@@ -69,6 +69,11 @@ async def room(tmp_path: pathlib.Path, square: pathlib.Path, monkeypatch: pytest
         yield room
 
 
+def cases(six: bool, another: bool) -> list[Message]:
+    """The results of the exercise's cases."""
+    return [{"name": "six", "passed": six}, {"name": "another one", "passed": another}]
+
+
 async def check(tab: Tab, name: str, text: str, language: int = 0) -> Any:
     """The messages about an answer."""
     before = tab.view["exercises"][name]
@@ -82,16 +87,16 @@ async def test_seat_retries_until_answer_passes(room: Served) -> None:
     """Hints come one by one; nothing of it is in the script."""
     tab, other = await room.sit("A1"), await room.sit("A2")
     own = tab.view["exercises"]["square"]
-    assert (own["text"], own["cases"]) == ("Square `a1` into `a0`.", ["six", "another one"])
+    assert (own["text"], own["cases"]) == ("Square `a1` into `a0`.", [{"name": "six"}, {"name": "another one"}])
     assert own["starts"] == [{"text": "ret\n", "language": 0}]
     assert (own["hints"], own["tries"], own["told"], own["lesson"]) == ([], 0, {}, "")
     reply = await check(tab, "square", "addi a0, a1, 1\nret")
-    assert (reply["cases"], reply["number"], reply["reason"]) == ([False, False], 0, "a0: expected 36, found 7")
+    assert (reply["cases"], reply["number"], reply["reason"]) == (cases(False, False), 0, "a0: expected 36, found 7")
     assert reply["given"] == [{"where": "a1 (x11)", "first": 0, "numbers": ["6"], "more": 0, "wrong": []}]
     assert reply["expected"] == [{"where": "a0 (x10)", "first": 0, "numbers": ["36"], "more": 0, "wrong": []}]
     assert reply["found"] == [{"where": "a0 (x10)", "first": 0, "numbers": ["7"], "more": 0, "wrong": [0]}]
     assert tab.view["exercises"]["square"]["hints"] == ["multiply"]
-    assert await check(tab, "square", RIGHT) == {"cases": [True, True]}
+    assert await check(tab, "square", RIGHT) == {"cases": cases(True, True)}
     assert tab.view["exercises"]["square"]["passed"] and not tab.view["exercises"]["square"]["checking"]
     await other.do("enter")
     assert (await room.check_replay())[0] == b"2 enter\n" and other.view["exercises"]["square"]["tries"] == 0
@@ -146,7 +151,7 @@ async def test_hidden_case_is_not_shown(room: Served) -> None:
     for text in (WRONG, "ebreak", "j .", "", "ret\n.zero 5", RIGHT):
         messages.append(await check(tab, "square", text))
         messages.append(json.loads(json.dumps(tab.view)))
-    assert messages[1] == {"cases": [True, False]}
+    assert messages[1] == {"cases": cases(True, False)}
     assert not [secret for secret in SECRETS if secret in json.dumps(messages)]
     assert "mul a0, a1, a1" not in json.dumps(messages[:3])
     for path in ("exercise.toml", "square/exercise.toml", "answers/A1.square.1.json", "exercises.csv", "lesson/abc"):
@@ -158,7 +163,7 @@ async def test_cost_of_good_answer_is_shown(room: Served) -> None:
     reply = await check(tab, "doubles", (OURS / "doubles" / "good.s").read_text())
     assert reply["taken"] == reply["good"] == {"instructions": 10, "work": 69}  # 8 and 3 of 8 elements
     long = await check(tab, "doubles", (OURS / "doubles" / "reference.s").read_text())
-    assert long["cases"] == [False, True, True, False, True] and "takes more than 30 instructions" in long["reason"]
+    assert passed(long) == [False, True, True, False, True] and "takes more than 30 instructions" in long["reason"]
 
 
 async def test_given_inputs_are_shown(room: Served) -> None:
@@ -295,7 +300,7 @@ async def test_bad_answers_delay_no_other_seat(room: Served) -> None:
         waits.append(time.monotonic() - start)
         await asyncio.sleep(0.02)
     assert max(waits) < 2 and len(waits) > 5
-    assert not any([passes for expected in await asyncio.gather(*checks) for passes in expected["cases"]])
+    assert not any([passes for expected in await asyncio.gather(*checks) for passes in passed(expected)])
 
 
 async def test_restarted_class_preserves_exercises(tmp_path: pathlib.Path, square: pathlib.Path) -> None:
@@ -306,8 +311,8 @@ async def test_restarted_class_preserves_exercises(tmp_path: pathlib.Path, squar
     async with process(folder) as room:
         tab = await room.sit("A1")
         assert list(tab.view["exercises"]) == ["square", "strlen"]
-        assert tab.view["exercises"]["square"]["told"] == {"cases": [True, False]}
-        assert await check(tab, "square", RIGHT) == {"cases": [True, True]}
+        assert tab.view["exercises"]["square"]["told"] == {"cases": cases(True, False)}
+        assert await check(tab, "square", RIGHT) == {"cases": cases(True, True)}
         teacher = await room.sit("teacher")
         assert (await teacher.ask("answer", seat="A1", exercise="square", number=1))["text"] == WRONG
 
@@ -333,15 +338,15 @@ async def test_answer_in_c_is_checked(tmp_path: pathlib.Path, sandboxed_clang: C
     async with served(tmp_path / "class", exercises=[square], builds=Builds(sandboxed_clang)) as room:
         tab, teacher = await room.sit("A1"), await room.sit("teacher")
         reply = await check(tab, "square", RIGHT_IN_C.replace("b * b", "a"), C)
-        assert reply["cases"] == [False, False] and reply["reason"] == "a0: expected 36, and it was left as it was"
+        assert passed(reply) == [False, False] and reply["reason"] == "a0: expected 36, and it was left as it was"
         wrong = RIGHT_IN_C.replace("b * b", "b +\n        b / *(volatile long *)b")
         assert (await check(tab, "square", wrong, PLAIN_C))["reason"].startswith("line 4: The load at 0x1")
         (status, page) = await room.get(tab.view["exercises"]["square"]["lesson"])
         assert status == 200 and b"b / *(volatile long *)b" in page and b"The answer fails: line 4: " in page
-        assert b'"variables":[["a","long a",' in page
+        assert b'"variables":[{"name":"a","declaration":"long a",' in page
         answer = await check(tab, "square", RIGHT_IN_C.replace("return", "long c; return"), C)
         assert answer["warnings"] == [{"line": 3, "column": 10, "message": "unused variable 'c' [-Wunused-variable]"}]
-        assert await check(tab, "square", RIGHT_IN_C, C) == {"cases": [True, True]}
+        assert await check(tab, "square", RIGHT_IN_C, C) == {"cases": cases(True, True)}
         for number, (text, language) in [(2, (wrong, PLAIN_C)), (4, (RIGHT_IN_C, C))]:
             reply = await teacher.ask("answer", seat="A1", exercise="square", number=number)
             assert (reply["text"], reply["language"]) == (text, language)
@@ -350,7 +355,7 @@ async def test_answer_in_c_is_checked(tmp_path: pathlib.Path, sandboxed_clang: C
         tab, teacher = await room.sit("A1"), await room.sit("teacher")
         assert (await teacher.ask("answer", seat="A1", exercise="square", number=2))["language"] == PLAIN_C
         assert "takes no C" in (await tab.ask("check", exercise="square", text=RIGHT_IN_C, language=C))["error"]
-        assert await check(tab, "square", WRONG) == {"cases": [True, False]}
+        assert await check(tab, "square", WRONG) == {"cases": cases(True, False)}
 
 
 async def test_exercise_offers_start_in_c(tmp_path: pathlib.Path, square: pathlib.Path) -> None:
@@ -398,14 +403,14 @@ async def test_exercise_limits_apply_to_c(tmp_path: pathlib.Path, sandboxed_clan
     async with served(tmp_path / "class", exercises=[folder], builds=Builds(sandboxed_clang)) as room:
         tab = await room.sit("A1")
         reply = await check(tab, "saturating_sum", (folder / "reference.c").read_text(), C)
-        assert reply["cases"] == [True, True, False, False, True]
+        assert passed(reply) == [True, True, False, False, True]
         assert "it takes more than 250 instructions" in reply["reason"]
         reply = await check(tab, "saturating_sum", "void answer(void)\n{\n    for (;;)\n        ;\n}\n", C)
         assert reply["reason"].startswith("it hasn't ended after 20,000 ticks") and reply["reason"].endswith(
             "at line 3"
         )
         reply = await check(tab, "saturating_sum", (folder / "good.c").read_text(), C)
-        assert all(reply["cases"]) and reply["taken"]["work"] == reply["good"]["work"]
+        assert all(passed(reply)) and reply["taken"]["work"] == reply["good"]["work"]
         assert "more than 8,192 bytes" in str(await check(tab, "saturating_sum", RIGHT_IN_C + "/" * 8192, C))
 
 

@@ -4,6 +4,7 @@ import json
 import pathlib
 import subprocess
 import sys
+from typing import Any
 
 import pytest
 
@@ -66,7 +67,7 @@ def test_core_answers_without_server_libraries(program: pathlib.Path) -> None:
     command = [sys.executable, "-c", BLOCK + ANSWER.format(str(program), requests)]
     completed = subprocess.run(command, stdout=subprocess.PIPE, check=True, cwd=TOP / "lab")
     desk = Desk(program, {}, 100_000)
-    answers = [[desk.answer(request), desk.settle()] for request in requests]
+    answers: list[list[Any]] = [[desk.answer(request), desk.settle()] for request in requests]
     desk.close()
     assert answers[1][0]["do"] == [["stepped 3 pc=000000000001000c"], ["ok"]]
     assert untimed(json.loads(completed.stdout)) == untimed(json.loads(json.dumps(answers)))

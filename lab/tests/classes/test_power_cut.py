@@ -113,7 +113,7 @@ class Lesson:
 
 async def passing_check(*_: object) -> bytes:
     """The message of a check: this test checks no answers."""
-    return json.dumps({"cases": [True] * 5}).encode()
+    return json.dumps({"cases": [{"name": f"{number}", "passed": True} for number in range(5)]}).encode()
 
 
 async def cuts_of(

@@ -30,7 +30,7 @@ def codes(room: Served) -> dict[str, str]:
 
 async def test_wall_shows_seat(room: Served) -> None:
     wall, teacher = await room.sit("wall"), await room.sit("teacher")
-    assert wall.view == {"seat": "", "state": {}, "stop": "", "trouble": ""} and teacher.view["wall"] == ""
+    assert wall.view == {"seat": "", "stop": "", "trouble": ""} and teacher.view["wall"] == ""
     for seat in ("A1", "B8"):
         tab = await room.sit(seat)
         await tab.do(*LOOP, "step 3")
@@ -42,7 +42,7 @@ async def test_wall_shows_seat(room: Served) -> None:
         assert not wall.logs and wall.view.keys() == {"seat", "state", "stop", "trouble"}
     assert teacher.view["wall"] == "B8"
     await teacher.ask("wall", seat="")
-    await wall.until(lambda view: view == {"seat": "", "state": {}, "stop": "", "trouble": ""})
+    await wall.until(lambda view: view == {"seat": "", "stop": "", "trouble": ""})
     for other in ("A9", "wall", "teacher", "A", "\0"):
         assert (await teacher.ask("wall", seat=other))["error"] == "there is no such seat"
 
@@ -83,7 +83,9 @@ async def test_wall_frame_contains_no_code(room: Served) -> None:
     for path in ("A/script", "A/transcript", "A1/home"):
         assert (await room.get(path, "wall"))[0] == 404
     await tab.do("step 1")
-    await listen(lambda reply: wall.view["state"].get("x", {}).get("5") == "1" and wall.view["state"]["pc"] == "10000")
+    await listen(
+        lambda reply: wall.view.get("state", {}).get("x", {}).get("5") == "1" and wall.view["state"]["pc"] == "10000"
+    )
     others = {code for stored in (before, codes(room)) for name, code in stored.items() if name != "wall"}
     assert len(others) == 19 and len(frames) > len(asks)
     assert not [code for code in others for frame in frames if code in frame]

@@ -79,7 +79,9 @@ def test_hidden_cases_are_not_shown(lab: Lab, tmp_path: pathlib.Path, program: p
     text = GOOD.read_text().replace("vadd.vv", "vsadd.vv")
     (tmp_path / "answer.s").write_text(text)
     reply = check_or_failure(program, doubles, text, None, None)
-    assert reply == {"cases": [True, True, True, False, True]}
+    passed = [True, True, True, False, True]
+    cases = zip(doubles.cases, passed, strict=True)
+    assert reply == {"cases": [{"name": case.name, "passed": passes} for case, passes in cases]}
     reports = [tmp_path / "report.xml", tmp_path / "results.json"]
     status, table, _ = lab("grade", "doubles", tmp_path / "answer.s", "--junit", reports[0], "--gradescope", reports[1])
     shown = table.decode() + "".join(report.read_text() for report in reports)

@@ -4,7 +4,6 @@ import json
 import pathlib
 import re
 import struct
-from typing import Any
 
 import pytest
 
@@ -15,6 +14,8 @@ from vecmon_lab import LabError
 from vecmon_lab.compilers.compiled import variable_rows
 from vecmon_lab.compilers.compiling import compile_c
 from vecmon_lab.compilers.compiler import CHOICES, Compiler, choice_of
+from vecmon_lab.compilers.locations import Location
+from vecmon_lab.compilers.variables import Variable
 from vecmon_lab.lessons.frames import make_frames
 from vecmon_lab.lessons.listings import listing_of
 from vecmon_lab.lessons.script import read_compiled
@@ -118,12 +119,12 @@ def test_memory_rows_show_variables(clang: Compiler, program: pathlib.Path) -> N
 
 
 def test_variable_rows_are_listed() -> None:
-    places = [[0, 9, "memory", 0, "1008"]]
-    variables: list[list[Any]] = [
-        ["a", "", "i32", [3], "", [], places],
-        ["b", "", "u8", [], "", [], [[0, 9, "memory", 2, "3000"], [0, 9, "register", 0, "0"]]],
-        ["c", "", "i64", [1 << 40], "", [], [[0, 9, "memory", 0, "2000"]]],
-        ["d", "", "", [7], "", [], places],
+    places = [Location(0, 9, "memory", 0, "1008")]
+    variables = [
+        Variable("a", "", "i32", [3], "", [], places),
+        Variable("b", "", "u8", [], "", [], [Location(0, 9, "memory", 2, "3000"), Location(0, 9, "register")]),
+        Variable("c", "", "i64", [1 << 40], "", [], [Location(0, 9, "memory", 0, "2000")]),
+        Variable("d", "", "", [7], "", [], places),
     ]
     assert variable_rows(variables) == [0x1000, 0x1010, *range(0x2000, 0x3000, 16)]
 

@@ -302,7 +302,7 @@ def test_lesson_page_is_written(tmp_path: pathlib.Path) -> None:
     named = [
         path.stem
         for path in (tmp_path / "new" / "tour").glob("*.html")
-        if '"links":[["prev"' in path.read_text("utf-8")
+        if '"links":[{"kind":"prev"' in path.read_text("utf-8")
     ]
     assert {*named} == {*list(tours())[1:]} and '"links":[]' in page
 

@@ -11,7 +11,7 @@ from support.browser import CONTRAST, media, press
 from support.lesson_follower import PICTURE, Follower
 from support.places import EXAMPLES
 from vecmon_lab.lessons.frames import make_frames
-from vecmon_lab.lessons.page import lesson_page
+from vecmon_lab.lessons.page import Link, lesson_page
 from vecmon_lab.lessons.script import read_assembled, read_script
 from vecmon_lab.lessons.tour import tours
 from vecmon_lab.machine.session import Session
@@ -304,7 +304,11 @@ def test_lesson_links_to_other_lessons(
     frames = make_frames(read_script("1 enter\n"), program)
     browser = opened(lesson_page("x", frames))
     assert not browser.find_element("css selector", "#links").is_displayed()
-    ways = [("prev", "one.html", "Before"), ("index", "index.html", "All lessons"), ("next", "two.html", "After")]
+    ways: list[Link] = [
+        {"kind": "prev", "address": "one.html", "title": "Before"},
+        {"kind": "index", "address": "index.html", "title": "All lessons"},
+        {"kind": "next", "address": "two.html", "title": "After"},
+    ]
     browser = opened(lesson_page("x", frames, links=ways))
     links = browser.find_elements("css selector", "#links a")
     assert [link.text for link in links] == ["Previous lesson", "All lessons", "Next lesson"]

@@ -13,15 +13,30 @@ from vecmon_lab.instructions.words import SUPPORTED, decode
 from vecmon_lab.machine.answers import ControlRegisters
 from vecmon_lab.machine.session import Session
 from vecmon_lab.page.modules import join_modules
-from vecmon_lab.page.operands import ShownOperand as Shown
-from vecmon_lab.page.operands import shown_operands
+from vecmon_lab.page.operands import ShownOperand, shown_operands
 from vecmon_lab.page.pages import page_file
 
 if TYPE_CHECKING:
     from selenium.webdriver import Chrome
 
-V0 = Shown(0, 1, 1, 0, True)
-WRITES, MASKED = {"is_written": True}, {"is_masked": True}
+
+def shown(
+    register: int, groups: int, bits: int, part: float, whole: bool, written: bool = False, masked: bool = False
+) -> ShownOperand:
+    """An operand of these facts."""
+    return {
+        "register": register,
+        "groups": groups,
+        "bits": bits,
+        "part": part,
+        "whole": whole,
+        "written": written,
+        "masked": masked,
+    }
+
+
+V0 = shown(0, 1, 1, 0, True)
+WRITES, MASKED = {"written": True}, {"masked": True}
 
 
 @pytest.mark.parametrize(
@@ -29,28 +44,28 @@ WRITES, MASKED = {"is_written": True}, {"is_masked": True}
     [
         (
             "vadd.vv v2, v4, v6",
-            [Shown(2, 1, 0, 1, False, **WRITES), Shown(4, 1, 0, 1, False), Shown(6, 1, 0, 1, False)],
+            [shown(2, 1, 0, 1, False, **WRITES), shown(4, 1, 0, 1, False), shown(6, 1, 0, 1, False)],
         ),
-        ("vadd.vi v2, v4, 1, v0.t", [Shown(2, 1, 0, 1, False, **WRITES, **MASKED), Shown(4, 1, 0, 1, False), V0]),
-        ("vmseq.vi v0, v4, 1, v0.t", [Shown(0, 1, 1, 0, True, **WRITES), Shown(4, 1, 0, 1, False), V0]),
-        ("vmerge.vim v2, v4, 1, v0", [Shown(2, 1, 0, 1, False, **WRITES), Shown(4, 1, 0, 1, False), V0]),
+        ("vadd.vi v2, v4, 1, v0.t", [shown(2, 1, 0, 1, False, **WRITES, **MASKED), shown(4, 1, 0, 1, False), V0]),
+        ("vmseq.vi v0, v4, 1, v0.t", [shown(0, 1, 1, 0, True, **WRITES), shown(4, 1, 0, 1, False), V0]),
+        ("vmerge.vim v2, v4, 1, v0", [shown(2, 1, 0, 1, False, **WRITES), shown(4, 1, 0, 1, False), V0]),
         (
             "vredsum.vs v2, v4, v6, v0.t",
-            [Shown(2, 1, 0, 1, True, **WRITES), Shown(4, 1, 0, 1, False, **MASKED), Shown(6, 1, 0, 1, True), V0],
+            [shown(2, 1, 0, 1, True, **WRITES), shown(4, 1, 0, 1, False, **MASKED), shown(6, 1, 0, 1, True), V0],
         ),
-        ("vcpop.m x5, v4, v0.t", [Shown(4, 1, 1, 0, True, **MASKED), V0]),
-        ("vwmulu.vx v2, v4, x5", [Shown(2, 1, 0, 2, False, **WRITES), Shown(4, 1, 0, 1, False)]),
-        ("vsext.vf8 v2, v4", [Shown(2, 1, 0, 1, False, **WRITES), Shown(4, 1, 0, 0.125, False)]),
-        ("vmv4r.v v4, v8", [Shown(4, 4, 0, 1, True, **WRITES), Shown(8, 4, 0, 1, True)]),
-        ("vl2re32.v v2, (x10)", [Shown(2, 2, 32, 0, True, **WRITES)]),
-        ("vsm.v v2, (x10)", [Shown(2, 1, 1, 0, True)]),
-        ("vlseg3e16.v v2, (x10)", [Shown(2, 3, 16, 0, False, **WRITES)]),
-        ("vsuxei8.v v0, (x10), v4, v0.t", [Shown(0, 1, 0, 1, False, **MASKED), Shown(4, 1, 8, 0, False), V0]),
+        ("vcpop.m x5, v4, v0.t", [shown(4, 1, 1, 0, True, **MASKED), V0]),
+        ("vwmulu.vx v2, v4, x5", [shown(2, 1, 0, 2, False, **WRITES), shown(4, 1, 0, 1, False)]),
+        ("vsext.vf8 v2, v4", [shown(2, 1, 0, 1, False, **WRITES), shown(4, 1, 0, 0.125, False)]),
+        ("vmv4r.v v4, v8", [shown(4, 4, 0, 1, True, **WRITES), shown(8, 4, 0, 1, True)]),
+        ("vl2re32.v v2, (x10)", [shown(2, 2, 32, 0, True, **WRITES)]),
+        ("vsm.v v2, (x10)", [shown(2, 1, 1, 0, True)]),
+        ("vlseg3e16.v v2, (x10)", [shown(2, 3, 16, 0, False, **WRITES)]),
+        ("vsuxei8.v v0, (x10), v4, v0.t", [shown(0, 1, 0, 1, False, **MASKED), shown(4, 1, 8, 0, False), V0]),
         ("addi x5, x5, 1", []),
         (".word 0x00000000", []),
     ],
 )
-def test_operands_of_word_are_listed(session: Session, text: str, operands: list[Shown]) -> None:
+def test_operands_of_word_are_listed(session: Session, text: str, operands: list[ShownOperand]) -> None:
     session.do_all(["1 enter", "1 map 0 1 r"])
     word = int(session.do(f"1 asm 0 {text}")[0].split()[2], 16)
     assert list(shown_operands(word)) == operands
@@ -65,7 +80,7 @@ def test_page_operands_equal_decoded_words(browser: "Chrome", session: Session) 
     for word, text in zip(words, texts_of(session, words), strict=True):
         view, operands = ControlRegisters(vtype=draws.choice(SUPPORTED)), shown_operands(word)
         named = [int(number) for number in re.findall(r"[ ,]v(\d+)", text)]
-        assert (text, sorted(operand.register for operand in operands)) == (text, sorted(named))
+        assert (text, sorted(operand["register"] for operand in operands)) == (text, sorted(named))
         if not illegal_reasons(word, view):
             cases.append((text, view, operands, covered(word, view)))
     assert len({text.split()[0] for text, *_ in cases}) > 0.9 * len(names)

@@ -119,7 +119,9 @@ def test_checks_pass_and_fail(parts: pathlib.Path) -> None:
     good = (TOP / "lab" / "vecmon_lab" / "exercises" / "given" / "doubles" / "good.s").read_text()
     requests: list[Request] = [{"ask": "check", "exercise": "doubles", "text": text} for text in ("  ret\n", good)]
     views = [messages[-1]["patch"]["exercises"]["doubles"] for messages in answered_by_page(parts, requests)[1:]]
-    assert [all(view["told"]["cases"]) for view in views] == [False, True] and views[1]["passed"]
+    assert [all(case["passed"] for case in view["told"]["cases"]) for view in views] == [False, True] and views[1][
+        "passed"
+    ]
 
 
 def test_the_image_of_the_pages(parts: pathlib.Path) -> None:

@@ -21,7 +21,7 @@ from ..assembler.source import SourceError
 from ..compilers.compiled import CompiledProgram
 from ..compilers.failures import ToolError
 from ..exercises.answer import settled
-from ..exercises.check import CheckResult, failed_check
+from ..exercises.check import CheckResult, failed_check, passes_all
 from ..exercises.exercise import Exercise, read_exercise
 from ..exercises.answer_cost import AnswerCost
 from .worker_pool import WorkerPool
@@ -73,7 +73,7 @@ class Checks:
             progress = self.exercises.progress(seat, name)
             while len(progress.tries) < number - 1:
                 progress.add(attempt())  # one that was lost: the others keep their numbers
-            progress.add(done)
+            self.exercises.restore(seat, name, done)
 
     def begin(self, seat: str, name: str, source: SourceText) -> None:
         """Begins to check an answer. Raises BadRequest where there is no such exercise, or a check is under way."""
@@ -184,8 +184,7 @@ def kept_answers(store: Store, seat: str) -> dict[str, SourceText]:
     """A seat's answers by exercise, from the folder: the last attempt that passed; else the last one."""
     answers, passed = dict[str, SourceText](), set[str]()
     for of, name, _, done in sorted(found_answers(store), key=itemgetter(0, 1, 2)):
-        cases = done["told"].get("cases", [])
-        is_passed = bool(cases) and all(cases)
+        cases, is_passed = done["told"].get("cases", []), passes_all(done["told"])
         if cases and of == seat and (is_passed or name not in passed):
             answers[name] = source_of(done)
             passed |= {name} if is_passed else set()

@@ -1,8 +1,8 @@
-"""Messages to pages of a class (docs/CLASS_PROTOCOL.md): answers, views of a seat, and the news that a page hasn't got yet."""
+"""Messages to pages of a class (docs/CLASS_PROTOCOL.md): answers, and the news that a page hasn't got yet."""
 
 import json
 from collections.abc import Mapping, Sequence
-from typing import TypedDict
+from typing import Literal, NotRequired, TypedDict, TypeVar, cast
 
 from ..assembler.commands import refusal_on_pages
 from ..exercises.check import Mistake
@@ -10,40 +10,185 @@ from ..page.pages import merge_patch
 from ..page.state import State
 from .requests import BadRequest, JsonObject
 from .seats import Seat
-from .sources import SeatSource, Version
 from .shared_machine import Answers
+from .sources import SeatSource, Version
 
 Logs = dict[str, list[str]]
-SourceView = TypedDict(
-    "SourceView",
-    {"text": str, "language": int, "number": int, "exercise": str, "stands": bool, "versions": list[Version]},
-    total=False,
+
+
+class SourceView(TypedDict):
+    """The source of a seat.
+
+    language: the number of its language; number: of changes since the server started
+    exercise: the open one, or ""; stands: whether the machine has this source; versions: the last 50, in order
+    """
+
+    text: str
+    language: int
+    number: int
+    exercise: str
+    stands: bool
+    versions: list[Version]
+
+
+class Notice(TypedDict):
+    """A message of the teacher's: its number, which no other open one has, its time in seconds since 1970, and its text."""
+
+    number: int
+    time: int
+    text: str
+
+
+class Changes(TypedDict):
+    """The changes of a tab: a merge patch (RFC 7396) of its view, and new entries of logs by the name of their seat."""
+
+    patch: NotRequired[dict[str, object]]
+    logs: NotRequired[Logs]
+
+
+class Hello(Changes):
+    """The first message to a tab. who: the seat, `teacher` or `wall`; time: in seconds since 1970"""
+
+    kind: Literal["hello"]
+    who: str
+    time: float
+
+
+class News(Changes):
+    """Changes without a request."""
+
+    kind: Literal["news"]
+
+
+class NoResult(TypedDict):
+    """The result of a request that returns nothing."""
+
+
+class LinesResult(TypedDict):
+    """The answers to lines that were executed and to read-only ones; words: of each of `do` the explanation of a refusal, or "\" """
+
+    do: Answers
+    look: Answers
+    words: NotRequired[list[str]]
+
+
+class SourceResult(TypedDict):
+    """The mistakes of a source that goes into a new machine, and a compiler's warnings."""
+
+    mistakes: list[Mistake]
+    warnings: list[Mistake]
+
+
+class TextResult(TypedDict):
+    """A source: its text, and the number of its language."""
+
+    text: str
+    language: int
+
+
+class ListingsResult(TypedDict):
+    """The ticket of side-by-side listings."""
+
+    listings: str
+
+
+class ReplacedResult(TypedDict):
+    """The number of seats whose source was replaced."""
+
+    replaced: int
+
+
+class WhyResult(TypedDict):
+    """The sentence why a register or an element has its value."""
+
+    why: str
+
+
+class CodesResult(TypedDict):
+    """Codes by seat; pictures: of a sheet to print, by seat"""
+
+    codes: dict[str, str]
+    pictures: NotRequired[dict[str, str]]
+
+
+class Refusal(TypedDict):
+    """The reason why a request was refused; the answers to lines that were executed before, and their words as in `LinesResult`."""
+
+    error: str
+    done: Answers
+    words: NotRequired[list[str]]
+
+
+Result = (
+    NoResult
+    | LinesResult
+    | SourceResult
+    | TextResult
+    | ListingsResult
+    | ReplacedResult
+    | WhyResult
+    | CodesResult
+    | Refusal
 )
 
 
-class Message(TypedDict, total=False):
-    """A message to a tab. Its patch changes the tab's view; logs have new entries by the name of their seat."""
+class AnswerHead(Changes):
+    """The answer to a request, by its number."""
 
-    kind: str
+    kind: Literal["answer"]
     id: int
-    who: str
-    time: float
-    do: Answers
-    look: Answers
-    mistakes: list[Mistake]
-    warnings: list[Mistake]
-    text: str
-    language: int
-    listings: str
-    replaced: int
-    error: str
-    done: Answers
-    words: list[str]
-    why: str
-    codes: dict[str, str]
-    pictures: dict[str, str]
-    patch: dict[str, object]
-    logs: Logs
+
+
+class EmptyAnswer(AnswerHead, NoResult):
+    """The answer to a request that returns nothing."""
+
+
+class LinesAnswer(AnswerHead, LinesResult):
+    """The answer to lines."""
+
+
+class SourceAnswer(AnswerHead, SourceResult):
+    """The answer to `source`, `again` and `case`."""
+
+
+class TextAnswer(AnswerHead, TextResult):
+    """The answer to `version` and `answer`."""
+
+
+class ListingsAnswer(AnswerHead, ListingsResult):
+    """The answer to `listings`."""
+
+
+class ReplacedAnswer(AnswerHead, ReplacedResult):
+    """The answer to `give` and `take-back`."""
+
+
+class WhyAnswer(AnswerHead, WhyResult):
+    """The answer to `why`."""
+
+
+class CodesAnswer(AnswerHead, CodesResult):
+    """The answer to `codes` and `renew`."""
+
+
+class RefusedAnswer(AnswerHead, Refusal):
+    """The answer to a request that was refused."""
+
+
+Answer = (
+    EmptyAnswer
+    | LinesAnswer
+    | SourceAnswer
+    | TextAnswer
+    | ListingsAnswer
+    | ReplacedAnswer
+    | WhyAnswer
+    | CodesAnswer
+    | RefusedAnswer
+)
+Message = Hello | News | Answer
+
+WithChanges = TypeVar("WithChanges", Hello, News)
 
 
 class Updates:
@@ -53,10 +198,10 @@ class Updates:
         self.view: Mapping[str, object] = {}
         self.since: dict[str, int] = {}
 
-    def news(self, view: Mapping[str, object], seats: Sequence[Seat]) -> Message:
+    def news(self, view: Mapping[str, object], seats: Sequence[Seat]) -> Changes:
         """The changes since: a patch of its view, and new entries of the logs of seats."""
         patch, self.view = merge_patch(self.view, view), view
-        news: Message = {"patch": patch} if patch else {}
+        news: Changes = {"patch": patch} if patch else {}
         logs = Logs()
         for seat in seats:
             new = seat.number - self.since.get(seat.name, 0)
@@ -68,21 +213,32 @@ class Updates:
         return news
 
 
-def request_of(text: str, answer: Message) -> JsonObject:
-    """The object of a request, whose number the answer takes up. Raises BadRequest and ValueError."""
+def request_of(text: str) -> tuple[int, JsonObject]:
+    """The number and the object of a request. Raises BadRequest and ValueError."""
     message = json.loads(text)
     if not isinstance(message, dict) or type(message.get("id")) is not int:
         raise BadRequest("a request is an object with a whole number as id")
-    answer["id"] = message["id"]
-    return message
+    return message["id"], message
 
 
-def add_words(answer: Message, digit: str, request: JsonObject, done: Answers) -> None:
-    """Adds the meaning of each refusal, if lines of a request were done."""
+def with_changes(message: WithChanges, changes: Changes) -> WithChanges:
+    """A greeting or news with these changes."""
+    return cast(WithChanges, {**message, **changes})
+
+
+def answer_to(number: int, result: Result, changes: Changes) -> Answer:
+    """The answer to the request of a number; the fields of a type of `Result` and of `AnswerHead` are those of a type of `Answer`."""
+    return cast(Answer, {"kind": "answer", "id": number, **result, **changes})
+
+
+def explain_refusals(result: Result, digit: str, request: JsonObject, done: Answers) -> Result:
+    """Add the meaning of each refusal to a result, if lines of a request were done."""
     lines = request.get("do")
-    if done and isinstance(lines, list):  # the answers are those to the first of these lines
-        answers = [[f"{digit} {part}" for part in parts] for parts in done]
-        answer["words"] = [refusal_on_pages(f"{digit} {line}", said) for line, said in zip(lines, answers)]
+    if not done or not isinstance(lines, list):  # the answers are those to the first of these lines
+        return result
+    answers = [[f"{digit} {part}" for part in parts] for parts in done]
+    words = [refusal_on_pages(f"{digit} {line}", said) for line, said in zip(lines, answers)]
+    return cast(Result, {**result, "words": words})
 
 
 def source_view(source: SeatSource, seat: Seat) -> SourceView:
@@ -99,8 +255,7 @@ def source_view(source: SeatSource, seat: Seat) -> SourceView:
 
 def shown(seat: Seat) -> State:
     """A seat's state as pages show it."""
-    shown = seat.shown.copy()
-    shown.update(seat.named)
+    shown = cast(State, {**seat.shown, **seat.named})
     if seat.output:
         shown["outputs"] = seat.output
     return shown

@@ -5,15 +5,12 @@ notices.json: by seat the messages that are open, in order
 
 import time
 from collections.abc import Iterable
-from typing import TypedDict
 
+from .messages import Notice
 from .store import Store
 
 NOTICES = "notices.json"
 MAX_NOTICES = 20  # of a seat
-
-Notice = TypedDict("Notice", {"number": int, "time": int, "text": str})
-"""A message: its number, which no other open one has, its time in seconds since 1970, and its text."""
 
 
 def open_notices(**values: list[Notice]) -> dict[str, list[Notice]]:

@@ -6,7 +6,7 @@ from typing import NotRequired, TypedDict
 
 from ..compilers.compiled import STACK
 from ..exercises.answer import C_SUFFIX, inputs
-from ..exercises.check import CheckResult
+from ..exercises.check import CheckResult, passes_all
 from ..exercises.exercise import Exercise
 from .codes import new_code
 from .languages import NUMBERS, C, SourceText
@@ -24,6 +24,12 @@ SeatResult = TypedDict("SeatResult", {"tries": int, "passed": int, "best": int, 
 """Of a seat at an exercise: tries; which passed first, or 0; the most cases that passed; when it passed, or the last."""
 
 
+class CaseView(TypedDict):
+    """A case of an exercise by its name."""
+
+    name: str
+
+
 class ExerciseView(TypedDict):
     """An exercise on a student's page: of a hidden case the name, and whether it passes; the hints that are due.
 
@@ -36,7 +42,7 @@ class ExerciseView(TypedDict):
     before: str
     text: str
     starts: list[Start]
-    cases: list[str]
+    cases: list[CaseView]
     hints: Sequence[str]
     tries: int
     passed: bool
@@ -63,10 +69,10 @@ class Progress:
         self.last_result, self.ticket = done["told"], ""
         if "cases" not in self.last_result:
             return False
-        cases, self.source = self.last_result["cases"], source_of(done)
-        self.tries.append((done["time"], sum(cases)))
+        self.source = source_of(done)
+        self.tries.append((done["time"], sum(case["passed"] for case in self.last_result["cases"])))
         self.ticket = new_code() if "number" in self.last_result else ""
-        if cases and all(cases) and not self.first:
+        if passes_all(self.last_result) and not self.first:
             self.first = len(self.tries)
         return True
 
@@ -118,6 +124,13 @@ class Exercises:
             self.failures = [*self.failures, failure][-MAX_FAILURES:]
         return self.progress(seat, name).add(done)
 
+    def restore(self, seat: str, name: str, done: Try) -> None:
+        """Takes up a saved try. Where its cases have no names, as those of version 1.0, they get those of the exercise."""
+        cases = self.by_name[name].cases if name in self.by_name else []
+        for case, result in zip(cases, done["told"].get("cases", [])):
+            result["name"] = result["name"] or case.name
+        self.progress(seat, name).add(done)
+
     def failed(self, seat: str, name: str, source: SourceText) -> Callable[[int], list[str]]:
         """Return a function from a program's entry address to the commands that set up the case that failed first.
 
@@ -145,7 +158,7 @@ class Exercises:
             "before": f"lesson/{name}" if "lesson" in exercise.files else "",
             "text": exercise.text,
             "starts": self._starts[name],
-            "cases": [case.name for case in exercise.cases],
+            "cases": [{"name": case.name} for case in exercise.cases],
             "hints": exercise.hints[: len(progress.tries) - (progress.first > 0)],
             "tries": len(progress.tries),
             "passed": progress.first > 0,

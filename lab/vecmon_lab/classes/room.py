@@ -21,7 +21,7 @@ from .history import History
 from .requests import BadRequest, Lines
 from .scripts import Scripts
 from .seats import Seat
-from .shared_machine import Answers, MakeProgram, Mistakes, Result, SharedMachine, Steps, Turn, own_lines
+from .shared_machine import Answers, MakeProgram, Mistakes, Returned, SharedMachine, Steps, Turn, own_lines
 from .stored_files import Notes
 from .store import ScriptFile
 
@@ -83,7 +83,7 @@ class Room:
         """The notes that the class's folder keeps of the machine."""
         return self._notes(self.session, self.scripts.set_up)
 
-    async def run(self, seat: Seat, steps: Steps[Result]) -> Result:
+    async def run(self, seat: Seat, steps: Steps[Returned]) -> Returned:
         """Executes the steps of a request; between them others have their turns. Raises LabError where the machine is down."""
         made: Program | None = None
         seat_turn, is_held = self._turns[seat.digit], False
@@ -99,8 +99,8 @@ class Room:
                     is_held = await seat_turn.acquire()
         except StopIteration as end:
             self.changed([seat.name])
-            result: Result = end.value
-            return result
+            returned: Returned = end.value
+            return returned
         finally:
             if is_held:
                 seat_turn.release()

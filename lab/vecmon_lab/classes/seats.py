@@ -17,10 +17,11 @@ from ..machine.lines import DIGITS, is_look, words_of
 from ..machine.session import Session
 from .languages import SourceText
 from .live import is_servers
-from ..page.state import ABSENT, VisibleRows, WatchSet, State, look_at, with_rows
+from ..page.state import ABSENT, SourceNames, State, VisibleRows, WatchSet, look_at, with_rows
+from ..page.variables import shown_variables
 
 LOG_ENTRIES = 500
-UNNAMED: State = {"labels": {}, "lines": {}}
+UNNAMED: SourceNames = {"labels": {}, "lines": {}}
 BLOCK_DIGITS, BLOCKS = 2048, 64  # of output; a page has the last 64 KB of it
 
 Done = tuple[str, Sequence[str]]
@@ -54,7 +55,7 @@ class Seat:
     shown: State = field(default_factory=ABSENT.copy)
     watch_set: WatchSet = field(default_factory=WatchSet)
     rows: VisibleRows = field(default_factory=VisibleRows)
-    named: State = field(default_factory=UNNAMED.copy)
+    named: SourceNames = field(default_factory=UNNAMED.copy)
     written: SourceText = SourceText()
     program: Program | None = None
     output: dict[str, str] = field(default_factory=dict)
@@ -93,9 +94,8 @@ class Seat:
         self.written, self.program = source, program
         self.named = {"labels": program.names(), "lines": program.source_lines(source.text)}
         if isinstance(program, CompiledProgram) and program.rows:
-            self.named.update(
-                {"starts": program.line_starts(), "stops": program.line_stops(), "variables": program.variables}
-            )
+            self.named["starts"], self.named["stops"] = program.line_starts(), program.line_stops()
+            self.named["variables"] = shown_variables(program.variables)
 
     def list_program(self, program: Program) -> None:
         """Has instructions and variables of a program shown that a compiler made, in place of all that lines name."""

@@ -80,8 +80,8 @@ class TakeSeat:
     """A step from which on no other request of the seat takes turns, until the steps end."""
 
 
-Result = TypeVar("Result")
-Steps = Generator[Turn | MakeProgram | TakeSeat, Program | None, Result]
+Returned = TypeVar("Returned")
+Steps = Generator[Turn | MakeProgram | TakeSeat, Program | None, Returned]
 
 
 class SharedMachine:

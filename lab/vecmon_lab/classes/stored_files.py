@@ -3,7 +3,9 @@
 import re
 from collections.abc import Mapping, Sequence
 from dataclasses import dataclass, field
+from typing import cast
 
+from ..exercises.check import CaseResult, CheckResult
 from .codes import LETTERS
 from .progress import Try
 from .requests import Settings
@@ -64,15 +66,30 @@ def codes(**values: str) -> dict[str, str]:
 
 
 def attempt(**values: object) -> Try:
-    """A try; without values one that was lost, in which nothing passes."""
+    """A try; without values one that was lost, in which nothing passes. Cases that version 1.0 wrote have the name ""."""
     if not values:
         return Try(time=0, text="", told={"cases": [], "reason": "the answer was lost"})
     time, text, suffix, result = (values.get(key) for key in ("time", "text", "suffix", "told"))
     if type(time) is int and isinstance(text, str) and isinstance(suffix, str | None) and isinstance(result, dict):
-        cases, number = result.get("cases"), result.get("number", 0)
-        if isinstance(cases, list) and all(type(each) is bool for each in cases) and number in range(len(cases) or 1):
-            return Try(time=time, text=text, suffix=suffix or "s", told=result)  # type: ignore[typeddict-item]
+        cases, number = _cases(result.get("cases")), result.get("number", 0)
+        if number in range(len(cases) or 1):
+            told = cast(CheckResult, {**result, "cases": cases})
+            return Try(time=time, text=text, suffix=f"{suffix or 's'}", told=told)
     raise ValueError("no try")
+
+
+def _cases(cases: object) -> list[CaseResult]:
+    """The results of cases. Version 1.0 wrote for each only whether the answer passed it. Raises ValueError."""
+    found = list[CaseResult]()
+    for case in cases if isinstance(cases, list) else [None]:
+        match case:
+            case bool():
+                found.append({"name": "", "passed": case})
+            case {"name": str() as name, "passed": bool() as passed, **others} if not others:
+                found.append({"name": name, "passed": passed})
+            case _:
+                raise ValueError("no results of cases")
+    return found
 
 
 def _is_count(value: object) -> bool:

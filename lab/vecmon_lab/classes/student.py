@@ -1,12 +1,14 @@
 """A student's requests at one seat, as steps at the machine, and what the student's page shows."""
 
-from collections.abc import Callable, Mapping
+from collections.abc import Callable
+from typing import TypedDict, cast
 
 from .. import LabError
 from ..exercises.check import mistakes_json
+from ..page.state import State
 from .languages import LANGUAGES, SourceText
-from .messages import Message, shown, source_view
-from .progress import Exercises
+from .messages import Notice, Result, SourceResult, SourceView, TextResult, shown, source_view
+from .progress import Exercises, ExerciseView
 from .requests import Check, Draft, Lines, OpenExercise, ReadVersion, SeatsRequest, Source, StepLine, TryCase, Why
 from .seats import Seat
 from .shared_machine import SEAT_BYTES, SharedMachine, Steps
@@ -16,6 +18,56 @@ from .text_store import TextStore
 
 Checker = Callable[[str, str, SourceText], None]
 """Starts to check an answer of a seat to an exercise. Raises BadRequest."""
+
+
+class Share(TypedDict):
+    """Bytes of the script: those that the seat has used, and its share."""
+
+    used: int
+    of: int
+
+
+class SeatPart(TypedDict):
+    """The fields of a student's view that are the seat's own.
+
+    stop: the last stop line without the digit; "" since `enter` or `go`
+    quantum: ticks of a slice; again: whether a loaded source can be started again
+    languages: names of source languages, numbered by their place; exercises: by name
+    """
+
+    seat: str
+    state: State
+    stop: str
+    quantum: int
+    share: Share
+    languages: list[str]
+    source: SourceView
+    exercises: dict[str, ExerciseView]
+    again: bool
+
+
+class ClassView(TypedDict):
+    """The other fields of a student's view.
+
+    name: the student's, or ""; notices: the teacher's open messages, oldest first; images: names for `load`
+    clock: whether it is on; own_slices: whether the student may grant slices
+    no_c: why C is missing, or ""; against: compilers with options for side-by-side listings, numbered alike; none in a class
+    ready: whether the machine takes lines, otherwise requests wait; trouble: a text for a banner, or ""
+    """
+
+    name: str
+    notices: list[Notice]
+    images: list[str]
+    clock: bool
+    own_slices: bool
+    no_c: str
+    against: list[str]
+    ready: bool
+    trouble: str
+
+
+class StudentView(SeatPart, ClassView):
+    """A student's view."""
 
 
 class Student:
@@ -46,8 +98,8 @@ class Student:
         self.source.written = self.seat.written
         return self.source.save(self.seat.program)
 
-    def execute(self, request: SeatsRequest) -> Steps[Message]:
-        """Execute a request; return the fields of its answer. Raises BadRequest.
+    def execute(self, request: SeatsRequest) -> Steps[Result]:
+        """Execute a request; return its result. Raises BadRequest.
 
         Lines are the operator's as well: `SharedMachine.lines`.
         """
@@ -78,7 +130,7 @@ class Student:
                 return result
         return {}
 
-    def _write(self, source: SourceText | None, number: int = -1, is_answer: bool = False) -> Steps[Message]:
+    def _write(self, source: SourceText | None, number: int = -1, is_answer: bool = False) -> Steps[SourceResult]:
         """Starts the machine anew with a source, or with the one that is there; the mistakes that it has."""
         if source:
             self.source.write(source, number)
@@ -87,9 +139,9 @@ class Student:
             self.seat.set_condition(f"{len(mistakes)} mistake{'s' * (len(mistakes) > 1)} in the source", True)
         return {"mistakes": mistakes_json(mistakes), "warnings": mistakes_json(warnings)}
 
-    def view(self, more: Mapping[str, object]) -> Mapping[str, object]:
-        """The student's view; more: fields that aren't the seat's own."""
-        return {
+    def view(self, others: ClassView) -> StudentView:
+        """The student's view, with the fields that aren't the seat's own."""
+        own: SeatPart = {
             "seat": self.seat.name,
             "state": shown(self.seat),
             "stop": self.seat.stop,
@@ -99,10 +151,10 @@ class Student:
             "source": source_view(self.source, self.seat),
             "exercises": self.exercises.views(self.seat.name),
             "again": self.seat.program is not None,
-            **more,
         }
+        return cast(StudentView, {**own, **others})
 
 
-def text_of(source: SourceText) -> Message:
+def text_of(source: SourceText) -> TextResult:
     """A source as a message has it."""
     return {"text": source.text, "language": source.language}

@@ -5,7 +5,7 @@ from collections.abc import Mapping
 
 from .. import LabError
 from .codes import TEACHER, WALL
-from .messages import Message, add_words, request_of
+from .messages import Answer, Changes, Hello, Result, answer_to, explain_refusals, request_of, with_changes
 from .names import checked_name
 from .requests import BadRequest, Check, CloseNotice, Compare, Draft, JsonObject, Lines, OpenExercise, ReadAnswer
 from .requests import ReadVersion, Request, SetName, Source, StepLine, TryCase, Why, read_request
@@ -23,38 +23,36 @@ class TabRequests:
     def __init__(self, members: Class) -> None:
         self._members = members
 
-    def hello(self, tab: Tab) -> Message:
+    def hello(self, tab: Tab) -> Hello:
         """The first message to a tab, which joins the class; news follow it."""
         self._members.tabs.add(tab)
         self._members.tell([tab.who])
-        hello: Message = {"kind": "hello", "who": tab.who, "time": time.time()}
-        hello.update(self.news(tab))
-        return hello
+        hello: Hello = {"kind": "hello", "who": tab.who, "time": time.time()}
+        return with_changes(hello, self.news(tab))
 
     def leave(self, tab: Tab) -> None:
         """The tab is gone."""
         self._members.tabs.discard(tab)
         self._members.tell([tab.who])
 
-    async def answer(self, tab: Tab, text: str, refusal: str = "") -> Message:
+    async def answer(self, tab: Tab, text: str, refusal: str = "") -> Answer:
         """The answer to a request, with what is new. With a refusal, which is a sentence, nothing is done."""
-        answer: Message = {"kind": "answer", "id": 0}
+        number, done = 0, Answers()
         message: JsonObject = {}
-        done: Answers = []
+        result: Result
         try:
-            message = request_of(text, answer)
+            number, message = request_of(text)
             if refusal:
                 raise BadRequest(refusal)
             if tab.who == WALL:
                 raise BadRequest("the wall only looks")
-            answer.update(await self._execute(tab, read_request(message, tab.who == TEACHER), done))
+            result = await self._execute(tab, read_request(message, tab.who == TEACHER), done)
         except (LabError, ValueError, RecursionError) as error:
-            answer.update({"error": str(error), "done": done})
-        add_words(answer, "*" if tab.who == TEACHER else tab.who[-1], message, done)
-        answer.update(self.news(tab))
-        return answer
+            result = {"error": str(error), "done": done}
+        result = explain_refusals(result, "*" if tab.who == TEACHER else tab.who[-1], message, done)
+        return answer_to(number, result, self.news(tab))
 
-    def news(self, tab: Tab) -> Message:
+    def news(self, tab: Tab) -> Changes:
         """The changes for a tab: a patch of its view, and entries of logs."""
         tab.changed.clear()
         return tab.sent.news(self._view(tab), self._logs(tab))
@@ -76,8 +74,8 @@ class TabRequests:
         operators = [room.seats.operator for room in self._members.rooms.values()]
         return operators if tab.shoulder is None else [*operators, tab.shoulder]
 
-    async def _execute(self, tab: Tab, request: Request, done: Answers) -> Message:
-        """Execute a request; return the fields of its answer. Raises BadRequest, and LabError if no machine runs."""
+    async def _execute(self, tab: Tab, request: Request, done: Answers) -> Result:
+        """Execute a request; return its result. Raises BadRequest, and LabError if no machine runs."""
         members, is_teacher = self._members, tab.who == TEACHER
         match request:
             case Lines(machine):
@@ -96,7 +94,8 @@ class TabRequests:
             case Source() | StepLine() | Why() | Draft() | OpenExercise() | ReadVersion() | Check() | TryCase():
                 seen = tab.shoulder.name if tab.shoulder else ""  # whose versions a teacher reads
                 student = members.student(seen if is_teacher else tab.who)
-                return await members.rooms[student.seat.name[0]].run(student.seat, student.execute(request))
+                result = await members.rooms[student.seat.name[0]].run(student.seat, student.execute(request))
+                return result
             case _:
                 return await execute_teachers(members, tab, request)
         return {}

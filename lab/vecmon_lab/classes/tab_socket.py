@@ -9,7 +9,7 @@ from collections.abc import Callable
 from aiohttp import WSMsgType, web
 
 from .codes import TEACHER
-from .messages import Message
+from .messages import Message, News, with_changes
 from .tab_requests import TabRequests
 from .view import Tab
 
@@ -77,9 +77,8 @@ class TabSocket:
         while self._tab.is_open:
             await self._tab.changed.wait()
             # an answer may have sent all of it meanwhile
-            if self._tab.is_open and self._tab.changed.is_set() and (news := self._tabs.news(self._tab)):
-                news["kind"] = "news"
-                await self._send(news)
+            if self._tab.is_open and self._tab.changed.is_set() and (changes := self._tabs.news(self._tab)):
+                await self._send(with_changes(News(kind="news"), changes))
             await asyncio.sleep(0.1 if self._tab.who == TEACHER else 0.02)
         with contextlib.suppress(ConnectionError):
             await self._socket.close(code=CLOSED, message=b"another code")

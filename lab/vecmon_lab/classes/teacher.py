@@ -3,7 +3,7 @@
 import asyncio
 
 from .codes import WALL
-from .messages import Message
+from .messages import CodesResult, Result
 from .requests import (
     BadRequest,
     Give,
@@ -22,8 +22,8 @@ from .sheet import pictures
 from .view import Class, Tab
 
 
-async def execute_teachers(members: Class, tab: Tab, request: TeacherRequest) -> Message:
-    """Execute a request of a teacher's tab; return the fields of its answer. Raises BadRequest."""
+async def execute_teachers(members: Class, tab: Tab, request: TeacherRequest) -> Result:
+    """Execute a request of a teacher's tab; return its result. Raises BadRequest."""
     match request:
         case Give(name, source):
             replaced = [members.students[seat.name].source.give(source) for seat in members.seats(name)]
@@ -61,7 +61,7 @@ async def execute_teachers(members: Class, tab: Tab, request: TeacherRequest) ->
     return {}
 
 
-async def _shown_codes(members: Class, name: str, with_pictures: bool) -> Message:
+async def _shown_codes(members: Class, name: str, with_pictures: bool) -> CodesResult:
     """The codes of a seat, or of all for "". Raises BadRequest."""
     if not (codes := members.codes.shown(name)):
         raise BadRequest("there is no such seat")

@@ -1,10 +1,9 @@
 """The teacher's view of a class, and the wall's."""
 
-from collections.abc import Mapping
-from dataclasses import asdict
-from typing import TypedDict
+from typing import NotRequired, TypedDict
 
 from ..machine.session import SCRIPT_BYTES
+from ..machine.answers import Run
 from ..page.state import State
 from .checks import ExerciseTable
 from .languages import LANGUAGES
@@ -15,15 +14,26 @@ from .seats import Seat
 from .shared_machine import SEAT_BYTES
 from .view import Class, Tab
 
-WallView = TypedDict("WallView", {"seat": str, "state": State, "stop": str, "trouble": str})
+
+class WallView(TypedDict):
+    """The wall's view: the seat that it shows, or "", its state and its last stop line; and a text for a banner, or ""."""
+
+    seat: str
+    state: NotRequired[State]
+    stop: str
+    trouble: str
 
 
 class SeatView(TypedDict):
-    """The teacher's view of a seat."""
+    """The teacher's view of a seat.
+
+    tabs: the number of open ones; stands: the program's state in a few words; stuck, since: whether its student may need
+    somebody, and since when both are so, in seconds since 1970; used: bytes of the script
+    """
 
     name: str
     tabs: int
-    run: str
+    run: Run
     stands: str
     stuck: bool
     since: int
@@ -32,11 +42,24 @@ class SeatView(TypedDict):
     used: int
 
 
+class ClockView(TypedDict):
+    """The settings of a machine's clock, as in `Settings`."""
+
+    on: bool
+    slices: int
+    ms: int
+    limit: int
+
+
 class MachineView(TypedDict):
-    """The teacher's view of a machine."""
+    """The teacher's view of a machine.
+
+    seats: by digit; script, of: bytes of the script, and their limit; scripts: how many there were; lines: of all scripts
+    digest: the SHA-256 of all answers; restarts, loss: the number of restarts, and the reason of the last one, or ""
+    """
 
     seats: dict[str, SeatView]
-    clock: Mapping[str, int]
+    clock: ClockView
     own_slices: bool
     script: int
     scripts: int
@@ -48,7 +71,7 @@ class MachineView(TypedDict):
     trouble: str
 
 
-class Given(TypedDict, total=False):
+class Given(TypedDict):
     """The source that was given last and can be taken back: to which seat, "" for all, and how many had another text."""
 
     seat: str
@@ -56,7 +79,12 @@ class Given(TypedDict, total=False):
 
 
 class TeacherView(TypedDict):
-    """The teacher's view."""
+    """The teacher's view.
+
+    machines: by letter; share: a seat's bytes of the script; shoulder: the observed seat, or "", with its state and source
+    wall: the seat on the wall, or ""; address: where students reach the class, or ""
+    given: the last given source, while it can be taken back; unencrypted: whether codes travel unencrypted to other computers
+    """
 
     machines: dict[str, MachineView]
     share: int
@@ -65,51 +93,55 @@ class TeacherView(TypedDict):
     address: str
     exercises: dict[str, ExerciseTable]
     failures: list[CheckFailure]
-    state: State
-    source: SourceView
+    state: NotRequired[State]
+    source: NotRequired[SourceView]
     images: list[str]
     quantum: int
     languages: list[str]
     no_c: str
     unencrypted: bool
-    given: Given
+    given: NotRequired[Given]
     trouble: str
 
 
 def wall_view(members: Class) -> WallView:
     """The wall's view: no code, and nothing of other seats."""
     if members.wall is None:
-        return {"seat": "", "state": {}, "stop": "", "trouble": ""}
+        return {"seat": "", "stop": "", "trouble": ""}
     warning = members.rooms[members.wall.name[0]].warning
     return {"seat": members.wall.name, "state": shown(members.wall), "stop": members.wall.stop, "trouble": warning}
 
 
 def teacher_view(members: Class, tab: Tab) -> TeacherView:
     """The teacher's view in a tab."""
-    return {
+    view: TeacherView = {
         "machines": {letter: _machine_view(members, room) for letter, room in members.rooms.items()},
         "share": SEAT_BYTES,
         "images": list(members.store.images),
         "quantum": members.store.quantum,
         "trouble": " ".join(filter(None, [members.warning, members.store.loss])),
         "shoulder": tab.shoulder.name if tab.shoulder else "",
-        "state": shown(tab.shoulder) if tab.shoulder else {},
         "wall": members.wall.name if members.wall else "",
         "address": members.address,
         "languages": [language.name for language in LANGUAGES],
         "no_c": members.builds.no_c,
         "unencrypted": members.is_unencrypted,
-        "given": {"seat": members.given[0], "replaced": members.given[1]} if members.given else {},
-        "source": source_view(members.students[tab.shoulder.name].source, tab.shoulder) if tab.shoulder else {},
         "exercises": members.checks.table(),
         "failures": members.checks.exercises.failures,
     }
+    if tab.shoulder:
+        view["state"] = shown(tab.shoulder)
+        view["source"] = source_view(members.students[tab.shoulder.name].source, tab.shoulder)
+    if members.given:
+        view["given"] = {"seat": members.given[0], "replaced": members.given[1]}
+    return view
 
 
 def _machine_view(members: Class, room: Room) -> MachineView:
+    clock = room.clock.settings
     return {
         "seats": {seat.digit: _seat_view(members, seat) for seat in room.seats.users.values()},
-        "clock": asdict(room.clock.settings),
+        "clock": {"on": clock.on, "slices": clock.slices, "ms": clock.ms, "limit": clock.limit},
         "own_slices": room.own_slices,
         "script": room.session.size,
         "scripts": len(room.scripts.set_up),

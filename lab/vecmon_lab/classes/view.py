@@ -4,7 +4,7 @@ import asyncio
 import math
 import pathlib
 import time
-from collections.abc import Callable, Iterable, Mapping, Sequence
+from collections.abc import Callable, Iterable, Sequence
 from dataclasses import asdict, replace
 from functools import partial
 
@@ -22,7 +22,7 @@ from .room import Room
 from .seats import Seat
 from .stored_files import Notes, texts
 from .store import Store, script_name
-from .student import Student
+from .student import ClassView, Student, StudentView
 
 COUNTS_SECONDS = 1.0  # between notes of a machine that only count more lines
 
@@ -153,10 +153,10 @@ class Class:
         """The seat of a name, or all for "". Raises BadRequest."""
         return [self.seat(name)] if name else [student.seat for student in self.students.values()]
 
-    def student_view(self, student: Student) -> Mapping[str, object]:
+    def student_view(self, student: Student) -> StudentView:
         """The student's view."""
         room = self.rooms[student.seat.name[0]]
-        more = {
+        others: ClassView = {
             "name": self.names.get(student.seat.name, ""),
             "notices": self.notices.of(student.seat.name),
             "images": list(self.store.images),
@@ -167,7 +167,7 @@ class Class:
             "ready": not room.thread.rebuilding,
             "trouble": room.warning,
         }
-        return student.view(more)
+        return student.view(others)
 
     def tell(self, names: Iterable[str]) -> None:
         """Wakes the tabs of these seats, and the teacher's; the wall's where it shows one of them."""

@@ -134,12 +134,12 @@ def program_of(
     return CompiledProgram(lines, labels, [], int(image["entry"]), [], rows, warnings, variables, stops, entries)
 
 
-def variable_rows(variables: Sequence[Sequence[Any]]) -> list[int]:
+def variable_rows(variables: Sequence[Variable]) -> list[int]:
     """The rows of memory with numbers of variables that lie at an address, in the variables' order."""
     rows = dict[int, None]()
-    for _, _, element, counts, _, _, locations in variables:
-        size = int(element[1:]) // 8 * math.prod(counts) if element else 0
-        for first in (int(each[4], 16) for each in locations if each[2] == "memory" and not each[3]):
+    for variable in variables:
+        size = int(variable.element[1:]) // 8 * math.prod(variable.counts) if variable.element else 0
+        for first in (int(it.offset, 16) for it in variable.locations if it.kind == "memory" and not it.register):
             rows |= dict.fromkeys(range(first // ROW_BYTES * ROW_BYTES, first + min(size, PAGE_BYTES), ROW_BYTES))
     return list(rows)
 

@@ -13,7 +13,7 @@ import pickle
 import sys
 from collections.abc import Iterable, Sequence
 from dataclasses import replace
-from typing import TypedDict
+from typing import NotRequired, TypedDict
 
 from .. import LabError
 from ..instructions.table import ABI_NAMES
@@ -39,8 +39,15 @@ Mistake = TypedDict("Mistake", {"line": int, "column": int, "message": str})
 """A mistake of the source's form."""
 
 
-class CheckResult(TypedDict, total=False):
-    """The cases that pass; of the first visible one that fails its number and why; the cost of an answer that passes.
+class CaseResult(TypedDict):
+    """A case of an exercise by its name, and whether an answer passes it."""
+
+    name: str
+    passed: bool
+
+
+class CheckResult(TypedDict):
+    """The result of each case; of the first visible one that fails its number and why; the cost of an answer that passes.
 
     Rows have what is given there, expected and found, and notes what else holds there. Without cases the source has
     mistakes, and wasn't tried. Warnings are a compiler's.
@@ -48,19 +55,19 @@ class CheckResult(TypedDict, total=False):
     unchecked: a sentence that says so to the student, without the cause
     """
 
-    failure: str
-    unchecked: str
-    mistakes: list[Mistake]
-    warnings: list[Mistake]
-    cases: list[bool]
-    number: int
-    reason: str
-    notes: list[str]
-    given: list[NumberRow]
-    expected: list[NumberRow]
-    found: list[NumberRow]
-    taken: AnswerCost
-    good: AnswerCost
+    failure: NotRequired[str]
+    unchecked: NotRequired[str]
+    mistakes: NotRequired[list[Mistake]]
+    warnings: NotRequired[list[Mistake]]
+    cases: NotRequired[list[CaseResult]]
+    number: NotRequired[int]
+    reason: NotRequired[str]
+    notes: NotRequired[list[str]]
+    given: NotRequired[list[NumberRow]]
+    expected: NotRequired[list[NumberRow]]
+    found: NotRequired[list[NumberRow]]
+    taken: NotRequired[AnswerCost]
+    good: NotRequired[AnswerCost]
 
 
 def check_or_failure(
@@ -100,7 +107,8 @@ def check(
         of_form = compiled.mistakes if compiled else all_mistakes(read_source(text), program)
         mistakes = of_form or [SourceError(1, 1, f"{error}")]
         return {"mistakes": mistakes_json(mistakes)}
-    reply: CheckResult = {"cases": [not reason for reason, _ in outcomes]}
+    pairs = zip(exercise.cases, outcomes)
+    reply: CheckResult = {"cases": [{"name": case.name, "passed": not reason} for case, (reason, _) in pairs]}
     if compiled and compiled.warnings:
         reply["warnings"] = mistakes_json(compiled.warnings)
     for number, (case, (reason, done)) in enumerate(zip(exercise.cases, outcomes)):
@@ -111,11 +119,17 @@ def check(
             reply["notes"] = _notes(exercise, case)
             reply.update({"found": found} if done else {})
             return reply
-    if all(reply["cases"]) and "good" in exercise.files:
+    if passes_all(reply) and "good" in exercise.files:
         with contextlib.suppress(LabError):  # without a compiler for C, or a recorder
             good = good or answer_cost(program, read_answer(exercise.files["good"], is_own=True), exercise)
             reply.update({"taken": answer_cost(program, answer, exercise), "good": good})
     return reply
+
+
+def passes_all(result: CheckResult) -> bool:
+    """Whether an answer was tried, and passes all cases."""
+    cases = result.get("cases", [])
+    return bool(cases) and all(case["passed"] for case in cases)
 
 
 def mistakes_json(errors: Iterable[SourceError]) -> list[Mistake]:

@@ -3,12 +3,12 @@
 import re
 from collections.abc import Sequence
 from dataclasses import dataclass, field, replace
-from typing import Any
 
 from .. import LabError
 from ..assembler.commands import explain_refusal
 from ..assembler.source import Program, SourceError, Statement, assemble, refusal
 from ..compilers.compiled import CompiledProgram
+from ..compilers.variables import Variable
 from ..guest.guest import Guest
 from ..machine.answers import Refused
 from ..machine.lines import is_look, words_of
@@ -45,7 +45,7 @@ class Script:
     notes: dict[int, str] = field(default_factory=dict)
     said: dict[str, str] = field(default_factory=dict)
     starts: dict[str, int] = field(default_factory=dict)
-    variables: Sequence[Sequence[Any]] = ()
+    variables: Sequence[Variable] = ()
     program: Program | None = None
 
 

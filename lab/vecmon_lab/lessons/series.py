@@ -5,7 +5,7 @@ from collections.abc import Mapping, Sequence
 from typing import TypedDict
 
 from .frames import make_frames
-from .page import lesson_page
+from .page import Link, lesson_page
 from .script import Script
 from .strip import Strip, strip_of
 
@@ -30,8 +30,9 @@ def make_series(
     return pages, entries
 
 
-def _links(titles: Sequence[tuple[str, str]], place: int) -> list[tuple[str, str, str]]:
-    """The links of a lesson to the one before it, the index, and the one after it: kind, address and title."""
-    before = [("prev", f"{name}.html", title) for name, title in titles[max(0, place - 1) : place]]
-    after = [("next", f"{name}.html", title) for name, title in titles[place + 1 : place + 2]]
-    return [*before, ("index", "index.html", "All lessons"), *after]
+def _links(titles: Sequence[tuple[str, str]], place: int) -> list[Link]:
+    """The links of a lesson to the one before it, the index, and the one after it."""
+    before, after = titles[max(0, place - 1) : place], titles[place + 1 : place + 2]
+    links: list[Link] = [{"kind": "prev", "address": f"{name}.html", "title": title} for name, title in before]
+    links.append({"kind": "index", "address": "index.html", "title": "All lessons"})
+    return [*links, *(Link(kind="next", address=f"{name}.html", title=title) for name, title in after)]

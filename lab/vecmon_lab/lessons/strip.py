@@ -36,7 +36,9 @@ def _written(old: Frame, new: Frame) -> Iterator[Strip]:
         before = old.states.get(user, ABSENT)
         if "v" in before and "v" in state:
             changes = [_changes(data, before["v"][number]) for number, data in state["v"].items()]
-            written = [it[0] for it in state["operands"].get(state.get("instruction", ""), ()) if it[5]]
+            written = [
+                it["register"] for it in state["operands"].get(state.get("instruction", ""), ()) if it["written"]
+            ]
             if any(changes):
                 yield _strip(state, next((each for each in written if changes[each]), changes.index(max(changes))))
 
@@ -53,14 +55,14 @@ def _strip(state: State, number: int) -> Strip:
     """
     vtype, address = int(state["vtype"], 16), state.get("instruction", "")
     is_set, sew = vtype >> 63 == 0, 8 << (vtype >> 3 & 7)
-    writes = [it for it in state["operands"].get(address, ()) if it[5] and it[0] == number]
-    _, _, bits, part, _, _, is_masked = writes[0] if writes else (0, 0, 0, 1, 0, 0, 0)
+    writes = [it for it in state["operands"].get(address, ()) if it["written"] and it["register"] == number]
+    bits, part, is_masked = (writes[0]["bits"], writes[0]["part"], writes[0]["masked"]) if writes else (0, 1, False)
     width = (1 if bits == 1 else min(64, max(8, int(bits or part * sew)))) if is_set else 8
     register = int.from_bytes(bytes.fromhex(state["v"][f"{number}"]), "little")
     cells = []
     for place in range(min(MAX_CELLS, VLEN // width)):
         element = register >> place * width & (1 << width) - 1
-        cells.append((f"{element:0{-(-width // 4)}x}", _kind(state, place, bool(is_masked)) if is_set else ""))
+        cells.append((f"{element:0{-(-width // 4)}x}", _kind(state, place, is_masked) if is_set else ""))
     return {"name": f"v{number}", "text": state["code"].get(address, "")[9:] if writes else "", "cells": cells}
 
 

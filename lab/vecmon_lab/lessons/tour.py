@@ -5,6 +5,7 @@ import json
 import pathlib
 from itertools import islice
 
+from ..compilers.variables import read_variables
 from ..machine.lines import is_look, words_of
 from ..machine.program import find_program
 from ..page.pages import lone_page, write_pages
@@ -52,7 +53,11 @@ def _script(name: str, title: str) -> Script:
             continue
         for place in range(int(number)):
             _add_line(steps, next(lines), "" if place else note)
-    return Script(title, steps, **json.loads(data_path.read_text("ascii")) if data_path.exists() else {})
+    if not data_path.exists():
+        return Script(title, steps)
+    names = json.loads(data_path.read_text("ascii"))
+    variables = read_variables(names["variables"])
+    return Script(title, steps, labels=names["labels"], said=names["said"], starts=names["starts"], variables=variables)
 
 
 def _add_line(steps: list[Step], line: str, note: str) -> None:

@@ -10,10 +10,14 @@ import re
 from collections.abc import Callable, Sequence
 from dataclasses import dataclass
 from fractions import Fraction
+from typing import Literal
 
 from .. import LabError
 from ..tables.table import read_table
 from .lines import words_of
+
+Run = Literal["absent", "stopped", "running"]
+"""The state of a user's machine and program."""
 
 _REFUSAL = re.compile(r"\* E0[34]|[1-8] E(?:0[3-8]|09 [A-Za-z]+|1[0-46]|15 [0-9]+)")
 _STOP = "(?:(?:break|ebreak|outfull|exit D) pc=V16|fault cause=[01257] pc=V16 value=V16)"
@@ -170,7 +174,7 @@ class Position(ProgramState):
     """It has `stepped` so often, is `running` or `stopped` now, or is shown: `state running` or `state stopped`."""
 
     @property
-    def run(self) -> str:
+    def run(self) -> Run:
         """`running` or `stopped`."""
         return "running" if self.kind.endswith("running") else "stopped"
 

@@ -23,7 +23,7 @@ class Lesson {
     byId("sentence").hidden = !frames.some((frame) => frame.note);
     this.listen();
     this.listenToLines();
-    const link = ([rel, href, title]) => Object.assign(make("a", "", LINKS[rel]), { rel, href, title });
+    const link = ({ kind, address, title }) => Object.assign(make("a", "", LINKS[kind]), { rel: kind, href: address, title });
     byId("links").append(...links.map(link)); // to other lessons of a tour or a course
     byId("links").hidden = !links.length;
     this.show(Number(location.hash.slice(1) || 1) - 1);

@@ -2,29 +2,33 @@
 
 import functools
 from collections.abc import Sequence
-from typing import NamedTuple
+from typing import TypedDict
 
 from ..instructions.accesses import vector_instruction
 from ..instructions.words import Operand
 
 
-class ShownOperand(NamedTuple):
-    """An operand, as a list in JSON.
+class ShownOperand(TypedDict):
+    """A vector register operand of an instruction.
 
-    register, groups: the number of the first register, and how many groups there are from it on, one behind another
-    bits, part: the width of elements, 1 in a mask; or else which part or multiple of SEW it is; the other one is 0
-    is_whole: whether each group is one register, under all vector types
-    is_written: whether it is the result
-    is_masked: whether elements whose bit in v0 is 0 are masked off, and v0 is still what it was
+    register, groups: the number of the first register, and the number of register groups that follow one another from it
+    bits, part: the width of elements in bits, 1 in a mask; or the part or multiple of SEW that it is; the other one is 0
+    whole: whether each group is one register, under all vector types
+    written: whether it is the result
+    masked: whether elements whose bit in v0 is 0 are masked off, and v0 still has the mask
     """
 
     register: int
     groups: int
     bits: int
     part: float
-    is_whole: bool
-    is_written: bool = False
-    is_masked: bool = False
+    whole: bool
+    written: bool
+    masked: bool
+
+
+MASK = ShownOperand(register=0, groups=1, bits=1, part=0, whole=True, written=False, masked=False)
+"""The mask v0 of a masked instruction."""
 
 
 @functools.lru_cache(maxsize=4096)
@@ -37,11 +41,19 @@ def shown_operands(word: int) -> Sequence[ShownOperand]:
     masked = others[0] if first.part and first.is_whole and others else first  # a reduction's mask is its source's
     is_masked = instruction.leaves_out and (first.noun, first.registers.start) != ("destination", 0)
     shown = [_shown(operand, is_masked and operand is masked) for operand in instruction.operands]
-    return [*shown, ShownOperand(0, 1, 1, 0, True)] if instruction.is_masked else shown
+    return [*shown, MASK] if instruction.is_masked else shown
 
 
 def _shown(operand: Operand, is_masked: bool) -> ShownOperand:
     bits, part = (0, float(operand.part)) if operand.part else (operand.eew, 0)
     groups = len(operand.registers) // (1 if operand.is_whole else operand.group)
     is_written = operand.noun == "destination"
-    return ShownOperand(operand.registers.start, groups, bits, part, operand.is_whole, is_written, is_masked)
+    return {
+        "register": operand.registers.start,
+        "groups": groups,
+        "bits": bits,
+        "part": part,
+        "whole": operand.is_whole,
+        "written": is_written,
+        "masked": is_masked,
+    }

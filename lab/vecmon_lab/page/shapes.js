@@ -7,11 +7,11 @@
  * masked: whether elements whose bit in v0 is 0 are left out of it, and v0 is still what it was.
  */
 export function operandGroups(operands, type) {
-  return operands.flatMap(([register, groups, bits, part, isWhole, writes, masked]) => {
+  return operands.flatMap(({ register, groups, bits, part, whole, written, masked }) => {
     const mask = bits === 1;
     const width = mask ? type.sew : Math.min(64, Math.max(8, bits || part * type.sew));
-    const group = isWhole ? 1 : Math.min(8, Math.max(1, (type.lmul * width) / type.sew));
-    const shape = { group, width, mask, writes, masked };
+    const group = whole ? 1 : Math.min(8, Math.max(1, (type.lmul * width) / type.sew));
+    const shape = { group, width, mask, writes: written, masked };
     return Array.from({ length: groups }, (_, place) => ({ register: register + place * group, ...shape }));
   });
 }

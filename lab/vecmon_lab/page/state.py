@@ -3,7 +3,7 @@
 import re
 from collections import Counter
 from collections.abc import Iterable, Iterator, Mapping, Sequence
-from typing import Any, TypedDict
+from typing import NotRequired, TypedDict
 
 from ..guest.calls import shown_calls
 from ..guest.changes import Registers
@@ -18,17 +18,35 @@ from ..machine.answers import (
     Listing,
     Output,
     Position,
+    Run,
     ScalarRegisters,
     Stop,
 )
 from ..machine.lines import words_of
 from .operands import ShownOperand, shown_operands
+from .variables import ShownVariable
 
 
-class State(TypedDict, total=False):
+class SourceNames(TypedDict):
+    """The names of the source that was assembled last.
+
+    labels, lines: names, and lines with their comments, by address
+    starts, stops, variables: of a compiled source (`compilers/compiled.py`): the line number, or 0, by start address; the addresses of a
+        line's breakpoints by line number; and those of the debug data
+    """
+
+    labels: dict[str, list[str]]
+    lines: dict[str, str]
+    starts: NotRequired[Mapping[str, int]]
+    stops: NotRequired[Mapping[str, Sequence[str]]]
+    variables: NotRequired[Sequence[ShownVariable]]
+
+
+class State(TypedDict):
     """A user's state; addresses and values are hexadecimal digits without leading zeros, and bytes two digits each.
 
-    run: `absent`, `stopped` or `running`; without a machine there is nothing else
+    run: without a machine there is nothing else
+    pc, and all up to `memory`: where the program was stopped at least once; a program that runs has them as they were before, but pc
     x: 32 values by number; v: 32 times 32 bytes by number; policy: `keep` or `ones`
     code, operands: the program's words with their texts, and their vector operands, by address
     memory: rows of 16 bytes by address
@@ -38,35 +56,34 @@ class State(TypedDict, total=False):
         program reached; without one there is no such key
     output: the bytes that answers to `out` have shown
     outputs: in a class in place of it, the last 64 KB of them, in blocks by number
-    labels, lines: in a class, names and lines by address of the source that was assembled last
-    starts, stops, variables: in a class, of a source in C (`compilers/compiled.py`)
+    labels, lines, starts, stops, variables: in a class, those of `SourceNames`
     """
 
-    run: str
-    pc: str
-    x: dict[str, str]
-    vtype: str
-    vl: int
-    vstart: int
-    vxrm: int
-    vxsat: int
-    breaks: list[str]
-    policy: str
-    v: dict[str, str]
-    code: dict[str, str]
-    operands: dict[str, Sequence[ShownOperand]]
-    memory: dict[str, str]
-    instruction: str
-    faulted: bool
-    stop: str
-    calls: Mapping[str, str]
-    output: str
-    outputs: Mapping[str, str]
-    labels: dict[str, list[str]]
-    lines: dict[str, str]
-    starts: Mapping[str, int]
-    stops: Mapping[str, Sequence[str]]
-    variables: Sequence[Sequence[Any]]
+    run: Run
+    pc: NotRequired[str]
+    x: NotRequired[dict[str, str]]
+    vtype: NotRequired[str]
+    vl: NotRequired[int]
+    vstart: NotRequired[int]
+    vxrm: NotRequired[int]
+    vxsat: NotRequired[int]
+    breaks: NotRequired[list[str]]
+    policy: NotRequired[str]
+    v: NotRequired[dict[str, str]]
+    code: NotRequired[dict[str, str]]
+    operands: NotRequired[dict[str, Sequence[ShownOperand]]]
+    memory: NotRequired[dict[str, str]]
+    instruction: NotRequired[str]
+    faulted: NotRequired[bool]
+    stop: NotRequired[str]
+    calls: NotRequired[Mapping[str, str]]
+    output: NotRequired[str]
+    outputs: NotRequired[Mapping[str, str]]
+    labels: NotRequired[dict[str, list[str]]]
+    lines: NotRequired[dict[str, str]]
+    starts: NotRequired[Mapping[str, int]]
+    stops: NotRequired[Mapping[str, Sequence[str]]]
+    variables: NotRequired[Sequence[ShownVariable]]
 
 
 ABSENT: State = {"run": "absent"}

@@ -107,7 +107,7 @@ export class Teacher {
     this.showClocks(Object.values(view.machines));
     say("trouble", view.trouble);
     this.warn(view);
-    this.showGiven(view.given);
+    this.showGiven(view.given ?? {});
     if (isAnew) byId("operator-log").replaceChildren();
     const item = (letter) => (entry) => toldEntry(entry, false, letters.length > 1 ? `${letter} ` : "");
     addToLog(byId("operator-log"), letters.flatMap((letter) => (logs[letter] ?? []).map(item(letter))));

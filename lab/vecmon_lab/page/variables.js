@@ -26,11 +26,11 @@ export function numberText(element, value) {
  * words and as an address, and their value as a text.
  */
 export function knownVariables({ variables = [], pc, x, memory }) {
-  const holds = ([first, end]) => first <= parseInt(pc, 16) && parseInt(pc, 16) < end;
-  const known = variables.filter(([, , , , , scopes]) => !scopes.length || scopes.some(holds));
-  known.sort(([, , , , one], [, , , , other]) => (one === "") - (other === ""));
-  return known.map(([, declaration, element, counts, , scopes, locations]) => {
-    const [, , kind, register, offset] = locations.find(holds) ?? [, , "gone", 0, "0"];
+  const holds = ({ first, end }) => first <= parseInt(pc, 16) && parseInt(pc, 16) < end;
+  const known = variables.filter(({ scopes }) => !scopes.length || scopes.some(holds));
+  known.sort((one, other) => (one.function === "") - (other.function === ""));
+  return known.map(({ declaration, element, counts, scopes, locations }) => {
+    const { kind, register, offset } = locations.find(holds) ?? { kind: "gone", register: 0, offset: "0" };
     const sum = kind === "vector" ? 0n : BigInt.asUintN(64, number(x[register]) + number(offset));
     const at = kind === "memory" ? sum : null;
     const isNumber = element && !counts.length;

@@ -35,16 +35,16 @@ export function verdict({ told, cases, lesson }, tryCase) {
   const untried = make("p", "", "It wasn't tried in any case, and this is no try.");
   if (told.mistakes) return [make("h3", "", "Source has mistakes."), untried];
   if (!told.cases) return [];
-  const passed = told.cases.filter(Boolean).length;
-  const items = cases.map((name, place) => {
-    const passes = told.cases[place];
+  const passed = told.cases.filter((it) => it.passed).length;
+  const items = cases.map(({ name }) => {
+    const passes = told.cases.some((it) => it.passed && it.name === name);
     return make("li", passes ? "passes" : "fails", `${passes ? "✓" : "✗"} ${name}`, unseen(passes ? " passes" : " fails"));
   });
   const sum = passed === cases.length ? "It passes all cases." : `It passes ${passed} of ${cases.length} cases.`;
   const parts = [make("h3", "", sum), make("ul", "cases", ...items)];
   if (told.taken) return [...parts, make("p", "", takenWords(told))];
   if (!told.reason) return passed === cases.length ? parts : [...parts, make("p", "", "What is given in a case that fails isn't shown.")];
-  const which = told.number === undefined ? "" : `${cases[told.number]}: `;
+  const which = told.number === undefined ? "" : `${cases[told.number].name}: `;
   const here = Object.assign(make("button", "", "Try it here"), { onclick: tryCase });
   const rest = " begins your own machine with it.";
   return [

@@ -4,18 +4,19 @@ Work without a request, running programs and checks of answers, is done in turns
 """
 
 import time
-from collections.abc import Callable, Mapping, Sequence
+from collections.abc import Callable, Mapping
 
 from .. import LabError
 from ..assembler.source import Program
 from ..assembler.trial import read_whole_source
 from ..classes.languages import SourceText
-from ..classes.messages import Message, Updates, add_words, request_of
+from ..classes.messages import Answer, Changes, Hello, News, Result, Updates
+from ..classes.messages import answer_to, explain_refusals, request_of, with_changes
 from ..classes.progress import Exercises, Start, Try
 from ..classes.requests import BadRequest, Check, Draft, JsonObject, Lines, OpenExercise, ReadAnswer, ReadVersion
 from ..classes.requests import Request, Settings, Source, StepLine, TryCase, Why, read_request
-from ..classes.shared_machine import Answers, MakeProgram, Result, SharedMachine, Steps, Turn
-from ..classes.student import Student, text_of
+from ..classes.shared_machine import Answers, MakeProgram, Returned, SharedMachine, Steps, Turn
+from ..classes.student import ClassView, Student, text_of
 from ..classes.text_store import TextStore
 from ..exercises.check import check, lesson, lesson_before
 from ..exercises.exercise import Exercise
@@ -74,41 +75,36 @@ class Desk:
         """Whether there is work without a request."""
         return bool(self._checks or self.machine.seats.running())
 
-    def hello(self) -> Message:
+    def hello(self) -> Hello:
         """The first message to a page."""
         self._sent = Updates()
-        hello: Message = {"kind": "hello", "who": self.seat.name, "time": time.time()}
-        hello.update(self.news())
-        return hello
+        hello: Hello = {"kind": "hello", "who": self.seat.name, "time": time.time()}
+        return with_changes(hello, self.news())
 
-    def news(self) -> Message:
+    def news(self) -> Changes:
         """The changes that the page doesn't have yet."""
         return self._sent.news(self.student.view(self._more()), [self.seat])
 
-    def answer(self, text: str) -> Message:
+    def answer(self, text: str) -> Answer:
         """The answer to a request, with what is new."""
-        answer: Message = {"kind": "answer", "id": 0}
+        number, done = 0, Answers()
         message: JsonObject = {}
-        done: Answers = []
+        result: Result
         try:
-            message = request_of(text, answer)
-            answer.update(self._execute(read_request(message, is_teacher=False), done))
+            number, message = request_of(text)
+            result = self._execute(read_request(message, is_teacher=False), done)
         except (LabError, ValueError, RecursionError) as error:
-            answer.update({"error": str(error), "done": done})
-        add_words(answer, self.seat.digit, message, done)
-        answer.update(self.news())
-        return answer
+            result = {"error": str(error), "done": done}
+        return answer_to(number, explain_refusals(result, self.seat.digit, message, done), self.news())
 
-    def turn(self) -> Message:
-        """Do a part of the work without a request; return the changes, which may be empty."""
+    def turn(self) -> News | None:
+        """Do a part of the work without a request; return the changes, None if there are none."""
         if self._checks:
             self._checks.pop(0)()
         elif self.machine.seats.running():
             self._run_for(TURN_SECONDS)
-        news = self.news()
-        if news:
-            news["kind"] = "news"
-        return news
+        changes = self.news()
+        return with_changes(News(kind="news"), changes) if changes else None
 
     def lesson(self, ticket: str) -> str:
         """The lesson that a ticket opens, or the one before the exercise of this name, in HTML. Raises LabError."""
@@ -133,7 +129,7 @@ class Desk:
         """Executes lines, which join `done` with their answers; the answers to lines that look. Raises LabError."""
         return self.run(self.machine.lines(self.seat, request, done))
 
-    def run(self, steps: Steps[Result]) -> Result:
+    def run(self, steps: Steps[Returned]) -> Returned:
         """Executes steps one after another. Raises LabError as the machine does."""
         made: Program | None = None
         try:
@@ -147,25 +143,33 @@ class Desk:
                 elif isinstance(step, MakeProgram):
                     made = self._make(step.source)
         except StopIteration as end:
-            result: Result = end.value
-            return result
+            returned: Returned = end.value
+            return returned
 
-    def execute(self, request: Request, done: Answers) -> Message:
+    def execute(self, request: Request, done: Answers) -> Result:
         """Executes a request of a kind that only some desks know. Raises BadRequest."""
         raise BadRequest("this page doesn't do that")
 
-    def names_of_images(self) -> Sequence[str]:
+    def names_of_images(self) -> list[str]:
         """The names of the images that the machine can load."""
         return [*self.machine.session.images]
 
-    def _more(self) -> dict[str, object]:
+    def _more(self) -> ClassView:
         """The parts of the page's view that belong to no seat."""
-        more: dict[str, object] = {"name": "", "images": self.names_of_images(), "clock": True}
-        more |= {"own_slices": self.own_slices}
-        return more | {"notices": [], "no_c": self.no_c, "against": [], "ready": True, "trouble": ""}
+        return {
+            "name": "",
+            "notices": [],
+            "images": self.names_of_images(),
+            "clock": True,
+            "own_slices": self.own_slices,
+            "no_c": self.no_c,
+            "against": [],
+            "ready": True,
+            "trouble": "",
+        }
 
-    def _execute(self, request: Request, done: Answers) -> Message:
-        """Execute a request; return the fields of its answer. Raises BadRequest."""
+    def _execute(self, request: Request, done: Answers) -> Result:
+        """Execute a request; return its result. Raises BadRequest."""
         match request:
             case Lines():
                 return {"do": done, "look": self.lines(request, done)}

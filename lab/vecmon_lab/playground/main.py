@@ -88,7 +88,7 @@ def _message(asked: dict[str, Any]) -> object:
         case {"lesson": ticket}:
             return {"kind": "lesson", **_lesson(_desk, ticket)}
         case {"turn": _}:
-            return _desk.turn()
+            return _desk.turn() or {}
     return {}
 
 

@@ -12,7 +12,7 @@ from .. import LabError, mistakes_in
 from ..checkpoints.checkpoint import checkpoint
 from ..classes.stored_files import attempt
 from ..classes.languages import SourceText
-from ..classes.messages import Message
+from ..classes.messages import Hello, News, with_changes
 from ..classes.history import History
 from ..classes.progress import MAX_TRIES, Start, Try, source_of
 from ..classes.requests import BadRequest, Lines
@@ -41,6 +41,12 @@ C_ADVICE = (
 
 PutFile = Callable[[pathlib.Path, bytes], object]
 """Makes a file of this path and content, for Python and for machines."""
+
+
+class PageHello(Hello):
+    """The first message to a page. lost: sentences on what couldn't be read of the saved texts"""
+
+    lost: list[str]
 
 
 class PageDesk(Desk):
@@ -79,7 +85,7 @@ class PageDesk(Desk):
         self.texts.write_text(SCRIPT, self.machine.session.script.decode("ascii"))
         self.texts.write_text(SET_UP, f"{self._set_up}")
 
-    def drop(self, name: str, content: bytes) -> Message:
+    def drop(self, name: str, content: bytes) -> News:
         """Loads an image that was dropped on the page, or says why it isn't loaded; what is new then."""
         try:
             with mistakes_in(name):
@@ -87,9 +93,7 @@ class PageDesk(Desk):
             self.lines(Lines("", [*LEAVING[self.seat.state["run"]], "enter", f"load {own}"], 0, []), [])
         except LabError as error:
             self.seat.add_log_entry(f"!{error}")
-        news = self.news()
-        news["kind"] = "news"
-        return news
+        return with_changes(News(kind="news"), self.news())
 
     def lines(self, request: Lines, done: Answers) -> Answers:
         """As any desk's. Symbols, lines and variables of an image that was loaded are the seat's."""
@@ -214,7 +218,7 @@ class PageDesk(Desk):
             files = {file for file, _ in self.texts.files(f"{ANSWERS}/{self.seat.name}.{name}.*.json")}
             number = next((number for number in range(MAX_TRIES, 0, -1) if self._file_of_try(name, number) in files), 0)
             for each in range(1, number + 1):
-                self.exercises.progress(self.seat.name, name).add(self._kept_try(name, each))
+                self.exercises.restore(self.seat.name, name, self._kept_try(name, each))
 
     def _kept_try(self, name: str, number: int) -> Try:
         """A try as it was kept; one in which nothing passes where it was lost."""

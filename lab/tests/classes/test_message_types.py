@@ -1,0 +1,82 @@
+"""The types of messages: the generated schema and declarations, and what the schema refuses."""
+
+import json
+import typing
+from collections.abc import Mapping, Sequence
+from typing import Any, TypedDict
+
+import jsonschema
+import pytest
+
+from support import message_types
+from support.message_schema import check_message, check_request
+from vecmon_lab.classes import requests
+from vecmon_lab.classes.request_forms import StudentRequestForm, TeacherRequestForm
+
+Row = TypedDict("Row", {"numbers": Sequence[int], "names": Mapping[str, float]})
+ANSWER: dict[str, Any] = {"kind": "answer", "id": 1, "text": "nop", "language": 0}
+MISTAKE: dict[str, Any] = {"line": 3, "column": 5, "message": "no such instruction"}
+
+
+def test_generated_files_are_current() -> None:
+    advice = "run .venv/bin/python -m support.message_types"
+    assert message_types.SCHEMA.read_text("utf-8") == message_types.schema(), advice
+    assert message_types.DECLARATIONS.read_text("utf-8") == message_types.declarations(), advice
+
+
+def test_schema_is_valid() -> None:
+    jsonschema.Draft202012Validator.check_schema(json.loads(message_types.SCHEMA.read_text("utf-8")))
+
+
+def test_type_becomes_schema_and_declaration() -> None:
+    """By hand, from the specification of JSON Schema and the handbook of TypeScript."""
+    assert message_types.object_schema(Row) == {
+        "description": "",
+        "type": "object",
+        "properties": {
+            "numbers": {"type": "array", "items": {"type": "integer"}},
+            "names": {"type": "object", "additionalProperties": {"type": "number"}},
+        },
+        "required": ["names", "numbers"],
+        "additionalProperties": False,
+    }
+    assert message_types.declared_object(Row) == (
+        "export interface Row {\n  numbers: number[];\n  names: { [name: string]: number };\n}\n"
+    )
+    with pytest.raises(TypeError, match="use an object with named fields"):
+        message_types.schema_of(tuple[int, str])
+
+
+@pytest.mark.parametrize("form, readers", [(StudentRequestForm, "_OF_STUDENTS"), (TeacherRequestForm, "_OF_TEACHERS")])
+def test_each_request_has_a_form(form: Any, readers: str) -> None:
+    kinds = [typing.get_args(typing.get_type_hints(each)["ask"])[0] for each in typing.get_args(form)]
+    assert sorted(kinds) == sorted(getattr(requests, readers))
+
+
+@pytest.mark.parametrize(
+    "message",
+    [
+        {**ANSWER, "language": "C"},
+        {**ANSWER, "length": 3},
+        {"kind": "answer", "text": "nop", "language": 0},
+        {"kind": "answer", "id": 1, "mistakes": [{**MISTAKE, "line": "3"}], "warnings": []},
+        {"kind": "answer", "id": 1, "mistakes": [[3, 5, "no such instruction"]], "warnings": []},
+        {"kind": "notice"},
+    ],
+)
+def test_schema_refuses_messages(message: Any) -> None:
+    check_message(ANSWER)
+    check_message({"kind": "answer", "id": 1, "mistakes": [MISTAKE], "warnings": []})
+    with pytest.raises(jsonschema.ValidationError):
+        check_message(message)
+
+
+@pytest.mark.parametrize(
+    "request_", [{"ask": "lines", "do": ["ok"]}, {"id": 1, "ask": "lines", "do": "ok"}, {"id": 1, "ask": "none"}]
+)
+def test_schema_refuses_requests(request_: Any) -> None:
+    check_request("A1", {"id": 1, "ask": "lines", "do": ["ok"]})
+    with pytest.raises(jsonschema.ValidationError):
+        check_request("A1", request_)
+    with pytest.raises(jsonschema.ValidationError):
+        check_request("teacher", {"id": 1, "ask": "lines", "do": ["ok"]})

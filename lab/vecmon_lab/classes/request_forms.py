@@ -1,0 +1,244 @@
+"""The requests of a tab as JSON objects (docs/CLASS_PROTOCOL.md); `requests.py` reads them."""
+
+from typing import Literal, NotRequired, TypedDict
+
+
+class NumberedRequest(TypedDict):
+    """A request; its answer has the same number."""
+
+    id: int
+
+
+class SourceFields(TypedDict):
+    """A source: its text, and the number of its language, by default 0."""
+
+    text: str
+    language: NotRequired[int]
+
+
+class LinesFields(TypedDict):
+    """Lines to execute, the number of slices to grant then, and read-only lines; none by default."""
+
+    do: NotRequired[list[str]]
+    slices: NotRequired[int]
+    look: NotRequired[list[str]]
+
+
+class SeatFields(TypedDict):
+    """A seat; "" for all or none."""
+
+    seat: str
+
+
+class LinesRequest(NumberedRequest, LinesFields):
+    """A student's lines."""
+
+    ask: Literal["lines"]
+
+
+class SourceRequest(NumberedRequest, SourceFields):
+    """A source for a new machine. number: that the seat's source had where it was typed"""
+
+    ask: Literal["source"]
+    number: NotRequired[int]
+
+
+class AgainRequest(NumberedRequest):
+    """The loaded source in a new machine, with the breakpoints."""
+
+    ask: Literal["again"]
+
+
+class StepLineRequest(NumberedRequest):
+    """A step to another source line."""
+
+    ask: Literal["step-line"]
+
+
+class WhyRequest(NumberedRequest):
+    """The reason for the value of a register or an element, such as `v8[5]`."""
+
+    ask: Literal["why"]
+    name: str
+
+
+class ListingsRequest(NumberedRequest, SourceFields):
+    """Side-by-side listings of a C source. other: a compiler by its number in `against`"""
+
+    ask: Literal["listings"]
+    other: int
+
+
+class DraftRequest(NumberedRequest, SourceFields):
+    """The source that a student types.
+
+    number: that the seat's source had; exercise: for which it was typed, by default the open one
+    keep: whether it becomes a version
+    """
+
+    ask: Literal["draft"]
+    number: int
+    exercise: NotRequired[str]
+    keep: NotRequired[bool]
+
+
+class OpenRequest(NumberedRequest):
+    """An exercise to open in all tabs of the seat."""
+
+    ask: Literal["open"]
+    exercise: str
+
+
+class VersionRequest(NumberedRequest):
+    """A version of the source of the own or the observed seat."""
+
+    ask: Literal["version"]
+    number: int
+
+
+class CheckRequest(NumberedRequest, SourceFields):
+    """An answer to check."""
+
+    ask: Literal["check"]
+    exercise: str
+
+
+class CaseRequest(NumberedRequest, SourceFields):
+    """A source for a new machine with the inputs of the first failed case."""
+
+    ask: Literal["case"]
+    exercise: str
+
+
+class AnswerRequest(NumberedRequest):
+    """An answer to an exercise, numbered from 1. seat: whose; a student's own without it"""
+
+    ask: Literal["answer"]
+    seat: NotRequired[str]
+    exercise: str
+    number: int
+
+
+class NameRequest(NumberedRequest):
+    """A student's name, "" for none. seat: at which seat; the student's own without it"""
+
+    ask: Literal["name"]
+    seat: NotRequired[str]
+    name: str
+
+
+class CloseNoticeRequest(NumberedRequest):
+    """A message of the teacher's to close."""
+
+    ask: Literal["close-notice"]
+    number: int
+
+
+class MachineLinesRequest(NumberedRequest, LinesFields):
+    """The teacher's lines for a machine."""
+
+    ask: Literal["lines"]
+    machine: str
+
+
+class GiveRequest(NumberedRequest, SeatFields, SourceFields):
+    """A source for a seat, or all."""
+
+    ask: Literal["give"]
+
+
+class TakeBackRequest(NumberedRequest, SeatFields):
+    """The source before the last one given, at a seat or all."""
+
+    ask: Literal["take-back"]
+
+
+class WriteRequest(NumberedRequest, SeatFields):
+    """A message to a seat, or all."""
+
+    ask: Literal["write"]
+    text: str
+
+
+class ResetRequest(NumberedRequest, SeatFields):
+    """A seat whose machine ends."""
+
+    ask: Literal["reset"]
+
+
+class ClockRequest(NumberedRequest):
+    """The settings of a machine's clock; those that are missing stay."""
+
+    ask: Literal["clock"]
+    machine: str
+    on: NotRequired[bool]
+    slices: NotRequired[int]
+    ms: NotRequired[int]
+    limit: NotRequired[int]
+
+
+class RightsRequest(NumberedRequest):
+    """Whether a machine's students may grant slices to their own programs."""
+
+    ask: Literal["rights"]
+    machine: str
+    own_slices: bool
+
+
+class RenewRequest(NumberedRequest, SeatFields):
+    """A new code for a seat, or the wall."""
+
+    ask: Literal["renew"]
+
+
+class ShoulderRequest(NumberedRequest, SeatFields):
+    """The seat to look at, or none."""
+
+    ask: Literal["shoulder"]
+
+
+class WallRequest(NumberedRequest, SeatFields):
+    """The seat on the wall, or none."""
+
+    ask: Literal["wall"]
+
+
+class CodesRequest(NumberedRequest, SeatFields):
+    """The code of a seat or the wall, or all. pictures: whether with pictures to print"""
+
+    ask: Literal["codes"]
+    pictures: NotRequired[bool]
+
+
+StudentRequestForm = (
+    LinesRequest
+    | SourceRequest
+    | AgainRequest
+    | StepLineRequest
+    | WhyRequest
+    | ListingsRequest
+    | DraftRequest
+    | OpenRequest
+    | VersionRequest
+    | CheckRequest
+    | CaseRequest
+    | AnswerRequest
+    | NameRequest
+    | CloseNoticeRequest
+)
+TeacherRequestForm = (
+    MachineLinesRequest
+    | VersionRequest
+    | AnswerRequest
+    | NameRequest
+    | GiveRequest
+    | TakeBackRequest
+    | WriteRequest
+    | ResetRequest
+    | ClockRequest
+    | RightsRequest
+    | RenewRequest
+    | ShoulderRequest
+    | WallRequest
+    | CodesRequest
+)

@@ -1,0 +1,752 @@
+// The types of messages. `.venv/bin/python -m support.message_types` writes this file from the lab's Python types.
+
+/** The loaded source in a new machine, with the breakpoints. */
+export interface AgainRequest {
+  id: number;
+  ask: "again";
+}
+
+export interface AnswerCost {
+  instructions: number;
+  work: number;
+}
+
+/** An answer to an exercise, numbered from 1. seat: whose; a student's own without it */
+export interface AnswerRequest {
+  id: number;
+  ask: "answer";
+  seat?: string;
+  exercise: string;
+  number: number;
+}
+
+/** A source for a new machine with the inputs of the first failed case. */
+export interface CaseRequest {
+  id: number;
+  text: string;
+  language?: number;
+  ask: "case";
+  exercise: string;
+}
+
+/** A case of an exercise by its name, and whether an answer passes it. */
+export interface CaseResult {
+  name: string;
+  passed: boolean;
+}
+
+/** A case of an exercise by its name. */
+export interface CaseView {
+  name: string;
+}
+
+export interface CheckFailure {
+  seat: string;
+  exercise: string;
+  time: number;
+  cause: string;
+}
+
+/** An answer to check. */
+export interface CheckRequest {
+  id: number;
+  text: string;
+  language?: number;
+  ask: "check";
+  exercise: string;
+}
+
+/**
+ * The result of each case; of the first visible one that fails its number and why; the cost of an answer that passes.
+ *
+ * Rows have what is given there, expected and found, and notes what else holds there. Without cases the source has
+ * mistakes, and wasn't tried. Warnings are a compiler's.
+ * failure: why the check itself failed, which says nothing about the source; then there are no cases
+ * unchecked: a sentence that says so to the student, without the cause
+ */
+export interface CheckResult {
+  failure?: string;
+  unchecked?: string;
+  mistakes?: Mistake[];
+  warnings?: Mistake[];
+  cases?: CaseResult[];
+  number?: number;
+  reason?: string;
+  notes?: string[];
+  given?: NumberRow[];
+  expected?: NumberRow[];
+  found?: NumberRow[];
+  taken?: AnswerCost;
+  good?: AnswerCost;
+}
+
+/** The settings of a machine's clock; those that are missing stay. */
+export interface ClockRequest {
+  id: number;
+  ask: "clock";
+  machine: string;
+  on?: boolean;
+  slices?: number;
+  ms?: number;
+  limit?: number;
+}
+
+/** The settings of a machine's clock, as in `Settings`. */
+export interface ClockView {
+  on: boolean;
+  slices: number;
+  ms: number;
+  limit: number;
+}
+
+/** A message of the teacher's to close. */
+export interface CloseNoticeRequest {
+  id: number;
+  ask: "close-notice";
+  number: number;
+}
+
+/** The answer to `codes` and `renew`. */
+export interface CodesAnswer {
+  patch?: { [name: string]: unknown };
+  logs?: { [name: string]: string[] };
+  kind: "answer";
+  id: number;
+  codes: { [name: string]: string };
+  pictures?: { [name: string]: string };
+}
+
+/** The code of a seat or the wall, or all. pictures: whether with pictures to print */
+export interface CodesRequest {
+  id: number;
+  seat: string;
+  ask: "codes";
+  pictures?: boolean;
+}
+
+/**
+ * The source that a student types.
+ *
+ * number: that the seat's source had; exercise: for which it was typed, by default the open one
+ * keep: whether it becomes a version
+ */
+export interface DraftRequest {
+  id: number;
+  text: string;
+  language?: number;
+  ask: "draft";
+  number: number;
+  exercise?: string;
+  keep?: boolean;
+}
+
+/** The answer to a request that returns nothing. */
+export interface EmptyAnswer {
+  patch?: { [name: string]: unknown };
+  logs?: { [name: string]: string[] };
+  kind: "answer";
+  id: number;
+}
+
+export interface ExerciseTable {
+  title: string;
+  of: number;
+  seats: { [name: string]: SeatResult };
+}
+
+/**
+ * An exercise on a student's page: of a hidden case the name, and whether it passes; the hints that are due.
+ *
+ * starts: sources to start with, the preferred one first; of two one is in C
+ * before: the path of the lesson before it; "" for none
+ * lesson: the path of a lesson of the case that failed first; "" for none
+ */
+export interface ExerciseView {
+  title: string;
+  before: string;
+  text: string;
+  starts: Start[];
+  cases: CaseView[];
+  hints: string[];
+  tries: number;
+  passed: boolean;
+  checking: boolean;
+  told: CheckResult;
+  lesson: string;
+}
+
+/** A frame of a lesson (`Frame` in lessons/frames.py). states: a merge patch of the states of the frame before, by user */
+export interface FrameData {
+  user: string;
+  line: string;
+  more: number;
+  note: string;
+  log: string[];
+  states: { [name: string]: unknown };
+}
+
+/** A source for a seat, or all. */
+export interface GiveRequest {
+  id: number;
+  seat: string;
+  text: string;
+  language?: number;
+  ask: "give";
+}
+
+/** The source that was given last and can be taken back: to which seat, "" for all, and how many had another text. */
+export interface Given {
+  seat: string;
+  replaced: number;
+}
+
+/** The first message to a tab. who: the seat, `teacher` or `wall`; time: in seconds since 1970 */
+export interface Hello {
+  patch?: { [name: string]: unknown };
+  logs?: { [name: string]: string[] };
+  kind: "hello";
+  who: string;
+  time: number;
+}
+
+/** The data of a lesson's page: the names of its source, its frames, and links to other lessons. */
+export interface LessonData {
+  labels: { [name: string]: string[] };
+  lines: { [name: string]: string };
+  starts?: { [name: string]: number };
+  stops?: { [name: string]: string[] };
+  variables?: ShownVariable[];
+  frames: FrameData[];
+  links: Link[];
+}
+
+/** The answer to lines. */
+export interface LinesAnswer {
+  patch?: { [name: string]: unknown };
+  logs?: { [name: string]: string[] };
+  kind: "answer";
+  id: number;
+  do: string[][];
+  look: string[][];
+  words?: string[];
+}
+
+/** A student's lines. */
+export interface LinesRequest {
+  id: number;
+  do?: string[];
+  slices?: number;
+  look?: string[];
+  ask: "lines";
+}
+
+/** A link to another lesson of a tour or course: `prev`, `index` or `next`, its address and its title. */
+export interface Link {
+  kind: "prev" | "index" | "next";
+  address: string;
+  title: string;
+}
+
+/** The answer to `listings`. */
+export interface ListingsAnswer {
+  patch?: { [name: string]: unknown };
+  logs?: { [name: string]: string[] };
+  kind: "answer";
+  id: number;
+  listings: string;
+}
+
+/** Side-by-side listings of a C source. other: a compiler by its number in `against` */
+export interface ListingsRequest {
+  id: number;
+  text: string;
+  language?: number;
+  ask: "listings";
+  other: number;
+}
+
+/** The teacher's lines for a machine. */
+export interface MachineLinesRequest {
+  id: number;
+  do?: string[];
+  slices?: number;
+  look?: string[];
+  ask: "lines";
+  machine: string;
+}
+
+/**
+ * The teacher's view of a machine.
+ *
+ * seats: by digit; script, of: bytes of the script, and their limit; scripts: how many there were; lines: of all scripts
+ * digest: the SHA-256 of all answers; restarts, loss: the number of restarts, and the reason of the last one, or ""
+ */
+export interface MachineView {
+  seats: { [name: string]: SeatView };
+  clock: ClockView;
+  own_slices: boolean;
+  script: number;
+  scripts: number;
+  of: number;
+  lines: number;
+  digest: string;
+  restarts: number;
+  loss: string;
+  trouble: string;
+}
+
+export interface Mistake {
+  line: number;
+  column: number;
+  message: string;
+}
+
+/** A student's name, "" for none. seat: at which seat; the student's own without it */
+export interface NameRequest {
+  id: number;
+  ask: "name";
+  seat?: string;
+  name: string;
+}
+
+/** Changes without a request. */
+export interface News {
+  patch?: { [name: string]: unknown };
+  logs?: { [name: string]: string[] };
+  kind: "news";
+}
+
+/** A message of the teacher's: its number, which no other open one has, its time in seconds since 1970, and its text. */
+export interface Notice {
+  number: number;
+  time: number;
+  text: string;
+}
+
+export interface NumberRow {
+  where: string;
+  first: number;
+  numbers: string[];
+  more: number;
+  wrong: number[];
+}
+
+/** An exercise to open in all tabs of the seat. */
+export interface OpenRequest {
+  id: number;
+  ask: "open";
+  exercise: string;
+}
+
+/** The first message to a page. lost: sentences on what couldn't be read of the saved texts */
+export interface PageHello {
+  patch?: { [name: string]: unknown };
+  logs?: { [name: string]: string[] };
+  kind: "hello";
+  who: string;
+  time: number;
+  lost: string[];
+}
+
+/** The answer to a request that was refused. */
+export interface RefusedAnswer {
+  patch?: { [name: string]: unknown };
+  logs?: { [name: string]: string[] };
+  kind: "answer";
+  id: number;
+  error: string;
+  done: string[][];
+  words?: string[];
+}
+
+/** A new code for a seat, or the wall. */
+export interface RenewRequest {
+  id: number;
+  seat: string;
+  ask: "renew";
+}
+
+/** The answer to `give` and `take-back`. */
+export interface ReplacedAnswer {
+  patch?: { [name: string]: unknown };
+  logs?: { [name: string]: string[] };
+  kind: "answer";
+  id: number;
+  replaced: number;
+}
+
+/** A seat whose machine ends. */
+export interface ResetRequest {
+  id: number;
+  seat: string;
+  ask: "reset";
+}
+
+/** Whether a machine's students may grant slices to their own programs. */
+export interface RightsRequest {
+  id: number;
+  ask: "rights";
+  machine: string;
+  own_slices: boolean;
+}
+
+/** Addresses of code, from `first` up to, and without, `end`. */
+export interface Scope {
+  first: number;
+  end: number;
+}
+
+export interface SeatResult {
+  tries: number;
+  passed: number;
+  best: number;
+  time: number;
+}
+
+/**
+ * The teacher's view of a seat.
+ *
+ * tabs: the number of open ones; stands: the program's state in a few words; stuck, since: whether its student may need
+ * somebody, and since when both are so, in seconds since 1970; used: bytes of the script
+ */
+export interface SeatView {
+  name: string;
+  tabs: number;
+  run: "absent" | "stopped" | "running";
+  stands: string;
+  stuck: boolean;
+  since: number;
+  line: string;
+  answer: string;
+  used: number;
+}
+
+/** Bytes of the script: those that the seat has used, and its share. */
+export interface Share {
+  used: number;
+  of: number;
+}
+
+/** The seat to look at, or none. */
+export interface ShoulderRequest {
+  id: number;
+  seat: string;
+  ask: "shoulder";
+}
+
+/**
+ * The location of a variable while the program counter is in a scope.
+ *
+ * kind: `register`, the scalar register of this number; `vector`, the vector register of this number; `memory`, at the
+ * register plus the offset; `value`, which is that sum itself; `untold`
+ * offset: 64 bits, in hexadecimal digits
+ */
+export interface ShownLocation {
+  first: number;
+  end: number;
+  kind: string;
+  register: number;
+  offset: string;
+}
+
+/**
+ * A vector register operand of an instruction.
+ *
+ * register, groups: the number of the first register, and the number of register groups that follow one another from it
+ * bits, part: the width of elements in bits, 1 in a mask; or the part or multiple of SEW that it is; the other one is 0
+ * whole: whether each group is one register, under all vector types
+ * written: whether it is the result
+ * masked: whether elements whose bit in v0 is 0 are masked off, and v0 still has the mask
+ */
+export interface ShownOperand {
+  register: number;
+  groups: number;
+  bits: number;
+  part: number;
+  whole: boolean;
+  written: boolean;
+  masked: boolean;
+}
+
+/**
+ * A variable of the source.
+ *
+ * declaration: in C's syntax, as `int32_t x[37]`
+ * element: the kind of its numbers with their bits, as `i32`, or "" where it has none; counts: an array's dimensions
+ * function: the function that has the variable, also an inlined one; "" for a variable of all functions
+ * scopes: where it is known; none for everywhere
+ * locations: where none of them has the program counter, the compiler optimized the variable out
+ */
+export interface ShownVariable {
+  name: string;
+  declaration: string;
+  element: string;
+  counts: number[];
+  function: string;
+  scopes: Scope[];
+  locations: ShownLocation[];
+}
+
+/** The answer to `source`, `again` and `case`. */
+export interface SourceAnswer {
+  patch?: { [name: string]: unknown };
+  logs?: { [name: string]: string[] };
+  kind: "answer";
+  id: number;
+  mistakes: Mistake[];
+  warnings: Mistake[];
+}
+
+/** A source for a new machine. number: that the seat's source had where it was typed */
+export interface SourceRequest {
+  id: number;
+  text: string;
+  language?: number;
+  ask: "source";
+  number?: number;
+}
+
+/**
+ * The source of a seat.
+ *
+ * language: the number of its language; number: of changes since the server started
+ * exercise: the open one, or ""; stands: whether the machine has this source; versions: the last 50, in order
+ */
+export interface SourceView {
+  text: string;
+  language: number;
+  number: number;
+  exercise: string;
+  stands: boolean;
+  versions: Version[];
+}
+
+export interface Start {
+  text: string;
+  language: number;
+}
+
+/**
+ * A user's state; addresses and values are hexadecimal digits without leading zeros, and bytes two digits each.
+ *
+ * run: without a machine there is nothing else
+ * pc, and all up to `memory`: where the program was stopped at least once; a program that runs has them as they were before, but pc
+ * x: 32 values by number; v: 32 times 32 bytes by number; policy: `keep` or `ones`
+ * code, operands: the program's words with their texts, and their vector operands, by address
+ * memory: rows of 16 bytes by address
+ * instruction: the address of the instruction that the last lines executed last, or that faulted
+ * stop: why the program stopped in what was just done, in words
+ * calls: calls that the machine doesn't support, in words by the address of the ECALL: those that the code shows, and those that the
+ *     program reached; without one there is no such key
+ * output: the bytes that answers to `out` have shown
+ * outputs: in a class in place of it, the last 64 KB of them, in blocks by number
+ * labels, lines, starts, stops, variables: in a class, those of `SourceNames`
+ */
+export interface State {
+  run: "absent" | "stopped" | "running";
+  pc?: string;
+  x?: { [name: string]: string };
+  vtype?: string;
+  vl?: number;
+  vstart?: number;
+  vxrm?: number;
+  vxsat?: number;
+  breaks?: string[];
+  policy?: string;
+  v?: { [name: string]: string };
+  code?: { [name: string]: string };
+  operands?: { [name: string]: ShownOperand[] };
+  memory?: { [name: string]: string };
+  instruction?: string;
+  faulted?: boolean;
+  stop?: string;
+  calls?: { [name: string]: string };
+  output?: string;
+  outputs?: { [name: string]: string };
+  labels?: { [name: string]: string[] };
+  lines?: { [name: string]: string };
+  starts?: { [name: string]: number };
+  stops?: { [name: string]: string[] };
+  variables?: ShownVariable[];
+}
+
+/** A step to another source line. */
+export interface StepLineRequest {
+  id: number;
+  ask: "step-line";
+}
+
+/** A student's view. */
+export interface StudentView {
+  seat: string;
+  state: State;
+  stop: string;
+  quantum: number;
+  share: Share;
+  languages: string[];
+  source: SourceView;
+  exercises: { [name: string]: ExerciseView };
+  again: boolean;
+  name: string;
+  notices: Notice[];
+  images: string[];
+  clock: boolean;
+  own_slices: boolean;
+  no_c: string;
+  against: string[];
+  ready: boolean;
+  trouble: string;
+}
+
+/** The source before the last one given, at a seat or all. */
+export interface TakeBackRequest {
+  id: number;
+  seat: string;
+  ask: "take-back";
+}
+
+/**
+ * The teacher's view.
+ *
+ * machines: by letter; share: a seat's bytes of the script; shoulder: the observed seat, or "", with its state and source
+ * wall: the seat on the wall, or ""; address: where students reach the class, or ""
+ * given: the last given source, while it can be taken back; unencrypted: whether codes travel unencrypted to other computers
+ */
+export interface TeacherView {
+  machines: { [name: string]: MachineView };
+  share: number;
+  shoulder: string;
+  wall: string;
+  address: string;
+  exercises: { [name: string]: ExerciseTable };
+  failures: CheckFailure[];
+  state?: State;
+  source?: SourceView;
+  images: string[];
+  quantum: number;
+  languages: string[];
+  no_c: string;
+  unencrypted: boolean;
+  given?: Given;
+  trouble: string;
+}
+
+/** The answer to `version` and `answer`. */
+export interface TextAnswer {
+  patch?: { [name: string]: unknown };
+  logs?: { [name: string]: string[] };
+  kind: "answer";
+  id: number;
+  text: string;
+  language: number;
+}
+
+export interface Version {
+  number: number;
+  time: number;
+  why: string;
+  language: number;
+  exercise: string;
+}
+
+/** A version of the source of the own or the observed seat. */
+export interface VersionRequest {
+  id: number;
+  ask: "version";
+  number: number;
+}
+
+/** The seat on the wall, or none. */
+export interface WallRequest {
+  id: number;
+  seat: string;
+  ask: "wall";
+}
+
+/** The wall's view: the seat that it shows, or "", its state and its last stop line; and a text for a banner, or "". */
+export interface WallView {
+  seat: string;
+  state?: State;
+  stop: string;
+  trouble: string;
+}
+
+/** The answer to `why`. */
+export interface WhyAnswer {
+  patch?: { [name: string]: unknown };
+  logs?: { [name: string]: string[] };
+  kind: "answer";
+  id: number;
+  why: string;
+}
+
+/** The reason for the value of a register or an element, such as `v8[5]`. */
+export interface WhyRequest {
+  id: number;
+  ask: "why";
+  name: string;
+}
+
+/** A message to a seat, or all. */
+export interface WriteRequest {
+  id: number;
+  seat: string;
+  ask: "write";
+  text: string;
+}
+
+export type StudentRequestForm =
+  | LinesRequest
+  | SourceRequest
+  | AgainRequest
+  | StepLineRequest
+  | WhyRequest
+  | ListingsRequest
+  | DraftRequest
+  | OpenRequest
+  | VersionRequest
+  | CheckRequest
+  | CaseRequest
+  | AnswerRequest
+  | NameRequest
+  | CloseNoticeRequest;
+
+export type TeacherRequestForm =
+  | MachineLinesRequest
+  | VersionRequest
+  | AnswerRequest
+  | NameRequest
+  | GiveRequest
+  | TakeBackRequest
+  | WriteRequest
+  | ResetRequest
+  | ClockRequest
+  | RightsRequest
+  | RenewRequest
+  | ShoulderRequest
+  | WallRequest
+  | CodesRequest;
+
+export type Answer =
+  | EmptyAnswer
+  | LinesAnswer
+  | SourceAnswer
+  | TextAnswer
+  | ListingsAnswer
+  | ReplacedAnswer
+  | WhyAnswer
+  | CodesAnswer
+  | RefusedAnswer;
+
+export type Message =
+  | Hello
+  | News
+  | EmptyAnswer
+  | LinesAnswer
+  | SourceAnswer
+  | TextAnswer
+  | ListingsAnswer
+  | ReplacedAnswer
+  | WhyAnswer
+  | CodesAnswer
+  | RefusedAnswer;
