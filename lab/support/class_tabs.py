@@ -82,7 +82,7 @@ class Tab:
         check_message(reply)
         self.who = reply.get("who", self.who)
         self.view = patched(self.view, reply.get("patch", {}))
-        check_view(self.who, self.view, reply.get("patch", {}) if reply["kind"] != "hello" else None)
+        check_view(self.who, self.view, None if reply["kind"] == "hello" else reply.get("patch", {}))
         for name, entries in reply.get("logs", {}).items():
             self.logs.setdefault(name, []).extend(entries)
         return reply

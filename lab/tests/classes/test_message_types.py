@@ -9,7 +9,7 @@ import jsonschema
 import pytest
 
 from support import message_types
-from support.message_schema import check_message, check_request
+from support.message_schema import check_message, check_request, check_view
 from vecmon_lab.classes import requests
 from vecmon_lab.classes.request_forms import StudentRequestForm, TeacherRequestForm
 
@@ -80,3 +80,30 @@ def test_schema_refuses_requests(request_: Any) -> None:
         check_request("A1", request_)
     with pytest.raises(jsonschema.ValidationError):
         check_request("teacher", {"id": 1, "ask": "lines", "do": ["ok"]})
+
+
+VIEW: dict[str, Any] = {
+    "seat": "A1",
+    "state": {"run": "stopped", "pc": "10000", "x": {"5": "1"}},
+    "stop": "",
+    "trouble": "",
+}
+
+
+@pytest.mark.parametrize(
+    "patch, view",
+    [
+        ({"state": {"pc": 4}}, {**VIEW, "state": {**VIEW["state"], "pc": 4}}),
+        ({"state": {"x": {"5": 1}}}, {**VIEW, "state": {**VIEW["state"], "x": {"5": 1}}}),
+        ({"state": {"run": None}}, {**VIEW, "state": {"pc": "10000"}}),
+        ({"state": {"run": "halted"}}, {**VIEW, "state": {"run": "halted"}}),
+        ({"trouble": None}, {"seat": "A1", "stop": ""}),
+        ({"name": "Ada"}, {**VIEW, "name": "Ada"}),
+    ],
+)
+def test_schema_refuses_changed_views(patch: Any, view: Any) -> None:
+    check_view("wall", VIEW)
+    check_view("wall", VIEW, {"state": {"x": {"5": "1"}}, "stop": ""})
+    for changed in (patch, None):
+        with pytest.raises(jsonschema.ValidationError):
+            check_view("wall", view, changed)

@@ -100,7 +100,7 @@ def test_tries_come_back_and_are_read(program: pathlib.Path, tmp_path: pathlib.P
     assert page.desk.is_busy
     news: Any = page.desk.turn()
     told = news["patch"]["exercises"]["doubles"]
-    assert not any(case["passed"] for case in told["told"]["cases"]) and told["tries"] == 1 and not page.desk.is_busy
+    assert not all(case["passed"] for case in told["told"]["cases"]) and told["tries"] == 1 and not page.desk.is_busy
     ticket = told["lesson"].removeprefix("lesson/")
     assert "The answer fails: " in page.desk.lesson(ticket) and "The answer fails: " not in page.desk.lesson("doubles")
     again = Page(program, tmp_path, page.close())
