@@ -8,7 +8,8 @@ from typing import Any
 
 import pytest
 
-from support.places import SUM
+from support.message_schema import check_message, check_request, check_view
+from support.places import DATA, SUM
 from vecmon_lab.classes.progress import starts_of
 from vecmon_lab.exercises.answer import settled
 from vecmon_lab.exercises.exercise import Exercise, read_exercise
@@ -29,7 +30,10 @@ class Page:
         exercises = {"doubles": the_exercise(program)}
         starts = {name: starts_of(each) for name, each in exercises.items()}
         self.desk = PageDesk(program, KeptTexts(texts, self.keep), exercises, starts, self.put)
-        self.view: Any = self.desk.hello()["patch"]
+        hello = self.desk.hello()
+        self.view: Any = hello["patch"]
+        check_message(hello)
+        check_view("A1", self.view)
 
     def keep(self, name: str, text: str | None, when: float) -> None:
         """Keeps what the desk reports."""
@@ -46,8 +50,11 @@ class Page:
     def ask(self, ask: str, **more: object) -> Mapping[str, Any]:
         """The answer to a request."""
         self.id += 1
-        answer = self.desk.answer(json.dumps({"id": self.id, "ask": ask, **more}))
+        request = json.dumps({"id": self.id, "ask": ask, **more})
+        answer = self.desk.answer(request)
         assert "error" not in answer, answer
+        check_request("A1", json.loads(request))
+        check_message(answer)
         return answer
 
     def do(self, *lines: str) -> list[str]:
@@ -107,6 +114,17 @@ def test_tries_come_back_and_are_read(program: pathlib.Path, tmp_path: pathlib.P
     assert again.view["exercises"]["doubles"]["tries"] == 1
     assert again.ask("answer", exercise="doubles", number=1)["text"] == "  ret\n"
     again.close()
+
+
+def test_try_of_1_0_comes_back(program: pathlib.Path, tmp_path: pathlib.Path) -> None:
+    """Its cases have no names there: of five the third one passed."""
+    text = (DATA / "version_1_0" / "class" / "answers" / "A2.doubles.1.json").read_text("utf-8")
+    page = Page(program, tmp_path, {"answers/A1.doubles.1.json": [text, 1.0]})
+    view = page.view["exercises"]["doubles"]
+    assert [case["passed"] for case in view["told"]["cases"]] == [False, False, True, False, False]
+    assert [case["name"] for case in view["told"]["cases"]] == [case["name"] for case in view["cases"]]
+    assert page.ask("answer", exercise="doubles", number=1)["text"] == json.loads(text)["text"] and not page.desk.lost
+    page.close()
 
 
 def test_damaged_texts_are_reported_and_the_rest_is_kept(program: pathlib.Path, tmp_path: pathlib.Path) -> None:
