@@ -4,7 +4,8 @@
 The page begins with what each instruction does, by the lab's records (`support/instruction_page.py`). Then comes the list that
 `test_assembler` prints, with which its stored output begins, and three columns more: the formula, which docs/instructions.csv has by
 names, the legality, which is read from the definitions, and the section of the manual, which the records have. That a formula is one that the instruction's own line of a step rests on is seen too. The elements that
-the lab has for each vector operation (`body_of`, `elements_of`) are compared with `elements/Bodies` of the definitions.
+the lab has for each vector operation (`body_of`, `elements_of`) are compared with `elements/Bodies` of the definitions. The operands,
+scalar registers and accesses that the lab has for each instruction are compared with the operands in the list.
 It prints what isn't so, and then the status is 1. With `write` it writes the page.
 """
 
@@ -21,9 +22,14 @@ import definitions as counted
 sys.path[:0] = ["lab"]
 from support.elements import elements_of
 from support.instruction_page import records_text
-from vecmon_lab.instructions.accesses import REGISTER_BITS, body_of, vector_instruction
+from vecmon_lab.guest import changes
+from vecmon_lab.instructions.accesses import REGISTER_BITS, active_spans, base_address, body_of, vector_instruction
+from vecmon_lab.instructions.table import Row, instruction_table
+from vecmon_lab.instructions.words import STORE, STORE_FP, decode
 from vecmon_lab.machine.answers import ControlRegisters
 from vecmon_lab.meanings.record import record_of
+from vecmon_lab.page.operands import shown_operands
+from vecmon_lab.runs.dataflow import scalars_read
 
 PAGE, RULES, PRINTED = Path("docs/INSTRUCTIONS.md"), Path("docs/instructions.csv"), Path("crates/test_assembler/stdout")
 ROW = re.compile(r"^(\| `(\S+)[^`]*` \| `[01 -]+`) \|$", re.MULTILINE)
@@ -62,6 +68,9 @@ BODIES: dict[str, Callable[[ControlRegisters, int], range]] = {
         lambda control, whole: range(control.vstart < control.vl)
     ),
 }
+SCALARS = {"rd": 7, "rs1": 15, "rs2": 20}  # the lowest bits of scalar registers in a word
+OPERANDS = 16 << 7 | 24 << 15 | 8 << 20  # registers that differ, aligned for groups of up to eight; 8 is also vstart as a control register
+NO_RESULT = ("ecall", "ebreak")  # whose opcode is that of instructions with a result; ecall has one for some calls
 SEW, VTYPE, V0 = 32, 0x11, bytes([0x16, 0x80]) + bytes(30)  # e32, m2: VLMAX is 16
 LENGTHS = [(vl, vstart) for vl in (0, 1, 5, 16) for vstart in (0, 1, 2)]
 PIECE = re.compile(rf'then \[\] else codes "(\S+)"|codes "(\S+)"|\b({"|".join(WORDS)})\b')
@@ -241,6 +250,52 @@ def elements_differ(printed: str) -> list[str]:
     return [line for name, encoding in rows for word in words_of(encoding) for line in differing(name, word)]
 
 
+def operand_faults(row: Row, word: int) -> Iterator[str]:
+    """The differences between the operands of a row and those that the lab has for a word of it."""
+    fields, instruction = {*row.fields()}, decode(word)
+    operands = instruction.operands if instruction else []
+    nouns = {operand.place: operand.noun for operand in operands}
+    if nouns.keys() != fields & {"vd", "vs1", "vs2"}:
+        yield f"decode has the operands {sorted(nouns)}"
+    has_mask = row.operands.endswith(", v0") or "[, v0.t]" in row.operands and not word >> 25 & 1
+    if instruction and instruction.is_masked != has_mask:
+        yield f"decode has the mask {instruction.is_masked}"
+    if [operand["written"] for operand in shown_operands(word)] != [
+        *("vd" == operand.place and row.opcode != STORE_FP for operand in operands),
+        *([False] if has_mask else []),
+    ]:
+        yield "shown_operands has another result"
+
+
+def register_faults(row: Row, word: int) -> Iterator[str]:
+    """The differences between the scalar registers and the address of a row and those that the lab has for a word of it."""
+    names, fields = {word >> low & 31: name for name, low in SCALARS.items()}, {*row.fields()}
+    read = {names.get(number, f"x{number}") for number in scalars_read(word) if number} | ({"rs2"} if row.opcode == STORE else set())
+    if row.name != "ecall" and read != fields & {"rs1", "rs2"}:
+        yield f"scalars_read has {sorted(read)}"
+    looks = changes._looks(word, [])
+    if ("regs" in looks) != ("rd" in fields) and row.name not in NO_RESULT:
+        yield f"the looks after it are {looks}"
+    is_access = "(rs1)" in row.operands and row.name != "jalr"
+    if (base_address(word, range(32)) is not None) != is_access:
+        yield "base_address has another address"
+    spans = list(active_spans(word, range(32), ControlRegisters(1, VTYPE), bytes(1024)))
+    is_masked = "[, v0.t]" in row.operands and not word >> 25 & 1
+    if bool(spans) != (is_access and not is_masked):
+        yield f"active_spans has {spans}"
+
+
+def operands_differ() -> list[str]:
+    """The differences between the instruction table and the operands, registers and accesses that the lab has, for both values of vm."""
+    differences = []
+    for row in instruction_table().values():
+        vm = {row.word(0), row.word(1 << 25)} if "[, v0.t]" in row.operands else {row.word(0)}
+        for word in (row.word(bits | OPERANDS) for bits in vm):
+            faults = [*operand_faults(row, word), *register_faults(row, word)]
+            differences += [f"{row.name} {row.operands}, {word:08x}: {fault}" for fault in faults]
+    return differences
+
+
 def list_in(output: str) -> str:
     """The list of instructions that an output of `test_assembler` begins with, before its words and texts."""
     return re.split("^[0-9a-f]{8} ", output, maxsplit=1, flags=re.MULTILINE)[0]
@@ -258,7 +313,7 @@ def main() -> int:
         print(f"{RULES}: no instruction has the name {it}")
     for line in sorted({*page.splitlines()} ^ {*actual.splitlines()}):
         print(f"{PAGE} {'lacks' if line in actual else 'has wrongly'}: {line}")
-    different = elements_differ(printed)
+    different = [*elements_differ(printed), *operands_differ()]
     for line in different:
         print(line)
     return 1 if unused or different or page != actual else 0

@@ -154,7 +154,7 @@ class Seats:
             before = ABSENT if anew else seat.state
             own = [each for whom, each in answers if whom == digit]
             single = lines == [f"{digit} step 1"] and before["run"] == "stopped"
-            executed = before["code"].get(before["pc"], "")[9:] if single else ""
+            executed = before["code"].get(before["pc"], "") if single else ""
             is_done = not all(map(is_look, lines))
             state = look_at(Guest(session, int(digit)), seat.watch_set, before, own, executed, is_done)
             state.pop("output", None)  # which the seat has

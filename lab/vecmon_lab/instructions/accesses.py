@@ -6,8 +6,10 @@ import re
 from collections.abc import Iterable, Iterator, Sequence
 
 from ..machine.answers import ControlRegisters
-from .words import STORE, STORE_FP, VECTOR_ACCESSES, NoInstruction, Operand, VectorInstruction, decode
+from .table import row_of
+from .words import LOAD, STORE, STORE_FP, VECTOR_ACCESSES, NoInstruction, Operand, VectorInstruction, decode
 
+ACCESSES = (LOAD, STORE, *VECTOR_ACCESSES)  # opcodes of loads and stores
 UNIT_STRIDE, STRIDED = 0, 2  # mop; 1 and 3 are indexed
 WHOLE_REGISTERS, MASK = 0b01000, 0b01011  # sumop
 REGISTER_BYTES, ROW_BYTES, LINE_BYTES, PAGE_BYTES = 32, 16, 256, 4096  # a line shows or writes LINE_BYTES of memory
@@ -41,6 +43,32 @@ def stored_spans(word: int, x: Sequence[int], control: ControlRegisters, v: byte
         return _joined([scalar_span(word, x)])
     instruction = vector_instruction(word, control.vtype) if word & 0x7F == STORE_FP else None
     return _joined(vector_spans(word, x, control, v, instruction) if instruction else ())
+
+
+def base_address(word: int, x: Sequence[int]) -> int | None:
+    """The address at which a load or store starts, without its stride and indices; None for any other instruction.
+
+    x: the scalar registers before it
+    """
+    row = row_of(word)
+    if row is None or row.opcode not in ACCESSES:
+        return None
+    return x[word >> 15 & 31] if row.opcode in VECTOR_ACCESSES else scalar_span(word, x)[0]
+
+
+def active_spans(word: int, x: Sequence[int], control: ControlRegisters, v: bytes) -> Iterator[tuple[int, Span]]:
+    """The active elements of a load or store, each with the span that it accesses; of a scalar one element 0.
+
+    x, control, v: the registers before it. Elements after one that faults count, and those that a fault-only-first load leaves out.
+    """
+    if word & 0x7F in (LOAD, STORE):
+        yield 0, scalar_span(word, x)
+    instruction = vector_instruction(word, control.vtype) if word & 0x7F in VECTOR_ACCESSES else None
+    if instruction:
+        body = body_of(word, instruction, control)
+        active = {*active_of(instruction, body, v)}
+        spans = zip(body, vector_spans(word, x, control, v, instruction))
+        yield from ((element, span) for element, span in spans if element in active)
 
 
 def scalar_span(word: int, x: Sequence[int]) -> Span:

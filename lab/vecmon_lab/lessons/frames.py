@@ -116,7 +116,7 @@ class _Maker:
         for place in range(1, number + 1):
             state, part = self._states[user], answers_by_user(self._single.do(f"{user} step 1"))
             ends = not isinstance(part[0][1], Position) or place == number or f"{part[0][1].pc:x}" in state["breaks"]
-            self._look([line], [*part, *answers] if ends else part, state["code"].get(state["pc"], "")[9:])
+            self._look([line], [*part, *answers] if ends else part, state["code"].get(state["pc"], ""))
             own_log = ([] if place > 1 else log[:1]) + (log[1:] if ends else [])
             address = int(self._states[user].get("instruction", "0"), 16)  # whose sentence the source may have
             note = step.note if place == 1 and step.note else self._script.notes.get(address, "")

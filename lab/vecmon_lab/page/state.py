@@ -1,6 +1,5 @@
 """The state of one user on a page: a plain object, made from the machine's answers to read-only lines."""
 
-import re
 from collections import Counter
 from collections.abc import Iterable, Iterator, Mapping, Sequence
 from typing import NotRequired, TypedDict
@@ -8,9 +7,10 @@ from typing import NotRequired, TypedDict
 from ..guest.calls import shown_calls
 from ..guest.changes import Registers
 from ..guest.guest import Guest
-from ..instructions.accesses import PAGE_BYTES, ROW_BYTES
+from ..instructions.accesses import PAGE_BYTES, ROW_BYTES, base_address
 from ..instructions.calls import ECALL, unsupported_call
 from ..instructions.reasons import describe_stop
+from ..instructions.words import LOAD_FP, OP_V, STORE, STORE_FP
 from ..machine.answers import (
     Addresses,
     Answer,
@@ -92,9 +92,6 @@ MAPPED_PAGES, MAX_PAGES = 8, 32  # how many pages are looked at since they were 
 MAX_WORDS = 512
 WORDS_AHEAD = 8
 
-_ADDRESS = re.compile(r"(-?\d+)?\(x(\d+)\)")
-_STORE = re.compile(r"(s[bhwd]|vs\S+) .*\(x\d+\)")
-
 
 class WatchSet:
     """The watched places of one user's memory: the program's words, and pages of data; and breakpoints."""
@@ -140,11 +137,11 @@ class WatchSet:
         pages = range(address // PAGE_BYTES * PAGE_BYTES, address + length, PAGE_BYTES)
         self.pages.update(pages[: max(0, limit - len(self.pages))])
 
-    def add_accessed(self, text: str, registers: dict[str, str]) -> None:
-        """Takes up the page that an instruction with a base register begins its access in."""
-        base = _ADDRESS.search(text)
-        if base:
-            self._add_pages((int(registers[base[2]], 16) + int(base[1] or "0")) % (1 << 48), 1)
+    def add_accessed(self, word: int, registers: dict[str, str]) -> None:
+        """Takes up the page in which a load or store starts its access."""
+        address = base_address(word, [int(registers[f"{number}"], 16) for number in range(32)])
+        if address is not None:
+            self._add_pages(address % (1 << 48), 1)
 
 
 def look_at(
@@ -157,7 +154,7 @@ def look_at(
 ) -> State:
     """The user's state after lines that were answered to the user so; before them the state was `before`.
 
-    executed: the text of the instruction that a line may have executed, if it did nothing else
+    executed: the line of the listing with the instruction that a line may have executed, if it did nothing else
     is_done: whether a line did more than look
     While the program runs the machine shows nothing else, so that all but `run` and `pc` stays as it was.
     """
@@ -177,15 +174,17 @@ def look_at(
         return state
     control = _take_registers(guest, state)
     state["policy"] = guest.session.policy[guest.user]
-    if not executed or executed.startswith("v"):
+    opcode = int(executed[:8], 16) & 0x7F if executed else None
+    if opcode in (None, OP_V, LOAD_FP):
         state["v"] = {f"{number}": data.hex() for number, data in enumerate(guest.vectors())}
     trace = guest.query("trace", Addresses).addresses
     stepped = any(isinstance(answer, Position) and answer.kind == "stepped" for answer in answers)
-    may_store = not executed or _STORE.match(executed) is not None
+    may_store = opcode in (None, STORE, STORE_FP)
     _set_code(state, _code(guest, watch_set, place.pc, trace, {} if may_store else state["code"]))
     text, pages = state["code"].get(state["pc"], ""), len(watch_set.pages)
     _take_calls(state)
-    watch_set.add_accessed(text[9:], state["x"])
+    if text:
+        watch_set.add_accessed(int(text[:8], 16), state["x"])
     if may_store or len(watch_set.pages) > pages:
         state["memory"] = _memory(guest, watch_set)
     if trace and (stepped or trace != watch_set.trace):

@@ -5,8 +5,8 @@ from collections.abc import Callable, Iterable, Iterator
 from fractions import Fraction
 
 from ..guest.changes import Registers
-from ..instructions.accesses import REGISTER_BYTES, active_of, body_of, scalar_span, vector_instruction, vector_spans
-from ..instructions.words import LOAD, STORE, STORE_FP, VECTOR_ACCESSES
+from ..instructions.accesses import REGISTER_BYTES, active_spans, vector_instruction
+from ..instructions.words import STORE, STORE_FP
 from ..machine.answers import CONTROL, elements_in
 from ..runs.dataflow import Cell, bits_of_registers
 from .origins import LoggedStep
@@ -113,17 +113,12 @@ def _of_memory(step: LoggedStep, after: Registers, peek: Callable[[int, int], by
 def _elements(step: LoggedStep, after: Registers) -> Iterator[Element]:
     """The elements that an instruction accessed here, the fields of a segment one after another."""
     word, before = step.retired.word, step.before
-    if word & 0x7F in (LOAD, STORE):
-        yield scalar_span(word, before.x)
-    instruction = vector_instruction(word, before.control.vtype) if word & 0x7F in VECTOR_ACCESSES else None
-    if instruction:
-        body = body_of(word, instruction, before.control)
-        active, width = {*active_of(instruction, body, before.v)}, max(1, instruction.operands[0].eew // 8)
-        spans = zip(body, vector_spans(word, before.x, before.control, before.v, instruction))
-        is_shortened = "ff.v" in step.retired.text
-        for element, (address, length) in spans:
-            if element in active and not (is_shortened and element >= after.control.vl):
-                yield from (((address + at) % (1 << 64), width) for at in range(0, length, width))
+    instruction = vector_instruction(word, before.control.vtype)
+    is_shortened = "ff.v" in step.retired.text
+    for element, (address, length) in active_spans(word, before.x, before.control, bytes(before.v)):
+        width = max(1, instruction.operands[0].eew // 8) if instruction else length
+        if not (is_shortened and element >= after.control.vl):
+            yield from (((address + at) % (1 << 64), width) for at in range(0, length, width))
 
 
 def _runs(addresses: Iterable[int]) -> Iterator[range]:

@@ -6,8 +6,8 @@ from dataclasses import dataclass
 
 from ..guest.changes import Stepper
 from ..guest.guest import Guest
-from ..instructions.accesses import Span, active_of, body_of, scalar_span, vector_instruction, vector_spans
-from ..instructions.words import LOAD, LOAD_FP, STORE, STORE_FP, VECTOR_ACCESSES
+from ..instructions.accesses import Span, active_spans
+from ..instructions.words import LOAD, LOAD_FP, STORE, STORE_FP, decode
 
 ACCESSES = {"watch": (STORE, STORE_FP), "rwatch": (LOAD, LOAD_FP), "awatch": (LOAD, LOAD_FP, STORE, STORE_FP)}
 """The opcodes of what may do what is watched for, as gdb calls it: change the bytes, load them, or load or store them."""
@@ -15,7 +15,6 @@ ACCESSES = {"watch": (STORE, STORE_FP), "rwatch": (LOAD, LOAD_FP), "awatch": (LO
 WORD = slice(34, 42)  # in a line of a log
 MOVED = re.compile(rb" mem 0x(\w{16})(?: 0x(\w+))?")  # there: an element's address, and of stores its bytes
 SEW = re.compile(rb" e(\d+) m")
-WIDTHS = {0: 1, 5: 2, 6: 4, 7: 8}  # bytes of an element, by the width in a vector load's word
 
 
 @dataclass(frozen=True)
@@ -55,8 +54,9 @@ def _logged_spans(line: bytes) -> Iterator[Span]:
     word = int(line[WORD], 16)
     loaded = 1 << (word >> 12 & 3)
     if word & 0x7F == LOAD_FP:
-        is_indexed = word >> 26 & 1
-        loaded = int(SEW.findall(line)[0]) // 8 if is_indexed else WIDTHS[word >> 12 & 7]
+        instruction = decode(word, int(SEW.findall(line)[0]))
+        assert instruction
+        loaded = max(1, instruction.operands[0].eew // 8)
     for address, data in MOVED.findall(line):
         yield int(address, 16), len(data) // 2 or loaded
 
@@ -64,11 +64,4 @@ def _logged_spans(line: bytes) -> Iterator[Span]:
 def _spans(guest: Guest, word: int) -> Iterator[Span]:
     """The accesses of a load or store, by the registers before it: addresses, each with its number of bytes."""
     before = Stepper(guest).registers
-    instruction = vector_instruction(word, before.control.vtype)
-    if word & 0x7F not in VECTOR_ACCESSES:
-        yield scalar_span(word, before.x)
-    elif instruction:
-        body = body_of(word, instruction, before.control)
-        active = active_of(instruction, body, before.v)
-        spans = zip(body, vector_spans(word, before.x, before.control, before.v, instruction))
-        yield from (span for element, span in spans if element in active)
+    yield from (span for _, span in active_spans(word, before.x, before.control, bytes(before.v)))

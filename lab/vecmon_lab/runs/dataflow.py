@@ -11,11 +11,11 @@ from ..instructions.accesses import (
     REGISTER_BITS,
     STRIDED,
     active_of,
+    active_spans,
     body_of,
     needed,
     scalar_span,
     vector_instruction,
-    vector_spans,
 )
 from ..instructions.calls import ECALL
 from ..instructions.words import LOAD, OP_V, STORE, SYSTEM, VECTOR_ACCESSES, VectorInstruction
@@ -117,17 +117,16 @@ def parts(step: Executed) -> Iterator[Part]:
     body = body_of(word, instruction, before.control) if instruction else range(0)
     if instruction and body:
         active = {0} if text.startswith(FIRST_ELEMENT) else {*active_of(instruction, body, before.v)}
-        yield from _moved(step, instruction, active) if word & 0x7F in VECTOR_ACCESSES else ()
+        yield from _moved(step, instruction) if word & 0x7F in VECTOR_ACCESSES else ()
         yield from _made(step, instruction, active)
 
 
-def _moved(step: Executed, instruction: VectorInstruction, active: set[int]) -> Iterator[Part]:
+def _moved(step: Executed, instruction: VectorInstruction) -> Iterator[Part]:
     """The bytes that a vector load or store moves."""
     before, data = step.before, instruction.operands[0]
-    spans = vector_spans(step.retired.word, before.x, before.control, before.v, instruction)
-    for element, (address, length) in enumerate(spans, before.control.vstart):
+    for element, (address, length) in active_spans(step.retired.word, before.x, before.control, bytes(before.v)):
         width = length * data.group // len(data.registers)
-        for at in range(length if element in active else 0):
+        for at in range(length):
             memory = {("memory", address + at)}
             register = data.registers.start + at // width * data.group
             bits = bits_of_registers(REGISTER_BITS * register + 8 * (element * width + at % width), 8)
