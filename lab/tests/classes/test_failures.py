@@ -150,7 +150,8 @@ async def test_killed_server_restarts_with_same_state(tmp_path: pathlib.Path) ->
         assert room.codes == codes
         again, last, teacher = await room.sit("A1"), await room.sit("A2"), await room.sit("teacher")
         assert again.logs["A1"] == tab.logs["A1"] and again.view["state"]["labels"] == {"10000": ["first"]}
-        assert {**again.view["state"], "instruction": "10000"} == tab.view["state"]
+        stepped = {name: tab.view["state"][name] for name in ("instruction", "read", "accessed")}
+        assert stepped["instruction"] == "10000" and {**again.view["state"], **stepped} == tab.view["state"]
         assert last.view["state"]["run"] == "running" and not last.view["own_slices"]
         now = teacher.view["machines"]["A"]
         assert now["clock"] == {"on": False, "slices": 3, "ms": 50, "limit": 50_000_000}

@@ -17,11 +17,12 @@ from ..machine.lines import DIGITS, is_look, words_of
 from ..machine.session import Session
 from .languages import SourceText
 from .live import is_servers
-from ..page.state import ABSENT, SourceNames, State, VisibleRows, WatchSet, look_at, with_rows
+from ..page.state import ABSENT, SourceNames, State, VisibleRows, WatchSet, add_last_instruction, look_at, with_rows
 from ..page.variables import shown_variables
 
 LOG_ENTRIES = 500
 UNNAMED: SourceNames = {"labels": {}, "lines": {}}
+_EXECUTING = ("step", "go", "stop", "slices", "run")  # commands after which registers are as the program left them
 BLOCK_DIGITS, BLOCKS = 2048, 64  # of output; a page has the last 64 KB of it
 
 Done = tuple[str, Sequence[str]]
@@ -158,17 +159,20 @@ class Seats:
             is_done = not all(map(is_look, lines))
             state = look_at(Guest(session, int(digit)), seat.watch_set, before, own, executed, is_done)
             state.pop("output", None)  # which the seat has
+            if is_done and state["run"] == "stopped" and _ends_executing(done, digit):
+                add_last_instruction(state, before if _is_single_step(done, digit) else None)
             seat.rows.add(state)
             states[digit] = state, with_rows(state, seat.rows.rows(seat.watch_set, 1 + seat.watch_set.is_compiled))
         return states
 
     def take(self, states: dict[str, tuple[State, State]], done: Sequence[Done] = ()) -> None:
         """Takes up states that `look` made after these lines."""
-        lines = [line for line, _ in done if not is_look(line) and not is_servers(line)]
+        has_changes = any(not is_look(line) and not is_servers(line) for line, _ in done)
         for digit, pair in states.items():
             seat = self.users[digit]
-            if lines:
-                seat.stepped = seat.state if lines == [f"{digit} step 1"] and seat.state["run"] == "stopped" else None
+            if has_changes:
+                is_step = _is_single_step(done, digit) and seat.state["run"] == "stopped"
+                seat.stepped = seat.state if is_step else None
             seat.follow(*pair)
 
     def observe(self, line: str, answer: Sequence[str], is_reported: bool) -> None:
@@ -206,6 +210,18 @@ class Seats:
             if is_stop(part):
                 seat.stop = part[2:]
                 seat.slices = seat.slices if seat.stop.startswith("outfull") else 0.0
+
+
+def _is_single_step(done: Iterable[Done], digit: str) -> bool:
+    """Whether a single step of a user is all that lines did, except those of the server."""
+    return [line for line, _ in done if not is_look(line) and not is_servers(line)] == [f"{digit} step 1"]
+
+
+def _ends_executing(done: Sequence[Done], digit: str) -> bool:
+    """Whether no line changed a user's registers after the last one that executed the program."""
+    own = [line for line, answer in done if line[0] in (digit, "*") and not is_look(line) and not is_refusal(answer)]
+    commands = [words_of(line)[0] for line in own if words_of(line) != ["out"]]
+    return commands[-1:] != [] and commands[-1] in _EXECUTING
 
 
 def _is_repeatable(entry: str) -> bool:

@@ -7,6 +7,7 @@ from fractions import Fraction
 
 from ..instructions.accesses import PAGE_BYTES, REGISTER_BYTES, Span, stored_spans, vector_instruction
 from ..instructions.calls import ECALL
+from ..instructions.scalar_registers import may_write_scalar
 from ..instructions.words import LOAD_FP, OP_V, STORE_FP, SYSTEM, Operand
 from ..machine.answers import (
     CONTROL,
@@ -24,8 +25,6 @@ from .guest import Guest
 WORDS_AT_ONCE = 16  # that a look shows
 NAMES = [*(f"x{number}" for number in range(32)), *CONTROL]  # of scalar and control registers
 CONTROLLING = (OP_V, SYSTEM, LOAD_FP, STORE_FP)  # opcodes of what may write control registers
-NO_REGISTER = (0x63, 0x23, 0x0F, OP_V, LOAD_FP, STORE_FP)  # those of what writes no scalar register, but for
-OP_VSET, OP_MVV, FROM_VECTOR = 7, 2, 0b010000  # funct3 of vset; that of vmv.x.s, vcpop and vfirst, and their funct6
 
 
 @dataclass(frozen=True)
@@ -196,10 +195,8 @@ class Stepper:
 
 def _looks(word: int, targets: Sequence[Operand]) -> list[str]:
     """The looks at all registers that an instruction may write."""
-    opcode, funct3 = word & 0x7F, word >> 12 & 7
-    to_scalar = opcode == OP_V and (funct3 == OP_VSET or funct3 == OP_MVV and word >> 26 == FROM_VECTOR)
-    looks = [] if opcode in NO_REGISTER and not to_scalar else ["regs"]
-    looks += ["vcsr"] if opcode in CONTROLLING else []
+    looks = ["regs"] if may_write_scalar(word) else []
+    looks += ["vcsr"] if word & 0x7F in CONTROLLING else []
     numbers = {number for target in targets for number in target.registers if number < 32}
     return looks + [f"vreg v{number} 64" for number in sorted(numbers)]
 

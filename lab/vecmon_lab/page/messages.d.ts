@@ -1,5 +1,12 @@
 // The types of messages. `.venv/bin/python -m support.message_types` writes this file from the lab's Python types.
 
+/** Bytes of memory that an instruction read or wrote: the address in hexadecimal digits, and the number of bytes. */
+export interface Access {
+  address: string;
+  length: number;
+  kind: "read" | "write";
+}
+
 /** The loaded source in a new machine, with the breakpoints. */
 export interface AgainRequest {
   id: number;
@@ -348,6 +355,22 @@ export interface PageHello {
   lost: string[];
 }
 
+/**
+ * Registers as they were before an instruction, in hexadecimal digits. Those that aren't known are left out.
+ *
+ * x: by number, the scalar registers that it read, except x0
+ * v: by number, the vector registers of its operands, the destination's too
+ * v0, vl, vtype, vstart: whatever the instruction is
+ */
+export interface ReadRegisters {
+  x: { [name: string]: string };
+  v: { [name: string]: string };
+  v0?: string;
+  vl?: number;
+  vtype?: string;
+  vstart?: number;
+}
+
 /** The answer to a request that was refused. */
 export interface RefusedAnswer {
   patch?: { [name: string]: unknown };
@@ -535,6 +558,7 @@ export interface Start {
  * code, operands: the program's words with their texts, and their vector operands, by address
  * memory: rows of 16 bytes by address
  * instruction: the address of the instruction that the last lines executed last, or that faulted
+ * read, accessed: in a class, registers before that instruction, and the memory that it accessed, as far as they are known
  * stop: why the program stopped in what was just done, in words
  * calls: calls that the machine doesn't support, in words by the address of the ECALL: those that the code shows, and those that the
  *     program reached; without one there is no such key
@@ -559,6 +583,8 @@ export interface State {
   memory?: { [name: string]: string };
   instruction?: string;
   faulted?: boolean;
+  read?: ReadRegisters;
+  accessed?: Access[];
   stop?: string;
   calls?: { [name: string]: string };
   output?: string;

@@ -23,6 +23,7 @@ from ..machine.answers import (
     Stop,
 )
 from ..machine.lines import words_of
+from .last_instruction import Access, ReadRegisters, accesses, read_registers, registers_kept, scalar_accesses
 from .operands import ShownOperand, shown_operands
 from .variables import ShownVariable
 
@@ -51,6 +52,7 @@ class State(TypedDict):
     code, operands: the program's words with their texts, and their vector operands, by address
     memory: rows of 16 bytes by address
     instruction: the address of the instruction that the last lines executed last, or that faulted
+    read, accessed: in a class, registers before that instruction, and the memory that it accessed, as far as they are known
     stop: why the program stopped in what was just done, in words
     calls: calls that the machine doesn't support, in words by the address of the ECALL: those that the code shows, and those that the
         program reached; without one there is no such key
@@ -75,6 +77,8 @@ class State(TypedDict):
     memory: NotRequired[dict[str, str]]
     instruction: NotRequired[str]
     faulted: NotRequired[bool]
+    read: NotRequired[ReadRegisters]
+    accessed: NotRequired[Sequence[Access]]
     stop: NotRequired[str]
     calls: NotRequired[Mapping[str, str]]
     output: NotRequired[str]
@@ -164,6 +168,8 @@ def look_at(
     state = before.copy()
     if is_done:
         state.pop("instruction", None)
+        state.pop("read", None)
+        state.pop("accessed", None)
         state.pop("faulted", None)
         state.pop("stop", None)
     state.update({"run": place.run, "pc": f"{place.pc:x}"})
@@ -208,6 +214,26 @@ def _set_stop(state: State, answers: Sequence[Answer], text: str, control: Contr
         state["stop"] = describe_stop(stop, int(text[:8], 16) if text else None, control, text[9:])
     if stop and stop.kind == "fault":
         state.update({"instruction": state["pc"], "faulted": True})
+
+
+def add_last_instruction(state: State, before: State | None) -> None:
+    """Add what the last instruction of a state read and accessed, if the listing has that instruction.
+
+    before: the state before that instruction; None if it is unknown
+    """
+    line = state["code"].get(state.get("instruction", ""), "")
+    if not line:
+        return
+    word, after = int(line[:8], 16), registers_of(state)
+    if before and before.get("pc") == state["instruction"]:
+        known = registers_of(before)
+        state["read"] = read_registers(word, known)
+        state["accessed"] = accesses(word, known, after.control, state.get("faulted", False))
+        return
+    state["read"] = registers_kept(word, after)
+    accessed = None if state.get("faulted") else scalar_accesses(word, after)
+    if accessed is not None:
+        state["accessed"] = accessed
 
 
 def registers_of(state: State) -> Registers:

@@ -9,7 +9,6 @@ from ..instructions.accesses import (
     ACCUMULATES,
     FIRST_ELEMENT,
     REGISTER_BITS,
-    STRIDED,
     active_of,
     active_spans,
     body_of,
@@ -17,8 +16,8 @@ from ..instructions.accesses import (
     scalar_span,
     vector_instruction,
 )
-from ..instructions.calls import ECALL
-from ..instructions.words import LOAD, OP_V, STORE, SYSTEM, VECTOR_ACCESSES, VectorInstruction
+from ..instructions.scalar_registers import scalars_read
+from ..instructions.words import LOAD, OP_V, STORE, VECTOR_ACCESSES, VectorInstruction
 from ..machine.answers import CONTROL
 
 Cell = tuple[str, int]
@@ -32,8 +31,6 @@ _VSTART = {("vstart", 0)}
 _ACROSS = re.compile("vw?red|vrgather|vslide|vcompress|viota|vms[bio]f")  # which read elements of other numbers
 _ROUNDS = re.compile("va(add|sub)u?|vsmul|vssr[la]|vnclip")  # as vxrm says
 _ARITHMETIC, _OF_NOTHING = (0x13, 0x1B, 0x33, 0x3B), (0x37, 0x17, 0x6F, 0x67)  # opcodes; lui, auipc, jal and jalr
-_TWO_SOURCES = (0x33, 0x3B, 0x63)  # opcodes of what reads rs2 too
-_CALLS = {93: (17, 10), 64: (17, 10, 11, 12)}  # registers that an exit and a write read, by what is in x17
 
 
 @dataclass(frozen=True)
@@ -52,26 +49,6 @@ def bits_of_registers(first: int, width: int) -> set[Cell]:
 def bits_of_scalar(number: int, first: int = 0, width: int = 64) -> set[Cell]:
     """Bits of a scalar register, from one on."""
     return {("x", 64 * number + bit) for bit in range(first, first + width)}
-
-
-def scalars_read(word: int, call: int = 0) -> Iterator[int]:
-    """The numbers of the scalar registers that an instruction reads, but for what it stores, some of them x0.
-
-    call: what is in x17
-    """
-    opcode, funct3, rs1, rs2 = word & 0x7F, word >> 12 & 7, word >> 15 & 31, word >> 20 & 31
-    if word == ECALL:
-        yield from _CALLS.get(call, (17,))
-    elif opcode == OP_V:
-        is_vset = funct3 == 7
-        yield from [rs1] if funct3 in (4, 6) or is_vset and word >> 30 != 3 else []
-        yield from [rs2] if is_vset and word >> 30 == 2 else []
-    elif opcode in VECTOR_ACCESSES:
-        yield from [rs1, rs2] if word >> 26 & 3 == STRIDED else [rs1]
-    elif opcode == SYSTEM:
-        yield from [rs1] if 0 < funct3 < 4 else []
-    elif opcode not in _OF_NOTHING[:3]:
-        yield from [rs1, rs2] if opcode in _TWO_SOURCES else [rs1]
 
 
 def conditions(step: Executed) -> set[Cell]:

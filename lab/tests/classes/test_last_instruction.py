@@ -1,0 +1,120 @@
+"""What the last instruction read and accessed, as a student's page has it. Expected values are worked by hand."""
+
+import json
+import pathlib
+from collections.abc import Iterator, Mapping
+from typing import Any
+
+import pytest
+
+from support.desk import Desk
+
+SOURCE = """la a0, xs
+vsetivli t0, 4, e32, m1, ta, ma
+vle32.v v8, (a0)
+vadd.vv v8, v8, v8
+li t1, 5
+vmv.s.x v0, t1
+vse32.v v8, (a0), v0.t
+li t2, 8
+vlse32.v v9, (a0), t2
+lw a0, 4(a0)
+ebreak
+.data
+xs: .word 1, 2, 3, 4, 5, 6, 7, 8
+"""
+LOADED, DOUBLED, STORED, STRIDED, WORD = 4, 5, 8, 10, 11  # steps up to vle32.v, vadd.vv, vse32.v, vlse32.v and lw
+BEFORE = "01000000020000000300000004000000"  # v8, four words, and the next ones doubled
+DOUBLES = "02000000040000000600000008000000"
+
+
+@pytest.fixture
+def desk(program: pathlib.Path) -> Iterator[Desk]:
+    """A desk whose machine has the source, and whose program hasn't started."""
+    desk = Desk(program, {}, 100_000)
+    ask(desk, ask="source", text=SOURCE)
+    yield desk
+    desk.close()
+
+
+def ask(desk: Desk, **request: object) -> Mapping[str, Any]:
+    """The answer to a request."""
+    return desk.answer(json.dumps({"id": 1, **request}))
+
+
+def step(desk: Desk, count: int) -> None:
+    """Steps an instruction at a time."""
+    for _ in range(count):
+        ask(desk, ask="lines", do=["step 1"])
+
+
+def test_destination_is_shown_as_it_was(desk: Desk) -> None:
+    step(desk, DOUBLED)
+    assert desk.seat.state["v"]["8"].startswith(DOUBLES)
+    read = desk.seat.state["read"]
+    assert read["v"] == {"8": BEFORE + 32 * "0"} and read["x"] == {}
+    assert (read["vl"], read["vtype"], read["vstart"]) == (4, "d0", 0)
+    assert desk.seat.state["accessed"] == []
+
+
+def test_masked_store_writes_active_elements(desk: Desk) -> None:
+    step(desk, STORED)
+    assert desk.seat.state["read"]["x"] == {"10": "11000"} and desk.seat.state["read"]["v0"].startswith("05000000")
+    assert desk.seat.state["accessed"] == [
+        {"address": "11000", "length": 4, "kind": "write"},
+        {"address": "11008", "length": 4, "kind": "write"},
+    ]
+
+
+def test_strided_load_reads_each_element(desk: Desk) -> None:
+    step(desk, STRIDED)
+    assert desk.seat.state["read"]["x"] == {"7": "8", "10": "11000"}
+    assert [each["address"] for each in desk.seat.state["accessed"]] == ["11000", "11008", "11010", "11018"]
+
+
+def test_scalar_load_is_shown_with_its_base(desk: Desk) -> None:
+    step(desk, WORD)
+    assert desk.seat.state["x"]["10"] == "2"  # since the store has left element 1
+    assert desk.seat.state["read"]["x"] == {"10": "11000"}
+    assert desk.seat.state["accessed"] == [{"address": "11004", "length": 4, "kind": "read"}]
+
+
+def test_run_shows_registers_that_the_instruction_left(desk: Desk) -> None:
+    """The sources of `vadd.vv v8, v8, v8` are gone after it, and those of the store before a breakpoint aren't."""
+    ask(desk, ask="lines", do=["break 10014", "go"])
+    desk.settle()
+    assert desk.seat.state["instruction"] == "10010"
+    read = desk.seat.state["read"]
+    assert read["v"] == {} and read["vl"] == 4 and "vstart" not in read and desk.seat.state["accessed"] == []
+    ask(desk, ask="lines", do=["break 10020", "go"])
+    desk.settle()
+    assert desk.seat.state["instruction"] == "1001c"
+    read = desk.seat.state["read"]
+    assert read["v"] == {"8": DOUBLES + 32 * "0"} and read["x"] == {"10": "11000"}
+    assert "accessed" not in desk.seat.state  # since vstart before the store isn't known
+
+
+def test_run_to_scalar_load_that_loses_its_base(desk: Desk) -> None:
+    ask(desk, ask="lines", do=["break 1002c", "go"])
+    desk.settle()
+    assert desk.seat.state["instruction"] == "10028" and desk.seat.state["read"]["x"] == {}
+    assert "accessed" not in desk.seat.state
+
+
+@pytest.mark.parametrize("line", ["set x10 5", "setpc 10000", f"vset v8 {32 * 'ff'}"])
+def test_changed_registers_are_no_longer_those_of_the_instruction(desk: Desk, line: str) -> None:
+    step(desk, LOADED)
+    assert desk.seat.state["read"]["x"] == {"10": "11000"}
+    ask(desk, ask="lines", do=["regs", "out"], look=["vcsr"])
+    ask(desk, ask="lines", do=["step 1", line])
+    assert "read" not in desk.seat.state and "accessed" not in desk.seat.state
+
+
+def test_faulting_load_has_read_earlier_elements(desk: Desk) -> None:
+    """The page after the data isn't mapped: the words at 11ff8 and 11ffc are read, and the third faults."""
+    step(desk, LOADED - 1)
+    ask(desk, ask="lines", do=["set x10 11ff8"])
+    step(desk, 1)
+    state = desk.seat.state
+    assert state["faulted"] and state["vstart"] == 2 and state["read"]["vstart"] == 0
+    assert state["accessed"] == [{"address": "11ff8", "length": 8, "kind": "read"}]

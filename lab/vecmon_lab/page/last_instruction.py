@@ -1,0 +1,151 @@
+"""The last instruction of a program on pages: the registers that it read, and the memory that it accessed.
+
+The registers before it are known if the machine was looked at then. Otherwise those are known that it can't have changed.
+"""
+
+from collections.abc import Iterable, Sequence
+from typing import Literal, NotRequired, TypedDict
+
+from ..guest.changes import CONTROLLING, Registers
+from ..instructions.accesses import (
+    REGISTER_BYTES,
+    Span,
+    active_of,
+    body_of,
+    scalar_span,
+    vector_instruction,
+    vector_spans,
+)
+from ..instructions.scalar_registers import scalar_written, scalars_read
+from ..instructions.words import LOAD, LOAD_FP, OP_V, STORE, STORE_FP
+from ..machine.answers import ControlRegisters
+
+_OP_VSET = 7  # funct3
+_FAULT_ONLY_FIRST = 0b10000  # lumop
+
+
+class ReadRegisters(TypedDict):
+    """Registers as they were before an instruction, in hexadecimal digits. Those that aren't known are left out.
+
+    x: by number, the scalar registers that it read, except x0
+    v: by number, the vector registers of its operands, the destination's too
+    v0, vl, vtype, vstart: whatever the instruction is
+    """
+
+    x: dict[str, str]
+    v: dict[str, str]
+    v0: NotRequired[str]
+    vl: NotRequired[int]
+    vtype: NotRequired[str]
+    vstart: NotRequired[int]
+
+
+class Access(TypedDict):
+    """Bytes of memory that an instruction read or wrote: the address in hexadecimal digits, and the number of bytes."""
+
+    address: str
+    length: int
+    kind: Literal["read", "write"]
+
+
+def read_registers(word: int, before: Registers) -> ReadRegisters:
+    """Return the registers that an instruction read. before: all registers before it"""
+    control = before.control
+    return {
+        "x": _scalars(before, _numbers_read(word, before)),
+        "v": _vectors(before, {number for operand in _operands(word, control) for number in operand}),
+        "v0": _vector(before, 0),
+        "vl": control.vl,
+        "vtype": f"{control.vtype:x}",
+        "vstart": control.vstart,
+    }
+
+
+def registers_kept(word: int, after: Registers) -> ReadRegisters:
+    """Return the registers that an instruction read and can't have changed. after: all registers after it"""
+    is_vset = word & 0x7F == OP_V and word >> 12 & 7 == _OP_VSET
+    instruction = None if is_vset else vector_instruction(word, after.control.vtype)
+    operands = instruction.operands if instruction else []
+    written = {number for each in operands if each.noun == "destination" for number in each.registers}
+    numbers = {number for each in operands for number in each.registers}
+    kept: ReadRegisters = {
+        "x": _scalars(after, _numbers_read(word, after) - {scalar_written(word)}),
+        "v": _vectors(after, numbers - written),
+    }
+    if 0 not in written:
+        kept["v0"] = _vector(after, 0)
+    if not is_vset:
+        kept["vtype"] = f"{after.control.vtype:x}"
+    if not is_vset and not _may_shorten(word):
+        kept["vl"] = after.control.vl
+    if word & 0x7F not in CONTROLLING:
+        kept["vstart"] = after.control.vstart
+    return kept
+
+
+def accesses(word: int, before: Registers, after: ControlRegisters, is_faulting: bool) -> list[Access]:
+    """Return the memory that an instruction read or wrote, in the order of its addresses; adjacent bytes are one access.
+
+    before, after: the registers before it, and the control registers after it
+    is_faulting: whether it stopped at its element vstart; then earlier elements count
+    """
+    opcode, spans = word & 0x7F, list[Span]()
+    kind: Literal["read", "write"] = "write" if opcode in (STORE, STORE_FP) else "read"
+    if opcode in (LOAD, STORE) and not is_faulting:
+        spans = [scalar_span(word, before.x)]
+    instruction = vector_instruction(word, before.control.vtype) if opcode in (LOAD_FP, STORE_FP) else None
+    if instruction:
+        body = body_of(word, instruction, before.control)
+        end = after.vstart if is_faulting else after.vl if _may_shorten(word) else body.stop
+        active = {element for element in active_of(instruction, body, bytes(before.v)) if element < end}
+        found = vector_spans(word, before.x, before.control, bytes(before.v), instruction)
+        spans = [span for element, span in zip(body, found) if element in active]
+    return [{"address": f"{at:x}", "length": length, "kind": kind} for at, length in _joined(spans)]
+
+
+def scalar_accesses(word: int, after: Registers) -> list[Access] | None:
+    """Return the memory that a scalar instruction accessed, by the registers after it; None if they don't show that."""
+    opcode = word & 0x7F
+    if opcode in (LOAD_FP, STORE_FP) or opcode == LOAD and scalar_written(word) == word >> 15 & 31 != 0:
+        return None
+    return accesses(word, after, after.control, is_faulting=False)
+
+
+def _may_shorten(word: int) -> bool:
+    """Whether an instruction is a load that only faults first, which may change vl."""
+    return word & 0x7F == LOAD_FP and word >> 26 & 3 == 0 and word >> 20 & 31 == _FAULT_ONLY_FIRST
+
+
+def _numbers_read(word: int, registers: Registers) -> set[int]:
+    """The numbers of scalar registers that an instruction reads, with the one that it stores."""
+    stored = [word >> 20 & 31] if word & 0x7F == STORE else []
+    return {*scalars_read(word, registers.x[17]), *stored} - {0}
+
+
+def _operands(word: int, control: ControlRegisters) -> Iterable[range]:
+    instruction = vector_instruction(word, control.vtype)
+    return [operand.registers for operand in instruction.operands] if instruction else []
+
+
+def _scalars(registers: Registers, numbers: Iterable[int]) -> dict[str, str]:
+    return {f"{number}": f"{registers.x[number]:x}" for number in sorted(numbers)}
+
+
+def _vectors(registers: Registers, numbers: Iterable[int]) -> dict[str, str]:
+    return {f"{number}": _vector(registers, number) for number in sorted(numbers) if number < 32}
+
+
+def _vector(registers: Registers, number: int) -> str:
+    return registers.v[number * REGISTER_BYTES : (number + 1) * REGISTER_BYTES].hex()
+
+
+def _joined(spans: Sequence[Span]) -> list[Span]:
+    """Spans without those that touch each other, which are one."""
+    joined = list[Span]()
+    for address, length in sorted(spans):
+        if joined and address <= sum(joined[-1]):
+            first, before = joined[-1]
+            joined[-1] = first, max(before, address + length - first)
+        else:
+            joined.append((address, length))
+    return joined
