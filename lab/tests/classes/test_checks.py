@@ -345,7 +345,9 @@ async def test_answer_in_c_is_checked(tmp_path: pathlib.Path, sandboxed_clang: C
         assert status == 200 and b"b / *(volatile long *)b" in page and b"The answer fails: line 4: " in page
         assert b'"variables":[{"name":"a","declaration":"long a",' in page
         answer = await check(tab, "square", RIGHT_IN_C.replace("return", "long c; return"), C)
-        assert answer["warnings"] == [{"line": 3, "column": 10, "message": "unused variable 'c' [-Wunused-variable]"}]
+        (warning,) = answer["warnings"]
+        assert (warning["line"], warning["column"], warning["length"], warning["severity"]) == (3, 10, 1, "warning")
+        assert (warning["message"], warning["code"]) == ("unused variable 'c' [-Wunused-variable]", "-Wunused-variable")
         assert await check(tab, "square", RIGHT_IN_C, C) == {"cases": cases(True, True)}
         for number, (text, language) in [(2, (wrong, PLAIN_C)), (4, (RIGHT_IN_C, C))]:
             reply = await teacher.ask("answer", seat="A1", exercise="square", number=number)

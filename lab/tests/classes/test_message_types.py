@@ -15,7 +15,7 @@ from vecmon_lab.classes.request_forms import StudentRequestForm, TeacherRequestF
 
 Row = TypedDict("Row", {"numbers": Sequence[int], "names": Mapping[str, float]})
 ANSWER: dict[str, Any] = {"kind": "answer", "id": 1, "text": "nop", "language": 0}
-MISTAKE: dict[str, Any] = {"line": 3, "column": 5, "message": "no such instruction"}
+MISTAKE: dict[str, Any] = {"line": 3, "column": 5, "length": 3, "severity": "error", "message": "no such instruction"}
 
 
 def test_generated_files_are_current() -> None:

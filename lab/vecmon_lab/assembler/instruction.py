@@ -1,14 +1,14 @@
 """An instruction of a source as the machine takes it, and the places in the source that its text comes from."""
 
 import re
-from collections.abc import Iterator
+from collections.abc import Iterator, Sequence
 from dataclasses import dataclass
 from string import Formatter
 
 from ..instructions.table import REGISTERS, instruction_table
 from ..tables.table import read_table
 from .line import Operand, SourceError, Token
-from .names import INSTRUCTION_NAMES, PSEUDO_NAMES, no_instruction
+from .names import INSTRUCTION_NAMES, PSEUDO_NAMES, near_names, no_instruction
 from .value import Symbols, Value
 
 _TEXT_BYTES, _VECTOR_TYPE = 256, "eSEW, mLMUL, ta|tu, ma|mu"
@@ -39,6 +39,7 @@ def refusal(statement: Statement, column: int) -> SourceError:
     """The error in the source for the machine's answer E15 to a statement, with the column that it names."""
     token = re.match(r"[a-z0-9._]+|.", statement.text[column - 1 :])
     row = instruction_table().get(statement.text.split()[0])
+    fix: Sequence[str] = ()
     form = f"; the form is {row.name} {row.operands}".replace("vtypei", _VECTOR_TYPE).rstrip() if row else ""
     if token is None:
         message = f"an operand is missing at the end{form}"
@@ -47,10 +48,10 @@ def refusal(statement: Statement, column: int) -> SourceError:
     elif column == 1 and token[0] in PSEUDO_NAMES:
         message = f"{token[0]} is a pseudo-instruction, which only a source has"
     elif column == 1:
-        message = no_instruction(token[0], INSTRUCTION_NAMES)
+        message, fix = no_instruction(token[0], INSTRUCTION_NAMES), near_names(token[0], INSTRUCTION_NAMES)
     else:
         message = f"{token[0]} doesn't fit here, as the machine reads it: {statement.text}{form}"
-    return SourceError(statement.line, statement.columns[column - 1], message)
+    return SourceError(statement.line, statement.columns[column - 1], message, "E15", fix)
 
 
 @dataclass(frozen=True)

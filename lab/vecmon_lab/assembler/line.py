@@ -2,6 +2,7 @@
 
 import enum
 import re
+from collections.abc import Sequence
 from dataclasses import dataclass
 
 from .. import LabError
@@ -20,11 +21,14 @@ Kind = enum.Enum("Kind", "NAME NUMBER STRING MARK")
 
 
 class SourceError(LabError):
-    """A mistake in a source, with its line and column."""
+    """A mistake in a source, with its line and column.
 
-    def __init__(self, line: int, column: int, message: str) -> None:
+    code: the machine's refusal, or ""; fix: texts that may replace the token there, the nearest one first
+    """
+
+    def __init__(self, line: int, column: int, message: str, code: str = "", fix: Sequence[str] = ()) -> None:
         super().__init__(line, column, message)
-        self.line, self.column, self.message = line, column, message
+        self.line, self.column, self.message, self.code, self.fix = line, column, message, code, fix
 
     def __str__(self) -> str:
         return f"line {self.line}, column {self.column}: {self.message}"
@@ -43,9 +47,9 @@ class Token:
     line: int
     column: int
 
-    def error(self, message: str) -> SourceError:
-        """An error that points at this token."""
-        return SourceError(self.line, self.column, message)
+    def error(self, message: str, fix: Sequence[str] = ()) -> SourceError:
+        """An error that points at this token. fix: texts that may replace it"""
+        return SourceError(self.line, self.column, message, fix=fix)
 
     def number(self) -> int:
         """The value of a number: decimal without a leading zero, or hexadecimal after 0x; below 2^64."""
@@ -89,6 +93,16 @@ def tokens_of(text: str, line: int) -> list[Token]:
         if kind in Kind.__members__:
             tokens.append(Token(Kind[kind], match[0], line, column))
     return tokens
+
+
+def token_length(text: str, column: int) -> int:
+    """Return the length of the token at a column of a line, or of an escape in a string; 0 behind the last token."""
+    token = _TOKEN.match(text, column - 1) if column else None
+    if token is None or token.lastgroup in ("SPACE", "COMMENT"):
+        return 0
+    if token.lastgroup == "OPEN":
+        return len(text.rstrip()) - column + 1
+    return min(2, len(text) - column + 1) if token[0] == "\\" else len(token[0])
 
 
 def split_operands(tokens: list[Token]) -> list[Operand]:

@@ -14,12 +14,18 @@ MAX_NEAR = 3
 
 
 @functools.lru_cache(maxsize=1024)
-def no_instruction(name: str, names: Set[str] = SOURCE_NAMES) -> str:
-    """What is said of a name that isn't one of these: it has the nearest ones with the same first letter."""
+def near_names(name: str, names: Set[str] = SOURCE_NAMES) -> list[str]:
+    """Return the nearest of these names with the same first letter, MAX_NEAR at most."""
     own, small = sorted(each for each in names if each[0] == name[0].lower()), name.lower()
     near = get_close_matches(small, own, MAX_NEAR)
     if len(name) <= 3 and not near:  # as jmp, which has one letter of jal
         near = get_close_matches(small, own, MAX_NEAR, 1 / 3)
+    return near
+
+
+def no_instruction(name: str, names: Set[str] = SOURCE_NAMES) -> str:
+    """What is said of a name that isn't one of these: it has the nearest ones."""
+    near = near_names(name, names)
     *others, last = near or [""]
     hint = f"; near it {'are' if others else 'is'} {' and '.join(filter(None, [', '.join(others), last]))}"
     return f"there is no instruction {name}{hint if near else ''}"

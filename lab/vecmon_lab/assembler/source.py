@@ -7,12 +7,13 @@ and execute the text, and read and write data and bss; asm and poke ask only tha
 import contextlib
 from collections.abc import Callable, Iterable, Iterator
 from dataclasses import dataclass
+from difflib import get_close_matches
 from functools import partial
 
 from ..instructions.accesses import PAGE_BYTES
 from .instruction import Instruction, Statement, refusal
 from .line import Kind, Operand, SourceError, Token, check_count, split_operands, tokens_of
-from .names import SOURCE_NAMES, no_instruction
+from .names import MAX_NEAR, SOURCE_NAMES, near_names, no_instruction
 from .pseudo import templates
 from .value import Section, Symbols, Value
 
@@ -140,9 +141,10 @@ class _Assembler:
         if name.kind is not Kind.NAME:
             raise name.error(f"{name.text} isn't an instruction, a directive or a label")
         if name.text.startswith(".") and name.text not in self.directives:
-            raise name.error(f"there is no directive {name.text}")
+            near = get_close_matches(name.text.lower(), self.directives, MAX_NEAR)
+            raise name.error(f"there is no directive {name.text}", near)
         if not name.text.startswith(".") and name.text not in SOURCE_NAMES:
-            raise name.error(no_instruction(name.text))
+            raise name.error(no_instruction(name.text), near_names(name.text))
         operands = split_operands(tokens[1:])
         if name.text in (*_WIDTHS, *_STRINGS) and not operands:
             raise name.error(f"{name.text} takes one operand or more")

@@ -15,6 +15,12 @@ def read_whole_source(text: str, vecmon: Vecmon) -> Program:
     return replace(program, mistakes=all_mistakes(program, vecmon)) if program.mistakes else program
 
 
+def read_tried_source(text: str, vecmon: Vecmon) -> Program:
+    """The program of a source, with all its mistakes, also those that only the machine refuses."""
+    program = read_source(text)
+    return replace(program, mistakes=all_mistakes(program, vecmon))
+
+
 def all_mistakes(source: Program, vecmon: Vecmon) -> list[SourceError]:
     """The mistakes of form of a source, and what a new machine refuses of all other instructions, in order."""
     lines = [f"1 asm 0 {statement.text}" for statement in source.statements]

@@ -3,6 +3,7 @@
 from collections import Counter
 from collections.abc import Callable, Iterator
 from dataclasses import dataclass, field
+from difflib import get_close_matches
 
 from ..instructions.accesses import LINE_BYTES, PAGE_BYTES
 from .line import Kind, Operand, Token
@@ -106,5 +107,6 @@ class Symbols:
         if token.text in self._values:
             return self._values[token.text]
         if token.kind is Kind.NAME:
-            raise token.error(f"{token.text} is no register that fits here, and no label or constant known here")
+            message = f"{token.text} is no register that fits here, and no label or constant known here"
+            raise token.error(message, get_close_matches(token.text, self._values))
         raise token.error(f"{token.text} doesn't fit here")

@@ -5,7 +5,7 @@ from collections.abc import Mapping, Sequence
 from typing import Literal, NotRequired, TypedDict, TypeVar, cast
 
 from ..assembler.commands import refusal_on_pages
-from ..exercises.check import Mistake
+from ..assembler.mistakes import Mistake
 from ..page.pages import merge_patch
 from ..page.state import State
 from .requests import BadRequest, JsonObject
@@ -148,7 +148,7 @@ class LinesAnswer(AnswerHead, LinesResult):
 
 
 class SourceAnswer(AnswerHead, SourceResult):
-    """The answer to `source`, `again` and `case`."""
+    """The answer to `source`, `again`, `case` and `problems`."""
 
 
 class TextAnswer(AnswerHead, TextResult):

@@ -49,6 +49,12 @@ class AgainRequest(NumberedRequest):
     ask: Literal["again"]
 
 
+class ProblemsRequest(NumberedRequest, SourceFields):
+    """A source whose problems are found; the machine stays as it is."""
+
+    ask: Literal["problems"]
+
+
 class StepLineRequest(NumberedRequest):
     """A step to another source line."""
 
@@ -214,6 +220,7 @@ StudentRequestForm = (
     LinesRequest
     | SourceRequest
     | AgainRequest
+    | ProblemsRequest
     | StepLineRequest
     | WhyRequest
     | ListingsRequest

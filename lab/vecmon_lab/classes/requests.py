@@ -53,6 +53,13 @@ class Source:
 
 
 @dataclass(frozen=True)
+class FindProblems:
+    """A source whose problems are found; the machine stays as it is."""
+
+    source: SourceText
+
+
+@dataclass(frozen=True)
 class StepLine:
     """Steps until another line of a compiled source begins."""
 
@@ -199,7 +206,7 @@ class Reset(_OfSeat):
     """That a seat's machine is taken away."""
 
 
-SeatsRequest = Source | StepLine | Why | Draft | OpenExercise | ReadVersion | Check | TryCase
+SeatsRequest = Source | FindProblems | StepLine | Why | Draft | OpenExercise | ReadVersion | Check | TryCase
 StudentRequest = Lines | SeatsRequest | SetName | CloseNotice | Compare
 TeacherRequest = (
     Give | TakeBack | Write | Reset | SetClock | SetRights | Renew | LookOver | PutOnWall | ShowCodes | ReadAnswer
@@ -221,6 +228,7 @@ _OF_STUDENTS: Mapping[str, Reader] = {
     "lines": lambda it: _lines(it, is_teacher=False),
     "source": lambda it: Source(_source(it), _number(it) if "number" in it else -1),
     "again": lambda it: Source(None),
+    "problems": lambda it: FindProblems(_source(it)),
     "step-line": lambda it: StepLine(),
     "why": lambda it: Why(_name(it, "name")),
     "draft": lambda it: Draft(_source(it), _number(it), _name(it, "exercise"), bool(it.get("keep"))),

@@ -9,7 +9,7 @@ from dataclasses import asdict, replace
 
 from .. import LabError
 from ..assembler.source import Program
-from ..assembler.trial import read_whole_source
+from ..assembler.trial import read_tried_source, read_whole_source
 from ..machine.lines import DIGITS, is_look
 from ..machine.session import Session
 from .worker_pool import WorkerPool
@@ -161,8 +161,11 @@ class Room:
         source, loop = step.source, asyncio.get_running_loop()
         if source.choice is not None:
             return await self.compile(seat.name, source.text, source.choice, is_answer=step.is_answer)
-        vecmon = pathlib.Path(self.session.command[0])
-        return await loop.run_in_executor(self._assembler, read_whole_source, source.text, vecmon)
+        vecmon, read_program = (
+            pathlib.Path(self.session.command[0]),
+            read_tried_source if step.is_tried else read_whole_source,
+        )
+        return await loop.run_in_executor(self._assembler, read_program, source.text, vecmon)
 
     async def _stop_unattended(self, seat: Seat) -> None:
         """Shows a program that runs, if somebody looks at it. One that runs in vain is stopped, with a sentence."""

@@ -69,10 +69,12 @@ class MakeProgram:
     """A step that makes the program of a source, which may take seconds and needs no machine; it is sent to the steps.
 
     is_answer: whether the source answers an exercise
+    is_tried: whether its mistakes include those that only the machine finds
     """
 
     source: SourceText
-    is_answer: bool
+    is_answer: bool = False
+    is_tried: bool = False
 
 
 @dataclass(frozen=True)

@@ -4,14 +4,28 @@ from collections.abc import Callable
 from typing import TypedDict, cast
 
 from .. import LabError
-from ..exercises.check import mistakes_json
+from ..assembler.mistakes import mistakes_json
+from ..assembler.source import Program
+from ..compilers.compiled import CompiledProgram
 from ..page.state import State
 from .languages import LANGUAGES, SourceText
 from .messages import Notice, Result, SourceResult, SourceView, TextResult, shown, source_view
 from .progress import Exercises, ExerciseView
-from .requests import Check, Draft, Lines, OpenExercise, ReadVersion, SeatsRequest, Source, StepLine, TryCase, Why
+from .requests import (
+    Check,
+    Draft,
+    FindProblems,
+    Lines,
+    OpenExercise,
+    ReadVersion,
+    SeatsRequest,
+    Source,
+    StepLine,
+    TryCase,
+    Why,
+)
 from .seats import Seat
-from .shared_machine import SEAT_BYTES, SharedMachine, Steps
+from .shared_machine import SEAT_BYTES, MakeProgram, Mistakes, SharedMachine, Steps
 from .sources import SeatSource, kept_program
 from .text_store import TextStore
 
@@ -106,6 +120,10 @@ class Student:
         match request:
             case Source(source, number):
                 return (yield from self._write(source, number))
+            case FindProblems(source):
+                program = yield MakeProgram(source, is_tried=True)
+                assert program is not None
+                return problems_of(program, source)
             case StepLine():
                 yield from self.machine.step_line(self.seat)
             case Why(name):
@@ -137,7 +155,7 @@ class Student:
         mistakes, warnings = yield from self.machine.write(self.seat, source, is_answer)
         if mistakes:
             self.seat.set_condition(f"{len(mistakes)} mistake{'s' * (len(mistakes) > 1)} in the source", True)
-        return {"mistakes": mistakes_json(mistakes), "warnings": mistakes_json(warnings)}
+        return problems_json(source or self.seat.written, mistakes, warnings)
 
     def view(self, others: ClassView) -> StudentView:
         """The student's view, with the fields that aren't the seat's own."""
@@ -153,6 +171,21 @@ class Student:
             "again": self.seat.program is not None,
         }
         return cast(StudentView, {**own, **others})
+
+
+def problems_of(program: Program, source: SourceText) -> SourceResult:
+    """The mistakes and warnings of a program with this source, as a message has them."""
+    warnings = program.warnings if isinstance(program, CompiledProgram) else ()
+    return problems_json(source, program.mistakes, warnings)
+
+
+def problems_json(source: SourceText, mistakes: Mistakes, warnings: Mistakes) -> SourceResult:
+    """Mistakes and warnings of a source, as a message has them."""
+    text, is_c = source.text, source.suffix.endswith(".c")
+    return {
+        "mistakes": mistakes_json(mistakes, text, is_c),
+        "warnings": mistakes_json(warnings, text, is_c, "warning"),
+    }
 
 
 def text_of(source: SourceText) -> TextResult:

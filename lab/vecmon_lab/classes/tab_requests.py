@@ -7,8 +7,19 @@ from .. import LabError
 from .codes import TEACHER, WALL
 from .messages import Answer, Changes, Hello, Result, answer_to, explain_refusals, request_of, with_changes
 from .names import checked_name
-from .requests import BadRequest, Check, CloseNotice, Compare, Draft, JsonObject, Lines, OpenExercise, ReadAnswer
-from .requests import ReadVersion, Request, SetName, Source, StepLine, TryCase, Why, read_request
+from .requests import BadRequest, Check, CloseNotice, Compare, Draft, FindProblems, JsonObject, Lines, OpenExercise
+from .requests import (
+    ReadAnswer,
+    ReadVersion,
+    Request,
+    SeatsRequest,
+    SetName,
+    Source,
+    StepLine,
+    TryCase,
+    Why,
+    read_request,
+)
 from .seats import Seat
 from .shared_machine import Answers
 from .student import text_of
@@ -91,11 +102,17 @@ class TabRequests:
                 return text_of(
                     members.checks.answer(members.seat(seat_name if is_teacher else tab.who).name, name, number)
                 )
-            case Source() | StepLine() | Why() | Draft() | OpenExercise() | ReadVersion() | Check() | TryCase():
-                seen = tab.shoulder.name if tab.shoulder else ""  # whose versions a teacher reads
-                student = members.student(seen if is_teacher else tab.who)
-                result = await members.rooms[student.seat.name[0]].run(student.seat, student.execute(request))
-                return result
+            case Source() | FindProblems() | StepLine() | Why() | Draft() | OpenExercise() | ReadVersion():
+                return await self._execute_for_seat(tab, request)
+            case Check() | TryCase():
+                return await self._execute_for_seat(tab, request)
             case _:
                 return await execute_teachers(members, tab, request)
         return {}
+
+    async def _execute_for_seat(self, tab: Tab, request: SeatsRequest) -> Result:
+        """Execute a request of a student, or a teacher's request for a version of the observed seat."""
+        observed = tab.shoulder.name if tab.shoulder else ""
+        student = self._members.student(observed if tab.who == TEACHER else tab.who)
+        result = await self._members.rooms[student.seat.name[0]].run(student.seat, student.execute(request))
+        return result

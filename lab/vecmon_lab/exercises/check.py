@@ -11,12 +11,13 @@ import os
 import pathlib
 import pickle
 import sys
-from collections.abc import Iterable, Sequence
+from collections.abc import Sequence
 from dataclasses import replace
 from typing import NotRequired, TypedDict
 
 from .. import LabError
 from ..instructions.table import ABI_NAMES
+from ..assembler.mistakes import Mistake, mistakes_json
 from ..assembler.source import SourceError, read_source
 from ..assembler.trial import all_mistakes
 from ..compilers.compiled import CompiledProgram
@@ -35,8 +36,6 @@ UNCHECKED = "The answer couldn't be checked, which isn't your fault. Nothing was
 NumberRow = TypedDict("NumberRow", {"where": str, "first": int, "numbers": list[str], "more": int, "wrong": list[int]})
 """Numbers in a row: the place, the index of the first one shown, the number of those that follow
 behind those that are shown, and places of wrong ones."""
-Mistake = TypedDict("Mistake", {"line": int, "column": int, "message": str})
-"""A mistake of the source's form."""
 
 
 class CaseResult(TypedDict):
@@ -106,11 +105,11 @@ def check(
     except LabError as error:
         of_form = compiled.mistakes if compiled else all_mistakes(read_source(text), program)
         mistakes = of_form or [SourceError(1, 1, f"{error}")]
-        return {"mistakes": mistakes_json(mistakes)}
+        return {"mistakes": mistakes_json(mistakes, text, is_c=compiled is not None)}
     pairs = zip(exercise.cases, outcomes)
     reply: CheckResult = {"cases": [{"name": case.name, "passed": not reason} for case, (reason, _) in pairs]}
     if compiled and compiled.warnings:
-        reply["warnings"] = mistakes_json(compiled.warnings)
+        reply["warnings"] = mistakes_json(compiled.warnings, text, is_c=True, severity="warning")
     for number, (case, (reason, done)) in enumerate(zip(exercise.cases, outcomes)):
         if reason and not case.is_hidden:
             expected, found = _compared(case.expected, done.found if done else case.expected)
@@ -130,11 +129,6 @@ def passes_all(result: CheckResult) -> bool:
     """Whether an answer was tried, and passes all cases."""
     cases = result.get("cases", [])
     return bool(cases) and all(case["passed"] for case in cases)
-
-
-def mistakes_json(errors: Iterable[SourceError]) -> list[Mistake]:
-    """Mistakes of a source, or warnings, as messages."""
-    return [{"line": it.line, "column": it.column, "message": it.message} for it in errors]
 
 
 def lesson(program: Vecmon, exercise: Exercise, number: int, text: str, compiled: CompiledProgram | None) -> str:

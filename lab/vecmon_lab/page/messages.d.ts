@@ -302,10 +302,22 @@ export interface MachineView {
   trouble: string;
 }
 
+/**
+ * A mistake or a warning at a place in a source.
+ *
+ * line, column: from 1 on; line 0 if it is at no line, as a linker's message
+ * length: of the word there in characters; 0 at the end of a line, or at no line
+ * code: a warning's option, as `-Wunused-variable`, or the machine's refusal, as `E15`
+ * fix: texts that may replace the word, the nearest one first
+ */
 export interface Mistake {
   line: number;
   column: number;
+  length: number;
+  severity: "error" | "warning";
   message: string;
+  code?: string;
+  fix?: string[];
 }
 
 /** A student's name, "" for none. seat: at which seat; the student's own without it */
@@ -353,6 +365,14 @@ export interface PageHello {
   who: string;
   time: number;
   lost: string[];
+}
+
+/** A source whose problems are found; the machine stays as it is. */
+export interface ProblemsRequest {
+  id: number;
+  text: string;
+  language?: number;
+  ask: "problems";
 }
 
 /**
@@ -510,7 +530,7 @@ export interface ShownVariable {
   locations: ShownLocation[];
 }
 
-/** The answer to `source`, `again` and `case`. */
+/** The answer to `source`, `again`, `case` and `problems`. */
 export interface SourceAnswer {
   patch?: { [name: string]: unknown };
   logs?: { [name: string]: string[] };
@@ -725,6 +745,7 @@ export type StudentRequestForm =
   | LinesRequest
   | SourceRequest
   | AgainRequest
+  | ProblemsRequest
   | StepLineRequest
   | WhyRequest
   | ListingsRequest

@@ -8,13 +8,13 @@ from collections.abc import Callable, Mapping
 
 from .. import LabError
 from ..assembler.source import Program
-from ..assembler.trial import read_whole_source
+from ..assembler.trial import read_tried_source, read_whole_source
 from ..classes.languages import SourceText
 from ..classes.messages import Answer, Changes, Hello, News, Result, Updates
 from ..classes.messages import answer_to, explain_refusals, request_of, with_changes
 from ..classes.progress import Exercises, Start, Try
-from ..classes.requests import BadRequest, Check, Draft, JsonObject, Lines, OpenExercise, ReadAnswer, ReadVersion
-from ..classes.requests import Request, Settings, Source, StepLine, TryCase, Why, read_request
+from ..classes.requests import BadRequest, Check, Draft, FindProblems, JsonObject, Lines, OpenExercise, ReadAnswer
+from ..classes.requests import ReadVersion, Request, Settings, Source, StepLine, TryCase, Why, read_request
 from ..classes.shared_machine import Answers, MakeProgram, Returned, SharedMachine, Steps, Turn
 from ..classes.student import ClassView, Student, text_of
 from ..classes.text_store import TextStore
@@ -141,7 +141,7 @@ class Desk:
                     finally:
                         self.machine.report(step)
                 elif isinstance(step, MakeProgram):
-                    made = self._make(step.source)
+                    made = self._make(step)
         except StopIteration as end:
             returned: Returned = end.value
             return returned
@@ -176,7 +176,9 @@ class Desk:
             case ReadAnswer(_, name, number):
                 self.exercises.exercise(name)
                 return text_of(self.try_of(name, number))
-            case Source() | StepLine() | Why() | Draft() | OpenExercise() | ReadVersion() | Check() | TryCase():
+            case Source() | FindProblems() | StepLine() | Why() | Draft() | OpenExercise() | ReadVersion():
+                return self.run(self.student.execute(request))
+            case Check() | TryCase():
                 return self.run(self.student.execute(request))
         return self.execute(request, done)
 
@@ -193,11 +195,11 @@ class Desk:
             self._looked = start
             self.run(self.machine.show(self.seat, why, self.stopper))
 
-    def _make(self, source: SourceText) -> Program:
+    def _make(self, step: MakeProgram) -> Program:
         """The program of a source. Raises BadRequest for one in C."""
-        if source.choice is not None:
+        if step.source.choice is not None:
             raise BadRequest(f"{self.refusal_of_c}: {self.no_c}")
-        return read_whole_source(source.text, self.program)
+        return (read_tried_source if step.is_tried else read_whole_source)(step.source.text, self.program)
 
     def _begin_check(self, seat: str, name: str, source: SourceText) -> None:
         """Queue the check of an answer for one of the next turns. Raises BadRequest."""
