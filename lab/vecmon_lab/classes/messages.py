@@ -148,7 +148,7 @@ class LinesAnswer(AnswerHead, LinesResult):
 
 
 class SourceAnswer(AnswerHead, SourceResult):
-    """The answer to `source`, `again`, `case` and `problems`."""
+    """The answer to `source`, `again`, `case`, `problems`, `run` and `step`."""
 
 
 class TextAnswer(AnswerHead, TextResult):

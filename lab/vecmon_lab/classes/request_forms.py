@@ -55,6 +55,31 @@ class ProblemsRequest(NumberedRequest, SourceFields):
     ask: Literal["problems"]
 
 
+class RunRequest(NumberedRequest):
+    """A program to run; it is built first where there is a source that isn't in the machine. number: as in SourceRequest"""
+
+    ask: Literal["run"]
+    text: NotRequired[str]
+    language: NotRequired[int]
+    number: NotRequired[int]
+
+
+class StepRequest(NumberedRequest):
+    """A program to step, built first as in RunRequest.
+
+    kind: into calls (by default), over them, or out of a function; by: by default an instruction
+    count: of instructions or lines, 1 to 256, by default 1
+    """
+
+    ask: Literal["step"]
+    text: NotRequired[str]
+    language: NotRequired[int]
+    number: NotRequired[int]
+    kind: NotRequired[Literal["into", "over", "out"]]
+    by: NotRequired[Literal["instruction", "line"]]
+    count: NotRequired[int]
+
+
 class StepLineRequest(NumberedRequest):
     """A step to another source line."""
 
@@ -221,6 +246,8 @@ StudentRequestForm = (
     | SourceRequest
     | AgainRequest
     | ProblemsRequest
+    | RunRequest
+    | StepRequest
     | StepLineRequest
     | WhyRequest
     | ListingsRequest

@@ -1,7 +1,8 @@
 """Requests of a tab (docs/CLASS_PROTOCOL.md): each is checked here, once."""
 
-from collections.abc import Callable, Mapping
+from collections.abc import Callable, Mapping, Sequence
 from dataclasses import dataclass
+from typing import Literal
 
 from .. import LabError
 from ..machine.lines import check_text, is_look
@@ -9,7 +10,9 @@ from .languages import LANGUAGES, SourceText
 from .live import is_servers
 
 REQUEST_LINES, SOURCE_LETTERS, SENTENCE_LETTERS = 256, 1 << 16, 400
-MAX_SLICES = 100
+MAX_SLICES, MAX_STEPS = 100, 256
+StepKind = Literal["into", "over", "out"]
+STEP_KINDS: Sequence[StepKind] = ("into", "over", "out")
 
 
 class BadRequest(LabError):
@@ -57,6 +60,31 @@ class FindProblems:
     """A source whose problems are found; the machine stays as it is."""
 
     source: SourceText
+
+
+@dataclass(frozen=True)
+class RunProgram:
+    """The program of a source runs; it is built first, unless it is in the machine. Without a source, the program there.
+
+    number: as in Source
+    """
+
+    source: SourceText | None
+    number: int
+
+
+@dataclass(frozen=True)
+class StepProgram:
+    """As RunProgram, but the program is stepped `count` times.
+
+    kind: `into` calls, `over` them, or `out` of a function; by_lines: whether to step source lines or instructions
+    """
+
+    source: SourceText | None
+    number: int
+    kind: StepKind
+    by_lines: bool
+    count: int
 
 
 @dataclass(frozen=True)
@@ -206,7 +234,19 @@ class Reset(_OfSeat):
     """That a seat's machine is taken away."""
 
 
-SeatsRequest = Source | FindProblems | StepLine | Why | Draft | OpenExercise | ReadVersion | Check | TryCase
+SeatsRequest = (
+    Source
+    | FindProblems
+    | RunProgram
+    | StepProgram
+    | StepLine
+    | Why
+    | Draft
+    | OpenExercise
+    | ReadVersion
+    | Check
+    | TryCase
+)
 StudentRequest = Lines | SeatsRequest | SetName | CloseNotice | Compare
 TeacherRequest = (
     Give | TakeBack | Write | Reset | SetClock | SetRights | Renew | LookOver | PutOnWall | ShowCodes | ReadAnswer
@@ -229,6 +269,8 @@ _OF_STUDENTS: Mapping[str, Reader] = {
     "source": lambda it: Source(_source(it), _number(it) if "number" in it else -1),
     "again": lambda it: Source(None),
     "problems": lambda it: FindProblems(_source(it)),
+    "run": lambda it: RunProgram(*_source_to_build(it)),
+    "step": lambda it: _step(it),
     "step-line": lambda it: StepLine(),
     "why": lambda it: Why(_name(it, "name")),
     "draft": lambda it: Draft(_source(it), _number(it), _name(it, "exercise"), bool(it.get("keep"))),
@@ -301,6 +343,24 @@ def _source(message: JsonObject) -> SourceText:
     if not isinstance(text, str) or len(text) > SOURCE_LETTERS:
         raise BadRequest(f"a source is a text of {SOURCE_LETTERS} characters at most")
     return SourceText(text.encode("utf-8", "replace").decode(), int(language))
+
+
+def _source_to_build(message: JsonObject) -> tuple[SourceText | None, int]:
+    """The source of a message, if it has one, and its number, -1 by default."""
+    return _source(message) if "text" in message else None, _number(message) if "number" in message else -1
+
+
+def _step(message: JsonObject) -> StepProgram:
+    """The step of a message."""
+    kind, by, count = message.get("kind", "into"), message.get("by", "instruction"), message.get("count", 1)
+    if kind not in STEP_KINDS:
+        raise BadRequest(f"the kind of a step is {', '.join(STEP_KINDS[:-1])} or {STEP_KINDS[-1]}")
+    if by not in ("instruction", "line"):
+        raise BadRequest("a step is by instruction or by line")
+    if type(count) is not int or not 1 <= count <= MAX_STEPS:
+        raise BadRequest(f"a request steps 1 to {MAX_STEPS} times")
+    found = next(each for each in STEP_KINDS if each == kind)
+    return StepProgram(*_source_to_build(message), found, by == "line", count)
 
 
 def _given(message: JsonObject) -> SourceText:

@@ -118,10 +118,15 @@ class Room:
         if self.scripts.is_behind() and (slices or is_operators):
             raise BadRequest("programs have run much since the last checkpoint: slices wait for the next, some seconds")
         looks = await self.run(seat, self.machine.lines(seat, request, done))
-        if not (self.clock.settings.on or slices or seat.state["run"] != "running") and "go" in request.do:
+        if not slices and "go" in request.do:
+            self.explain_waiting(seat)
+        return looks
+
+    def explain_waiting(self, seat: Seat) -> None:
+        """Explain in a seat's log why its program waits, if it runs and the clock is off."""
+        if not self.clock.settings.on and seat.state["run"] == "running":
             own_way = ", or Slice grants some slices" if self.own_slices else ""
             self.add_log_entry(seat, f"!The clock is off, so the program waits: the teacher can turn it on{own_way}.")
-        return looks
 
     async def source(self, seat: Seat, source: SourceText | None) -> tuple[Mistakes, Mistakes]:
         """Starts a seat's machine anew with a source; its mistakes, and a compiler's warnings. Raises as `run` does."""

@@ -14,7 +14,7 @@ from ..assembler.source import Program, SourceError, in_order, refusal
 from ..compilers.compiled import CompiledProgram
 from ..guest.changes import Retired
 from ..guest.guest import Guest
-from ..machine.answers import Granted, Listing, Position, Refused, Stop, read
+from ..machine.answers import Granted, Position, Refused, Stop, read
 from ..machine.lines import is_look
 from ..machine.session import TOGETHER, ScriptFull, Session
 from ..meanings.stepped import explanation_of
@@ -22,13 +22,12 @@ from ..meanings.why import NO_STEP, read_name
 from ..page.state import State, registers_of
 from .languages import SourceText
 from .live import server_line, with_output
+from .moved_breakpoints import moved_breakpoints
 from .requests import BadRequest, Lines
 from .seats import Done, Seat, Seats
 
 SEAT_BYTES = 1_500_000  # of a seat's lines in the script: eight leave 3,000,000 to the operator and the clock
 SOURCE_LINES = 4096
-LINE_BLOCKS, BLOCK_WORDS = 256, 16  # of code, that a step of a line goes through; and a block's instructions at most
-LEAVES = "bje"  # first letters of scalar instructions that may branch, jump or call: bne, jal, ecall
 LEAVING: Mapping[str, Sequence[str]] = {"absent": [], "running": ["stop", "leave"], "stopped": ["leave"]}
 
 Answers = list[list[str]]
@@ -99,17 +98,20 @@ class SharedMachine:
         Raises BadRequest where the seat's share of the script has no room; then nothing is done.
         """
         yield TakeSeat()
-        self._check_share(seat, own_lines(seat, request.do) + [f"* run {seat.digit}"] * request.slices)
+        self.check_share(seat, own_lines(seat, request.do) + [f"* run {seat.digit}"] * request.slices)
         turn = Turn(partial(self._lines, seat, request, done), seat)
         yield turn
         return [[part[2:] for part in answer] for answer in turn.looks]
 
-    def write(self, seat: Seat, source: SourceText | None, is_answer: bool = False) -> Steps[tuple[Mistakes, Mistakes]]:
+    def write(
+        self, seat: Seat, source: SourceText | None, is_answer: bool = False, keeps_breakpoints: bool = False
+    ) -> Steps[tuple[Mistakes, Mistakes]]:
         """Starts a seat's machine anew with a source; its mistakes, and a compiler's warnings.
 
         Without one, with the source that is in the machine, whose breakpoints stay. Raises BadRequest.
+        keeps_breakpoints: whether breakpoints stay at their lines, and the machine stays where the source has any mistake
         """
-        program = (yield MakeProgram(source, is_answer)) if source else None
+        program = (yield MakeProgram(source, is_answer, is_tried=keeps_breakpoints)) if source else None
         yield TakeSeat()
         breaks: Sequence[int] = []
         if source is None:
@@ -119,6 +121,8 @@ class SharedMachine:
         warnings = program.warnings if isinstance(program, CompiledProgram) else []
         if program.mistakes:
             return program.mistakes, warnings
+        if keeps_breakpoints and seat.program:
+            breaks = moved_breakpoints(seat.watch_set.breaks, seat.program, seat.written.text, program, source.text)
         if (number := len(program.lines)) > SOURCE_LINES:
             raise BadRequest(f"a source becomes {SOURCE_LINES} lines at most, and this one {number}")
         mistakes = yield from self.load_program(seat, program, breaks)
@@ -132,7 +136,7 @@ class SharedMachine:
         """
         start = [*LEAVING[seat.state["run"]], "enter", *program.lines, f"setpc {program.entry:x}"]
         lines = own_lines(seat, [*start, *(f"break {address:x}" for address in breaks)])
-        self._check_share(seat, lines)
+        self.check_share(seat, lines)
         statements = {f"{seat.digit} {each.command}": each for each in program.statements}
         mistakes, done = list[SourceError](), list[Done]()
 
@@ -153,17 +157,6 @@ class SharedMachine:
             yield turn
             done = [*done, *turn.done]
         return in_order(mistakes)
-
-    def step_line(self, seat: Seat) -> Steps[None]:
-        """Steps a program to another line of its compiled source, to a stop, or through LINE_BLOCKS blocks of code.
-
-        Raises BadRequest where there is no line to step, or no room in the seat's share of the script.
-        """
-        yield TakeSeat()
-        if not isinstance(seat.program, CompiledProgram) or seat.state["run"] != "stopped":
-            raise BadRequest("only a stopped program of a compiled source can step a line")
-        self._check_share(seat, [f"{seat.digit} step {LINE_BLOCKS}"] * LINE_BLOCKS)
-        yield Turn(partial(self._step_line, seat, seat.program), seat)
 
     def why(self, seat: Seat, name: str) -> Steps[str]:
         """Why a register or an element has its value after a seat's last single step. Raises BadRequest."""
@@ -258,34 +251,7 @@ class SharedMachine:
                     break
         turn.looks += [self.session.look(line) for line in own_lines(seat, request.look)]
 
-    def _step_line(self, seat: Seat, program: CompiledProgram, turn: Turn) -> None:
-        """Steps to another line of a source, block by block."""
-        pc = int(seat.state["pc"], 16)
-        started = program.line_at(pc)
-        for _ in range(LINE_BLOCKS):
-            answer = read(*self.do(turn, f"{seat.digit} step {self._block(seat, program, pc)}"))
-            if not isinstance(answer, Position):
-                return
-            pc = answer.pc
-            if program.line_at(pc) not in (0, started) or pc in seat.watch_set.breaks:
-                return
-
-    def _block(self, seat: Seat, program: CompiledProgram, pc: int) -> int:
-        """How many instructions from one on are of its line, up to the first that may go elsewhere, or calls."""
-        listing = read(self.session.look(f"{seat.digit} dis {pc:x} {BLOCK_WORDS}"))
-        words = listing.words if isinstance(listing, Listing) else []
-        number = 0
-        for number, word in enumerate(words, 1):
-            after = word.address + 4
-            if (
-                word.text[0] in LEAVES
-                or program.line_at(after) != program.line_at(pc)
-                or after in seat.watch_set.breaks
-            ):
-                break
-        return max(number, 1)
-
-    def _check_share(self, seat: Seat, lines: Sequence[str]) -> None:
+    def check_share(self, seat: Seat, lines: Sequence[str]) -> None:
         """Raises BadRequest where the lines don't fit into the seat's share of the script."""
         size = sum(len(line) + 1 for line in lines if not is_look(line))
         if seat is not self.seats.operator and size and seat.used + size > SEAT_BYTES:

@@ -18,15 +18,18 @@ from .requests import (
     Lines,
     OpenExercise,
     ReadVersion,
+    RunProgram,
     SeatsRequest,
     Source,
     StepLine,
+    StepProgram,
     TryCase,
     Why,
 )
 from .seats import Seat
 from .shared_machine import SEAT_BYTES, MakeProgram, Mistakes, SharedMachine, Steps
 from .sources import SeatSource, kept_program
+from .stepping import run, step, step_line
 from .text_store import TextStore
 
 
@@ -124,8 +127,18 @@ class Student:
                 program = yield MakeProgram(source, is_tried=True)
                 assert program is not None
                 return problems_of(program, source)
+            case RunProgram(source, number):
+                problems = yield from self._build(source, number)
+                if not problems["mistakes"]:
+                    yield from run(self.machine, self.seat)
+                return problems
+            case StepProgram(source, number, kind, by_lines, count):
+                problems = yield from self._build(source, number)
+                if not problems["mistakes"]:
+                    yield from step(self.machine, self.seat, kind, by_lines, count)
+                return problems
             case StepLine():
-                yield from self.machine.step_line(self.seat)
+                yield from step_line(self.machine, self.seat)
             case Why(name):
                 return {"why": (yield from self.machine.why(self.seat, name))}
             case Draft(source, number, name, is_kept):
@@ -148,11 +161,19 @@ class Student:
                 return result
         return {}
 
-    def _write(self, source: SourceText | None, number: int = -1, is_answer: bool = False) -> Steps[SourceResult]:
+    def _build(self, source: SourceText | None, number: int) -> Steps[SourceResult]:
+        """Starts the machine anew with a source that isn't in it; breakpoints stay. The mistakes that the source has."""
+        if source is None or source == self.seat.written and self.seat.program:
+            return {"mistakes": [], "warnings": []}
+        return (yield from self._write(source, number, keeps_breakpoints=True))
+
+    def _write(
+        self, source: SourceText | None, number: int = -1, is_answer: bool = False, keeps_breakpoints: bool = False
+    ) -> Steps[SourceResult]:
         """Starts the machine anew with a source, or with the one that is there; the mistakes that it has."""
         if source:
             self.source.write(source, number)
-        mistakes, warnings = yield from self.machine.write(self.seat, source, is_answer)
+        mistakes, warnings = yield from self.machine.write(self.seat, source, is_answer, keeps_breakpoints)
         if mistakes:
             self.seat.set_condition(f"{len(mistakes)} mistake{'s' * (len(mistakes) > 1)} in the source", True)
         return problems_json(source or self.seat.written, mistakes, warnings)

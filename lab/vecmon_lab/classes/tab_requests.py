@@ -8,18 +8,8 @@ from .codes import TEACHER, WALL
 from .messages import Answer, Changes, Hello, Result, answer_to, explain_refusals, request_of, with_changes
 from .names import checked_name
 from .requests import BadRequest, Check, CloseNotice, Compare, Draft, FindProblems, JsonObject, Lines, OpenExercise
-from .requests import (
-    ReadAnswer,
-    ReadVersion,
-    Request,
-    SeatsRequest,
-    SetName,
-    Source,
-    StepLine,
-    TryCase,
-    Why,
-    read_request,
-)
+from .requests import ReadAnswer, ReadVersion, Request, RunProgram, SeatsRequest, SetName, Source, StepLine, StepProgram
+from .requests import TryCase, Why, read_request
 from .seats import Seat
 from .shared_machine import Answers
 from .student import text_of
@@ -104,8 +94,12 @@ class TabRequests:
                 )
             case Source() | FindProblems() | StepLine() | Why() | Draft() | OpenExercise() | ReadVersion():
                 return await self._execute_for_seat(tab, request)
-            case Check() | TryCase():
+            case Check() | TryCase() | StepProgram():
                 return await self._execute_for_seat(tab, request)
+            case RunProgram():
+                result = await self._execute_for_seat(tab, request)
+                members.rooms[tab.who[0]].explain_waiting(members.seat(tab.who))
+                return result
             case _:
                 return await execute_teachers(members, tab, request)
         return {}

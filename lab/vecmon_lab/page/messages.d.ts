@@ -433,6 +433,15 @@ export interface RightsRequest {
   own_slices: boolean;
 }
 
+/** A program to run; it is built first where there is a source that isn't in the machine. number: as in SourceRequest */
+export interface RunRequest {
+  id: number;
+  ask: "run";
+  text?: string;
+  language?: number;
+  number?: number;
+}
+
 /** Addresses of code, from `first` up to, and without, `end`. */
 export interface Scope {
   first: number;
@@ -530,7 +539,7 @@ export interface ShownVariable {
   locations: ShownLocation[];
 }
 
-/** The answer to `source`, `again`, `case` and `problems`. */
+/** The answer to `source`, `again`, `case`, `problems`, `run` and `step`. */
 export interface SourceAnswer {
   patch?: { [name: string]: unknown };
   logs?: { [name: string]: string[] };
@@ -620,6 +629,23 @@ export interface State {
 export interface StepLineRequest {
   id: number;
   ask: "step-line";
+}
+
+/**
+ * A program to step, built first as in RunRequest.
+ *
+ * kind: into calls (by default), over them, or out of a function; by: by default an instruction
+ * count: of instructions or lines, 1 to 256, by default 1
+ */
+export interface StepRequest {
+  id: number;
+  ask: "step";
+  text?: string;
+  language?: number;
+  number?: number;
+  kind?: "into" | "over" | "out";
+  by?: "instruction" | "line";
+  count?: number;
 }
 
 /** A student's view. */
@@ -746,6 +772,8 @@ export type StudentRequestForm =
   | SourceRequest
   | AgainRequest
   | ProblemsRequest
+  | RunRequest
+  | StepRequest
   | StepLineRequest
   | WhyRequest
   | ListingsRequest

@@ -14,7 +14,8 @@ from ..classes.messages import Answer, Changes, Hello, News, Result, Updates
 from ..classes.messages import answer_to, explain_refusals, request_of, with_changes
 from ..classes.progress import Exercises, Start, Try
 from ..classes.requests import BadRequest, Check, Draft, FindProblems, JsonObject, Lines, OpenExercise, ReadAnswer
-from ..classes.requests import ReadVersion, Request, Settings, Source, StepLine, TryCase, Why, read_request
+from ..classes.requests import ReadVersion, Request, RunProgram, Settings, Source, StepLine, StepProgram, TryCase, Why
+from ..classes.requests import read_request
 from ..classes.shared_machine import Answers, MakeProgram, Returned, SharedMachine, Steps, Turn
 from ..classes.student import ClassView, Student, text_of
 from ..classes.text_store import TextStore
@@ -178,7 +179,7 @@ class Desk:
                 return text_of(self.try_of(name, number))
             case Source() | FindProblems() | StepLine() | Why() | Draft() | OpenExercise() | ReadVersion():
                 return self.run(self.student.execute(request))
-            case Check() | TryCase():
+            case Check() | TryCase() | RunProgram() | StepProgram():
                 return self.run(self.student.execute(request))
         return self.execute(request, done)
 
