@@ -48,6 +48,13 @@ def step(desk: Desk, count: int) -> None:
         ask(desk, ask="lines", do=["step 1"])
 
 
+def test_state_has_data_of_directives(desk: Desk) -> None:
+    data = {"11000": {"type": "i32", "count": 8}}
+    assert desk.seat.named["data"] == data and desk.hello()["patch"]["state"]["data"] == data  # type: ignore[index]
+    ask(desk, ask="lines", do=["leave"])
+    assert "data" not in desk.seat.named
+
+
 def test_destination_is_shown_as_it_was(desk: Desk) -> None:
     step(desk, DOUBLED)
     assert desk.seat.state["v"]["8"].startswith(DOUBLES)

@@ -5,12 +5,13 @@ and execute the text, and read and write data and bss; asm and poke ask only tha
 """
 
 import contextlib
-from collections.abc import Callable, Iterable, Iterator
-from dataclasses import dataclass
+from collections.abc import Callable, Iterable, Iterator, Mapping
+from dataclasses import dataclass, field
 from difflib import get_close_matches
 from functools import partial
 
 from ..instructions.accesses import PAGE_BYTES
+from .data_runs import DataItem, DataRun, data_runs
 from .instruction import Instruction, Statement, refusal
 from .line import Kind, Operand, SourceError, Token, check_count, split_operands, tokens_of
 from .names import MAX_NEAR, SOURCE_NAMES, near_names, no_instruction
@@ -31,6 +32,7 @@ class Program:
     """Lines of the monitor (map, asm, poke) behind digit and space, addresses by label, where the program begins.
 
     mistakes: of form, one for a line of the source and MAX_MISTAKES at most, in order; with any there are no lines
+    data: the numbers and texts of its directives, by address
     """
 
     lines: list[str]
@@ -38,6 +40,7 @@ class Program:
     statements: list[Statement]
     entry: int
     mistakes: list[SourceError]
+    data: Mapping[int, DataRun] = field(default_factory=dict, kw_only=True)
 
     def names(self) -> dict[str, list[str]]:
         """The labels by address, which is in hexadecimal digits."""
@@ -104,6 +107,7 @@ class _Assembler:
         self._section = self._text
         self._symbols = Symbols()
         self._instructions: list[Instruction] = []
+        self._items: list[DataItem] = []
         self.mistakes: dict[int, SourceError] = {}  # the first one of a line, by its number
         self.directives: dict[str, Callable[[Token, list[Operand]], None]] = {
             **dict.fromkeys((*self._sections, ".section"), self._enter_section),
@@ -169,7 +173,8 @@ class _Assembler:
         lines += [statement.command for statement in statements]
         lines += [] if mistakes else [line for section in filled for line in section.pokes()]
         entry = labels.get("_start", self._text.base)
-        return Program([] if mistakes else lines, labels, statements, entry, mistakes)
+        data = {} if mistakes else data_runs(self._items, {*labels.values()})
+        return Program([] if mistakes else lines, labels, statements, entry, mistakes, data=data)
 
     def _here(self) -> Value:
         return Value(self._section.size, self._section)
@@ -231,7 +236,7 @@ class _Assembler:
             data = operand[0].string() + _STRINGS[name.text]
             if len(operand) > 1:
                 raise operand[1].error("a comma is missing between strings")
-            self._put(name, len(data), partial(bytes, data))
+            self._put_item(name, len(data), partial(bytes, data), None)
 
     def _put_numbers(self, name: Token, operands: list[Operand]) -> None:
         for operand in operands:
@@ -240,7 +245,18 @@ class _Assembler:
                 self._put(name, 4)
             else:
                 width = _WIDTHS[name.text]
-                self._put(name, width, partial(self._symbols.data, operand, self._here(), width))
+                value = partial(self._number, operand, self._here())
+                self._put_item(name, width, partial(self._symbols.data, operand, self._here(), width), value)
+
+    def _put_item(self, name: Token, size: int, make: Callable[[], bytes], value: Callable[[], int] | None) -> None:
+        """Make room for a number or a text, and take it up as data. value: of a number, at the end"""
+        item = DataItem(self._section, self._section.size, size, value)
+        self._put(name, size, make)
+        self._items.append(item)
+
+    def _number(self, operand: Operand, here: Value) -> int:
+        """The value of an operand, once sections have their bases. Raises SourceError."""
+        return self._symbols.evaluate(operand, here).resolved()
 
 
 DIRECTIVES = list(_Assembler().directives)

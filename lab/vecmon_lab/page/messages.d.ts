@@ -223,6 +223,7 @@ export interface LessonData {
   starts?: { [name: string]: number };
   stops?: { [name: string]: string[] };
   variables?: ShownVariable[];
+  data?: { [name: string]: ShownData };
   frames: FrameData[];
   links: Link[];
 }
@@ -486,6 +487,12 @@ export interface ShoulderRequest {
   ask: "shoulder";
 }
 
+/** Numbers of a type, one behind another, or a text; count: of numbers, or bytes of a text */
+export interface ShownData {
+  type: "i8" | "u8" | "i16" | "u16" | "i32" | "u32" | "i64" | "u64" | "text";
+  count: number;
+}
+
 /**
  * The location of a variable while the program counter is in a scope.
  *
@@ -593,7 +600,7 @@ export interface Start {
  *     program reached; without one there is no such key
  * output: the bytes that answers to `out` have shown
  * outputs: in a class in place of it, the last 64 KB of them, in blocks by number
- * labels, lines, starts, stops, variables: in a class, those of `SourceNames`
+ * labels, lines, starts, stops, variables, data: in a class, those of `SourceNames`
  */
 export interface State {
   run: "absent" | "stopped" | "running";
@@ -623,6 +630,7 @@ export interface State {
   starts?: { [name: string]: number };
   stops?: { [name: string]: string[] };
   variables?: ShownVariable[];
+  data?: { [name: string]: ShownData };
 }
 
 /** A step to another source line. */

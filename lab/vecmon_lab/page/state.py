@@ -4,6 +4,7 @@ from collections import Counter
 from collections.abc import Iterable, Iterator, Mapping, Sequence
 from typing import NotRequired, TypedDict
 
+from ..assembler.data_runs import DataType
 from ..guest.calls import shown_calls
 from ..guest.changes import Registers
 from ..guest.guest import Guest
@@ -28,10 +29,18 @@ from .operands import ShownOperand, shown_operands
 from .variables import ShownVariable
 
 
+class ShownData(TypedDict):
+    """Numbers of a type, one behind another, or a text; count: of numbers, or bytes of a text"""
+
+    type: DataType
+    count: int
+
+
 class SourceNames(TypedDict):
     """The names of the source that was assembled last.
 
     labels, lines: names, and lines with their comments, by address
+    data: numbers and texts of an assembler source's directives, by address
     starts, stops, variables: of a compiled source (`compilers/compiled.py`): the line number, or 0, by start address; the addresses of a
         line's breakpoints by line number; and those of the debug data
     """
@@ -41,6 +50,7 @@ class SourceNames(TypedDict):
     starts: NotRequired[Mapping[str, int]]
     stops: NotRequired[Mapping[str, Sequence[str]]]
     variables: NotRequired[Sequence[ShownVariable]]
+    data: NotRequired[Mapping[str, ShownData]]
 
 
 class State(TypedDict):
@@ -58,7 +68,7 @@ class State(TypedDict):
         program reached; without one there is no such key
     output: the bytes that answers to `out` have shown
     outputs: in a class in place of it, the last 64 KB of them, in blocks by number
-    labels, lines, starts, stops, variables: in a class, those of `SourceNames`
+    labels, lines, starts, stops, variables, data: in a class, those of `SourceNames`
     """
 
     run: Run
@@ -88,6 +98,7 @@ class State(TypedDict):
     starts: NotRequired[Mapping[str, int]]
     stops: NotRequired[Mapping[str, Sequence[str]]]
     variables: NotRequired[Sequence[ShownVariable]]
+    data: NotRequired[Mapping[str, ShownData]]
 
 
 ABSENT: State = {"run": "absent"}
