@@ -6,8 +6,8 @@ from typing import NotRequired, TypedDict
 
 from ..compilers.compiled import STACK
 from ..exercises.answer import C_SUFFIX, inputs
-from ..exercises.check import CheckResult, passes_all
-from ..exercises.exercise import Exercise
+from ..exercises.check import CaseRows, CheckResult, case_rows, passes_all
+from ..exercises.exercise import Case, Exercise
 from .codes import new_code
 from .languages import NUMBERS, C, SourceText
 from .requests import BadRequest
@@ -25,26 +25,33 @@ SeatResult = TypedDict("SeatResult", {"tries": int, "passed": int, "best": int, 
 
 
 class CaseView(TypedDict):
-    """A case of an exercise by its name."""
+    """A case of an exercise: its name, and whether it is hidden. Unless it is, what it gives and expects."""
 
     name: str
+    hidden: bool
+    shown: NotRequired[CaseRows]
 
 
 class ExerciseView(TypedDict):
     """An exercise on a student's page: of a hidden case the name, and whether it passes; the hints that are due.
 
+    number: its place among the exercises, from 1 on
     starts: sources to start with, the preferred one first; of two one is in C
+    hint_count: of those that are due and others; best: the most cases that passed in one try
     before: the path of the lesson before it; "" for none
     lesson: the path of a lesson of the case that failed first; "" for none
     """
 
+    number: int
     title: str
     before: str
     text: str
     starts: list[Start]
     cases: list[CaseView]
     hints: Sequence[str]
+    hint_count: int
     tries: int
+    best: int
     passed: bool
     checking: bool
     told: CheckResult
@@ -76,11 +83,15 @@ class Progress:
             self.first = len(self.tries)
         return True
 
+    @property
+    def best(self) -> int:
+        """The most cases that passed in one try."""
+        return max((passed for _, passed in self.tries), default=0)
+
     def result(self) -> SeatResult:
         """The row of a teacher's table."""
         which = self.first or len(self.tries)
-        best = max(passed for _, passed in self.tries)
-        return {"tries": len(self.tries), "passed": self.first, "best": best, "time": self.tries[which - 1][0]}
+        return {"tries": len(self.tries), "passed": self.first, "best": self.best, "time": self.tries[which - 1][0]}
 
 
 class Exercises:
@@ -92,6 +103,8 @@ class Exercises:
 
     def __init__(self, exercises: Mapping[str, Exercise], starts: Mapping[str, list[Start]]) -> None:
         self.by_name, self._starts, self.busy = exercises, starts, dict[str, str]()
+        self._numbers = {name: number for number, name in enumerate(exercises, 1)}
+        self._cases = {name: [_case_view(each, case) for case in each.cases] for name, each in exercises.items()}
         self._progress: dict[tuple[str, str], Progress] = {}
         self.failures: list[CheckFailure] = []
 
@@ -131,15 +144,19 @@ class Exercises:
             result["name"] = result["name"] or case.name
         self.progress(seat, name).add(done)
 
-    def failed(self, seat: str, name: str, source: SourceText) -> Callable[[int], list[str]]:
-        """Return a function from a program's entry address to the commands that set up the case that failed first.
+    def case(self, seat: str, name: str, number: int | None, source: SourceText) -> Callable[[int], list[str]]:
+        """Return a function from a program's entry address to the commands that set up a case.
 
-        Raises BadRequest where none has failed.
+        number: its place among the cases, from 0 on; None for the one that failed first. Raises BadRequest for a hidden case,
+        and where there is none.
         """
         exercise, result = self.exercise(name), self.progress(seat, name).last_result
-        if "number" not in result:
+        if number is None and "number" not in result:
             raise BadRequest("no case that is shown has failed")
-        case, stack = exercise.cases[result["number"]], STACK if source.choice is None else ()
+        number = result["number"] if number is None else number
+        if not 0 <= number < len(exercise.cases) or exercise.cases[number].is_hidden:
+            raise BadRequest(f"case {number} of {name} isn't shown: take one from the list of cases")
+        case, stack = exercise.cases[number], STACK if source.choice is None else ()
         return lambda start: [*stack, *inputs(exercise, case, start)]
 
     def answered(self, ticket: str) -> tuple[str, str, Progress] | None:
@@ -154,18 +171,27 @@ class Exercises:
     def _view(self, seat: str, name: str, exercise: Exercise) -> ExerciseView:
         progress = self.progress(seat, name)
         return {
+            "number": self._numbers[name],
             "title": exercise.title,
             "before": f"lesson/{name}" if "lesson" in exercise.files else "",
             "text": exercise.text,
             "starts": self._starts[name],
-            "cases": [{"name": case.name} for case in exercise.cases],
+            "cases": self._cases[name],
             "hints": exercise.hints[: len(progress.tries) - (progress.first > 0)],
+            "hint_count": len(exercise.hints),
             "tries": len(progress.tries),
+            "best": progress.best,
             "passed": progress.first > 0,
             "checking": self.busy.get(seat) == name,
             "told": progress.last_result,
             "lesson": f"lesson/{progress.ticket}" if progress.ticket else "",
         }
+
+
+def _case_view(exercise: Exercise, case: Case) -> CaseView:
+    if case.is_hidden:
+        return {"name": case.name, "hidden": True}
+    return {"name": case.name, "hidden": False, "shown": case_rows(exercise, case)}
 
 
 def source_of(done: Try) -> SourceText:

@@ -135,10 +135,11 @@ class CheckRequest(NumberedRequest, SourceFields):
 
 
 class CaseRequest(NumberedRequest, SourceFields):
-    """A source for a new machine with the inputs of the first failed case."""
+    """A source for a new machine with the inputs of a case. case: its place in `cases`, from 0 on; by default the first failed one"""
 
     ask: Literal["case"]
     exercise: str
+    case: NotRequired[int]
 
 
 class AnswerRequest(NumberedRequest):

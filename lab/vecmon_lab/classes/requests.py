@@ -204,8 +204,11 @@ class Check(_OfExercise):
     """A source that is checked as an answer to an exercise."""
 
 
+@dataclass(frozen=True)
 class TryCase(_OfExercise):
-    """A source for a new machine of the student's, which is given the case of an exercise that failed first."""
+    """A source for a new machine of the student's, which is given a case of an exercise; None for the one that failed first."""
+
+    case: int | None
 
 
 @dataclass(frozen=True)
@@ -279,7 +282,7 @@ _OF_STUDENTS: Mapping[str, Reader] = {
     "close-notice": lambda it: CloseNotice(_number(it)),
     "listings": lambda it: Compare(_source(it), _number(it, "other")),
     "check": lambda it: Check(_name(it, "exercise"), _source(it)),
-    "case": lambda it: TryCase(_name(it, "exercise"), _source(it)),
+    "case": lambda it: TryCase(_name(it, "exercise"), _source(it), _number(it, "case") if "case" in it else None),
 }
 _OF_TEACHERS: Mapping[str, Reader] = {
     **_OF_ALL,
@@ -383,7 +386,7 @@ def _number(message: JsonObject, name: str = "number") -> int:
     """The number that a message has by a name."""
     number = message.get(name)
     if not isinstance(number, int):
-        raise BadRequest("sources, versions, answers, messages and options have whole numbers")
+        raise BadRequest("sources, versions, answers, cases, messages and options have whole numbers")
     return number
 
 

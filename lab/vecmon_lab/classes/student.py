@@ -152,8 +152,8 @@ class Student:
                 return text_of(self.source.version(number))
             case Check(name, source):
                 self._check(self.seat.name, name, source)
-            case TryCase(name, source):
-                case = self.exercises.failed(self.seat.name, name, source)
+            case TryCase(name, source, which):
+                case = self.exercises.case(self.seat.name, name, which, source)
                 result = yield from self._write(source, is_answer=True)
                 if not result["mistakes"]:
                     given = Lines("", case(int(self.seat.state["pc"], 16)), 0, [])

@@ -38,6 +38,14 @@ NumberRow = TypedDict("NumberRow", {"where": str, "first": int, "numbers": list[
 behind those that are shown, and places of wrong ones."""
 
 
+class CaseRows(TypedDict):
+    """Rows of what a case gives and expects, and notes on the state before it."""
+
+    given: list[NumberRow]
+    expected: list[NumberRow]
+    notes: list[str]
+
+
 class CaseResult(TypedDict):
     """A case of an exercise by its name, and whether an answer passes it."""
 
@@ -160,6 +168,12 @@ def _page(title: str, script: Script, program: Vecmon) -> str:
     from ..lessons.page import lesson_page
 
     return lesson_page(title, make_frames(script, program), script)
+
+
+def case_rows(exercise: Exercise, case: Case) -> CaseRows:
+    """What a case gives and expects. Only for a case that isn't hidden."""
+    expected = [_row(where, texts) for where, texts in _strips(case.expected)]
+    return {"given": _given(case, None), "expected": expected, "notes": _notes(exercise, case)}
 
 
 def _notes(exercise: Exercise, case: Case) -> list[str]:

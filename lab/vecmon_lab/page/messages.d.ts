@@ -27,13 +27,14 @@ export interface AnswerRequest {
   number: number;
 }
 
-/** A source for a new machine with the inputs of the first failed case. */
+/** A source for a new machine with the inputs of a case. case: its place in `cases`, from 0 on; by default the first failed one */
 export interface CaseRequest {
   id: number;
   text: string;
   language?: number;
   ask: "case";
   exercise: string;
+  case?: number;
 }
 
 /** A case of an exercise by its name, and whether an answer passes it. */
@@ -42,9 +43,18 @@ export interface CaseResult {
   passed: boolean;
 }
 
-/** A case of an exercise by its name. */
+/** Rows of what a case gives and expects, and notes on the state before it. */
+export interface CaseRows {
+  given: NumberRow[];
+  expected: NumberRow[];
+  notes: string[];
+}
+
+/** A case of an exercise: its name, and whether it is hidden. Unless it is, what it gives and expects. */
 export interface CaseView {
   name: string;
+  hidden: boolean;
+  shown?: CaseRows;
 }
 
 export interface CheckFailure {
@@ -164,18 +174,23 @@ export interface ExerciseTable {
 /**
  * An exercise on a student's page: of a hidden case the name, and whether it passes; the hints that are due.
  *
+ * number: its place among the exercises, from 1 on
  * starts: sources to start with, the preferred one first; of two one is in C
+ * hint_count: of those that are due and others; best: the most cases that passed in one try
  * before: the path of the lesson before it; "" for none
  * lesson: the path of a lesson of the case that failed first; "" for none
  */
 export interface ExerciseView {
+  number: number;
   title: string;
   before: string;
   text: string;
   starts: Start[];
   cases: CaseView[];
   hints: string[];
+  hint_count: number;
   tries: number;
+  best: number;
   passed: boolean;
   checking: boolean;
   told: CheckResult;
