@@ -6,6 +6,7 @@ from collections.abc import Sequence
 from .. import LabError
 from ..machine.lines import DIGITS
 from .checks import ANSWERS, EXERCISES, found_answers
+from .hands import HANDS, raised_hands
 from .stored_files import texts
 from .names import NAMES
 from .notices import NOTICES, open_notices
@@ -22,6 +23,7 @@ def folder_report(folder: pathlib.Path, program: pathlib.Path) -> tuple[Sequence
     machines = [_machine(store, letter) for letter in store.machines]
     names, exercises = store.read(NAMES, texts), store.read(EXERCISES, texts)
     messages = sum(map(len, store.read(NOTICES, open_notices).values()))
+    store.read(HANDS, raised_hands)  # which reports damage
     for seat in (f"{letter}{digit}" for letter in store.machines for digit in DIGITS):
         try:
             kept_program(store, seat)

@@ -39,6 +39,13 @@ class Notice(TypedDict):
     text: str
 
 
+class Hand(TypedDict):
+    """A raised hand: since when it is up, in seconds since 1970, and the student's text, which may be empty."""
+
+    since: int
+    text: str
+
+
 class Changes(TypedDict):
     """The changes of a tab: a merge patch (RFC 7396) of its view, and new entries of logs by the name of their seat."""
 

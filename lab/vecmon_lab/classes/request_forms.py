@@ -159,6 +159,20 @@ class NameRequest(NumberedRequest):
     name: str
 
 
+class HandRequest(NumberedRequest):
+    """A student's raised or lowered hand. text: for the teacher, by default none"""
+
+    ask: Literal["hand"]
+    up: bool
+    text: NotRequired[str]
+
+
+class LowerHandRequest(NumberedRequest, SeatFields):
+    """A seat whose hand the teacher lowers."""
+
+    ask: Literal["hand"]
+
+
 class CloseNoticeRequest(NumberedRequest):
     """A message of the teacher's to close."""
 
@@ -259,6 +273,7 @@ StudentRequestForm = (
     | CaseRequest
     | AnswerRequest
     | NameRequest
+    | HandRequest
     | CloseNoticeRequest
 )
 TeacherRequestForm = (
@@ -269,6 +284,7 @@ TeacherRequestForm = (
     | GiveRequest
     | TakeBackRequest
     | WriteRequest
+    | LowerHandRequest
     | ResetRequest
     | ClockRequest
     | RightsRequest

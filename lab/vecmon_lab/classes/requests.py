@@ -186,6 +186,18 @@ class TakeBack(_OfSeat):
 
 
 @dataclass(frozen=True)
+class SetHand:
+    """A student's raised or lowered hand, with a text for the teacher; "" for none."""
+
+    up: bool
+    text: str
+
+
+class LowerHand(_OfSeat):
+    """The teacher lowers a seat's hand."""
+
+
+@dataclass(frozen=True)
 class CloseNotice:
     """A message of the teacher's that the student has read."""
 
@@ -250,9 +262,20 @@ SeatsRequest = (
     | Check
     | TryCase
 )
-StudentRequest = Lines | SeatsRequest | SetName | CloseNotice | Compare
+StudentRequest = Lines | SeatsRequest | SetName | SetHand | CloseNotice | Compare
 TeacherRequest = (
-    Give | TakeBack | Write | Reset | SetClock | SetRights | Renew | LookOver | PutOnWall | ShowCodes | ReadAnswer
+    Give
+    | TakeBack
+    | Write
+    | LowerHand
+    | Reset
+    | SetClock
+    | SetRights
+    | Renew
+    | LookOver
+    | PutOnWall
+    | ShowCodes
+    | ReadAnswer
 )
 Request = StudentRequest | TeacherRequest
 
@@ -280,6 +303,7 @@ _OF_STUDENTS: Mapping[str, Reader] = {
     "open": lambda it: OpenExercise(_name(it, "exercise")),
     "answer": lambda it: ReadAnswer("", _name(it, "exercise"), _number(it)),
     "close-notice": lambda it: CloseNotice(_number(it)),
+    "hand": lambda it: SetHand(bool(it.get("up")), _sentence(it) if it.get("text") else ""),
     "listings": lambda it: Compare(_source(it), _number(it, "other")),
     "check": lambda it: Check(_name(it, "exercise"), _source(it)),
     "case": lambda it: TryCase(_name(it, "exercise"), _source(it), _number(it, "case") if "case" in it else None),
@@ -291,6 +315,7 @@ _OF_TEACHERS: Mapping[str, Reader] = {
     "give": lambda it: Give(_name(it, "seat"), _given(it)),
     "take-back": lambda it: TakeBack(_name(it, "seat")),
     "write": lambda it: Write(_name(it, "seat"), _sentence(it)),
+    "hand": lambda it: LowerHand(_name(it, "seat")),
     "reset": lambda it: Reset(_name(it, "seat")),
     "clock": lambda it: SetClock(_name(it, "machine"), _settings(it)),
     "rights": lambda it: SetRights(_name(it, "machine"), bool(it.get("own_slices"))),

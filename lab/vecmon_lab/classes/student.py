@@ -1,7 +1,7 @@
 """A student's requests at one seat, as steps at the machine, and what the student's page shows."""
 
 from collections.abc import Callable
-from typing import TypedDict, cast
+from typing import NotRequired, TypedDict, cast
 
 from .. import LabError
 from ..assembler.mistakes import mistakes_json
@@ -9,7 +9,7 @@ from ..assembler.source import Program
 from ..compilers.compiled import CompiledProgram
 from ..page.state import State
 from .languages import LANGUAGES, SourceText
-from .messages import Notice, Result, SourceResult, SourceView, TextResult, shown, source_view
+from .messages import Hand, Notice, Result, SourceResult, SourceView, TextResult, shown, source_view
 from .progress import Exercises, ExerciseView
 from .requests import (
     Check,
@@ -68,12 +68,14 @@ class ClassView(TypedDict):
 
     name: the student's, or ""; notices: the teacher's open messages, oldest first; images: names for `load`
     clock: whether it is on; own_slices: whether the student may grant slices
+    hand: the student's, while it is up
     no_c: why C is missing, or ""; against: compilers with options for side-by-side listings, numbered alike; none in a class
     ready: whether the machine takes lines, otherwise requests wait; trouble: a text for a banner, or ""
     """
 
     name: str
     notices: list[Notice]
+    hand: NotRequired[Hand]
     images: list[str]
     clock: bool
     own_slices: bool

@@ -8,8 +8,8 @@ from .codes import TEACHER, WALL
 from .messages import Answer, Changes, Hello, Result, answer_to, explain_refusals, request_of, with_changes
 from .names import checked_name
 from .requests import BadRequest, Check, CloseNotice, Compare, Draft, FindProblems, JsonObject, Lines, OpenExercise
-from .requests import ReadAnswer, ReadVersion, Request, RunProgram, SeatsRequest, SetName, Source, StepLine, StepProgram
-from .requests import TryCase, Why, read_request
+from .requests import ReadAnswer, ReadVersion, Request, RunProgram, SeatsRequest, SetHand, SetName, Source, StepLine
+from .requests import StepProgram, TryCase, Why, read_request
 from .seats import Seat
 from .shared_machine import Answers
 from .student import text_of
@@ -84,6 +84,8 @@ class TabRequests:
                 return {"do": done, "look": await members.rooms[seat.name[0]].lines(seat, request, done)}
             case SetName(seat_name, name):
                 members.set_name(members.seat(seat_name if is_teacher else tab.who).name, checked_name(name))
+            case SetHand(up, text):
+                members.set_hand(tab.who, up, text)
             case CloseNotice(number):
                 members.close_notice(tab.who, number)
             case Compare(source, other):

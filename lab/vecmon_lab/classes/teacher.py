@@ -8,6 +8,7 @@ from .requests import (
     BadRequest,
     Give,
     LookOver,
+    LowerHand,
     PutOnWall,
     Renew,
     Reset,
@@ -38,6 +39,8 @@ async def execute_teachers(members: Class, tab: Tab, request: TeacherRequest) ->
         case Write(name, text):
             members.notices.add([seat.name for seat in members.seats(name)], text)
             members.add_log_entry(members.seats(name), f"The teacher: {text}")
+        case LowerHand(name):
+            members.set_hand(members.seat(name).name, up=False)
         case Reset(name):
             seat, room = members.seat(name), members.rooms[name[0]]
             await room.run(seat, room.machine.reset(seat))

@@ -8,7 +8,7 @@ from ..page.state import State
 from .checks import ExerciseTable
 from .languages import LANGUAGES
 from .progress import CheckFailure
-from .messages import SourceView, shown, source_view
+from .messages import Hand, SourceView, shown, source_view
 from .room import Room
 from .seats import Seat
 from .shared_machine import SEAT_BYTES
@@ -28,7 +28,7 @@ class SeatView(TypedDict):
     """The teacher's view of a seat.
 
     tabs: the number of open ones; stands: the program's state in a few words; stuck, since: whether its student may need
-    somebody, and since when both are so, in seconds since 1970; used: bytes of the script
+    somebody, and since when both are so, in seconds since 1970; used: bytes of the script; hand: while it is up
     """
 
     name: str
@@ -40,6 +40,7 @@ class SeatView(TypedDict):
     line: str
     answer: str
     used: int
+    hand: NotRequired[Hand]
 
 
 class ClockView(TypedDict):
@@ -155,7 +156,7 @@ def _machine_view(members: Class, room: Room) -> MachineView:
 
 
 def _seat_view(members: Class, seat: Seat) -> SeatView:
-    return {
+    view: SeatView = {
         "name": members.names.get(seat.name, ""),
         "tabs": sum(tab.who == seat.name for tab in members.tabs),
         "run": seat.state["run"],
@@ -166,3 +167,6 @@ def _seat_view(members: Class, seat: Seat) -> SeatView:
         "answer": seat.answer,
         "used": seat.used,
     }
+    if hand := members.hands.of(seat.name):
+        view["hand"] = hand
+    return view

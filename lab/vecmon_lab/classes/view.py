@@ -15,6 +15,7 @@ from .checks import Checks
 from .codes import TEACHER, WALL
 from .comparisons import Comparisons
 from .messages import Updates
+from .hands import Hands
 from .names import NAMES, as_csv, local_time
 from .notices import Notices
 from .requests import BadRequest
@@ -62,6 +63,7 @@ class Class:
         self.store, self.codes = store, store.codes
         self.names = store.read(NAMES, texts, "the names at the seats are lost")  # by seat
         self.notices = Notices(store)
+        self.hands = Hands(store)
         self.address = ""  # where students reach the class, with a slash at its end
         self.is_unencrypted = False  # on the way to other computers
         self.wall: Seat | None = None  # the seat that it shows
@@ -167,6 +169,8 @@ class Class:
             "ready": not room.thread.rebuilding,
             "trouble": room.warning,
         }
+        if hand := self.hands.of(student.seat.name):
+            others["hand"] = hand
         return student.view(others)
 
     def tell(self, names: Iterable[str]) -> None:
@@ -186,6 +190,14 @@ class Class:
     def close_notice(self, seat: str, number: int) -> None:
         """Closes a message of the teacher's, in all tabs of a seat."""
         self.notices.close(seat, number)
+        self.tell([seat])
+
+    def set_hand(self, seat: str, up: bool, text: str = "") -> None:
+        """Raise a seat's hand with a text, or lower it."""
+        if up:
+            self.hands.up(seat, text)
+        else:
+            self.hands.down(seat)
         self.tell([seat])
 
     def set_name(self, seat: str, name: str) -> None:

@@ -222,6 +222,20 @@ export interface Given {
   replaced: number;
 }
 
+/** A raised hand: since when it is up, in seconds since 1970, and the student's text, which may be empty. */
+export interface Hand {
+  since: number;
+  text: string;
+}
+
+/** A student's raised or lowered hand. text: for the teacher, by default none */
+export interface HandRequest {
+  id: number;
+  ask: "hand";
+  up: boolean;
+  text?: string;
+}
+
 /** The first message to a tab. who: the seat, `teacher` or `wall`; time: in seconds since 1970 */
 export interface Hello {
   patch?: { [name: string]: unknown };
@@ -286,6 +300,13 @@ export interface ListingsRequest {
   language?: number;
   ask: "listings";
   other: number;
+}
+
+/** A seat whose hand the teacher lowers. */
+export interface LowerHandRequest {
+  id: number;
+  seat: string;
+  ask: "hand";
 }
 
 /** The teacher's lines for a machine. */
@@ -475,7 +496,7 @@ export interface SeatResult {
  * The teacher's view of a seat.
  *
  * tabs: the number of open ones; stands: the program's state in a few words; stuck, since: whether its student may need
- * somebody, and since when both are so, in seconds since 1970; used: bytes of the script
+ * somebody, and since when both are so, in seconds since 1970; used: bytes of the script; hand: while it is up
  */
 export interface SeatView {
   name: string;
@@ -487,6 +508,7 @@ export interface SeatView {
   line: string;
   answer: string;
   used: number;
+  hand?: Hand;
 }
 
 /** Bytes of the script: those that the seat has used, and its share. */
@@ -684,6 +706,7 @@ export interface StudentView {
   again: boolean;
   name: string;
   notices: Notice[];
+  hand?: Hand;
   images: string[];
   clock: boolean;
   own_slices: boolean;
@@ -807,6 +830,7 @@ export type StudentRequestForm =
   | CaseRequest
   | AnswerRequest
   | NameRequest
+  | HandRequest
   | CloseNoticeRequest;
 
 export type TeacherRequestForm =
@@ -817,6 +841,7 @@ export type TeacherRequestForm =
   | GiveRequest
   | TakeBackRequest
   | WriteRequest
+  | LowerHandRequest
   | ResetRequest
   | ClockRequest
   | RightsRequest
