@@ -7,17 +7,9 @@ from collections.abc import Iterable, Sequence
 from typing import Literal, NotRequired, TypedDict
 
 from ..guest.changes import CONTROLLING, Registers
-from ..instructions.accesses import (
-    REGISTER_BYTES,
-    Span,
-    active_of,
-    body_of,
-    scalar_span,
-    vector_instruction,
-    vector_spans,
-)
+from ..instructions.accesses import REGISTER_BYTES, Span, active_spans, vector_instruction
 from ..instructions.scalar_registers import scalar_written, scalars_read
-from ..instructions.words import LOAD, LOAD_FP, OP_V, STORE, STORE_FP
+from ..instructions.words import LOAD, LOAD_FP, OP_V, STORE, STORE_FP, VECTOR_ACCESSES
 from ..machine.answers import ControlRegisters
 
 _OP_VSET = 7  # funct3
@@ -89,18 +81,15 @@ def accesses(word: int, before: Registers, after: ControlRegisters, is_faulting:
     before, after: the registers before it, and the control registers after it
     is_faulting: whether it stopped at its element vstart; then earlier elements count
     """
-    opcode, spans = word & 0x7F, list[Span]()
-    kind: Literal["read", "write"] = "write" if opcode in (STORE, STORE_FP) else "read"
-    if opcode in (LOAD, STORE) and not is_faulting:
-        spans = [scalar_span(word, before.x)]
-    instruction = vector_instruction(word, before.control.vtype) if opcode in (LOAD_FP, STORE_FP) else None
-    if instruction:
-        body = body_of(word, instruction, before.control)
-        end = after.vstart if is_faulting else after.vl if _may_shorten(word) else body.stop
-        active = {element for element in active_of(instruction, body, bytes(before.v)) if element < end}
-        found = vector_spans(word, before.x, before.control, bytes(before.v), instruction)
-        spans = [span for element, span in zip(body, found) if element in active]
-    return [{"address": f"{at:x}", "length": length, "kind": kind} for at, length in _joined(spans)]
+    end = 1 << 64
+    if is_faulting:
+        end = after.vstart if word & 0x7F in VECTOR_ACCESSES else 0
+    elif _may_shorten(word):
+        end = after.vl
+    found = active_spans(word, before.x, before.control, bytes(before.v))
+    kind: Literal["read", "write"] = "write" if word & 0x7F in (STORE, STORE_FP) else "read"
+    spans = _joined([span for element, span in found if element < end])
+    return [{"address": f"{at:x}", "length": length, "kind": kind} for at, length in spans]
 
 
 def scalar_accesses(word: int, after: Registers) -> list[Access] | None:
