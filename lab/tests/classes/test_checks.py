@@ -87,7 +87,9 @@ async def test_seat_retries_until_answer_passes(room: Served) -> None:
     """Hints come one by one; nothing of it is in the script."""
     tab, other = await room.sit("A1"), await room.sit("A2")
     own = tab.view["exercises"]["square"]
-    assert (own["text"], own["cases"]) == ("Square `a1` into `a0`.", [{"name": "six"}, {"name": "another one"}])
+    six, another = own["cases"]
+    assert (own["text"], six["name"], six["hidden"]) == ("Square `a1` into `a0`.", "six", False)
+    assert six["shown"]["expected"][0]["numbers"] == ["36"] and another == {"name": "another one", "hidden": True}
     assert own["starts"] == [{"text": "ret\n", "language": 0}]
     assert (own["hints"], own["tries"], own["told"], own["lesson"]) == ([], 0, {}, "")
     reply = await check(tab, "square", "addi a0, a1, 1\nret")
