@@ -3,13 +3,13 @@
 import { make, prose } from "./elements.js";
 
 /** A paragraph; a list, where each line begins with `- `; or code, where each has four spaces. */
-function block(text) {
+function block(/** @type {string} */ text) {
   const lines = text.split("\n");
-  const all = (begin) => lines.every((line) => line.startsWith(begin));
+  const all = (/** @type {string} */ begin) => lines.every((line) => line.startsWith(begin));
   if (all("    ")) return make("pre", "", lines.map((line) => line.slice(4)).join("\n"));
   if (all("- ")) return make("ul", "", ...lines.map((line) => make("li", "", ...prose(line.slice(2)))));
   return make("p", "", ...prose(lines.join(" ")));
 }
 
 /** A text whose blocks have empty lines between them. */
-export const blocks = (text) => text.replace(/^\n+|\n+$/g, "").split(/\n{2,}/).map(block);
+export const blocks = (/** @type {string} */ text) => text.replace(/^\n+|\n+$/g, "").split(/\n{2,}/).map(block);

@@ -8,10 +8,12 @@ import { Student } from "./student.js";
 import { Teacher } from "./teacher.js";
 import { Wall } from "./wall.js";
 
+/** @type {("head" | "teacher" | "desk" | "foot")[]} */
+const PARTS = ["head", "teacher", "desk", "foot"];
 const LEAVING = "This tab forgets its code, and nobody can come back without it. The class keeps the work of this seat.";
 
 /** Begins anew with a code, or with none, that is kept for this tab's session alone, and not in the address. */
-function sitDown(code) {
+function sitDown(/** @type {string} */ code) {
   if (![code, null].includes(sessionStorage.getItem("code"))) sessionStorage.clear(); // it was somebody else's
   if (code) sessionStorage.setItem("code", code);
   history.replaceState(null, "", location.pathname);
@@ -25,8 +27,8 @@ function takeHash() {
   return history.replaceState(null, "", location.pathname);
 }
 
-function askForCode(words) {
-  document.querySelectorAll("#head, #teacher, #desk, #foot").forEach((part) => (part.hidden = true));
+function askForCode(/** @type {string} */ words) {
+  for (const id of PARTS) byId(id).hidden = true;
   byId("join").hidden = false;
   say("gone", "");
   put(byId("join-says"), words);
@@ -35,20 +37,36 @@ function askForCode(words) {
 
 /** Makes a page from the server's first message: a student's, or the teacher's. */
 class ClassTab {
-  constructor(code) {
-    const ended = (words) => (sessionStorage.removeItem("code"), askForCode(words));
-    this.connection = new Connection(code, (message) => this.hear(message), (words) => say("gone", words), ended);
+  /** @type {import("./types").RolePage | null} */ page = null;
+  view = /** @type {import("./types").View} */ ({});
+
+  constructor(/** @type {string} */ code) {
+    this.connection = new Connection(code, this);
   }
 
-  hear({ kind, who, patch = {}, logs = {} }) {
+  /** @type {import("./types").Listener["told"]} */
+  told({ kind, who, patch = {}, logs = {} }) {
     const isAnew = kind === "hello";
     this.view = patched(isAnew ? {} : this.view, patch);
-    if (!this.page) {
-      for (const id of ["head", "desk"]) byId(id).hidden = false;
-      document.body.classList.add({ teacher: "teaching", wall: "watching" }[who] ?? "studying");
-      this.page = new ({ teacher: Teacher, wall: Wall }[who] ?? Student)(this.connection);
-    }
+    this.page ??= this.begin(who);
     this.page.show(this.view, logs, isAnew);
+  }
+
+  gone(/** @type {string} */ words) {
+    say("gone", words);
+  }
+
+  ended(/** @type {string} */ words) {
+    sessionStorage.removeItem("code");
+    askForCode(words);
+  }
+
+  /** Begins the page of a role, which is the name of a seat for a student. */
+  begin(role = "") {
+    byId("head").hidden = byId("desk").hidden = false;
+    document.body.classList.add({ teacher: "teaching", wall: "watching" }[role] ?? "studying");
+    const Page = { teacher: Teacher, wall: Wall }[role] ?? Student;
+    return new Page(this.connection);
   }
 }
 
@@ -61,5 +79,6 @@ byId("join").addEventListener("submit", () => {
   location.reload();
 });
 if (location.hash) takeHash();
-if (sessionStorage.getItem("code")) new ClassTab(sessionStorage.getItem("code"));
+const code = sessionStorage.getItem("code");
+if (code) new ClassTab(code);
 else askForCode("");

@@ -2,9 +2,11 @@
 
 import { ask, button, byId, make, put } from "./elements.js";
 
+/** @typedef {(request: import("./types").Request) => unknown} Send */
+
 /** The code of a seat, or of the wall: a link where it is shown. */
 export class CodeField {
-  constructor(name, request) {
+  constructor(/** @type {string} */ name, /** @type {Send} */ request) {
     this.link = Object.assign(make("a", ""), { target: "_blank", rel: "noopener" });
     const whose = name === "wall" ? "the wall" : `seat ${name}`;
     const turn = () => (this.link.hash ? this.show("") : request({ ask: "codes", seat: name }));
@@ -16,7 +18,7 @@ export class CodeField {
   }
 
   /** Shows a code with the address that it belongs to, or none. */
-  show(code, address = "") {
+  show(/** @type {string} */ code, address = "") {
     put(this.link, code);
     if (code) this.link.href = `${address}#${code}`;
     else this.link.removeAttribute("href");
@@ -25,13 +27,16 @@ export class CodeField {
 }
 
 /** Shows a sheet with a slip for each seat, in place of the page; without any it is closed, and nothing is left of it. */
-export function showSheet({ codes = {}, pictures } = {}, address = "", withName = undefined) {
+/** @typedef {{ codes?: Record<string, string>, pictures?: Record<string, string> }} Codes by name */
+/** @type {(answer?: Codes, address?: string, withName?: (seat: string) => string) => void} */
+export function showSheet({ codes = {}, pictures = {} } = {}, address = "", withName = (seat) => seat) {
   const seats = Object.keys(codes).filter((name) => name !== "wall");
   byId("slips").replaceChildren(...seats.map((name) => slip(withName(name), codes[name], pictures[name], address)));
   byId("sheet-says").hidden = address !== "";
   document.body.classList.toggle("printing", seats.length > 0);
 }
 
+/** @type {(name: string, code: string, picture: string | undefined, address: string) => HTMLElement} */
 function slip(name, code, picture, address) {
   const image = picture ? [Object.assign(make("img", ""), { src: picture, alt: `QR code for seat ${name}` })] : [];
   const words = make("div", "", make("h2", "", `Seat ${name}`), make("p", "", address), make("code", "", code));

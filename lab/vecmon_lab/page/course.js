@@ -4,7 +4,9 @@ import { blocks } from "./blocks.js";
 import { byId, make, prose } from "./elements.js";
 import { stripOf } from "./strip.js";
 
-const entries = JSON.parse(byId("data").textContent);
+/** @typedef {{ name: string, title: string, sentence: string, strip: import("./strip.js").Strip }} Lesson */
+/** @type {{ minutes: number, title: string, text: string, lesson: Lesson, play: string }[]} */
+const entries = JSON.parse(byId("data").text);
 byId("command").textContent = "vecmon-lab class DIR --course";
 if (entries[0].play) {
   byId("checked").textContent = "The playground checks your answers, and keeps them in this browser.";

@@ -7,32 +7,59 @@ const [INDENT, INDENT_OF_C] = [8, 4]; // columns
 const TOGETHER = 1000; // ms: what is typed without a longer pause is undone at once
 const [MOST_STATES, MOST_LETTERS] = [300, 4e6]; // that undo goes back to, and of their texts together
 
-const columnOf = (text) => [...text].reduce((at, letter) => at + (letter === "\t" ? INDENT - (at % INDENT) : 1), 0);
+/** @typedef {import("./types").SourceText} SourceText */
+/** @typedef {SourceText & { start: number, end: number }} EditorState */
+/** @typedef {{ line: number, message: string }} LineMessage */
+
+const columnOf = (/** @type {string} */ text) => [...text].reduce((at, letter) => at + (letter === "\t" ? INDENT - (at % INDENT) : 1), 0);
 
 export class Editor {
-  /** changed: is called when the text has become another one; language: a list of languages, one of them chosen. */
+  numbers = make("pre", "numbers");
+  colours = make("pre", "colours");
+  choices = make("ul", "choices");
+  /** @type {EditorState[]} */ past = [];
+  /** @type {EditorState[]} */ future = [];
+  kind = ""; // of the last change
+  time = 0; // of the last change, in ms
+  /** @type {Map<number, string>} */ told = new Map(); // messages by line
+  here = 0; // the machine's line
+  seen = 0; // the line that was scrolled into sight last
+  /** @type {number[]} */ stops = []; // lines with breakpoints
+  marked = ""; // the numbers as they are shown
+  isLeaving = false; // whether Tab leaves the field
+  /** @type {import("./syntax.js").Choices["names"]} */ names = []; // to choose from
+  word = ""; // that they complete
+  chosen = -1; // of the names
+
+  /**
+   * @param {HTMLTextAreaElement} field
+   * @param {() => unknown} changed is called when the text has become another one
+   * @param {HTMLSelectElement} language a list of languages, one of them chosen
+   */
   constructor(field, changed = () => {}, language = make("select", "")) {
-    const [numbers, colours, choices] = [make("pre", "numbers"), make("pre", "colours"), make("ul", "choices")];
-    Object.assign(this, { field, changed, language, numbers, colours, choices, past: [], future: [], kind: "", time: 0 });
-    Object.assign(this, { told: new Map(), here: 0, stops: [] }); // messages by line; the machine's place, and breakpoints
+    const { numbers, colours, choices } = this;
+    this.field = field;
+    this.changed = changed;
+    this.language = language;
     numbers.ariaHidden = colours.ariaHidden = "true";
     const box = make("div", "lines", numbers);
     field.replaceWith(box);
     box.append(make("div", "text", colours, field, choices));
+    /** @type {EditorState} */
     this.state = { text: field.value, language: 0, start: 0, end: 0 };
     this.offer();
     language.addEventListener("change", () => (this.remember(), this.took()));
-    const heard = {
-      input: (event) => this.typed(event),
-      beforeinput: (event) => /^history/.test(event.inputType) && this.turn(event, event.inputType === "historyUndo"),
-      keydown: (event) => this.pressed(event),
-      scroll: () => this.paint(),
-      blur: () => this.offer(),
-      pointerdown: () => this.offer(),
-      focus: () => (this.isLeaving = true), // so Tab passes by, until something is typed or clicked
-      pointerup: () => (this.isLeaving = false),
-    };
-    for (const [kind, hear] of Object.entries(heard)) field.addEventListener(kind, hear);
+    const inputOf = (/** @type {Event} */ event) => /** @type {InputEvent} */ (event);
+    const turned = (/** @type {InputEvent} */ event) =>
+      /^history/.test(event.inputType) && this.turn(event, event.inputType === "historyUndo");
+    field.addEventListener("input", (event) => this.typed(inputOf(event)));
+    field.addEventListener("beforeinput", (event) => turned(inputOf(event)));
+    field.addEventListener("keydown", (event) => this.pressed(event));
+    field.addEventListener("scroll", () => this.paint());
+    field.addEventListener("blur", () => this.offer());
+    field.addEventListener("pointerdown", () => this.offer());
+    field.addEventListener("focus", () => (this.isLeaving = true)); // so Tab passes by, until something is typed or clicked
+    field.addEventListener("pointerup", () => (this.isLeaving = false));
     new ResizeObserver(() => this.paint()).observe(field);
   }
 
@@ -46,7 +73,7 @@ export class Editor {
   }
 
   /** Puts in another source, which can be undone. */
-  put({ text, language }) {
+  put(/** @type {SourceText} */ { text, language }) {
     if (text === this.field.value && language === this.source.language) return;
     this.remember();
     Object.assign(this.field, { value: text });
@@ -55,6 +82,7 @@ export class Editor {
   }
 
   /** Replaces a part of the text, and selects some of it. */
+  /** @type {(start: number, end: number, text: string, from?: number, to?: number) => void} */
   edit(start, end, text, from = start + text.length, to = from) {
     this.remember();
     this.field.setRangeText(text, start, end);
@@ -62,8 +90,8 @@ export class Editor {
   }
 
   /** Shows messages at their lines, until the text is another one. */
-  tell(messages) {
-    this.told = new Map(messages.map(({ line, message }) => [line, message]).reverse());
+  tell(/** @type {LineMessage[]} */ messages) {
+    this.told = new Map([...messages].reverse().map(({ line, message }) => [line, message]));
     this.paint();
   }
 
@@ -82,8 +110,8 @@ export class Editor {
   }
 
   /** Takes up the text as it has become, and selects some of it, unless it was typed. */
-  took(from, to = from) {
-    if (from !== undefined) this.field.setSelectionRange(from, to);
+  took(/** @type {number | undefined} */ from = undefined, to = from) {
+    if (from !== undefined) this.field.setSelectionRange(from, to ?? from);
     if (from !== undefined) this.kind = "";
     this.state = { ...this.source, start: this.field.selectionStart, end: this.field.selectionEnd };
     this.told.clear();
@@ -93,7 +121,7 @@ export class Editor {
     this.changed();
   }
 
-  typed({ inputType, data, timeStamp }) {
+  typed(/** @type {InputEvent} */ { inputType, data, timeStamp }) {
     if (this.field.value === this.state.text) return; // an event more of the same paste
     const isLetter = data?.length === 1;
     if (inputType !== this.kind || timeStamp - this.time > TOGETHER) this.remember();
@@ -103,24 +131,26 @@ export class Editor {
   }
 
   /** Undoes or redoes a change, as the event asks. */
-  turn(event, isBack) {
+  turn(/** @type {Event} */ event, /** @type {boolean} */ isBack) {
     event.preventDefault();
     const [from, to] = isBack ? [this.past, this.future] : [this.future, this.past];
-    if (!from.length) return;
+    const state = from.pop();
+    if (!state) return;
     to.push(this.state);
-    const { text, language, start, end } = from.pop();
+    const { text, language, start, end } = state;
     this.field.value = text;
     this.language.selectedIndex = language;
     this.took(start, end);
   }
 
   /** Handles a key; returns false if the browser handles it. */
-  pressed(event) {
+  pressed(/** @type {KeyboardEvent} */ event) {
     const wasLeaving = this.isLeaving;
     this.isLeaving = wasLeaving && ["Shift", "Tab"].includes(event.key);
     if (event.isComposing || event.altKey || this.field.readOnly) return;
     const key = `${event.ctrlKey || event.metaKey ? "Ctrl " : ""}${event.shiftKey ? "Shift " : ""}${event.key.toLowerCase()}`;
-    const does = {
+    /** @type {Record<string, () => unknown>} */
+    const keys = {
       "Ctrl z": () => this.turn(event, true),
       "Ctrl y": () => this.turn(event, false),
       "Ctrl Shift z": () => this.turn(event, false),
@@ -131,8 +161,8 @@ export class Editor {
       escape: () => this.escape(),
       arrowdown: () => this.choose(1),
       arrowup: () => this.choose(-1),
-    }[key];
-    if (does && does() !== false) event.preventDefault();
+    };
+    if (keys[key] && keys[key]() !== false) event.preventDefault();
     else if (event.key.length > 1) this.offer();
   }
 
@@ -144,7 +174,7 @@ export class Editor {
   }
 
   /** Where the line of a place begins. */
-  lineStart(at) {
+  lineStart(/** @type {number} */ at) {
     return this.field.value.lastIndexOf("\n", at - 1) + 1;
   }
 
@@ -152,7 +182,7 @@ export class Editor {
     const { selectionStart: start, selectionEnd: end } = this.field;
     const line = this.field.value.slice(this.lineStart(start), start);
     const more = (this.isC ? /\{\s*$/ : /^[\w.$]+:/).test(line) ? " ".repeat(this.columns) : "";
-    const indent = /^\s*/.exec(line)[0];
+    const [indent = ""] = /^\s*/.exec(line) ?? [];
     this.edit(start, end, `\n${this.isC ? indent + more : indent || more}`);
   }
 
@@ -161,7 +191,7 @@ export class Editor {
   }
 
   /** Goes to the next column that is indented to, or moves the lines that are selected. */
-  indent(isBack) {
+  indent(/** @type {boolean} */ isBack) {
     const { selectionStart: start, selectionEnd: end } = this.field;
     const first = this.lineStart(start);
     const isSelected = this.field.value.slice(start, end).includes("\n");
@@ -176,17 +206,18 @@ export class Editor {
   }
 
   /** Offers names that go on from the word before the caret, if it has this number of letters. */
-  suggest(least) {
+  suggest(/** @type {number} */ least) {
     if (!this.isC) this.offer(choicesAt(this.field.value, this.field.selectionEnd, least));
   }
 
   /** Shows names below the word, or above it in the lower half. */
-  offer({ names = [], word = "" } = {}) {
+  offer(/** @type {import("./syntax.js").Choices} */ { names, word } = { names: [], word: "" }) {
     const { field, choices } = this;
     Object.assign(this, { names, word, chosen: -1 });
     choices.hidden = !names.length;
-    choices.replaceChildren(...names.map(([name, form]) => make("li", "", make("b", "", name), form.slice(name.length))));
-    [...choices.children].forEach((item, place) => (item.onpointerdown = (event) => (event.preventDefault(), this.take(place))));
+    const items = names.map(([name, form]) => make("li", "", make("b", "", name), form.slice(name.length)));
+    choices.replaceChildren(...items);
+    items.forEach((item, place) => (item.onpointerdown = (event) => (event.preventDefault(), this.take(place))));
     if (!names.length) return;
     const before = this.field.value.slice(0, field.selectionEnd - word.length);
     const column = columnOf(before.slice(this.lineStart(before.length)));
@@ -195,7 +226,7 @@ export class Editor {
     choices.classList.toggle("above", choices.offsetTop > field.clientHeight / 2);
   }
 
-  choose(step) {
+  choose(/** @type {number} */ step) {
     if (!this.names.length) return false;
     this.chosen = Math.min(this.names.length - 1, Math.max(-1, this.chosen + step));
     [...this.choices.children].forEach((item, place) => item.classList.toggle("chosen", place === this.chosen));
@@ -203,7 +234,7 @@ export class Editor {
   }
 
   /** Takes a name in place of the word. */
-  take(place) {
+  take(/** @type {number} */ place) {
     const at = this.field.selectionEnd;
     this.edit(at - this.word.length, at, this.names[place][0]);
   }
@@ -213,7 +244,7 @@ export class Editor {
     const { field, numbers, colours } = this;
     if (!field.clientHeight) return;
     const lines = this.field.value.split("\n");
-    const marksOf = (line) => (this.stops.includes(line) ? "●" : "") + (line === this.here ? "▶" : "");
+    const marksOf = (/** @type {number} */ line) => (this.stops.includes(line) ? "●" : "") + (line === this.here ? "▶" : "");
     const marked = `${lines.length} ${this.here} ${this.stops}`;
     if (marked !== this.marked) numbers.textContent = lines.map((_, place) => `${marksOf(place + 1)}${place + 1}`).join("\n");
     this.marked = marked;
@@ -222,23 +253,24 @@ export class Editor {
     const first = Math.max(0, Math.floor(field.scrollTop / height) - 2);
     const shown = lines.slice(first, first + Math.ceil(field.clientHeight / height) + 5);
     const ofC = this.isC && piecesOfC(lines.slice(0, first).join("\n"));
-    const messageAt = (line) => (this.told.has(line) ? [["message", `  ◂ ${this.told.get(line)}`]] : []);
-    const hereOf = (line) => ([kind, text]) => [line === this.here ? `${kind} here` : kind, text];
-    const piecesAt = (text, line) => [...(ofC ? ofC(text) : piecesOf(text)).map(hereOf(line)), ...messageAt(line), ["", "\n"]];
-    const pieces = shown.flatMap((text, at) => piecesAt(text, first + at + 1));
-    colours.replaceChildren("\n".repeat(first), ...pieces.map(([kind, text]) => (kind ? make("span", kind, text) : text)));
+    const partOf = (/** @type {string} */ kind, /** @type {string} */ text) => (kind ? make("span", kind, text) : text);
+    const partsAt = (/** @type {string} */ text, /** @type {number} */ line) => {
+      const parts = (ofC ? ofC(text) : piecesOf(text)).map(([kind, word]) => partOf(line === this.here ? `${kind} here` : kind, word));
+      return [...parts, ...(this.told.has(line) ? [partOf("message", `  ◂ ${this.told.get(line)}`)] : []), "\n"];
+    };
+    colours.replaceChildren("\n".repeat(first), ...shown.flatMap((text, at) => partsAt(text, first + at + 1)));
     colours.style.transform = `translate(${-field.scrollLeft}px, ${-field.scrollTop}px)`;
     numbers.scrollTop = field.scrollTop;
   }
 
   /** Marks the machine's line, which comes into sight, and those of breakpoints. */
-  mark(here, stops) {
+  mark(/** @type {number} */ here, /** @type {number[]} */ stops) {
     Object.assign(this, { here, stops });
     this.paint();
   }
 
   /** Scrolls the machine's line into sight, once. */
-  bringIntoSight(height) {
+  bringIntoSight(/** @type {number} */ height) {
     const { field, here } = this;
     const [first, last] = [field.scrollTop / height, (field.scrollTop + field.clientHeight) / height - 1];
     if (here && here !== this.seen && (here - 1 < first || here > last)) field.scrollTop = (here - 4) * height;
@@ -246,7 +278,7 @@ export class Editor {
   }
 
   /** The line whose number an event is at. */
-  lineAt({ clientY }) {
+  lineAt(/** @type {MouseEvent} */ { clientY }) {
     const { field, numbers } = this;
     const { lineHeight, paddingTop } = getComputedStyle(field);
     const top = numbers.getBoundingClientRect().top + parseFloat(paddingTop) - field.scrollTop;

@@ -1,8 +1,22 @@
 // Elements of the page, found and made. Texts are put in as text, never as HTML.
 
-export const byId = (id) => document.getElementById(id);
+/** @typedef {import("./parts").Parts} Parts */
+/** @typedef {string | Node} Content */
 
-/** An element with a class and contents. */
+/**
+ * The part of a panel with an id, whose kind `parts.d.ts` has. A panel looks below its own root, so that a page can have several.
+ * @type {<Id extends keyof Parts>(root: ParentNode, id: Id) => Parts[Id]}
+ */
+export const part = (root, id) => /** @type {any} a test compares the kinds with the pages */ (root.querySelector(`#${id}`));
+
+/** A part of the page. */
+/** @type {<Id extends keyof Parts>(id: Id) => Parts[Id]} */
+export const byId = (id) => part(document, id);
+
+/**
+ * An element with a class and contents.
+ * @type {<Tag extends keyof HTMLElementTagNameMap>(tag: Tag, kind: string, ...contents: Content[]) => HTMLElementTagNameMap[Tag]}
+ */
 export function make(tag, kind, ...contents) {
   const element = document.createElement(tag);
   if (kind) element.className = kind;
@@ -11,39 +25,47 @@ export function make(tag, kind, ...contents) {
 }
 
 /** A button whose name says more than its text. */
+/** @type {(text: string, ariaLabel: string, onclick: () => unknown) => HTMLButtonElement} */
 export const button = (text, ariaLabel, onclick) => Object.assign(make("button", "", text), { ariaLabel, onclick });
 
 /** A link to a page that opens in a new tab. */
-export const link = (href, text) => Object.assign(make("a", "", text), { href, target: "_blank", rel: "noopener" });
+export const link = (/** @type {string} */ href, /** @type {string} */ text) =>
+  Object.assign(make("a", "", text), { href, target: "_blank", rel: "noopener" });
 
 /** Words for readers who can't see colour and form. */
-export const unseen = (text) => make("span", "unseen", text);
+export const unseen = (/** @type {string} */ text) => make("span", "unseen", text);
 
 /** A column's or a row's header. */
+/** @type {(scope: string, ...contents: Content[]) => HTMLTableCellElement} */
 export const header = (scope, ...contents) => Object.assign(make("th", "", ...contents), { scope });
 
 /** A table with a caption that is only heard. */
+/** @type {(caption: string, ...parts: Node[]) => HTMLTableElement} */
 export const table = (caption, ...parts) => make("table", "", make("caption", "unseen", caption), ...parts);
 
 /** A text of the author's, with backquotes around code, as elements. */
+/** @type {(text: string) => Content[]} */
 export const prose = (text) => text.split("`").map((part, place) => (place % 2 ? make("code", "", part) : part));
 
 /** A time in seconds since 1970 as `14:05`. */
-export const timeText = (time) => new Date(time * 1000).toLocaleTimeString("en-GB", { hour: "2-digit", minute: "2-digit" });
+export const timeText = (/** @type {number} */ time) =>
+  new Date(time * 1000).toLocaleTimeString("en-GB", { hour: "2-digit", minute: "2-digit" });
 
 /** Lets the browser save a file. */
-export function offerFile(download, blob) {
+export function offerFile(/** @type {string} */ download, /** @type {Blob} */ blob) {
   const link = Object.assign(make("a", ""), { href: URL.createObjectURL(blob), download });
   link.click();
   setTimeout(() => URL.revokeObjectURL(link.href), 60000);
 }
 
 /** Puts a text in only where it is another one, so that it isn't read aloud again. */
+/** @type {(element: Element, text: string, contents?: Content[]) => void} */
 export function put(element, text, contents = [text]) {
   if (element.textContent !== text.replaceAll("`", "")) element.replaceChildren(...contents);
 }
 
-/** Asks in a dialog, where something would be lost, and carries that out where the answer is yes. */
+/** Asks in a dialog, where something would be lost, and does that if the answer is yes. */
+/** @type {(question: string, yes: string, carryOut: () => unknown) => void} */
 export function ask(question, yes, carryOut) {
   put(byId("question"), question);
   put(byId("yes"), yes);
@@ -53,17 +75,19 @@ export function ask(question, yes, carryOut) {
 }
 
 /** Presses the button in sight whose title names a key, as `(Shift F8)`; in the editor, where the key is pressed there. */
-export function pressNamed(event, mayPress = true) {
+export function pressNamed(/** @type {KeyboardEvent} */ event, mayPress = true) {
   const held = `${event.ctrlKey || event.metaKey ? "Ctrl " : ""}${event.shiftKey ? "Shift " : ""}`;
   const own = event.key?.length > 1 && document.querySelector(`button[title$="(${held}${event.key})"]`);
-  if (!own || !own.checkVisibility() || event.defaultPrevented || document.querySelector("dialog[open]")) return;
-  if ((event.key === "Escape" && own.disabled) || own.closest("#editor")?.contains(event.target) === false) return;
+  if (!(own instanceof HTMLButtonElement) || !own.checkVisibility()) return;
+  if (event.defaultPrevented || document.querySelector("dialog[open]")) return;
+  const isOutside = own.closest("#editor")?.contains(/** @type {Node} */ (event.target)) === false;
+  if ((event.key === "Escape" && own.disabled) || isOutside) return;
   event.preventDefault();
   if (mayPress) own.click();
 }
 
 /** Shows a sentence in an element, or hides it. */
-export function say(id, words) {
+export function say(/** @type {"gone" | "trouble" | "says-past"} */ id, /** @type {string} */ words) {
   put(byId(id), words);
   byId(id).hidden = words === "";
 }

@@ -1,13 +1,24 @@
 // The exercises of a class, at a seat: the text, hints that are due, and the result of the last check.
 
 import { blocks } from "./blocks.js";
-import { byId, link, make, prose, put } from "./elements.js";
+import { link, make, part, prose, put } from "./elements.js";
 import { verdict } from "./verdict.js";
 
+/** @typedef {import("./messages").ExerciseView} ExerciseView */
+/** @typedef {import("./types").SourceText} SourceText */
+
 export class Exercises {
-  /** student: whose requests are made; editor: has the source that is checked. */
-  constructor(student, editor) {
-    Object.assign(this, { student, editor, all: {}, name: "", shown: {} });
+  /** @type {Record<string, ExerciseView>} */ all = {};
+  name = ""; // of the exercise that is open
+  /** @type {Partial<ExerciseView>} */ shown = {};
+  /** @type {boolean | undefined} */ isOpen;
+  awaited = ""; // the exercise that is being checked
+
+  /** @param {HTMLElement} root @param {import("./bench.js").Bench} bench whose source is checked */
+  constructor(root, bench) {
+    this.root = root;
+    this.bench = bench;
+    this.editor = bench.editor;
     this.choice = Object.assign(make("select", ""), { ariaLabel: "Exercise", onchange: () => this.choose(this.choice.value) });
     this.toggle = Object.assign(make("button", "student", "Exercise"), { hidden: true, onclick: () => this.open(!this.isOpen) });
     this.check = Object.assign(make("button", "main", "Check"), { title: "Checks the source (Ctrl Shift Enter)" });
@@ -16,7 +27,9 @@ export class Exercises {
     this.begin = Object.assign(make("button", "", "Begin"), { title: "Puts the source to begin with into Source; undo takes it back" });
     this.begin.onclick = () => this.takeStart();
     this.state = Object.assign(make("span", ""), { role: "status" });
-    [this.text, this.hints, this.verdict] = ["text", "hints", "verdict"].map((kind) => make("div", kind));
+    this.text = make("div", "text");
+    this.hints = make("div", "hints");
+    this.verdict = make("div", "verdict");
     const controls = make("p", "", this.check, " ", this.begin, " ", this.answers, " ", this.state);
     const parts = [this.text, controls, this.verdict, this.hints];
     this.reading = Object.assign(make("div", "reading", ...parts), { tabIndex: 0, role: "region", ariaLabel: "Text of the exercise" });
@@ -24,19 +37,20 @@ export class Exercises {
     this.panel = Object.assign(make("section", "student", head, this.reading), { id: "exercise" });
     this.panel.setAttribute("aria-labelledby", "exercise-title");
     this.editor.language.addEventListener("change", () => this.changeStart());
-    byId("home").before(this.toggle);
-    byId("desk").prepend(this.panel);
+    part(root, "home").before(this.toggle);
+    part(root, "desk").prepend(this.panel);
   }
 
   /** Shows or hides the panel. */
-  open(isOpen) {
+  open(/** @type {boolean} */ isOpen) {
     this.isOpen = isOpen;
-    document.body.classList.toggle("exercising", isOpen);
+    this.root.classList.toggle("exercising", isOpen);
     this.toggle.ariaPressed = `${isOpen}`;
     this.panel.hidden = !isOpen;
   }
 
   /** Shows the server's data of all exercises, at a seat that has this source. */
+  /** @type {(all: Record<string, ExerciseView>, source: import("./messages").SourceView) => void} */
   show(all, source) {
     const names = Object.keys(all);
     const name = names.includes(source.exercise) ? source.exercise : names[0];
@@ -44,8 +58,8 @@ export class Exercises {
     if (all === this.all && !isOpened) return;
     Object.assign(this, { all, name });
     this.toggle.hidden = !names.length;
-    const option = (name) => Object.assign(make("option", "", `${all[name].passed ? "✓ " : ""}${all[name].title}`), { value: name });
-    this.choice.replaceChildren(...names.map(option));
+    const titles = names.map((value) => ({ value, title: `${all[value].passed ? "✓ " : ""}${all[value].title}` }));
+    this.choice.replaceChildren(...titles.map(({ value, title }) => Object.assign(make("option", "", title), { value })));
     this.choice.value = this.name;
     this.open(names.length > 0 && this.isOpen !== false);
     if (!names.length) return;
@@ -55,22 +69,22 @@ export class Exercises {
   }
 
   /** Opens another exercise, in all tabs of the seat: each has a source, which is the one to begin with at first. */
-  async choose(name) {
+  async choose(/** @type {string} */ name) {
     this.choice.disabled = true; // one at a time
-    const isOpen = await this.student.source.openExercise(name);
+    const isOpen = await this.bench.source.openExercise(name);
     this.choice.disabled = false;
     this.choice.value = this.name;
-    if (!isOpen) this.student.refuse("The exercise isn't open: the source in the editor couldn't be saved before.");
+    if (!isOpen) this.bench.refuse("The exercise isn't open: the source in the editor couldn't be saved before.");
   }
 
   /** Puts an earlier answer into the editor, where undo takes it back. */
   async takeAnswer() {
     const number = this.answers.selectedIndex;
     this.answers.selectedIndex = 0;
-    const answer = await this.student.request({ ask: "answer", exercise: this.name, number });
+    const answer = await this.bench.request({ ask: "answer", exercise: this.name, number });
     if (answer?.text === undefined) return;
-    await this.student.source.replace(answer);
-    this.student.showSide("source");
+    await this.bench.source.replace({ text: answer.text, language: answer.language ?? 0 });
+    this.bench.showSide("source");
   }
 
   /** The source to begin with: of two, the one of the language that is chosen, be it C by whatever options. */
@@ -101,28 +115,28 @@ export class Exercises {
     if (isTold) this.tell(it.told);
   }
 
-  lessonBefore(href) {
+  lessonBefore(/** @type {string} */ href) {
     return href ? [make("p", "", link(href, "The lesson before it"), " solves another problem of the kind, step by step.")] : [];
   }
 
   /** Scrolls the last result into sight. */
-  tell({ mistakes, warnings }) {
+  tell(/** @type {ExerciseView["told"]} */ { mistakes, warnings }) {
     this.awaited = "";
-    this.reading.scrollTop = this.state.parentElement.offsetTop;
-    this.student.showMistakes(mistakes ?? [], warnings);
-    if (mistakes) this.student.showSide("source");
+    this.reading.scrollTop = this.state.parentElement?.offsetTop ?? 0;
+    this.bench.showMistakes(mistakes, warnings);
+    if (mistakes) this.bench.showSide("source");
   }
 
   /** Sends the source in the editor. */
   async checkSource() {
     this.check.disabled = true; // so that a click more checks nothing
-    await this.student.request({ ask: "check", exercise: this.name, ...this.editor.source });
+    await this.bench.request({ ask: "check", exercise: this.name, ...this.editor.source });
     this.check.disabled = this.all[this.name].checking;
   }
 
   /** Begins a machine with the source in the editor, and with what is given in the case that failed. */
   tryCase() {
-    return this.student.write({ ask: "case", exercise: this.name });
+    return this.bench.write({ ask: "case", exercise: this.name });
   }
 
   /** Another language was chosen: where nothing was written yet, one begins with its source. */
@@ -132,7 +146,7 @@ export class Exercises {
 
   /** Puts the source to begin with into the editor, and opens it. */
   takeStart() {
-    this.student.source.replace(this.start);
-    this.student.showSide("source");
+    this.bench.source.replace(this.start);
+    this.bench.showSide("source");
   }
 }

@@ -2,15 +2,19 @@
 
 import { make } from "./elements.js";
 
-const percent = (frame, whole) => `${Math.round((1000 * frame.total) / whole) / 10} %`;
+/** @typedef {{ name: string, own: number, total: number, callees: Frame[] }} Frame ticks of a function, and of those that it calls */
+/** @typedef {{ total: number, item: HTMLElement }} Drawn */
+
+const percent = (/** @type {Frame} */ frame, /** @type {number} */ whole) => `${Math.round((1000 * frame.total) / whole) / 10} %`;
 
 /** A list of frames, each as wide as its share of the one above. */
-const list = (frames, above) => {
-  const item = (frame) => Object.assign(frame.item, { style: `flex: 0 0 ${(100 * frame.total) / above}%` });
+const list = (/** @type {Drawn[]} */ frames, /** @type {number} */ above) => {
+  const item = (/** @type {Drawn} */ frame) => Object.assign(frame.item, { style: `flex: 0 0 ${(100 * frame.total) / above}%` });
   return make("ul", "", ...frames.map(item));
 };
 
-/** A bar with the list below it; who clicks on it, chooses its frame. */
+/** A bar with the list below it; a click on it chooses its frame. */
+/** @type {(frame: Frame, callees: Drawn[], whole: number, choose: () => void) => Drawn} */
 function drawn(frame, callees, whole, choose) {
   const text = `${frame.name} ${percent(frame, whole)}`;
   const ticks = `${frame.total.toLocaleString("en")} ticks, ${frame.own.toLocaleString("en")} of them its own`;
@@ -19,23 +23,25 @@ function drawn(frame, callees, whole, choose) {
 }
 
 /** A flame graph of frames. A click on a bar makes it as wide as all, below those that called it. */
-export function flameGraph(frames) {
+export function flameGraph(/** @type {Frame[]} */ frames) {
   const all = { name: "all", own: 0, total: frames.reduce((sum, frame) => sum + frame.total, 0), callees: frames };
   const graph = make("div", "flame");
-  const choose = (path) => () => {
+  const choose = (/** @type {Frame[]} */ path) => () => {
     show(path);
     graph.querySelectorAll("button")[path.length - 1].focus();
   };
-  const below = (path) => path.at(-1).callees.map((frame) => {
+  /** @type {(path: Frame[]) => Drawn[]} */
+  const below = (path) => path[path.length - 1].callees.map((frame) => {
     const way = [...path, frame];
     return drawn(frame, below(way), all.total, choose(way));
   });
+  /** @type {(path: Frame[], number: number) => Drawn} */
   const chosen = (path, number) => {
     const way = path.slice(0, number + 1);
     const callees = number + 1 < path.length ? [chosen(path, number + 1)] : below(path);
     return { ...drawn(path[number], callees, all.total, choose(way)), total: path[Math.max(0, number - 1)].total };
   };
-  const show = (path) => graph.replaceChildren(list([chosen(path, 0)], all.total));
+  const show = (/** @type {Frame[]} */ path) => graph.replaceChildren(list([chosen(path, 0)], all.total));
   show([all]);
   return graph;
 }

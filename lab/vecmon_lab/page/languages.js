@@ -3,10 +3,11 @@
 import { make } from "./elements.js";
 
 /** Offers languages once; C can't be chosen in a class that takes none, and the choice says why. */
+/** @type {(select: HTMLSelectElement, view: { languages: string[], no_c: string }) => void} */
 export function offerLanguages(select, { languages, no_c: why }) {
   if (select.length === languages.length) return;
-  const option = (name, number) => Object.assign(make("option", "", name), { disabled: number > 0 && why !== "" });
-  select.replaceChildren(...languages.map(option));
+  select.replaceChildren(...languages.map((name) => make("option", "", name)));
+  [...select.options].forEach((option, number) => (option.disabled = number > 0 && why !== ""));
   select.title = why ? `This class takes no C: ${why}` : "";
   select.selectedIndex = Number(sessionStorage.getItem(select.id)); // as before a reload
 }

@@ -1,80 +1,111 @@
 // A lesson: frames made beforehand, stepped back and forth. Each has what changed of the states.
 
-import { byId, make, prose, put } from "./elements.js";
+import { byId, make, part, prose, put } from "./elements.js";
 import { patched } from "./patches.js";
 import { lineBegins } from "./source_lines.js";
 import { STOP_LINE, entryParts, logEntry } from "./transcript.js";
-import { paintState, showStep, showStop, usedIn } from "./view.js";
+import { MachineView, usedIn } from "./view.js";
+
+/** @typedef {import("./messages").State} State */
+/** @typedef {Record<string, State>} States by user */
+/** @typedef {import("./messages").FrameData} Frame */
 
 const LINKS = { prev: "Previous lesson", index: "All lessons", next: "Next lesson" };
+/** @type {("first" | "back" | "next" | "last")[]} */
+const MOVES = ["first", "back", "next", "last"];
+/** @type {Record<string, number>} */
+const LINE_KEYS = { ArrowDown: 1, ArrowUp: -1 };
+/** @type {Record<string, number>} */
+const FRAME_KEYS = { ArrowRight: 1, ArrowLeft: -1 };
 const ADDRESS_DELAY = 300; // ms: a browser limits the rate of new addresses
 
+/** A lesson below a root, which has all of its page. */
 class Lesson {
-  constructor({ frames, links = [], ...source }) {
-    Object.assign(this, { frames, source, states: [], user: "" }); // user: chosen to be shown; else it is the line's
-    document.body.classList.toggle("sourced", Object.keys(source.lines).length > 0);
-    byId("machine").addEventListener("change", () => this.show(this.place));
+  /** @type {States[]} */ states = []; // by frame
+  user = ""; // chosen to be shown; "" for the line's
+  place = 0;
+  address = 0; // a timer
+
+  /** @param {HTMLElement} root @param {import("./messages").LessonData} data */
+  constructor(root, { frames, links, ...source }) {
+    this.root = root;
+    this.frames = frames;
+    this.source = source;
+    this.view = new MachineView(root);
+    this.log = part(root, "log");
+    root.classList.toggle("sourced", Object.keys(source.lines).length > 0);
+    this.view.machine.addEventListener("change", () => this.show(this.place));
+    /** @type {States} */
     let states = {};
     for (const frame of frames) this.states.push((states = patched(states, frame.states)));
     this.entries = frames.flatMap((frame) => frame.log);
     this.users = Object.keys(states);
-    const usedBy = (user) => new Set(this.states.flatMap((states) => usedIn(states[user]))); // in some frame
+    const usedBy = (/** @type {string} */ user) => new Set(this.states.flatMap((states) => usedIn(states[user]))); // in some frame
     this.used = Object.fromEntries(this.users.map((user) => [user, usedBy(user)]));
-    byId("sentence").hidden = !frames.some((frame) => frame.note);
+    part(root, "sentence").hidden = !frames.some((frame) => frame.note);
+    this.buttons = ["", ...this.users].map((user) => this.userButton(user));
     this.listen();
+    this.begins = lineBegins(source.starts ?? {}, this.states.map((states) => states[1]?.pc));
     this.listenToLines();
-    const link = ({ kind, address, title }) => Object.assign(make("a", "", LINKS[kind]), { rel: kind, href: address, title });
-    byId("links").append(...links.map(link)); // to other lessons of a tour or a course
-    byId("links").hidden = !links.length;
+    const link = (/** @type {import("./messages").Link} */ { kind, address, title }) =>
+      Object.assign(make("a", "", LINKS[kind]), { rel: kind, href: address, title });
+    part(root, "links").append(...links.map(link)); // to other lessons of a tour or a course
+    part(root, "links").hidden = !links.length;
     this.show(Number(location.hash.slice(1) || 1) - 1);
   }
 
   listen() {
     const places = { first: () => 0, back: () => this.place - 1, next: () => this.place + 1, last: () => Infinity };
-    for (const [id, place] of Object.entries(places)) byId(id).addEventListener("click", () => this.show(place()));
-    byId("place").max = this.frames.length - 1;
-    byId("place").addEventListener("input", () => this.show(Number(byId("place").value)));
+    for (const id of MOVES) part(this.root, id).addEventListener("click", () => this.show(places[id]()));
+    const slider = part(this.root, "place");
+    slider.max = `${this.frames.length - 1}`;
+    slider.addEventListener("input", () => this.show(Number(slider.value)));
     document.addEventListener("keydown", (event) => this.pressed(event));
-    byId("users").hidden = this.users.length < 2;
-    for (const user of ["", ...this.users]) {
-      const button = make("button", "", user ? `user ${user}` : "the line's user");
-      button.dataset.user = user;
-      button.addEventListener("click", () => ((this.user = user), this.show(this.place)));
-      byId("users").append(button);
-    }
+    part(this.root, "users").hidden = this.users.length < 2;
+    part(this.root, "users").append(...this.buttons);
+  }
+
+  userButton(/** @type {string} */ user) {
+    const button = make("button", "", user ? `user ${user}` : "the line's user");
+    button.dataset.user = user;
+    button.addEventListener("click", () => ((this.user = user), this.show(this.place)));
+    return button;
   }
 
   /** The ways from line to line of a source in C, which has as many frames as instructions. */
   listenToLines() {
-    const { starts, lines } = this.source;
-    this.begins = lineBegins(starts, this.states.map((states) => states[1]?.pc));
-    byId("line-ways").hidden = !this.begins.length;
-    byId("program-title").after(byId("line-ways"));
-    const texts = new Map(Object.values(lines).map((text) => [parseInt(text), text]));
+    const [root, ways, list] = [this.root, part(this.root, "line-ways"), part(this.root, "line")];
+    ways.hidden = !this.begins.length;
+    part(root, "program-title").after(ways);
+    const texts = new Map(Object.values(this.source.lines).map((text) => [parseInt(text), text]));
     const numbers = [...new Set(this.begins.map(({ line }) => line))].sort((one, other) => one - other);
-    byId("line").append(...numbers.map((line) => Object.assign(make("option", "", texts.get(line)), { value: line })));
-    for (const [id, step] of [["line-back", -1], ["line-next", 1]]) byId(id).addEventListener("click", () => this.stepLine(step));
-    byId("line-go").addEventListener("click", () => {
-      const own = this.begins.filter(({ line }) => line === Number(byId("line").value));
+    list.append(...numbers.map((line) => Object.assign(make("option", "", texts.get(line) ?? ""), { value: line })));
+    part(root, "line-back").addEventListener("click", () => this.stepLine(-1));
+    part(root, "line-next").addEventListener("click", () => this.stepLine(1));
+    part(root, "line-go").addEventListener("click", () => {
+      const own = this.begins.filter(({ line }) => line === Number(list.value));
       this.show((own.find(({ place }) => place > this.place) ?? own[0]).place);
     });
   }
 
   /** Shows the frame where the next line begins, or this one or the one before. */
-  stepLine(step) {
-    const isBeyond = ({ place }) => (step > 0 ? place > this.place : place < this.place);
+  stepLine(/** @type {number} */ step) {
+    const isBeyond = (/** @type {{ place: number }} */ { place }) => (step > 0 ? place > this.place : place < this.place);
     const begin = step > 0 ? this.begins.find(isBeyond) : this.begins.findLast(isBeyond);
     if (begin) this.show(begin.place);
   }
 
-  pressed(event) {
-    if (event.ctrlKey || event.altKey || event.metaKey || event.target.matches("select, input")) return;
-    const box = event.target.closest(".scroll, #output");
+  pressed(/** @type {KeyboardEvent} */ event) {
+    const at = /** @type {Element} */ (event.target);
+    if (event.ctrlKey || event.altKey || event.metaKey || at.matches("select, input")) return;
+    const box = at.closest(".scroll, #output");
     if (box && box.scrollWidth > box.clientWidth) return; // there the keys move the box
-    const line = { ArrowDown: 1, ArrowUp: -1 }[event.key];
+    const line = LINE_KEYS[event.key];
     if (line && this.begins.length && !box) return void (event.preventDefault(), this.stepLine(line));
-    const step = { ArrowRight: 1, ArrowLeft: -1 }[event.key];
-    const end = event.shiftKey ? undefined : { Home: 0, End: this.frames.length - 1 }[event.key];
+    const step = FRAME_KEYS[event.key];
+    /** @type {Record<string, number>} */
+    const ends = event.shiftKey ? {} : { Home: 0, End: this.frames.length - 1 };
+    const end = ends[event.key];
     if (!step && end === undefined) return;
     event.preventDefault();
     let place = end ?? this.place + step;
@@ -83,49 +114,52 @@ class Lesson {
   }
 
   /** Shows a frame, the nearest one where there is none of this number. */
-  show(wanted) {
+  show(/** @type {number} */ wanted) {
     this.place = Math.min(this.frames.length - 1, Math.max(0, wanted || 0));
     const frame = this.frames[this.place];
     const user = this.user || frame.user;
     const states = this.states[this.place];
+    /** @type {State} */
     const state = states[user] ?? { run: "absent" };
     this.showPlace(user, states);
     this.showStage(frame, state, user, states);
     this.showLog(frame.log.length);
-    paintState({ ...state, ...this.source }, this.states[this.place - 1]?.[user], this.used[user]);
-    byId("log").scrollTop = byId("log").scrollHeight;
+    this.view.paint({ ...state, ...this.source }, this.states[this.place - 1]?.[user], this.used[user]);
+    this.log.scrollTop = this.log.scrollHeight;
     clearTimeout(this.address);
     this.address = setTimeout(() => history.replaceState(null, "", `#${this.place + 1}`), ADDRESS_DELAY);
   }
 
-  showPlace(user, states) {
+  showPlace(/** @type {string} */ user, /** @type {States} */ states) {
     const count = `${this.place + 1} of ${this.frames.length}`;
-    byId("count").textContent = count;
-    Object.assign(byId("place"), { value: this.place, ariaValueText: `frame ${count}` });
-    byId("first").disabled = byId("back").disabled = this.place === 0;
-    byId("last").disabled = byId("next").disabled = this.place === this.frames.length - 1;
-    for (const button of byId("users").children) {
+    part(this.root, "count").textContent = count;
+    Object.assign(part(this.root, "place"), { value: this.place, ariaValueText: `frame ${count}` });
+    const [isFirst, isLast] = [this.place === 0, this.place === this.frames.length - 1];
+    for (const id of MOVES) part(this.root, id).disabled = id === "first" || id === "back" ? isFirst : isLast;
+    for (const button of this.buttons) {
       const own = button.dataset.user;
-      button.setAttribute("aria-pressed", own === this.user);
+      button.ariaPressed = `${own === this.user}`;
       button.classList.toggle("shown", own === user);
       if (own) button.textContent = `user ${own}: ${states[own]?.run ?? "absent"}`;
     }
   }
 
   /** The author's sentence, shown until the next one, the command, and the stop or refusal. */
+  /** @type {(frame: Frame, state: State, user: string, states: States) => void} */
   showStage(frame, state, user, states) {
     const note = this.frames.slice(0, this.place + 1).findLast((each) => each.note)?.note ?? "";
-    put(byId("sentence"), note, prose(note));
-    showStop(frame.log.map((_, place) => this.entryWords(frame.log, place, states)).filter(Boolean).join(" "));
+    put(part(this.root, "sentence"), note, prose(note));
+    this.view.showStop(frame.log.map((_, place) => this.entryWords(frame.log, place, states)).filter(Boolean).join(" "));
     const more = frame.more ? `, and ${frame.more} line${frame.more > 1 ? "s" : ""} more` : "";
     const parts = frame.line ? [make("span", "", frame.line, make("small", "", more))] : [];
-    const remark = (text) => parts.push(make("small", "", text));
+    const remark = (/** @type {string} */ text) => parts.push(make("small", "", text));
     if (frame.line && user !== frame.line[0] && this.users.length > 1) remark(`shown: user ${user}`);
     if (state.run === "absent") remark(`user ${user} isn't there`);
-    showStep(state, ...parts);
+    this.view.showStep(state, ...parts);
   }
 
   /** The stop or refusal in an entry of a frame's log, in words; "" for most. */
+  /** @type {(log: string[], place: number, states: States) => string} */
   entryWords(log, place, states) {
     const [text, refusal] = entryParts(log[place]);
     if (log[place][0] === "!") return text;
@@ -137,13 +171,13 @@ class Lesson {
   }
 
   /** The transcript up to this frame, whose own entries are `current`. Those that are there already stay. */
-  showLog(current) {
-    const log = byId("log");
+  showLog(/** @type {number} */ current) {
+    const { log } = this;
     const end = this.frames.slice(0, this.place + 1).reduce((sum, frame) => sum + frame.log.length, 0);
-    while (log.childElementCount > end) log.lastChild.remove();
+    while (log.childElementCount > end) log.lastChild?.remove();
     log.append(...this.entries.slice(log.childElementCount, end).map((entry) => logEntry(entry)));
     [...log.children].forEach((item, place) => item.classList.toggle("current", place >= end - current));
   }
 }
 
-new Lesson(JSON.parse(byId("lesson").textContent));
+new Lesson(document.body, JSON.parse(byId("lesson").text));

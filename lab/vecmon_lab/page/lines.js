@@ -1,14 +1,15 @@
 // A field for lines of the monitor: Enter executes all lines in it, and arrow keys bring back earlier ones.
 
-import { byId } from "./elements.js";
 
 const MOST_LINES = 4096; // at once
 const MOST_TOGETHER = 64; // in a request
 const MOST_CHARACTERS = 1022; // of a line
+/** @type {Record<string, number>} */
+const STEPS = { ArrowUp: -1, ArrowDown: 1 };
 
 /** Why lines aren't sent, in a sentence; "" where they are. */
-export function unfitLines(lines) {
-  const told = (words) => `${words}: nothing was sent.`;
+export function unfitLines(/** @type {string[]} */ lines) {
+  const told = (/** @type {string} */ words) => `${words}: nothing was sent.`;
   if (lines.length > MOST_LINES) return told(`These are ${lines.length} lines, and at most ${MOST_LINES} go at once`);
   for (const [place, line] of lines.entries()) {
     const which = lines.length > 1 ? `line ${place + 1}` : "the line";
@@ -21,16 +22,24 @@ export function unfitLines(lines) {
 }
 
 /** The requests that execute lines, at most a fixed number each. */
+/** @type {(lines: string[]) => { ask: "lines", do: string[] }[]} */
 export function requestsOf(lines) {
   const parts = Array.from({ length: Math.ceil(lines.length / MOST_TOGETHER) }, (_, place) => place * MOST_TOGETHER);
   return parts.map((first) => ({ ask: "lines", do: lines.slice(first, first + MOST_TOGETHER) }));
 }
 
 export class LineField {
-  /** carryOut: is given lines that aren't empty, without those that begin with `#`. */
-  constructor(id, carryOut) {
-    Object.assign(this, { field: byId(id), carryOut, past: [], place: 0 }); // entries of before, and one among them
-    this.field.form.addEventListener("submit", () => this.enter());
+  /** @type {string[]} */ past = []; // entries of before
+  place = 0; // among them
+
+  /**
+   * @param {HTMLTextAreaElement} field in a form
+   * @param {(lines: string[]) => unknown} execute is given lines that aren't empty, without those that begin with `#`
+   */
+  constructor(field, execute) {
+    this.field = field;
+    this.execute = execute;
+    this.field.form?.addEventListener("submit", () => this.enter());
     this.field.addEventListener("keydown", (event) => this.pressed(event));
   }
 
@@ -41,16 +50,16 @@ export class LineField {
     if (!own.length) return;
     this.past = [...this.past.filter((each) => each !== entry), entry];
     this.place = this.past.length;
-    this.carryOut(own);
+    this.execute(own);
   }
 
-  pressed(event) {
+  pressed(/** @type {KeyboardEvent} */ event) {
     const { value, selectionStart: at } = this.field;
     if (event.key === "Enter" && !event.shiftKey && !event.isComposing) {
       event.preventDefault();
-      this.field.form.requestSubmit();
+      this.field.form?.requestSubmit();
     }
-    const step = { ArrowUp: -1, ArrowDown: 1 }[event.key];
+    const step = STEPS[event.key];
     if (!step || (step < 0 ? value.slice(0, at) : value.slice(at)).includes("\n")) return;
     event.preventDefault();
     this.place = Math.min(this.past.length, Math.max(0, this.place + step));

@@ -2,9 +2,12 @@
 
 const PREFIX = "#source=";
 const MOST_LINK_LETTERS = 100000; // which all current browsers take in an address
-const namesOf = (languages) => [...languages.options].map(({ text }) => text);
+const namesOf = (/** @type {HTMLSelectElement} */ languages) => [...languages.options].map(({ text }) => text);
+
+/** @typedef {import("./types").SourceText} SourceText */
 
 /** The part of an address with a source, in base64url; the language by its name in a list. Null where that is too long. */
+/** @type {(source: SourceText, languages: HTMLSelectElement) => string | null} */
 export function linkOf({ text, language }, languages) {
   const bytes = new TextEncoder().encode(JSON.stringify({ text, language: namesOf(languages)[language] }));
   const letters = btoa(Array.from(bytes, (byte) => String.fromCharCode(byte)).join(""));
@@ -12,9 +15,10 @@ export function linkOf({ text, language }, languages) {
   return hash.length > MOST_LINK_LETTERS ? null : hash;
 }
 
-export const isLink = (hash) => hash.startsWith(PREFIX);
+export const isLink = (/** @type {string} */ hash) => hash.startsWith(PREFIX);
 
 /** The source of such a part; null where it isn't one. */
+/** @type {(hash: string, languages: HTMLSelectElement) => SourceText | null} */
 export function sourceOf(hash, languages) {
   if (hash.length > MOST_LINK_LETTERS) return null;
   try {
@@ -28,9 +32,11 @@ export function sourceOf(hash, languages) {
 }
 
 /** The suffix of a file for a language: `s`, `stock.s`, or `O2.c` with C's options. */
+/** @type {(language: number, languages: HTMLSelectElement) => string} */
 export const suffixOf = (language, languages) =>
   namesOf(languages)[language].split(", ").reverse().join(".").replace("C", "c").replace("assembler", "s");
 
 /** The language of a file by its name, whose suffix may be one of these; else the first C, or assembler. */
+/** @type {(name: string, languages: HTMLSelectElement) => number} */
 export const languageOf = (name, languages) =>
   Math.max(namesOf(languages).findLastIndex((_, number) => name.endsWith(`.${suffixOf(number, languages)}`)), Number(name.endsWith(".c")));

@@ -1,28 +1,43 @@
 // The program: labels, breakpoints, the program counter, the current instruction, and new words.
 
-import { byId, header, make, unseen } from "./elements.js";
+import { editable } from "./edits.js";
+import { header, make, part, unseen } from "./elements.js";
 import { RowTable, placesOf } from "./rows.js";
 import { startOf } from "./source_lines.js";
 import { saysMore, target, withNames } from "./words.js";
 
+/** @typedef {import("./types").MachineState} MachineState */
+
 const NAMES = ["marks", "address", "word", "instruction", "source"];
 const COLUMNS = 20; // of an instruction, as the style has it
-const rows = new RowTable(byId("listing"), "Program", NAMES, "No program in memory yet.");
-let [code, labels, places] = [null, null, []];
-let [pc, seen] = ["", ""]; // the program's last place, and the row scrolled into sight
 
-export function paintListing(state, before) {
-  const abi = byId("names").value === "abi";
-  if (state.code !== code || state.labels !== labels) {
-    [code, labels] = [state.code, state.labels];
-    places = placesOf(Object.keys(code), 4, labels);
+/** The listing of a machine's program. */
+export class ListingPanel {
+  /** @type {MachineState["code"] | null} */ code = null;
+  /** @type {MachineState["labels"]} */ labels;
+  /** @type {import("./rows.js").Place[]} */ places = [];
+  pc = ""; // the program's last place
+  seen = ""; // the row scrolled into sight
+
+  constructor(/** @type {ParentNode} */ root) {
+    this.names = part(root, "names");
+    this.rows = new RowTable(part(root, "listing"), "Program", NAMES, "No program in memory yet.");
   }
-  if (state.code[state.instruction] && !Object.keys(state.starts ?? {}).length) seen = state.instruction;
-  else if (state.pc !== pc) seen = state.pc;
-  pc = state.pc;
-  rows.show(places, (address) => listingRow(state, before, address, abi), seen);
+
+  paint(/** @type {MachineState} */ state, /** @type {MachineState} */ before) {
+    if (state.code !== this.code || state.labels !== this.labels) {
+      Object.assign(this, { code: state.code, labels: state.labels });
+      this.places = placesOf(Object.keys(state.code), 4, state.labels);
+    }
+    const { instruction } = state;
+    if (instruction && state.code[instruction] && !Object.keys(state.starts ?? {}).length) this.seen = instruction;
+    else if (state.pc !== this.pc) this.seen = state.pc;
+    this.pc = state.pc;
+    this.rows.show(this.places, (address) => listingRow(state, before, address, this.names.value === "abi"), this.seen);
+  }
 }
 
+/** @type {(state: MachineState, before: MachineState, address: string, abi: boolean) => HTMLTableRowElement} */
 function listingRow(state, before, address, abi) {
   const line = state.code[address];
   const marks = make("td", "marks");
@@ -39,10 +54,10 @@ function listingRow(state, before, address, abi) {
   const call = state.calls?.[address]; // which the machine doesn't support
   if (call) text.append(make("span", "call", call));
   const said = state.lines?.[address] ?? "";
-  const room = " ".repeat(Math.max(0, text.textContent.length + 1 - COLUMNS)); // where the instruction reaches into it
+  const room = " ".repeat(Math.max(0, `${text.textContent}`.length + 1 - COLUMNS)); // where the instruction reaches into it
   const beside = call ? "" : room + saysMore(said, line.slice(9));
   const source = Object.assign(make("td", "source", beside), { title: said });
   const row = make("tr", kinds.join(" "), marks, header("row", address), word, text, source);
-  Object.assign(row.dataset, { address, edit: `break ${address}` });
-  return row;
+  row.dataset.address = address;
+  return editable(row, { of: "breakpoint", address });
 }

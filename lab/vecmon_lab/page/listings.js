@@ -3,8 +3,13 @@
 import { elementsBar, legend } from "./bars.js";
 import { byId, header, make, table } from "./elements.js";
 
+/**
+ * @typedef {[address: string, line: number, inlined: string, text: string, times: number, ...elements: number[]]} Row
+ * @typedef {{ name: string, summary: string[], rows: Row[] }} Listing of a compiler's code
+ */
+
 /** The instructions of a line in one listing, with a gap where others lie between. */
-function listingOf(rows, line) {
+function listingOf(/** @type {Row[]} */ rows, /** @type {number} */ line) {
   let end = "";
   const own = rows.filter((row) => row[1] === line).flatMap(([address, , inlined, text, times, ...elements]) => {
     const isApart = end && end !== address;
@@ -17,8 +22,10 @@ function listingOf(rows, line) {
   return make("td", "", own.length ? table("Instructions", make("tbody", "", ...own)) : "");
 }
 
-const { lines, listings } = JSON.parse(byId("data").textContent);
-const head = ({ name, summary }) => header("col", make("h2", "", name), ...summary.map((text) => make("p", "", text)));
+/** @type {{ lines: string[], listings: Listing[] }} */
+const { lines, listings } = JSON.parse(byId("data").text);
+const head = (/** @type {Listing} */ { name, summary }) =>
+  header("col", make("h2", "", name), ...summary.map((text) => make("p", "", text)));
 const body = lines.flatMap((text, place) => {
   const number = make("span", "number", `${place + 1}`);
   const words = Object.assign(header("rowgroup", number, " ", text), { colSpan: listings.length });
@@ -26,5 +33,5 @@ const body = lines.flatMap((text, place) => {
   const isMade = made.some((cell) => cell.firstChild?.nodeType === 1);
   return [make("tr", isMade ? "made" : "", words), ...(isMade ? [make("tr", "", ...made)] : [])];
 });
-document.querySelector("header").append(legend());
+document.querySelector("header")?.append(legend());
 byId("rows").append(make("thead", "", make("tr", "", ...listings.map(head))), make("tbody", "", ...body));

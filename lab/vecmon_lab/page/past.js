@@ -1,36 +1,54 @@
 // The past of a machine: states of it that the tab saw, to go back and forth through as through a lesson's frames.
 
-import { byId, say } from "./elements.js";
+import { part, put } from "./elements.js";
+
+/** @typedef {import("./messages").State} State */
+/** @typedef {{ state: State, before: State, used: Set<number>, entry: Element | null }} Moment */
 
 const MOST_MOMENTS = 240; // so that the transcript still has the entries of most
 const BESIDES = ["labels", "lines", "outputs"]; // parts of a state that change without a line
 
-const isAlike = (one, other) =>
-  Object.keys({ ...one, ...other }).every((key) => BESIDES.includes(key) || one[key] === other[key]);
+/** @type {(one: State, other: State) => boolean} */
+const isAlike = (one, other) => {
+  const keys = /** @type {(keyof State)[]} */ (Object.keys({ ...one, ...other }));
+  return keys.every((key) => BESIDES.includes(key) || one[key] === other[key]);
+};
 
 export class Past {
-  /** shown: is called to show another moment. */
-  constructor(shown) {
-    Object.assign(this, { shown, moments: [], isStill: false, place: null }); // null: the present is shown
-    const on = (id, event, place) => byId(id).addEventListener(event, () => this.show(place()));
-    on("backward", "click", () => (this.place ?? this.end) - 1);
-    on("forth", "click", () => (this.place ?? this.end) + 1);
-    on("now", "click", () => this.end);
-    on("moment", "input", () => Number(byId("moment").value));
+  /** @type {Moment[]} */ moments = [];
+  isStill = false;
+  /** @type {number | null} */ place = null; // null: the present is shown
+
+  /**
+   * @param {HTMLElement} root has the controls; while the past is shown its class is `past`
+   * @param {() => void} shown is called to show another moment
+   */
+  constructor(root, shown) {
+    this.root = root;
+    this.shown = shown;
+    this.backward = part(root, "backward");
+    this.forth = part(root, "forth");
+    this.now = part(root, "now");
+    this.slider = part(root, "moment");
+    this.says = part(root, "says-past");
+    this.backward.addEventListener("click", () => this.show((this.place ?? this.end) - 1));
+    this.forth.addEventListener("click", () => this.show((this.place ?? this.end) + 1));
+    this.now.addEventListener("click", () => this.show(this.end));
+    this.slider.addEventListener("input", () => this.show(Number(this.slider.value)));
   }
 
   /** The moment that is shown; undefined now. */
   get moment() {
-    return this.moments[this.place ?? -1];
+    return this.place === null ? undefined : this.moments[this.place];
   }
 
   /** How many moments lie before the present. */
   get end() {
-    return this.moments.length - this.isStill;
+    return this.moments.length - Number(this.isStill);
   }
 
   /** Adds a moment: its state, the state before, and their explanation. Moments of a running program aren't kept. */
-  add(moment) {
+  add(/** @type {Moment} */ moment) {
     const last = this.moments.at(-1);
     if (last && isAlike(last.state, moment.state)) last.state = moment.state;
     else if (moment.state.run === "stopped") this.moments.push(moment);
@@ -41,12 +59,13 @@ export class Past {
   }
 
   forget() {
-    Object.assign(this, { moments: [], isStill: false, place: null });
+    this.moments = [];
+    Object.assign(this, { isStill: false, place: null });
     this.tell();
   }
 
   /** Shows the moment of this number, or the nearest one; the present from the last one on. */
-  show(place) {
+  show(/** @type {number} */ place) {
     const before = this.place;
     this.place = place >= this.end ? null : Math.max(0, place);
     this.tell();
@@ -56,12 +75,13 @@ export class Past {
   tell() {
     const place = this.place ?? this.end;
     const [isPast, back] = [this.place !== null, this.end - place];
-    byId("backward").disabled = place === 0;
-    byId("forth").disabled = byId("now").disabled = !isPast;
+    this.backward.disabled = place === 0;
+    this.forth.disabled = this.now.disabled = !isPast;
     const ariaValueText = isPast ? `${back} before now` : "now";
-    Object.assign(byId("moment"), { max: this.end, value: place, disabled: this.end === 0, ariaValueText });
-    say("says-past", isPast ? `This is the past, ${back === 1 ? "one moment" : `${back} moments`} ago.` : "");
-    byId("controls").disabled = isPast;
-    document.body.classList.toggle("past", isPast);
+    Object.assign(this.slider, { max: this.end, value: place, disabled: this.end === 0, ariaValueText });
+    put(this.says, isPast ? `This is the past, ${back === 1 ? "one moment" : `${back} moments`} ago.` : "");
+    this.says.hidden = !isPast;
+    part(this.root, "controls").disabled = isPast;
+    this.root.classList.toggle("past", isPast);
   }
 }

@@ -4,11 +4,21 @@ import { bar, elementsBar, legend } from "./bars.js";
 import { byId, make } from "./elements.js";
 import { flameGraph } from "./flame.js";
 
+/**
+ * @typedef {{ address: string, place: string, source: string, text: string, times: number, ticks: number, active: number, masked: number,
+ *   tail: number, work: number }} Row of an instruction
+ * @typedef {{ name: string, texts: number, head: string[], rows: (string | number)[][] }} Table whose first columns are texts
+ * @typedef {{ rows: (string | number)[][], lengths: [kind: string, vl: number, times: number][], summary: string[],
+ *   frames: import("./flame.js").Frame[], tables: Table[] }} Profile
+ * @typedef {"by-address" | "by-ticks"} Order
+ */
+
+/** @type {Record<Order, (one: Row, other: Row) => number>} */
 const ORDERS = { "by-address": () => 0, "by-ticks": (one, other) => other.ticks - one.ticks };
-const number = (value, kind = "number") => make("td", kind, value.toLocaleString("en"));
+const number = (/** @type {string | number} */ value, kind = "number") => make("td", kind, value.toLocaleString("en"));
 
 /** A row of the table of instructions. */
-function instructionRow(row, most) {
+function instructionRow(/** @type {Row} */ row, /** @type {number} */ most) {
   const elements = [row.active, row.masked, row.tail];
   return make("tr", "",
     make("th", "", row.address), make("td", "text", row.text), make("td", "", row.source), number(row.times),
@@ -17,7 +27,7 @@ function instructionRow(row, most) {
 }
 
 /** Shows the instructions in an order; by address each symbol has a line of its own. */
-function show(rows, id) {
+function show(/** @type {Row[]} */ rows, /** @type {Order} */ id) {
   const most = Math.max(...rows.map((row) => row.ticks));
   const body = make("tbody", "");
   let symbol = "";
@@ -33,12 +43,13 @@ function show(rows, id) {
   const heads = ["address", "instruction", "source", "times", "ticks", "", "active", "masked off", "tail", "work", ""];
   const head = heads.map((text, place) => make("th", place > 2 ? "number" : "", text));
   byId("rows").replaceChildren(make("thead", "", make("tr", "", ...head)), body);
-  for (const button of Object.keys(ORDERS)) byId(button).setAttribute("aria-pressed", button === id);
+  for (const order of CHOICES) byId(order).ariaPressed = `${order === id}`;
 }
 
 /** A table: loops, functions, calls or source lines. */
-function tableSection({ name, texts, head, rows }) {
-  const cells = (row) => row.map((cell, place) => (place < texts ? make("td", "", cell) : number(cell)));
+function tableSection(/** @type {Table} */ { name, texts, head, rows }) {
+  const cells = (/** @type {(string | number)[]} */ row) =>
+    row.map((cell, place) => (place < texts ? make("td", "", `${cell}`) : number(cell)));
   const heads = head.map((text, place) => make("th", place < texts ? "" : "number", text));
   const table = make("table", "");
   table.append(make("thead", "", make("tr", "", ...heads)), make("tbody", "", ...rows.map((row) => make("tr", "", ...cells(row)))));
@@ -47,17 +58,21 @@ function tableSection({ name, texts, head, rows }) {
   return section;
 }
 
-const data = JSON.parse(byId("data").textContent);
+/** @type {Order[]} */
+const CHOICES = ["by-address", "by-ticks"];
+/** @type {Profile} */
+const data = JSON.parse(byId("data").text);
 const NAMES = ["address", "place", "source", "text", "times", "ticks", "active", "masked", "tail", "work"];
-const rows = data.rows.map((cells) => Object.fromEntries(cells.map((cell, place) => [NAMES[place], cell])));
+/** @type {Row[]} */
+const rows = data.rows.map((cells) => /** @type {any} by name */ (Object.fromEntries(cells.map((cell, place) => [NAMES[place], cell]))));
 const most = Math.max(...data.lengths.map(([, , times]) => times));
 
-document.querySelector("header").append(legend());
+document.querySelector("header")?.append(legend());
 byId("summary").append(...data.summary.map((text) => make("p", "", text)));
 byId("calls").hidden = data.frames.every((frame) => frame.callees.length === 0);
 byId("flame").append(flameGraph(data.frames));
 byId("tables").append(...data.tables.map(tableSection));
 byId("lengths").append(...data.lengths.map(([kind, vl, times]) =>
   make("tr", "", make("td", "", kind), number(`vl=${vl}`), number(times), bar("", [["ticks", times / most]]))));
-for (const id of Object.keys(ORDERS)) byId(id).addEventListener("click", () => show(rows, id));
+for (const id of CHOICES) byId(id).addEventListener("click", () => show(rows, id));
 show(rows, "by-address");

@@ -2,46 +2,51 @@
 
 import { byId, make, prose, put } from "./elements.js";
 
-export const SECTIONS = JSON.parse(byId("reference-data").textContent);
+/** @typedef {[name: string, form: string, does: string]} Entry */
+
+/** @type {Record<string, Entry[]>} */
+export const SECTIONS = JSON.parse(byId("reference-data").text);
 const { "Not supported": ABSENT, ...KNOWN } = SECTIONS;
 const ENTRIES = Object.values(KNOWN).flat();
 
 /** An entry as a line of its own. */
-const entryItem = ([, form, does]) => make("li", "", make("code", "", form), ...(does ? [" ", ...prose(does)] : []));
+const entryItem = (/** @type {Entry} */ [, form, does]) => make("li", "", make("code", "", form), ...(does ? [" ", ...prose(does)] : []));
 
 /** Why a name that other extensions have isn't here, as an entry; none of other names. */
+/** @type {(name: string) => Entry[]} */
 const absentEntry = (name) =>
   ABSENT.filter(([title, form]) => new RegExp(`^(?:${form.slice(title.length + 1)})$`).test(name)).map(([, , does]) => [name, name, does]);
 
 /** The entry of a name, with code between backquotes; "" without one. */
-export function entryText(name) {
+export function entryText(/** @type {string} */ name) {
   const here = ENTRIES.filter(([each]) => [name, `* ${name}`].includes(each));
   const own = here.length ? here : absentEntry(name);
   return own.map(([, form, does]) => `\`${form}\`${does && `: ${does}`}`).join("\n");
 }
 
 /** The word of a text around a place, or ending at it. */
-function wordAt(text, place) {
-  const [before] = /[\w.]*$/.exec(text.slice(Math.max(0, place - 99), place));
-  return before + /^[\w.]*/.exec(text.slice(place, place + 99))[0];
+function wordAt(/** @type {string} */ text, /** @type {number} */ place) {
+  const [before = ""] = /[\w.]*$/.exec(text.slice(Math.max(0, place - 99), place)) ?? [];
+  const [after = ""] = /^[\w.]*/.exec(text.slice(place, place + 99)) ?? [];
+  return before + after;
 }
 
 /** Shows those entries that have a text in their form or in what they do, or all. */
-export function showReference(text) {
+export function showReference(/** @type {HTMLElement} */ box, /** @type {string} */ text) {
   const wanted = text.trim().toLowerCase();
   const words = wanted.split(/\s+/).filter((word) => !["with", "a", "an", "the", "of", "to", "in"].includes(word));
   const shown = { ...KNOWN, "Not supported": wanted ? absentEntry(wanted) : [] };
   const parts = Object.entries(shown).flatMap(([section, entries]) => {
-    const has = (entry) => words.every((word) => entry.join(" ").toLowerCase().includes(word));
+    const has = (/** @type {Entry} */ entry) => words.every((word) => entry.join(" ").toLowerCase().includes(word));
     const found = entries.filter(has);
     const exactFirst = [...found.filter(([name]) => name === wanted), ...found.filter(([name]) => name !== wanted)];
     return found.length ? [make("h3", "", section), make("ul", "", ...exactFirst.map(entryItem))] : [];
   });
-  byId("entries").replaceChildren(...(parts.length ? parts : [make("p", "empty", "Nothing is called so.")]));
+  box.replaceChildren(...(parts.length ? parts : [make("p", "empty", "Nothing is called so.")]));
 }
 
 /** Shows in an element the entry of the name at the caret of a field. */
-export function tellName(element, field) {
+export function tellName(/** @type {HTMLElement} */ element, /** @type {HTMLTextAreaElement} */ field) {
   const words = entryText(wordAt(field.value, field.selectionStart));
   put(element, words, prose(words));
 }

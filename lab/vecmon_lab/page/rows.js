@@ -5,24 +5,30 @@ import { header, make, table, unseen } from "./elements.js";
 const MOST_MADE = 200; // rows that are made whether they are in sight or not
 const [ROWS_AROUND, ROWS_TOGETHER] = [30, 10]; // made around those in sight; those by which it moves on
 
+/** @typedef {{ address: string, text?: undefined, kind?: undefined } | { address?: undefined, text: string, kind: string }} Place */
+/** @typedef {(address: string) => HTMLTableRowElement} MakeRow */
+
 /** Addresses, which are hexadecimal digits, in rising order. */
-export const inOrder = (addresses) =>
+export const inOrder = (/** @type {string[]} */ addresses) =>
   addresses.sort((one, other) => one.length - other.length || (one < other ? -1 : 1));
 
 /**
  * The content of a table of rows by address, of equal sizes: { address } for a row, { text, kind } for a gap where
  * one doesn't follow the one before, and for a label.
+ * @type {(addresses: string[], bytes: number, labels?: Record<string, string[]>) => Place[]}
  */
 export function placesOf(addresses, bytes, labels = {}) {
-  const named = inOrder(Object.keys(labels)).map((address) => [BigInt("0x" + address), labels[address]]);
+  const named = inOrder(Object.keys(labels)).map((address) => ({ at: BigInt("0x" + address), names: labels[address] }));
+  /** @type {bigint | null} */
   let end = null;
   return inOrder(addresses).flatMap((address) => {
     const place = BigInt("0x" + address);
+    /** @type {Place[]} */
     const places = end === null || end === place ? [] : [{ text: "⋯", kind: "gap" }];
     end = place + BigInt(bytes);
-    while (named.length && named[0][0] < end) {
-      const [at, names] = named.shift();
-      if (at >= place) places.push(...names.map((name) => ({ text: `${name}:`, kind: "label" })));
+    for (let next = named[0]; next && next.at < end; next = named[0]) {
+      named.shift();
+      if (next.at >= place) places.push(...next.names.map((name) => ({ text: `${name}:`, kind: "label" })));
     }
     return [...places, { address }];
   });
@@ -33,20 +39,34 @@ export function placesOf(addresses, bytes, labels = {}) {
  * Events give the place and the height of the box, so that nothing waits for a layout.
  */
 export class RowTable {
-  /** names: of its columns; empty: a sentence where there are no rows. */
+  body = make("tbody", "");
+  /** @type {Place[]} */ places = [];
+  /** @type {MakeRow} */ makeRow = () => make("tr", "");
+  /** @type {string | undefined} */ seen = "";
+  made = "";
+  top = 0; // px that are scrolled away
+  room = 0; // px in sight
+  height = 18; // px of a row
+
+  /**
+   * @param {HTMLElement} box
+   * @param {string} caption
+   * @param {string[]} names of its columns
+   * @param {string} empty a sentence where there are no rows
+   */
   constructor(box, caption, names, empty) {
     const heads = make("tr", "", ...names.map((name) => header("col", unseen(name))));
-    this.body = make("tbody", "");
     this.table = table(caption, make("thead", "", heads), this.body);
-    Object.assign(this, { box, empty: make("p", "empty", empty), columns: names.length, places: [], made: "" });
-    Object.assign(this, { top: 0, room: 0, height: 18 }); // px: what is scrolled away, what is in sight, a row
+    this.box = box;
+    this.empty = make("p", "empty", empty);
+    this.columns = names.length;
     // A box that has become lower may be scrolled by that alone, and gets that event first.
     box.addEventListener("scroll", () => (box.clientHeight === this.room ? this.moved(box.scrollTop) : this.resized()));
     new ResizeObserver(() => this.resized()).observe(box);
   }
 
   /** Shows places, each row as `makeRow` makes it of its address. The row of `seen` comes into sight, once. */
-  show(places, makeRow, seen) {
+  show(/** @type {Place[]} */ places, /** @type {MakeRow} */ makeRow, /** @type {string | undefined} */ seen) {
     const isOther = seen !== this.seen || places.length !== this.places.length;
     Object.assign(this, { places, makeRow, seen, made: "" });
     const shown = places.length ? this.table : this.empty;
@@ -56,7 +76,7 @@ export class RowTable {
     if (isOther) this.bringIntoSight();
   }
 
-  moved(top) {
+  moved(/** @type {number} */ top) {
     this.top = top;
     this.paint();
   }
@@ -89,18 +109,18 @@ export class RowTable {
     if (this.made === `${first} ${count}`) return;
     this.made = `${first} ${count}`;
     const rows = places.slice(first, first + count).map((place, at) => {
-      const row = place.address ? this.makeRow(place.address) : this.otherRow(place);
+      const row = place.address ? this.makeRow(place.address) : this.otherRow(place.text ?? "", place.kind ?? "");
       return Object.assign(row, { ariaRowIndex: `${first + at + 1}` });
     });
     this.body.replaceChildren(this.space(first), ...rows, this.space(places.length - first - rows.length));
   }
 
-  otherRow({ text, kind }) {
+  otherRow(/** @type {string} */ text, /** @type {string} */ kind) {
     return make("tr", "", Object.assign(make("td", kind, text), { colSpan: this.columns }));
   }
 
   /** The room of a number of rows that aren't made. */
-  space(count) {
+  space(/** @type {number} */ count) {
     return Object.assign(make("tr", ""), { hidden: count === 0, style: `height: ${count * this.height}px` });
   }
 }

@@ -2,20 +2,25 @@
 
 import { ask, button, byId, header, make, put } from "./elements.js";
 
+/** @typedef {import("./messages").SeatView} SeatView */
+/** @typedef {import("./teacher.js").Teacher} Teacher */
+
 const AGES_EVERY = 5000; // ms
 
 /** An answer without the leading zeros of its addresses. */
-const short = (answer) => answer.replace(/=0+(?=[0-9a-f])/g, "=");
+const short = (/** @type {string} */ answer) => answer.replace(/=0+(?=[0-9a-f])/g, "=");
 
 /** For how long, in words, of seconds. */
-function forHow(seconds) {
+function forHow(/** @type {number} */ seconds) {
   const minutes = Math.floor(seconds / 60);
   if (minutes < 1) return `${Math.max(0, Math.floor(seconds))} s`;
   return minutes < 60 ? `${minutes} min` : `${Math.floor(minutes / 60)} h ${minutes % 60} min`;
 }
 
 class SeatRow {
-  constructor(seat, teacher) {
+  told = /** @type {SeatView} */ ({});
+
+  constructor(/** @type {string} */ seat, /** @type {Teacher} */ teacher) {
     this.seat = seat;
     const lookAt = () => teacher.lookAt(seat === teacher.seat ? "" : seat);
     this.look = button("Look", `Look at seat ${seat}`, lookAt);
@@ -23,7 +28,10 @@ class SeatRow {
     this.name = Object.assign(make("input", ""), { maxLength: 40, ariaLabel: `Name at seat ${seat}`, autocomplete: "off" });
     this.name.onchange = async () => (await setName(), (this.name.value = this.told.name));
     this.run = make("span", "pill");
-    [this.tabs, this.stands, this.line, this.used] = ["", "wraps", "cut", ""].map((kind) => make("td", kind));
+    this.tabs = make("td", "");
+    this.stands = make("td", "wraps");
+    this.line = make("td", "cut");
+    this.used = make("td", "");
     const fields = [[this.look], [this.name], teacher.codeField(seat).parts];
     const controls = [...fields.map((parts) => make("td", "", ...parts)), this.tabs];
     const loss = `Registers, memory and breakpoints of seat ${seat} would be lost. Its source is kept.`;
@@ -34,6 +42,7 @@ class SeatRow {
     this.row.dataset.seat = seat;
   }
 
+  /** @type {(told: SeatView, share: number, isLookedAt: boolean) => void} */
   show(told, share, isLookedAt) {
     this.told = told;
     if (document.activeElement !== this.name) this.name.value = told.name;
@@ -42,13 +51,13 @@ class SeatRow {
     this.run.className = `pill ${told.run}`;
     this.row.classList.toggle("stuck", told.stuck);
     put(this.line, told.answer && `${told.line.slice(0, 80)} → ${short(told.answer.slice(0, 80))}`);
-    this.line.title = this.line.textContent;
+    this.line.title = this.line.textContent ?? "";
     put(this.used, `${Math.ceil((100 * told.used) / share)} %`);
     this.look.ariaPressed = `${isLookedAt}`;
   }
 
   /** Shows its condition, and for how long; now is the server's time in seconds. */
-  age(now) {
+  age(/** @type {number} */ now) {
     const { run, stands, since } = this.told;
     const isThere = run !== "absent" || stands;
     put(this.stands, isThere ? [stands, forHow(now - since)].filter(Boolean).join(", ") : "");
@@ -57,15 +66,16 @@ class SeatRow {
 
 /** The seats of all machines in one table. */
 export class SeatTable {
-  constructor(teacher) {
+  /** @type {SeatRow[]} */ rows = [];
+
+  constructor(/** @type {Teacher} */ teacher) {
     this.teacher = teacher;
-    this.rows = [];
     byId("seats").addEventListener("mouseleave", () => this.sort());
     setInterval(() => this.age(), AGES_EVERY);
   }
 
   /** Shows the seats of machines by letter, which may be more than before. */
-  show({ machines, share, shoulder }) {
+  show(/** @type {import("./messages").TeacherView} */ { machines, share, shoulder }) {
     for (const letter of Object.keys(machines).slice(this.rows.length / 8)) {
       this.rows.push(...Array.from({ length: 8 }, (_, place) => new SeatRow(`${letter}${place + 1}`, this.teacher)));
     }
@@ -82,11 +92,11 @@ export class SeatTable {
   /** Puts those who are stuck above, longest first; not while somebody points, or types, at a row. */
   sort() {
     const [body, focused] = [byId("seats"), document.activeElement];
-    const weight = ({ told }) => (told.stuck ? told.since : Infinity);
+    const weight = (/** @type {SeatRow} */ { told }) => (told.stuck ? told.since : Infinity);
     const rows = [...this.rows].sort((one, other) => (weight(one) < weight(other) ? -1 : Number(weight(one) > weight(other))));
-    const isHeld = body.matches(":hover") || (focused.matches("input") && body.contains(focused));
+    const isHeld = body.matches(":hover") || (focused?.matches("input") && body.contains(focused));
     if (body.childElementCount === rows.length && (isHeld || rows.every(({ row }, place) => row === body.children[place]))) return;
     body.append(...rows.map(({ row }) => row));
-    focused.focus({ preventScroll: true });
+    if (focused instanceof HTMLElement) focused.focus({ preventScroll: true });
   }
 }

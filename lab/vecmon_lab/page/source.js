@@ -1,40 +1,65 @@
 // The source of a seat: what is typed goes to the server, and what others write there comes; versions; a file to save.
 
-import { byId, make, offerFile, put, timeText } from "./elements.js";
+import { make, offerFile, part, put, timeText } from "./elements.js";
 import { languageOf, suffixOf } from "./links.js";
 import { startOf, stoppedLines } from "./source_lines.js";
+
+/** @typedef {import("./types").Message} Message */
+/** @typedef {import("./messages").SourceView} SourceView */
+/** @typedef {import("./messages").Version} Version */
+/** @typedef {import("./types").SourceText} SourceText */
+/** @typedef {Record<string, import("./messages").ExerciseView>} Exercises */
 
 export const MOST_LETTERS = 65536;
 const MOST = MOST_LETTERS.toLocaleString("en");
 const TOO_LONG = `This text has more than ${MOST} characters: the server doesn't save it, and nothing replaces it. Save it, or shorten it.`;
 const PAUSE = 700; // ms in which nothing is typed, and then it is sent
+/** @type {Record<string, string>} */
 const REASONS = { typed: "typed", written: "written into memory", given: "given by the teacher" };
 
-const keyOf = ({ text, language }) => `${language} ${text}`;
+const keyOf = (/** @type {SourceText} */ { text, language }) => `${language} ${text}`;
 
 /** A version in words, as `14:05 given by the teacher, Doubles`; exercises have their titles. */
+/** @type {(version: Version, exercises: Exercises) => string} */
 const versionText = ({ time, why, exercise }, exercises) =>
   [`${timeText(time)} ${REASONS[why]}`, exercise && (exercises[exercise]?.title ?? exercise)].filter(Boolean).join(", ");
 
 export class Source {
-  constructor(editor, connection) {
-    Object.assign(this, { editor, connection, told: null, sent: new Set(), isTyped: false }); // sent: keys of what is under way
+  seat = "";
+  /** @type {SourceView | null} */ told = null;
+  /** @type {Set<string>} */ sent = new Set(); // keys of what is under way
+  isTyped = false;
+  timer = 0;
+  /** @type {{ of: number, used: number } | undefined} */ share; // the seat's, of the script
+
+  /**
+   * @param {ParentNode} root has the buttons and lists of the editor
+   * @param {import("./editor.js").Editor} editor
+   * @param {import("./types").Connection} connection
+   */
+  constructor(root, editor, connection) {
+    this.editor = editor;
+    this.connection = connection;
+    this.versions = part(root, "versions");
+    this.assemble = part(root, "assemble");
+    this.left = part(root, "left");
+    this.file = part(root, "open");
     document.addEventListener("visibilitychange", () => this.send());
-    byId("versions").addEventListener("change", () => this.showVersion(Number(byId("versions").value)));
-    byId("save").addEventListener("click", () => this.save());
-    byId("open-file").addEventListener("click", () => byId("open").click());
-    byId("open").addEventListener("change", () => this.open(byId("open").files[0]));
+    this.versions.addEventListener("change", () => this.showVersion(Number(this.versions.value)));
+    part(root, "save").addEventListener("click", () => this.save());
+    part(root, "open-file").addEventListener("click", () => this.file.click());
+    this.file.addEventListener("change", () => this.open(this.file.files?.[0]));
   }
 
   save() {
     const { text, language } = this.editor.source;
-    offerFile(`${this.seat}.${suffixOf(language, byId("language"))}`, new Blob([text]));
+    offerFile(`${this.seat}.${suffixOf(language, this.editor.language)}`, new Blob([text]));
   }
 
   /** Puts a file into the editor, where undo takes it back. */
-  async open(file) {
-    if (file) await this.replace({ text: await file.text(), language: languageOf(file.name, byId("language")) });
-    byId("open").value = ""; // so that the same file can be opened again
+  async open(/** @type {File | undefined} */ file) {
+    if (file) await this.replace({ text: await file.text(), language: languageOf(file.name, this.editor.language) });
+    this.file.value = ""; // so that the same file can be opened again
   }
 
   /** Takes up what was typed. */
@@ -46,22 +71,23 @@ export class Source {
   }
 
   sendLater() {
-    this.timer ??= setTimeout(() => this.send(), PAUSE);
+    this.timer ||= setTimeout(() => this.send(), PAUSE);
   }
 
   /** Sends the typed text, with the number that it was typed at: text that others wrote meanwhile stays. */
   async send() {
     clearTimeout(this.timer);
-    this.timer = null;
+    this.timer = 0;
     const { source } = this.editor;
-    const isKnown = !this.told || keyOf(source) === keyOf(this.told);
-    if (!this.isTyped || this.isTooLong || isKnown || !this.connection.isReady) return;
+    if (!this.told || keyOf(source) === keyOf(this.told)) return;
+    if (!this.isTyped || this.isTooLong || !this.connection.isReady) return;
     if (this.sent.size) return void this.sendLater();
     const { number, exercise } = this.told;
     await this.bring(source, () => this.connection.ask({ ask: "draft", ...source, number, exercise }));
   }
 
   /** Does what brings a source to the server; the answer. */
+  /** @type {<Answer>(source: SourceText, carryOut: () => Promise<Answer>) => Promise<Answer>} */
   async bring(source, carryOut) {
     this.sent.add(keyOf(source));
     const answer = await carryOut();
@@ -70,8 +96,9 @@ export class Source {
   }
 
   /** Sends the editor's text to the server, with its exercise; a text to keep becomes a version. */
-  bringOwn(keep) {
-    const [own, { number, exercise }] = [this.editor.source, this.told];
+  bringOwn(/** @type {boolean} */ keep) {
+    const own = this.editor.source;
+    const { number = 0, exercise } = this.told ?? {};
     return this.bring(own, () => this.connection.ask({ ask: "draft", ...own, number, exercise, keep }));
   }
 
@@ -81,39 +108,45 @@ export class Source {
   }
 
   /** Puts another source into the editor, where undo takes it back; what is there becomes a version first, or stays. */
-  async replace(source) {
+  async replace(/** @type {SourceText} */ source) {
     if (this.isTooLong) return;
     const own = this.editor.source;
-    const isOwn = own.text.trim() && !this.editor.field.readOnly && (this.isTyped || keyOf(own) === keyOf(this.told));
+    const isOwn = own.text.trim() && !this.editor.field.readOnly && (this.isTyped || keyOf(own) === this.key);
     const isKept = isOwn && keyOf(own) !== keyOf(source);
-    const answer = isKept ? await this.bringOwn(true) : {};
+    const answer = isKept ? await this.bringOwn(true) : { error: "" };
     if (answer && !answer.error) this.editor.put(source);
   }
 
+  /** The key of the source that the server has. */
+  get key() {
+    return this.told && keyOf(this.told);
+  }
+
   /** Opens an exercise, whose source comes from the server; returns whether that had the source of the one before. */
-  async openExercise(exercise) {
+  async openExercise(/** @type {string} */ exercise) {
     clearTimeout(this.timer);
-    const { source } = this.editor;
     if (this.isTooLong) return false;
-    if (this.isTyped && keyOf(source) !== keyOf(this.told)) this.bringOwn(false);
+    if (this.isTyped && keyOf(this.editor.source) !== this.key) this.bringOwn(false);
     const answer = await this.connection.ask({ ask: "open", exercise });
     return Boolean(answer && !answer.error);
   }
 
   /** Shows what the button does to a source in this language, and where that is compiled what is left of the seat's share. */
-  showLanguage({ of, used } = this.share ?? {}) {
-    this.share = of && { of, used };
+  showLanguage(share = this.share) {
+    this.share = share;
     const isCompiled = this.editor.source.language > 0;
-    const left = of && isCompiled ? `${(of - used).toLocaleString("en")} bytes of this seat's share of the script are left.` : "";
-    put(byId("assemble"), isCompiled ? "Compile" : "Write into memory");
-    put(byId("left"), this.isTooLong ? TOO_LONG : left);
+    const bytes = share && (share.of - share.used).toLocaleString("en");
+    const left = bytes && isCompiled ? `${bytes} bytes of this seat's share of the script are left.` : "";
+    put(this.assemble, isCompiled ? "Compile" : "Write into memory");
+    put(this.left, this.isTooLong ? TOO_LONG : left);
   }
 
   /** Shows what the server has, unless it is what was typed here. Versions are listed with the titles of exercises. */
+  /** @type {(seat: string, source: SourceView, exercises: Exercises) => void} */
   show(seat, source, exercises) {
     const { editor, told } = this;
-    const isNew = seat !== this.seat;
-    const isOwn = (each) => keyOf(each) === keyOf(told) || this.sent.has(keyOf(each));
+    const isNew = seat !== this.seat || !told;
+    const isOwn = (/** @type {SourceText} */ each) => (told && keyOf(each) === keyOf(told)) || this.sent.has(keyOf(each));
     const isOther = !isNew && (source.exercise !== told.exercise || (source.number > told.number && !isOwn(source)));
     if (told?.versions !== source.versions) this.listVersions(source.versions, exercises);
     if (isOther && this.isTooLong) return;
@@ -130,26 +163,27 @@ export class Source {
 
   /** Whether the machine has the source as it is here. */
   get stands() {
-    return this.told.stands && keyOf(this.told) === keyOf(this.editor.source);
+    return Boolean(this.told?.stands) && this.key === keyOf(this.editor.source);
   }
 
   /** Marks the machine's line of C, and those with breakpoints. */
-  mark({ starts = {}, stops = {}, breaks = [], pc }) {
+  mark(/** @type {import("./messages").State} */ { starts = {}, stops = {}, breaks = [], pc = "" }) {
     const isThere = this.stands && Object.keys(starts).length > 0;
-    this.editor.mark(isThere ? starts[startOf(starts, pc)] : 0, isThere ? stoppedLines(stops, breaks) : []);
+    this.editor.mark(isThere ? starts[startOf(starts, pc) ?? ""] : 0, isThere ? stoppedLines(stops, breaks) : []);
   }
 
-  listVersions(versions, exercises) {
-    const option = (version) => Object.assign(make("option", "", versionText(version, exercises)), { value: version.number });
+  listVersions(/** @type {Version[]} */ versions, /** @type {Exercises} */ exercises) {
+    const option = (/** @type {Version} */ version) =>
+      Object.assign(make("option", "", versionText(version, exercises)), { value: version.number });
     const options = versions.map(option);
-    byId("versions").replaceChildren(make("option", "", "Versions …"), ...options.reverse());
-    byId("versions").hidden = !versions.length;
+    this.versions.replaceChildren(make("option", "", "Versions …"), ...options.reverse());
+    this.versions.hidden = !versions.length;
   }
 
   /** Puts an earlier version into the editor, where undo takes it back. */
-  async showVersion(number) {
-    byId("versions").selectedIndex = 0;
+  async showVersion(/** @type {number} */ number) {
+    this.versions.selectedIndex = 0;
     const answer = await this.connection.ask({ ask: "version", number });
-    if (answer?.text !== undefined) await this.replace(answer);
+    if (answer?.text !== undefined) await this.replace({ text: answer.text, language: answer.language ?? 0 });
   }
 }

@@ -15,31 +15,38 @@ const TOKEN_OF_C = new RegExp(`${TEXTS_OF_C}|${NAMES_OF_C}`, "g");
 const KINDS_OF_C = ["comment", "string", "directive", "instruction", "register", "number"];
 const LABEL = /^\s*([A-Za-z_.$][\w.$]*):|^\s*\.(?:equ|set)\s+([A-Za-z_.$][\w.$]*)/gm;
 const REGISTERS = new Set([...ABI_NAMES, "fp", ...Array.from({ length: 32 }, (_, at) => [`x${at}`, `v${at}`]).flat()]);
-const FORMS = new Map(["Instructions", "Pseudo-instructions", "Directives"].flatMap((section) => SECTIONS[section])); // by name
+const SHOWN = ["Instructions", "Pseudo-instructions", "Directives"].flatMap((section) => SECTIONS[section]);
+const FORMS = new Map(SHOWN.map(([name, form]) => [name, form]));
 
 /** The kind of the first word in a statement. */
-const firstKind = (name) => (!FORMS.has(name) ? "unknown" : name[0] === "." ? "directive" : "instruction");
+const firstKind = (/** @type {string} */ name) => (!FORMS.has(name) ? "unknown" : name[0] === "." ? "directive" : "instruction");
+
+/** @typedef {[kind: string, text: string]} Piece */
 
 /** A line in pieces, each with its kind, which is "" for marks and names. */
+/** @type {(line: string) => Piece[]} */
 export function piecesOf(line) {
   let isFirst = true;
-  const kindOf = ({ 0: text, 1: comment, 2: string, 3: name, 4: number, index }) => {
+  const kindOf = (/** @type {RegExpMatchArray} */ { 0: text, 1: comment, 2: string, 3: name, 4: number, index = 0 }) => {
     if (!name) return (comment && "comment") ?? (string && "string") ?? (number && "number") ?? "";
     if (isFirst && /^\s*:/.test(line.slice(index + text.length))) return "label";
     const wasFirst = isFirst;
     isFirst = false;
     return wasFirst ? firstKind(name) : REGISTERS.has(name) ? "register" : "";
   };
-  const pieces = [...line.slice(0, LONGEST).matchAll(TOKEN)].map((match) => [kindOf(match), match[0]]);
+  const matches = [...line.slice(0, LONGEST).matchAll(TOKEN)];
+  const pieces = matches.map((match) => /** @type {Piece} */ ([kindOf(match), match[0]]));
   return [...pieces, ["", line.slice(LONGEST)]];
 }
 
 /** Returns a function for the pieces of one line of C after the other, behind a text; in that a comment may have begun. */
+/** @type {(before: string) => (line: string) => Piece[]} */
 export function piecesOfC(before) {
   let isComment = before.lastIndexOf("/*") > before.lastIndexOf("*/");
   return (line) => {
     const all = isComment ? `/*${line}` : line;
-    const pieces = [...all.slice(0, LONGEST).matchAll(TOKEN_OF_C)].map(([text, ...kinds]) => [KINDS_OF_C[kinds.findIndex(Boolean)] ?? "", text]);
+    const pieceOf = (/** @type {string[]} */ [text, ...kinds]) => /** @type {Piece} */ ([KINDS_OF_C[kinds.findIndex(Boolean)] ?? "", text]);
+    const pieces = [...all.slice(0, LONGEST).matchAll(TOKEN_OF_C)].map(pieceOf);
     if (isComment) pieces[0] = ["comment", pieces[0][1].slice(2)];
     const last = isComment && pieces.length === 1 ? `/*${pieces[0][1]}` : pieces.at(-1)?.[1] ?? "";
     isComment = last.startsWith("/*") && (!last.endsWith("*/") || last.length < 4);
@@ -47,10 +54,13 @@ export function piecesOfC(before) {
   };
 }
 
+/** @typedef {{ word: string, names: [name: string, form: string][] }} Choices */
+
 /** The word before a place, and names that go on from it, with their forms: of instructions and directives, or of labels. */
+/** @type {(text: string, at: number, least: number) => Choices} */
 export function choicesAt(text, at, least) {
   const before = text.slice(text.lastIndexOf("\n", at - 1) + 1, at);
-  const [word] = /[\w.$]*$/.exec(before);
+  const [word = ""] = /[\w.$]*$/.exec(before) ?? [];
   const head = before.slice(0, before.length - word.length);
   if (word.length < least || /#|\/\/|"/.test(head) || /^[\w.$]/.test(text.slice(at, at + 1))) return { word, names: [] };
   const labels = () => [...text.matchAll(LABEL)].map(([, label, equal]) => label ?? equal);

@@ -12,30 +12,39 @@ import { chooseSides } from "./sides.js";
 import { MOST_LETTERS, Source } from "./source.js";
 import { addToLog, toldEntry } from "./transcript.js";
 
+/** @typedef {import("./messages").TeacherView} TeacherView */
+/** @typedef {import("./messages").MachineView} MachineView */
+/** @typedef {import("./types").Request} Request */
+/** @typedef {import("./types").SourceText} SourceText */
+
 const NO_RECEIVER = "Nothing was sent: choose a seat below, or all seats.";
 const NO_SOURCE = "Nothing was given: the source to give is empty. Type one, or copy a seat's.";
 const TO_ALL = "This replaces the source in the editor of every seat. What is there becomes a version first.";
+/** @type {("slices" | "ms" | "limit")[]} */
 const NUMBERS = ["slices", "ms", "limit"]; // of a clock
 
 /** The seat of a request, which is "" for all. */
-const seatOf = (receiver) => (receiver === "all" ? "" : receiver);
+const seatOf = (/** @type {string} */ receiver) => (receiver === "all" ? "" : receiver);
 
 /** A number of editors and a verb, as `1 editor was`. */
-const editors = (number) => `${number} editor${number === 1 ? " was" : "s were"}`;
+const editors = (/** @type {number} */ number) => `${number} editor${number === 1 ? " was" : "s were"}`;
 
 /** A machine of the class: its script, and what is wrong with it. */
 class ClassMachine {
-  constructor(letter, teacher) {
+  scripts = 0;
+
+  constructor(/** @type {string} */ letter, /** @type {Teacher} */ teacher) {
     const top = make("div", "top", make("h2", "", `Machine ${letter}`));
     for (const name of ["script", "transcript"]) {
       const onclick = () => teacher.download(letter, name, this.scripts);
       top.append(Object.assign(make("button", "", name[0].toUpperCase() + name.slice(1)), { name, onclick }));
     }
-    [this.trouble, this.figures] = [Object.assign(make("p", "said"), { role: "alert" }), make("p", "figures")];
+    this.trouble = Object.assign(make("p", "said"), { role: "alert" });
+    this.figures = make("p", "figures");
     this.box = make("section", "of-class", top, this.trouble, this.figures);
   }
 
-  show(machine) {
+  show(/** @type {MachineView} */ machine) {
     this.scripts = machine.scripts;
     this.trouble.hidden = !machine.trouble;
     put(this.trouble, machine.trouble);
@@ -47,16 +56,22 @@ class ClassMachine {
 }
 
 export class Teacher {
-  constructor(connection) {
+  view = /** @type {TeacherView} */ ({});
+  /** @type {Record<string, ClassMachine>} */ machines = {};
+  seat = ""; // the one looked at
+  wall = ""; // the seat on the wall
+  address = "";
+  /** @type {Record<string, CodeField>} */ codes = {}; // by name
+
+  constructor(/** @type {import("./types").Connection} */ connection) {
     this.connection = connection;
-    this.desk = new Desk();
-    this.machines = {};
-    this.seat = this.wall = ""; // the one looked at, and the one on the wall
-    this.codes = {}; // fields by name
+    this.desk = new Desk(document.body);
     this.table = new SeatTable(this);
     this.scores = new Scores(this);
-    this.clock = byId("clocks"); // a form
-    this.clock.onchange = ({ target }) => this.setClocks(target);
+    const field = (/** @type {string} */ name) => /** @type {HTMLInputElement} */ (byId("clocks").elements.namedItem(name));
+    const [on, own, slices, ms, limit] = ["on", "own", ...NUMBERS].map(field);
+    this.clock = { on, own, slices, ms, limit };
+    byId("clocks").onchange = ({ target }) => this.setClocks(/** @type {HTMLInputElement} */ (target));
     byId("wall-code").append(...this.codeField("wall").parts);
     byId("on-wall").onchange = () => this.request({ ask: "wall", seat: byId("on-wall").value });
     byId("show-codes").onclick = () => this.showAllCodes();
@@ -68,11 +83,12 @@ export class Teacher {
     document.title = "Teacher – vecmon";
     put(byId("who"), "Teacher");
     byId("teacher").hidden = false;
-    new LineField("operator-line", (lines) => this.operate(lines));
-    chooseSides(["listing", "source"]);
+    new LineField(byId("operator-line"), (lines) => this.operate(lines));
+    chooseSides(document, ["listing", "source"]);
     byId("source").readOnly = byId("language").disabled = true;
-    this.source = new Source(new Editor(byId("source"), undefined, byId("language")), connection);
+    this.source = new Source(document, new Editor(byId("source"), undefined, byId("language")), connection);
     byId("given").value = sessionStorage.getItem("given") ?? ""; // as before a reload
+    /** @type {Editor} */
     const given = new Editor(byId("given"), () => this.keep(given.source), byId("given-language"));
     byId("take").onclick = () => given.put(this.source.editor.source);
     document.addEventListener("keydown", (event) => pressNamed(event));
@@ -82,14 +98,15 @@ export class Teacher {
   }
 
   /** Keeps the source to give, until the tab is closed. */
-  keep({ text, language }) {
+  keep(/** @type {SourceText} */ { text, language }) {
     sessionStorage.setItem("given", text.slice(0, MOST_LETTERS));
-    sessionStorage.setItem("given-language", language);
+    sessionStorage.setItem("given-language", `${language}`);
   }
 
+  /** @type {import("./types").RolePage["show"]} */
   show(view, logs, isAnew) {
     this.view = view;
-    for (const id of ["language", "given-language"]) offerLanguages(byId(id), view);
+    for (const list of [byId("language"), byId("given-language")]) offerLanguages(list, view);
     put(byId("no-c"), view.no_c && `This class takes no C: ${view.no_c}`);
     const letters = Object.keys(view.machines);
     for (const letter of letters.filter((each) => !this.machines[each])) {
@@ -98,7 +115,7 @@ export class Teacher {
       byId("operated").append(make("option", "", letter));
       const seats = Object.keys(view.machines[letter].seats).map((digit) => `${letter}${digit}`);
       const options = () => seats.map((seat) => make("option", "", seat));
-      for (const id of ["on-wall", "receiver"]) byId(id).append(...options());
+      for (const list of [byId("on-wall"), byId("receiver")]) list.append(...options());
     }
     byId("operator-machine").hidden = letters.length === 1;
     for (const letter of letters) this.machines[letter].show(view.machines[letter]);
@@ -107,10 +124,11 @@ export class Teacher {
     this.showClocks(Object.values(view.machines));
     say("trouble", view.trouble);
     this.warn(view);
-    this.showGiven(view.given ?? {});
+    this.showGiven(view.given);
     if (isAnew) byId("operator-log").replaceChildren();
-    const item = (letter) => (entry) => toldEntry(entry, false, letters.length > 1 ? `${letter} ` : "");
-    addToLog(byId("operator-log"), letters.flatMap((letter) => (logs[letter] ?? []).map(item(letter))));
+    const place = (/** @type {string} */ letter) => (letters.length > 1 ? `${letter} ` : "");
+    const items = letters.flatMap((letter) => (logs[letter] ?? []).map((entry) => toldEntry(entry, false, place(letter))));
+    addToLog(byId("operator-log"), items);
     byId("operator-log").ariaLive = "polite";
     if (isAnew && this.seat) this.request({ ask: "shoulder", seat: this.seat }); // as before the connection broke
     if (isAnew && this.wall && !view.wall) this.request({ ask: "wall", seat: this.wall });
@@ -128,12 +146,12 @@ export class Teacher {
   }
 
   /** Warns that codes travel unencrypted, where they do, until that is read in this tab. */
-  warn({ unencrypted }) {
+  warn(/** @type {TeacherView} */ { unencrypted }) {
     byId("unencrypted").hidden = !unencrypted || sessionStorage.getItem("unencrypted") === "read";
   }
 
   /** The field of a code, which asks for it where it is wanted. */
-  codeField(name) {
+  codeField(/** @type {string} */ name) {
     return (this.codes[name] = new CodeField(name, (request) => this.request(request)));
   }
 
@@ -149,35 +167,35 @@ export class Teacher {
   }
 
   /** Looks at a seat, whose machine comes into sight; "" ends it. */
-  async lookAt(seat) {
+  async lookAt(/** @type {string} */ seat) {
     await this.request({ ask: "shoulder", seat });
     if (seat && seat === this.seat) byId("shoulder").scrollIntoView();
   }
 
   /** Asks the same of each machine. */
-  askAll(request) {
+  askAll(/** @type {import("./types").MachineAction} */ request) {
     Object.keys(this.machines).forEach((machine) => this.request({ machine, ...request }));
   }
 
   /** Sets what was changed: rights, or the clock. */
-  setClocks({ name, checked }) {
+  setClocks(/** @type {HTMLInputElement} */ { name, checked }) {
     if (name === "own") return this.askAll({ ask: "rights", own_slices: checked });
     const numbers = NUMBERS.map((each) => [each, Number(this.clock[each].value)]);
     const settings = { on: this.clock.on.checked, ...Object.fromEntries(numbers) };
-    return this.clock.reportValidity() && this.askAll({ ask: "clock", ...settings });
+    return byId("clocks").reportValidity() && this.askAll({ ask: "clock", ...settings });
   }
 
   /** Shows the clock of all machines: the first one's numbers, and whether only some are on. */
-  showClocks(machines) {
+  showClocks(/** @type {MachineView[]} */ machines) {
     const { on, own } = this.clock;
-    for (const name of NUMBERS) if (document.activeElement !== this.clock[name]) this.clock[name].value = machines[0].clock[name];
+    for (const name of NUMBERS) if (document.activeElement !== this.clock[name]) this.clock[name].value = `${machines[0].clock[name]}`;
     const [ons, owns] = [machines.filter(({ clock }) => clock.on).length, machines.filter((each) => each.own_slices).length];
     Object.assign(on, { checked: ons === machines.length, indeterminate: ons > 0 && ons < machines.length });
     Object.assign(own, { checked: owns === machines.length, indeterminate: owns > 0 && owns < machines.length });
   }
 
   /** Gives a source to the seat that is chosen, or to all, which it asks before. */
-  give(source) {
+  give(/** @type {SourceText} */ source) {
     const receiver = byId("receiver").value;
     if (!receiver || !source.text.trim()) return say("gone", receiver ? NO_SOURCE : NO_RECEIVER);
     const give = () => this.request({ ask: "give", seat: seatOf(receiver), ...source });
@@ -185,16 +203,16 @@ export class Teacher {
   }
 
   /** Shows in how many editors a source was replaced by the one given last, while that can be taken back. */
-  showGiven({ seat, replaced }) {
-    byId("take-back").hidden = replaced === undefined;
-    if (replaced !== undefined) put(byId("gave"), `Given to ${seat || "all seats"}: ${editors(replaced)} replaced.`);
+  showGiven(/** @type {TeacherView["given"]} */ given) {
+    byId("take-back").hidden = !given;
+    if (given) put(byId("gave"), `Given to ${given.seat || "all seats"}: ${editors(given.replaced)} replaced.`);
   }
 
   /** Takes back what was given last, where no student has changed it since. */
   async takeBack() {
-    const answer = await this.request({ ask: "take-back", seat: this.view.given.seat });
+    const answer = await this.request({ ask: "take-back", seat: this.view.given?.seat ?? "" });
     if (!answer || answer.error) return;
-    put(byId("gave"), `Taken back: ${editors(answer.replaced)} restored. A source that a student has changed since stays.`);
+    put(byId("gave"), `Taken back: ${editors(answer.replaced ?? 0)} restored. A source that a student has changed since stays.`);
   }
 
   /** Writes a line to students, which stays in its field where it is refused. */
@@ -207,18 +225,18 @@ export class Teacher {
   }
 
   /** A seat with its student's name. */
-  withName(seat) {
+  withName(/** @type {string} */ seat) {
     const { name } = this.view.machines[seat[0]].seats[seat[1]];
     return name ? `${seat}, ${name}` : seat;
   }
 
-  operate(lines) {
+  operate(/** @type {string[]} */ lines) {
     const [unfit, machine] = [unfitLines(lines), byId("operated").value];
     if (unfit) return say("gone", unfit);
     return requestsOf(lines).forEach((request) => this.request({ machine, ...request }));
   }
 
-  async request(request) {
+  async request(/** @type {Request} */ request) {
     const answer = await this.connection.ask(request);
     const isQuiet = ["shoulder", "wall"].includes(request.ask); // which are asked again of a new server
     if (answer?.error || (answer && !isQuiet)) say("gone", answer.error ?? "");
@@ -227,7 +245,7 @@ export class Teacher {
   }
 
   /** Saves a machine's script or transcript; all of them where it has several. */
-  async download(letter, name, scripts) {
+  async download(/** @type {string} */ letter, /** @type {string} */ name, /** @type {number} */ scripts) {
     for (let number = 1; number <= scripts; number++) {
       const place = number < scripts ? `${letter}.${number}` : letter;
       const isThere = await this.connection.download(`${place}/${name}`, `${place}.${name}.txt`);

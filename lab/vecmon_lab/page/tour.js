@@ -3,7 +3,9 @@
 import { byId, make, prose } from "./elements.js";
 import { stripOf } from "./strip.js";
 
-for (const { name, title, sentence, strip } of JSON.parse(byId("data").textContent)) {
+/** @type {{ name: string, title: string, sentence: string, strip: import("./strip.js").Strip }[]} */
+const lessons = JSON.parse(byId("data").text);
+for (const { name, title, sentence, strip } of lessons) {
   const link = Object.assign(make("a", "", title), { href: `${name}.html` });
   byId("lessons").append(make("li", "", link, make("p", "", ...prose(sentence)), stripOf(strip)));
 }

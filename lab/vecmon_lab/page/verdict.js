@@ -2,8 +2,11 @@
 
 import { link, make, prose, unseen } from "./elements.js";
 
+/** @typedef {import("./messages").NumberRow} NumberRow */
+/** @typedef {import("./messages").AnswerCost} AnswerCost */
+
 /** Numbers in a row, each in a box; the wrong ones are marked. After them is the number of those not shown. */
-function strip({ where, first, numbers, wrong, more }) {
+function strip(/** @type {NumberRow} */ { where, first, numbers, wrong, more }) {
   const boxes = numbers.map((text, place) => {
     const isWrong = wrong.includes(place);
     const box = make("span", isWrong ? "wrong" : "", text, ...(isWrong ? [unseen(" wrong")] : []));
@@ -14,11 +17,12 @@ function strip({ where, first, numbers, wrong, more }) {
 }
 
 /** Rows of numbers below a name, and further remarks. */
+/** @type {(name: string, strips?: NumberRow[], notes?: string[]) => HTMLElement[]} */
 const picture = (name, strips = [], notes = []) =>
   strips.length + notes.length ? [make("h3", "", name), ...strips.map(strip), ...notes.map((note) => make("p", "", note))] : [];
 
 /** The cost of an answer that passes, compared with a good one. */
-function takenWords({ taken, good }) {
+function takenWords(/** @type {AnswerCost} */ taken, /** @type {AnswerCost} */ good) {
   const [own, other] = [taken, good].map((it) => it.instructions.toLocaleString("en"));
   const places = "Of a hundred places that its vector instructions had for elements";
   return (
@@ -29,20 +33,22 @@ function takenWords({ taken, good }) {
 }
 
 /** The result of an exercise, as elements: `lesson` is where one of the case that fails is, and tryCase brings it in here. */
+/** @type {(exercise: import("./messages").ExerciseView, tryCase: () => unknown) => HTMLElement[]} */
 export function verdict({ told, cases, lesson }, tryCase) {
   const again = make("p", "", "Check it again. If that fails too, the teacher's page shows why.");
   if (told.unchecked) return [make("h3", "", told.unchecked), again];
   const untried = make("p", "", "It wasn't tried in any case, and this is no try.");
   if (told.mistakes) return [make("h3", "", "Source has mistakes."), untried];
   if (!told.cases) return [];
-  const passed = told.cases.filter((it) => it.passed).length;
+  const passing = told.cases.filter((it) => it.passed).map((it) => it.name);
+  const passed = passing.length;
   const items = cases.map(({ name }) => {
-    const passes = told.cases.some((it) => it.passed && it.name === name);
+    const passes = passing.includes(name);
     return make("li", passes ? "passes" : "fails", `${passes ? "✓" : "✗"} ${name}`, unseen(passes ? " passes" : " fails"));
   });
   const sum = passed === cases.length ? "It passes all cases." : `It passes ${passed} of ${cases.length} cases.`;
   const parts = [make("h3", "", sum), make("ul", "cases", ...items)];
-  if (told.taken) return [...parts, make("p", "", takenWords(told))];
+  if (told.taken && told.good) return [...parts, make("p", "", takenWords(told.taken, told.good))];
   if (!told.reason) return passed === cases.length ? parts : [...parts, make("p", "", "What is given in a case that fails isn't shown.")];
   const which = told.number === undefined ? "" : `${cases[told.number].name}: `;
   const here = Object.assign(make("button", "", "Try it here"), { onclick: tryCase });

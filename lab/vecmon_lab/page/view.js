@@ -1,48 +1,63 @@
 // Paints the state of one user: from an object, and the one before, for the changes.
-// A value that a line can change has the line's beginning as `data-edit`.
 
-import { byId, make, prose, put } from "./elements.js";
-import { paintListing } from "./listing.js";
-import { paintMemory, paintOutput } from "./memory.js";
-import { paintRegisters } from "./scalars.js";
-import { paintVariables } from "./variables.js";
-import { paintElements, paintFacts } from "./vectors.js";
+import { make, part, prose, put } from "./elements.js";
+import { ListingPanel } from "./listing.js";
+import { MemoryPanel, OutputPanel } from "./memory.js";
+import { RegisterPanel } from "./scalars.js";
+import { VariablePanel } from "./variables.js";
+import { VectorPanel } from "./vectors.js";
 import { saysMore, withNames } from "./words.js";
 
+/** @typedef {import("./messages").State} State */
+/** @typedef {import("./types").MachineState} MachineState */
+
 /** The numbers of a state's vector registers that aren't zero. */
-export const usedIn = ({ v = {} } = {}) => Object.keys(v).filter((number) => /[^0]/.test(v[number])).map(Number);
+export const usedIn = (/** @type {State | undefined} */ { v = {} } = { run: "absent" }) =>
+  Object.keys(v).filter((number) => /[^0]/.test(v[number])).map(Number);
 
-/** The command, which its page knows, and the instruction that executed last, or that faulted. */
-export function showStep(state, ...done) {
-  if (state.run === "running") done.push(make("small", "", "it runs: registers and memory are those from before"));
-  if (state.instruction) {
-    const line = (state.code[state.instruction] ?? "").slice(9);
-    const text = withNames(line, byId("names").value === "abi");
-    const said = saysMore(state.lines?.[state.instruction] ?? "", line); // which the listing may cut
-    done.push(make("span", "instruction", make("small", "", state.faulted ? "stopped at " : "executed "), text));
-    done.push(make("small", "", ...prose(said)));
+/** The state of a machine; null of none, or of one that runs and was never looked at. */
+/** @type {(state: State | undefined) => MachineState | null} */
+export const machineOf = (state) => (state && state.run !== "absent" && state.x ? /** @type {MachineState} */ (state) : null);
+
+/** The panels of a machine, and the stage above them, below a root that has both. */
+export class MachineView {
+  constructor(/** @type {ParentNode} */ root) {
+    this.machine = part(root, "machine");
+    this.names = part(root, "names");
+    this.step = part(root, "step");
+    this.stop = part(root, "stop");
+    this.output = new OutputPanel(root);
+    const panels = [ListingPanel, VectorPanel, VariablePanel, RegisterPanel, MemoryPanel];
+    this.panels = panels.map((Panel) => new Panel(root));
   }
-  byId("step").replaceChildren(...done);
-}
 
-/** Why something stopped or was refused. */
-export function showStop(words) {
-  put(byId("stop"), words, prose(words));
-  byId("stop").classList.toggle("said", words !== "");
-}
+  /** The command, which its page knows, and the instruction that executed last, or that faulted. */
+  showStep(/** @type {State} */ state, /** @type {Node[]} */ ...done) {
+    if (state.run === "running") done.push(make("small", "", "it runs: registers and memory are those from before"));
+    if (state.instruction) {
+      const line = (state.code?.[state.instruction] ?? "").slice(9);
+      const text = withNames(line, this.names.value === "abi");
+      const said = saysMore(state.lines?.[state.instruction] ?? "", line); // which the listing may cut
+      done.push(make("span", "instruction", make("small", "", state.faulted ? "stopped at " : "executed "), text));
+      done.push(make("small", "", ...prose(said)));
+    }
+    this.step.replaceChildren(...done);
+  }
 
-/** Paints a state, compared with the one before it. `used` has the numbers of the vector registers that always have rows. */
-export function paintState(state, previous, used) {
-  const isThere = state.run !== "absent";
-  byId("machine").classList.toggle("absent", !isThere);
-  byId("machine").classList.toggle("running", state.run === "running");
-  if (!isThere) return;
-  const before = previous && previous.run !== "absent" ? previous : state;
-  paintOutput(state); // first, since it asks how the page is laid out
-  paintListing(state, before);
-  paintFacts(state, before);
-  paintElements(state, before, used);
-  paintVariables(state, before);
-  paintRegisters(state, before);
-  paintMemory(state, before);
+  /** Why something stopped or was refused. */
+  showStop(/** @type {string} */ words) {
+    put(this.stop, words, prose(words));
+    this.stop.classList.toggle("said", words !== "");
+  }
+
+  /** Paints a state, compared with the one before it. `used` has the numbers of the vector registers that always have rows. */
+  /** @type {(state: State, previous: State | undefined, used: Set<number>) => void} */
+  paint(state, previous, used) {
+    const shown = machineOf(state);
+    this.machine.classList.toggle("absent", !shown);
+    this.machine.classList.toggle("running", shown?.run === "running");
+    if (!shown) return;
+    this.output.paint(shown); // first, since it asks how the page is laid out
+    for (const panel of this.panels) panel.paint(shown, machineOf(previous) ?? shown, used);
+  }
 }

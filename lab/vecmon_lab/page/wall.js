@@ -4,11 +4,14 @@ import { Desk } from "./desk.js";
 import { byId, put, say } from "./elements.js";
 
 export class Wall {
+  seat = "";
+
   constructor() {
-    this.desk = new Desk();
+    this.desk = new Desk(document.body);
     document.title = "Wall – vecmon";
   }
 
+  /** @type {import("./types").RolePage["show"]} */
   show({ seat, state, trouble }, logs, isAnew) {
     const isOther = isAnew || seat !== this.seat;
     this.seat = seat;

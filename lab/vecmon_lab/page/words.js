@@ -5,7 +5,10 @@ export const ABI_NAMES =
 
 export const ROUNDING = ["to nearest, ties up (rnu)", "to nearest, ties to even (rne)", "down (rdn)", "to odd (rod)"];
 
+/** @typedef {{ vill: boolean, sew: number, lmul: number, most: number, tail: bigint, mask: bigint }} VectorType */
+
 /** vtype, a hexadecimal number, in its parts: SEW in bits, LMUL as a number, VLMAX; 32 bits and 1 where it is vill. */
+/** @type {(vtype: string) => VectorType} */
 export function vectorType(vtype) {
   const bits = BigInt("0x" + vtype);
   const vill = bits >> 63n === 1n;
@@ -15,30 +18,32 @@ export function vectorType(vtype) {
 }
 
 /** A vector type as the assembler writes it. */
-export function typeText(type) {
+export function typeText(/** @type {VectorType} */ type) {
   if (type.vill) return "vill";
   const group = type.lmul < 1 ? `mf${1 / type.lmul}` : `m${type.lmul}`;
   return `e${type.sew}, ${group}, ${type.tail ? "ta" : "tu"}, ${type.mask ? "ma" : "mu"}`;
 }
 
 /** A vector type in a sentence. */
-export function typeWords(type) {
+export function typeWords(/** @type {VectorType} */ type) {
   if (type.vill) return "No vector type is set (vill): vector arithmetic is illegal.";
+  /** @type {Record<number, string>} */
   const parts = { 0.5: "half of a register", 0.25: "a quarter of a register", 0.125: "an eighth of a register" };
   const group = parts[type.lmul] ?? (type.lmul === 1 ? "one register" : `a group of ${type.lmul} registers`);
-  const rest = (agnostic) => (agnostic ? "agnostic" : "undisturbed");
+  const rest = (/** @type {bigint} */ agnostic) => (agnostic ? "agnostic" : "undisturbed");
   const most = `up to ${type.most} element${type.most === 1 ? "" : "s"} of ${type.sew} bits in ${group}`;
   return `${most}; tail ${rest(type.tail)}, masked off ${rest(type.mask)}`;
 }
 
 /** A 64-bit number, in hexadecimal without leading zeros, as a signed decimal one. */
-export const signedText = (hexadecimal) => BigInt.asIntN(64, BigInt("0x" + hexadecimal)).toString();
+export const signedText = (/** @type {string} */ hexadecimal) => BigInt.asIntN(64, BigInt("0x" + hexadecimal)).toString();
 
 /** An instruction's text with the chosen names of scalar registers. */
+/** @type {(text: string, abi: boolean) => string} */
 export const withNames = (text, abi) => (abi ? text.replace(/\bx(\d+)\b/g, (_, number) => ABI_NAMES[number]) : text);
 
 /** The text of a source's line next to its instruction, whose text is the machine's: all of it, or its comment alone. */
-export function saysMore(line, text) {
+export function saysMore(/** @type {string} */ line, /** @type {string} */ text) {
   const [own] = line.split(/\s*(?:#|\/\/)/);
   const numbered = own.replace(/\b[a-z]+\d*\b/g, (name) => (ABI_NAMES.includes(name) ? `x${ABI_NAMES.indexOf(name)}` : name));
   if (numbered.replace(/\s+/g, " ").replace(/ ?, ?/g, ", ") === text) return line.slice(own.length).trim();
@@ -46,7 +51,7 @@ export function saysMore(line, text) {
 }
 
 /** Where a branch or a jump goes to: an address in hexadecimal, or "" for any other instruction. */
-export function target(address, text) {
+export function target(/** @type {string} */ address, /** @type {string} */ text) {
   const distance = /^(?:b\w+ x\d+, x\d+|jal x\d+), (-?\d+)$/.exec(text);
   return distance ? (BigInt("0x" + address) + BigInt(distance[1])).toString(16) : "";
 }

@@ -3,28 +3,36 @@
 import { ask, byId, button, make, offerFile, put } from "./elements.js";
 import { KeptWork, fileOf, textsOf } from "./kept_work.js";
 import { linkOf } from "./links.js";
+import { Pending } from "./pending.js";
+
+/** @typedef {import("./playground").FromWorker} FromWorker */
+/** @typedef {import("./playground").PageData} PageData */
+/** @typedef {import("./playground").Texts} Texts */
+/** @typedef {import("./types").Connection} Channel */
 
 const WORK_FILE = "vecmon-work.json";
 const REPLACED = "The work in this file replaces the sources, versions, tries and machine of this page. Take home exports them before.";
 const MOST_IMAGE_BYTES = 1 << 20;
-const HIDDEN = ["name", "forget", "clock"]; // elements of a class
-const dataOf = (id) => JSON.parse(byId(id).textContent);
+const HIDDEN = [byId("name"), byId("forget"), byId("clock")]; // elements of a class
+/** What is in an element of the page: its data, or the text of the worker. */
+const dataOf = (/** @type {"parts" | "worker"} */ id) => JSON.parse(textOf(id));
+const textOf = (/** @type {string} */ id) => document.getElementById(id)?.textContent ?? "";
+/** @type {() => PageData} */
+const pageData = () => dataOf("parts");
 
 /** Storage of this tab, where the browser refuses it, as in a frame without an origin. */
 class TabMemory {
-  constructor() {
-    this.values = new Map();
-  }
+  /** @type {Map<string, string>} */ values = new Map();
 
-  getItem(name) {
+  getItem(/** @type {string} */ name) {
     return this.values.get(name) ?? null;
   }
 
-  setItem(name, value) {
+  setItem(/** @type {string} */ name, /** @type {unknown} */ value) {
     this.values.set(name, `${value}`);
   }
 
-  removeItem(name) {
+  removeItem(/** @type {string} */ name) {
     this.values.delete(name);
   }
 
@@ -49,41 +57,56 @@ function takeExercise() {
 
 let wanted = takeExercise();
 
+/** @implements {Channel} */
 export class Connection {
-  /** told: receives each message; gone: receives a sentence while the lab isn't there; ended: receives the cause of the end. */
-  constructor(code, told, gone, ended) {
-    Object.assign(this, { told, gone, ended, number: 0, ahead: 0, isReady: false, waiting: [] });
-    this.times = { page: performance.now() };
+  isReady = false;
+  ahead = 0;
+  pending = new Pending();
+  /** @type {Record<string, number>} */ times = { page: performance.now() };
+  /** @type {Worker | null} */ worker = null;
+  /** @type {Window | null} */ tab = null; // for a lesson
+  damaged = button("Damaged texts", "Save damaged texts as a file", () => this.saveRest());
+  examples = Object.assign(make("select", "student"), { ariaLabel: "Examples" });
+  words = Object.assign(make("p", ""), { id: "stored", hidden: true });
+
+  /** @param {string} code of the only seat @param {import("./types").Listener} listener */
+  constructor(code, listener) {
+    this.listener = listener;
     this.work = new KeptWork((words) => this.say(words));
     this.addElements();
     document.addEventListener("click", (event) => this.openLesson(event), true);
     addEventListener("hashchange", (event) => this.openWanted(event), true);
     document.addEventListener("dragover", (event) => event.preventDefault());
-    document.addEventListener("drop", (event) => (event.preventDefault(), this.drop(event.dataTransfer.files[0])));
-    addEventListener("pagehide", () => this.worker?.postMessage({ keep: true }));
-    this.gone("The machine starts …");
+    document.addEventListener("drop", (event) => (event.preventDefault(), this.drop(event.dataTransfer?.files[0])));
+    addEventListener("pagehide", () => this.send({ keep: true }));
+    this.listener.gone("The machine starts …");
     this.work.open().then(() => this.begin());
+  }
+
+  get waiting() {
+    return this.pending.size;
+  }
+
+  send(/** @type {import("./playground").ToWorker} */ message) {
+    this.worker?.postMessage(message);
   }
 
   /** Adds what a page without a server has: work from a file, a sentence on storage, and one on checks. */
   addElements() {
-    for (const id of HIDDEN) byId(id).classList.add("unseen"), (byId(id).inert = true);
+    for (const element of HIDDEN) element.classList.add("unseen"), (element.inert = true);
     byId("home").title = "A file with all work of this page: sources, versions, tries, images and the machine";
     const choose = Object.assign(make("input", ""), { type: "file", accept: ".json", ariaLabel: "A file of exported work", hidden: true });
-    choose.addEventListener("change", () => (this.bring(choose.files[0]), (choose.value = "")));
-    this.damaged = button("Damaged texts", "Save damaged texts as a file", () => this.saveRest());
+    choose.addEventListener("change", () => (this.bring(choose.files?.[0]), (choose.value = "")));
     this.damaged.hidden = true;
     byId("home").after(button("Bring work", "Open a file of exported work", () => choose.click()), choose, this.damaged);
-    this.examples = Object.assign(make("select", "student"), { ariaLabel: "Examples" });
-    this.examples.append(...["Examples …", ...Object.keys(dataOf("parts").examples)].map((name) => make("option", "", name)));
+    this.examples.append(...["Examples …", ...Object.keys(pageData().examples)].map((name) => make("option", "", name)));
     this.examples.addEventListener("change", () => this.takeExample());
     byId("versions").before(this.examples, " ");
-    this.words = Object.assign(make("p", ""), { id: "stored", hidden: true });
     byId("banner").append(this.words);
-    byId("foot").append(make("span", "", ` ${dataOf("parts").about}`));
+    byId("foot").append(make("span", "", ` ${pageData().about}`));
   }
 
-  say(words) {
+  say(/** @type {string} */ words) {
     put(this.words, words);
     this.words.hidden = !words;
     this.damaged.hidden = !this.work.rest.length;
@@ -91,56 +114,61 @@ export class Connection {
 
   /** Starts the worker with the texts that were kept. */
   begin() {
-    const parts = dataOf("parts").files;
+    const parts = pageData().files;
     for (const part of Object.values(parts)) {
       if (part.url) part.url = new URL(part.url, location.href).href;
-      else part.base64 = byId(part.id).textContent;
+      else part.base64 = textOf(part.id ?? "");
     }
     this.worker = new Worker(URL.createObjectURL(new Blob([dataOf("worker")], { type: "text/javascript" })));
     this.worker.onmessage = ({ data }) => this.hear(data);
     this.worker.onerror = ({ message }) => this.fail(message);
-    this.worker.postMessage({ parts, begin: this.work.texts });
+    this.send({ parts, begin: this.work.texts });
   }
 
   /** Ends the worker, and starts another one with other texts. */
-  async restart(texts) {
-    this.worker.terminate();
+  async restart(/** @type {Texts} */ texts) {
+    this.worker?.terminate();
     this.isReady = false;
-    this.waiting.splice(0).forEach(({ done }) => done(null));
+    this.pending.drop();
     await this.work.replace(texts);
-    this.told({ kind: "news", patch: { seat: "" } }); // so that the page takes up the seat anew, with its source
+    this.listener.told({ kind: "news", patch: { seat: "" } }); // so that the page takes up the seat anew, with its source
     this.begin();
   }
 
-  fail(words) {
+  fail(/** @type {string} */ words) {
     this.isReady = false;
-    this.waiting.splice(0).forEach(({ done }) => done(null));
-    this.gone(`The lab in this page has failed: ${words}. Reload the page; Take home exports your work.`);
+    this.pending.drop();
+    this.listener.gone(`The lab in this page has failed: ${words}. Reload the page; Take home exports your work.`);
   }
 
-  hear(message) {
+  hear(/** @type {FromWorker} */ message) {
     switch (message.kind) {
       case "keep":
-        return this.work.keep(...JSON.parse(message.entry));
+        return this.keep(JSON.parse(message.entry));
       case "times":
         Object.assign(this.times, message.times, { ready: performance.now() });
-        return (document.body.dataset.times = JSON.stringify(this.times)); // for lab/tools/other_browsers.py
+        return void (document.body.dataset.times = JSON.stringify(this.times)); // for lab/tools/other_browsers.py
       case "failed":
         return this.fail(message.text);
       case "lesson":
         return this.showLesson(message);
       case "hello":
         this.isReady = true;
-        this.gone("");
+        this.listener.gone("");
         this.openWanted();
         if (message.lost.length) this.say([this.work.trouble, ...message.lost.map((words) => `${words}.`)].join(" "));
     }
-    this.told(message);
-    return message.kind === "answer" && this.waiting.shift().done(message);
+    this.listener.told(message);
+    if (message.kind === "answer") this.pending.settle(message);
+  }
+
+  /** Saves a text, or removes it where it is null. */
+  keep(/** @type {[name: string, text: string | null, time: number]} */ entry) {
+    this.work.keep(...entry);
   }
 
   /** Opens the exercise that the address names, if it does. */
-  openWanted(event) {
+  openWanted(/** @type {Event | undefined} */ event = undefined) {
     wanted = takeExercise() || wanted;
     if (!wanted) return;
     event?.stopImmediatePropagation();
@@ -149,12 +177,18 @@ export class Connection {
   }
 
   /** The lab's answer to a request; null if the lab isn't there. */
+  /** @type {Channel["ask"]} */
   ask(request) {
+    return this.post(request);
+  }
+
+  /** Sends a request to the lab, and has it send all changes first if they are to be kept. */
+  /** @type {(request: import("./types").Request, kept?: { keep?: boolean }) => ReturnType<Channel["ask"]>} */
+  async post(request, kept = {}) {
     if (!this.isReady) return null;
-    return new Promise((done) => {
-      this.waiting.push({ done });
-      this.worker.postMessage({ request: JSON.stringify({ id: ++this.number, ...request }) });
-    });
+    const { request: numbered, answer } = this.pending.add(request);
+    this.send({ ...kept, request: JSON.stringify(numbered) });
+    return answer;
   }
 
   /** Saves all work as a file; true. */
@@ -166,30 +200,26 @@ export class Connection {
 
   /** Have the worker send all changes, and wait for them. */
   settled() {
-    if (!this.isReady) return null;
-    return new Promise((done) => {
-      this.waiting.push({ done });
-      this.worker.postMessage({ keep: true, request: JSON.stringify({ id: ++this.number, ask: "lines", do: [], look: [] }) });
-    });
+    return this.post({ ask: "lines", do: [], look: [] }, { keep: true });
   }
 
   /** Replace the work by that of a file, if the answer is yes. */
-  async bring(file) {
+  async bring(/** @type {File | undefined} */ file) {
     if (!file) return;
     try {
       const texts = await textsOf(file);
       ask(REPLACED, "Bring work", () => this.restart(texts));
     } catch (error) {
-      this.say(error.message);
+      this.say(/** @type {Error} */ (error).message);
     }
   }
 
   /** Puts an example into the editor, as a link with a source does. */
   takeExample() {
-    const text = dataOf("parts").examples[this.examples.value];
+    const text = pageData().examples[this.examples.value];
     this.examples.selectedIndex = 0;
-    sessionStorage.setItem("linked", linkOf({ text, language: 0 }, byId("language")));
-    this.told({ kind: "news" });
+    sessionStorage.setItem("linked", linkOf({ text, language: 0 }, byId("language")) ?? "");
+    this.listener.told({ kind: "news" });
   }
 
   saveRest() {
@@ -197,25 +227,26 @@ export class Connection {
   }
 
   /** Loads an image that was dropped on the page, or brings work from a file. */
-  async drop(file) {
+  async drop(/** @type {File | undefined} */ file) {
     if (!file || !this.isReady) return undefined;
     if (file.name.endsWith(".json")) return this.bring(file);
     const start = await file.slice(0, MOST_IMAGE_BYTES + 1).arrayBuffer(); // what is larger is refused by its size
-    return this.worker.postMessage({ image: file.name, content: start });
+    return this.send({ image: file.name, content: start });
   }
 
   /** Opens a lesson in a tab of its own; it is made now. */
-  openLesson(event) {
-    const address = event.target.closest?.('a[href^="lesson/"]')?.getAttribute("href");
+  openLesson(/** @type {Event} */ event) {
+    const at = /** @type {Partial<Element>} */ (event.target); // or the document, which has no closest
+    const address = at.closest?.('a[href^="lesson/"]')?.getAttribute("href");
     if (!address) return;
     event.preventDefault();
     this.tab = window.open("", "_blank");
-    this.worker.postMessage({ lesson: address.slice("lesson/".length) });
+    this.send({ lesson: address.slice("lesson/".length) });
   }
 
-  showLesson({ page, error }) {
+  showLesson(/** @type {{ page?: string, error?: string }} */ { page = "", error }) {
     if (error || !this.tab) return this.say(error ?? "The browser has opened no tab for the lesson: allow windows of this page.");
-    this.tab.location = URL.createObjectURL(new Blob([page], { type: "text/html" }));
+    this.tab.location.href = URL.createObjectURL(new Blob([page], { type: "text/html" }));
     return undefined;
   }
 }

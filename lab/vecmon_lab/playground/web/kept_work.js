@@ -1,14 +1,20 @@
 // The work of this page in the browser's storage (IndexedDB): texts by name, each with its time in seconds since 1970; and files of them.
 
-const [DATABASE, STORE, FORMAT_VERSION] = ["vecmon playground", "texts", 1];
+/** @typedef {import("./playground").Entry} Entry */
+/** @typedef {import("./playground").Texts} Texts */
+
+const [DATABASE, STORE] = ["vecmon playground", "texts"];
+const FORMAT_VERSION = 1;
 const LOCK = "vecmon playground"; // held by the tab that saves
 const FORMAT = "vecmon work";
 const ELSEWHERE = "The playground is open in another tab, which saves its work. Changes in this tab aren't saved: Take home exports them.";
-const NEWER = "A newer playground has saved the work in this browser. It is only read here, and changes aren't saved: Take home exports them.";
+const NEWER =
+  "A newer playground has saved the work in this browser. It is only read here, and changes aren't saved: Take home exports them.";
 const [MOST_FILE_BYTES, MOST_TEXTS] = [64 << 20, 20000];
 const NAME = /^[\w.@-]+(\/[\w.@-]+)?$/; // of a text, with one folder at most
 
 /** The result of a request to the database. */
+/** @type {<Result>(request: IDBRequest<Result>) => Promise<Result>} */
 const resultOf = (request) =>
   new Promise((done, fail) => {
     request.onsuccess = () => done(request.result);
@@ -16,20 +22,22 @@ const resultOf = (request) =>
   });
 
 /** Whether an entry is one of this format: a name, a text and a time. */
+/** @type {(entry: Partial<Entry> | null) => entry is Entry} */
 export const isEntry = (entry) =>
   typeof entry?.name === "string" && NAME.test(entry.name) && typeof entry.text === "string" && Number.isFinite(entry.time);
 
 /** Texts by name, as Python takes them. */
+/** @type {(entries: Entry[]) => Texts} */
 export const byName = (entries) => Object.fromEntries(entries.map(({ name, text, time }) => [name, [text, time]]));
 
 /** A file with all texts. */
-export function fileOf(texts) {
+export function fileOf(/** @type {Texts} */ texts) {
   const entries = Object.entries(texts).map(([name, [text, time]]) => ({ name, text, time }));
   return new Blob([JSON.stringify({ format: FORMAT, version: FORMAT_VERSION, texts: entries }, null, 1)], { type: "application/json" });
 }
 
 /** The texts of a file, by name; raises an error with a sentence if it is none of these. */
-export const textsOf = async (file) => {
+export const textsOf = async (/** @type {File} */ file) => {
   if (file.size > MOST_FILE_BYTES) throw new Error(`${file.name} has more than ${MOST_FILE_BYTES.toLocaleString("en")} bytes.`);
   let content;
   try {
@@ -39,6 +47,7 @@ export const textsOf = async (file) => {
   }
   if (content?.format !== FORMAT || !Array.isArray(content.texts)) throw new Error(`${file.name} is no file of exported work.`);
   if (content.version > FORMAT_VERSION) throw new Error(`${file.name} was exported by a newer playground: open it there.`);
+  /** @type {Entry[]} */
   const entries = content.texts.slice(0, MOST_TEXTS).filter(isEntry);
   if (!entries.length) throw new Error(`${file.name} has no work that can be read.`);
   return byName(entries);
@@ -46,25 +55,34 @@ export const textsOf = async (file) => {
 
 /** The storage of this page. If it is refused, `trouble` has a sentence, and texts are only in memory. `readOnly`: why nothing is saved. */
 export class KeptWork {
-  /** changed: called when `trouble` has changed */
+  /** @type {Texts} */ texts = {};
+  /** @type {Partial<Entry>[]} */ rest = []; // what can't be read
+  trouble = "";
+  readOnly = "";
+  isFull = "";
+  /** @type {IDBDatabase | null} */ database = null;
+  /** @type {Map<string, Entry | null>} */ due = new Map(); // what is to be written
+  /** @type {Promise<void> | null} */ writing = null;
+
+  /** @param {(trouble: string) => unknown} changed is called when `trouble` has changed */
   constructor(changed) {
-    Object.assign(this, { changed, texts: {}, rest: [], trouble: "", database: null, readOnly: "", due: new Map(), writing: null });
+    this.changed = changed;
   }
 
   /** Opens the storage, and reads what it has. */
   async open() {
     if (!(await this.holdLock())) this.readOnly = ELSEWHERE;
     try {
-      this.database = await this.openDatabase();
-      this.database.onversionchange = () => this.leave();
-      const entries = await this.readAll();
+      const database = (this.database = await this.openDatabase());
+      database.onversionchange = () => this.leave(database);
+      const entries = await this.readAll(database);
       this.texts = byName(entries.filter(isEntry));
       this.rest = entries.filter((entry) => !isEntry(entry));
       const damaged = `${this.rest.length} saved texts can't be read: Damaged texts saves them as a file.`;
       this.say([this.rest.length ? damaged : "", this.readOnly].join(" ").trim());
     } catch (error) {
       this.database = null;
-      const why = `This browser stores nothing for this page (${error.name})`;
+      const why = `This browser stores nothing for this page (${/** @type {Error} */ (error).name})`;
       this.say(`${why}. Your work is lost when the page closes: Take home exports it.`);
     }
   }
@@ -82,26 +100,29 @@ export class KeptWork {
   }
 
   /** Leave the database to the page of a newer version that opens it. */
-  leave() {
-    this.database.close();
+  leave(/** @type {IDBDatabase} */ database) {
+    database.close();
     this.readOnly = NEWER;
     this.say(NEWER);
   }
 
-  readAll() {
-    return resultOf(this.database.transaction(STORE).objectStore(STORE).getAll());
+  /** @type {(database: IDBDatabase) => Promise<Partial<Entry>[]>} */
+  readAll(database) {
+    return resultOf(database.transaction(STORE).objectStore(STORE).getAll());
   }
 
   /** Whether this tab gets the lock, and so is the one that saves. */
+  /** @type {() => Promise<boolean>} */
   holdLock() {
     return new Promise((done) => {
-      const hold = (lock) => (done(Boolean(lock)), lock && new Promise(() => {}));
+      const hold = (/** @type {unknown} */ lock) => (done(Boolean(lock)), lock && new Promise(() => {}));
       if (!navigator.locks) return done(true);
       return navigator.locks.request(LOCK, { ifAvailable: true }, hold).catch(() => done(true)); // of a page without an origin
     });
   }
 
   /** Saves a text, or removes it where it is null, soon after. */
+  /** @type {(name: string, text: string | null, time: number) => void} */
   keep(name, text, time) {
     if (text === null) delete this.texts[name];
     else this.texts[name] = [text, time];
@@ -110,7 +131,7 @@ export class KeptWork {
   }
 
   /** Replaces all texts. */
-  async replace(texts) {
+  async replace(/** @type {Texts} */ texts) {
     for (const name of Object.keys(this.texts)) if (!texts[name]) this.keep(name, null, 0);
     for (const [name, entry] of Object.entries(texts)) this.keep(name, ...entry);
     await this.writing;
@@ -131,12 +152,13 @@ export class KeptWork {
       if (this.isFull) this.say((this.isFull = ""));
     } catch (error) {
       for (const [name, entry] of entries) if (!this.due.has(name)) this.due.set(name, entry); // for the next transaction
-      this.isFull = `The browser's storage takes no more (${error?.name}). Changes aren't saved: Take home exports your work.`;
+      const { name = "" } = /** @type {Partial<Error>} */ (error ?? {});
+      this.isFull = `The browser's storage takes no more (${name}). Changes aren't saved: Take home exports your work.`;
       this.say(this.isFull);
     }
   }
 
-  say(words) {
+  say(/** @type {string} */ words) {
     this.trouble = words;
     this.changed(words);
   }

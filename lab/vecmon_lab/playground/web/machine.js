@@ -1,6 +1,9 @@
 // vecmon.wasm as a process that is asked synchronously: where it would wait for input, its stack is unwound into its memory
 // (binaryen's Asyncify), and wound up again with the next lines (docs/WEBASSEMBLY.md).
 
+/** @typedef {Record<string, Uint8Array>} Files contents by path */
+/** @typedef {{ content: Uint8Array, place: number }} OpenFile */
+
 const STACK_BYTES = 65536; // of what is unwound
 const PAGE_BYTES = 65536;
 const [UNWINDING, REWINDING] = [1, 2]; // states of Asyncify
@@ -10,20 +13,29 @@ const INPUT_PATH = "/dev/stdin";
 
 /** A process of the program; its status is null until it has ended. */
 export class Machine {
-  /** words: its arguments; files: contents by path */
+  /** @type {Map<number, OpenFile>} */ opened = new Map();
+  input = new Uint8Array();
+  /** @type {Uint8Array[]} */ output = [];
+  /** @type {number | null} */ status = null;
+  place = 0; // of the stack; 0 while there is none
+
+  /** @param {WebAssembly.Module} module @param {string[]} words its arguments @param {Files} files */
   constructor(module, words, files) {
-    Object.assign(this, { files, opened: new Map(), input: new Uint8Array(), output: [], status: null });
+    this.files = files;
     this.words = ["vecmon", ...words].map((word) => new TextEncoder().encode(word));
-    const names = ["argument", "open", "read", "write", "close", "seek", "stat"];
-    const host = Object.fromEntries(names.map((name) => [name, (...values) => this[name](...values)]));
-    this.program = new WebAssembly.Instance(module, { host }).exports;
+    /** @type {Record<string, (...values: any[]) => number | bigint | void>} of any values, since the module calls them */
+    const own = { argument: this.argument, open: this.open, read: this.read, write: this.write, close: this.close, seek: this.seek };
+    const host = Object.fromEntries(Object.entries({ ...own, stat: this.stat }).map(([name, its]) => [name, its.bind(this)]));
+    const { exports } = new WebAssembly.Instance(module, { host });
+    this.program = /** @type {import("./playground").MachineExports} */ (/** @type {unknown} */ (exports));
     this.run(); // to its first read
   }
 
   /** The answers to lines, in bytes; null if the process has ended. */
-  ask(lines) {
+  ask(/** @type {Uint8Array} */ lines) {
     if (this.status !== null) return null;
-    Object.assign(this, { input: lines, output: [] });
+    this.input = lines;
+    this.output = [];
     this.program.asyncify_start_rewind(this.stack);
     this.run();
     if (this.output.length === 1) return this.output[0];
@@ -39,27 +51,27 @@ export class Machine {
     else this.status = status;
   }
 
-  bytes(address, size) {
+  bytes(/** @type {number} */ address, /** @type {number} */ size) {
     return new Uint8Array(this.program.memory.buffer, address >>> 0, size >>> 0);
   }
 
   /** The place of what is unwound, in pages of its own. */
   get stack() {
-    if (this.place === undefined) {
+    if (!this.place) {
       this.place = this.program.memory.grow(1 + STACK_BYTES / PAGE_BYTES) * PAGE_BYTES;
       new Uint32Array(this.program.memory.buffer, this.place, 2).set([this.place + 8, this.place + 8 + STACK_BYTES]);
     }
     return this.place;
   }
 
-  argument(index, address, size) {
+  argument(/** @type {number} */ index, /** @type {number} */ address, /** @type {number} */ size) {
     const word = this.words[index];
     if (!word) return -1;
     if (word.length <= size) this.bytes(address, word.length).set(word);
     return word.length;
   }
 
-  open(address) {
+  open(/** @type {number} */ address) {
     const memory = new Uint8Array(this.program.memory.buffer);
     const path = new TextDecoder().decode(memory.slice(address >>> 0, memory.indexOf(0, address >>> 0)));
     if (path === INPUT_PATH) return INPUT;
@@ -69,7 +81,7 @@ export class Machine {
     return descriptor;
   }
 
-  read(descriptor, address, size) {
+  read(/** @type {number} */ descriptor, /** @type {number} */ address, /** @type {number} */ size) {
     const file = this.opened.get(descriptor);
     if (file) {
       const part = file.content.subarray(file.place, file.place + size);
@@ -88,7 +100,7 @@ export class Machine {
     return part.length;
   }
 
-  write(descriptor, address, size) {
+  write(/** @type {number} */ descriptor, /** @type {number} */ address, /** @type {number} */ size) {
     this.output.push(this.bytes(address, size).slice());
     return size;
   }
@@ -97,7 +109,7 @@ export class Machine {
     return 0;
   }
 
-  seek(descriptor, offset, whence) {
+  seek(/** @type {number} */ descriptor, /** @type {bigint} */ offset, /** @type {0 | 1 | 2} */ whence) {
     const file = this.opened.get(descriptor);
     if (!file) return BigInt(NO_SEEK);
     file.place = Number(offset) + [0, file.place, file.content.length][whence];

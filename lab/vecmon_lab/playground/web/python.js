@@ -7,39 +7,48 @@ const PAGE_BYTES = 65536;
 /** Python with the lab in it, which answers messages and asks machines meanwhile. */
 export class Python {
   /**
-   * host: start(number, words), machine(number, lines) with the answers or null, end(number), file(path, content), keep(entry),
-   * complain(text), now(), ticks() and random(bytes); files: contents by path, without a slash before it; snapshot: of the memory
+   * @param {WebAssembly.Module} module
+   * @param {import("./playground").Host} host
+   * @param {Record<string, Uint8Array>} files contents by path, without a slash before it
+   * @param {Uint8Array | null} snapshot of the memory
    */
   constructor(module, host, files, snapshot = null) {
     const wasi = new Wasi(files, host);
-    let answers = new Uint8Array();
+    /** @type {Uint8Array | null} */
+    let answers = null;
+    /** @type {Record<string, (...values: number[]) => unknown>} */
     const own = {
       start: (number, address, size) => host.start(number, size ? wasi.text(address, size).split("\n") : []),
       machine(number, address, size) {
         answers = host.machine(number, wasi.bytes(address, size).slice());
         return answers ? answers.length : -1;
       },
-      take: (address) => wasi.bytes(address, answers.length).set(answers),
+      take: (address) => answers && wasi.bytes(address, answers.length).set(answers),
       end: (number) => host.end(number),
       file: (path, pathSize, content, size) => host.file(wasi.text(path, pathSize), wasi.bytes(content, size).slice()),
       keep: (address, size) => host.keep(wasi.text(address, size)),
     };
-    const imports = { wasi_snapshot_preview1: wasi.imports(module), host: own };
-    this.program = new WebAssembly.Instance(module, imports).exports;
+    const { exports } = new WebAssembly.Instance(module, { wasi_snapshot_preview1: wasi.imports(module), host: own });
+    this.program = /** @type {import("./playground").PythonExports} */ (/** @type {unknown} */ (exports));
     this.memory = wasi.memory = this.program.memory;
-    if (!snapshot) return void this.program._initialize();
+    if (snapshot) this.restore(snapshot);
+    else this.program._initialize();
+  }
+
+  restore(/** @type {Uint8Array} */ snapshot) {
     const missing = Math.ceil((snapshot.length - this.memory.buffer.byteLength) / PAGE_BYTES);
     if (missing > 0) this.memory.grow(missing);
     new Uint8Array(this.memory.buffer).set(snapshot);
   }
 
   /** Starts Python with a program; raises an error if it fails. Not for one from a snapshot. */
-  begin(program) {
+  begin(/** @type {string} */ program) {
     const status = this.program.begin(this.place(`${program}\0`)[0]);
     if (status) throw new Error(`Python can't be started: ${status}`);
   }
 
-  /** The answer to a message, both in JSON. */
+  /** The answer to a message, both in JSON, and whether there is more to do. */
+  /** @type {(message: import("./playground").ToWorker) => [answer: any, isBusy: boolean]} the answer is of the class, or of no kind */
   answer(message) {
     const size = this.program.answer(...this.place(JSON.stringify(message)));
     if (size < 0) throw new Error("the lab has failed");
@@ -47,6 +56,7 @@ export class Python {
   }
 
   /** Puts a text into Python's memory; its address and size. */
+  /** @type {(text: string) => [address: number, size: number]} */
   place(text) {
     const bytes = new TextEncoder().encode(text);
     const address = this.program.room(bytes.length + 1);

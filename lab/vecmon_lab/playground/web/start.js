@@ -2,4 +2,4 @@
 
 import { byId } from "./elements.js";
 
-byId("about").textContent = JSON.parse(byId("data").textContent).about;
+byId("about").textContent = JSON.parse(byId("data").text).about;

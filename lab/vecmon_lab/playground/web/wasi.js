@@ -7,18 +7,27 @@ const ALL_RIGHTS = 0xffffffffffffffffn;
 
 /** The functions of WASI for a program. `memory` is set once there is one. */
 export class Wasi {
-  /** files: contents by path, without a slash before it; now, ticks: ms since 1970, and of a clock that only rises */
-  constructor(files, { now, ticks, random, complain }) {
-    Object.assign(this, { files, now, ticks, random, complain, memory: null });
-    Object.assign(this, { opened: new Map([[ROOT, { path: "" }]]), next: ROOT + 1 });
+  memory = /** @type {WebAssembly.Memory} */ (/** @type {unknown} */ (null)); // which its module has
+  /** @type {Map<number, { path: string, place: number }>} */ opened = new Map([[ROOT, { path: "", place: 0 }]]);
+  next = ROOT + 1;
+
+  /**
+   * @param {Record<string, Uint8Array>} files contents by path, without a slash before it
+   * @param {Pick<import("./playground").Host, "now" | "ticks" | "random" | "complain">} host
+   */
+  constructor(files, host) {
+    this.files = files;
+    this.host = host;
   }
 
   /** The imports of a module; those that this class doesn't have return ENOTSUP. */
-  imports(module) {
+  imports(/** @type {WebAssembly.Module} */ module) {
+    const own = /** @type {Record<string, any>} by name, since the module says which it calls */ (/** @type {unknown} */ (this));
     const names = WebAssembly.Module.imports(module).filter((each) => each.module === "wasi_snapshot_preview1");
-    return Object.fromEntries(names.map(({ name }) => [name, this[name]?.bind(this) ?? (() => NOT_SUPPORTED)]));
+    return Object.fromEntries(names.map(({ name }) => [name, own[name]?.bind(this) ?? (() => NOT_SUPPORTED)]));
   }
 
+  /** @type {(address: number, size: number) => Uint8Array} */
   bytes(address, size) {
     return new Uint8Array(this.memory.buffer, address, size);
   }
@@ -27,38 +36,53 @@ export class Wasi {
     return new DataView(this.memory.buffer);
   }
 
+  /** @type {(address: number, value: number) => number} */
   number(address, value) {
     this.data.setUint32(address, value, true);
     return OK;
   }
 
+  /** @type {(address: number, value: number | bigint) => number} */
   large(address, value) {
     this.data.setBigUint64(address, BigInt(value), true);
     return OK;
   }
 
+  /** @type {(address: number, size: number) => string} */
   text(address, size) {
     return new TextDecoder().decode(this.bytes(address, size).slice());
   }
 
   /** The path that a program names from an open folder on. */
+  /** @type {(folder: number, address: number, size: number) => string} */
   path(folder, address, size) {
-    const parts = `${this.opened.get(folder).path}/${this.text(address, size)}`.split("/").filter((part) => part && part !== ".");
-    return parts.reduce((path, part) => (part === ".." ? path.slice(0, -1) : [...path, part]), []).join("/");
+    const parts = `${this.pathOf(folder)}/${this.text(address, size)}`.split("/").filter((part) => part && part !== ".");
+    /** @type {string[]} */
+    const path = [];
+    for (const part of parts) part === ".." ? path.pop() : path.push(part);
+    return path.join("/");
+  }
+
+  /** The path of an open file or folder. */
+  pathOf(/** @type {number} */ descriptor) {
+    return this.opened.get(descriptor)?.path ?? "";
   }
 
   /** The names in a folder; null if it is none. */
+  /** @type {(path: string) => string[] | null} */
   names(path) {
     const start = path && `${path}/`;
     const inside = Object.keys(this.files).filter((file) => file.startsWith(start));
     return inside.length || !path ? [...new Set(inside.map((file) => file.slice(start.length).split("/")[0]))] : null;
   }
 
+  /** @type {(path: string) => number | null} */
   kind(path) {
     if (this.files[path]) return FILE;
     return this.names(path) ? FOLDER : null;
   }
 
+  /** @type {(path: string, address: number) => number} */
   status(path, address) {
     const kind = this.kind(path);
     if (!kind) return NO_FILE;
@@ -69,12 +93,14 @@ export class Wasi {
   }
 
   /** Parts of memory that a list names: an address and a size each. */
+  /** @type {(address: number, count: number) => Uint8Array[]} */
   parts(address, count) {
-    const place = (number) => this.data.getUint32(address + 4 * number, true);
+    const place = (/** @type {number} */ number) => this.data.getUint32(address + 4 * number, true);
     return Array.from({ length: count }, (_, part) => this.bytes(place(2 * part), place(2 * part + 1)));
   }
 
   /** Fills parts of memory from a place of a file on; how many bytes. */
+  /** @type {(content: Uint8Array, place: number, address: number, count: number) => number} */
   fill(content, place, address, count) {
     let done = 0;
     for (const part of this.parts(address, count)) {
@@ -85,6 +111,7 @@ export class Wasi {
     return done;
   }
 
+  /** @type {(count: number, size: number) => number} */
   args_sizes_get(count, size) {
     return this.number(count, 0) || this.number(size, 0);
   }
@@ -93,6 +120,7 @@ export class Wasi {
     return OK;
   }
 
+  /** @type {(count: number, size: number) => number} */
   environ_sizes_get(count, size) {
     return this.number(count, 0) || this.number(size, 0);
   }
@@ -101,41 +129,49 @@ export class Wasi {
     return OK;
   }
 
+  /** @type {(descriptor: number, address: number) => number} */
   fd_prestat_get(descriptor, address) {
     if (descriptor !== ROOT) return BAD_FILE;
     return this.number(address, 0) || this.number(address + 4, 1);
   }
 
+  /** @type {(descriptor: number, address: number) => number} */
   fd_prestat_dir_name(descriptor, address) {
     this.bytes(address, 1).set([47]);
     return OK;
   }
 
+  /** @type {(descriptor: number, address: number) => number} */
   fd_fdstat_get(descriptor, address) {
     if (descriptor >= ROOT && !this.opened.has(descriptor)) return BAD_FILE;
     this.bytes(address, 24).fill(0);
-    this.data.setUint8(address, descriptor < ROOT ? DEVICE : this.kind(this.opened.get(descriptor).path));
+    this.data.setUint8(address, descriptor < ROOT ? DEVICE : (this.kind(this.pathOf(descriptor)) ?? 0));
     return this.large(address + 8, ALL_RIGHTS) || this.large(address + 16, ALL_RIGHTS);
   }
 
+  /** @type {(descriptor: number, address: number) => number} */
   fd_filestat_get(descriptor, address) {
-    if (descriptor >= ROOT) return this.opened.has(descriptor) ? this.status(this.opened.get(descriptor).path, address) : BAD_FILE;
+    if (descriptor >= ROOT) return this.opened.has(descriptor) ? this.status(this.pathOf(descriptor), address) : BAD_FILE;
     this.bytes(address, 64).fill(0);
     this.data.setUint8(address + 16, DEVICE);
     return OK;
   }
 
+  /** @type {(folder: number, flags: number, address: number, size: number, to: number) => number} */
   path_filestat_get(folder, flags, address, size, to) {
     return this.status(this.path(folder, address, size), to);
   }
 
-  path_open(folder, lookup, address, size, flags, rights, inheriting, more, to) {
+  /** @param {number[]} values the folder, how to look up, address and size of the path, three kinds of rights and flags, and a place */
+  path_open(...values) {
+    const [folder, , address, size, , , , , to] = values;
     const path = this.path(folder, address, size);
     if (!this.kind(path)) return NO_FILE;
     this.opened.set(this.next, { path, place: 0 });
     return this.number(to, this.next++);
   }
 
+  /** @type {(descriptor: number, address: number, count: number, to: number) => number} */
   fd_read(descriptor, address, count, to) {
     const file = this.opened.get(descriptor);
     if (!file) return this.number(to, 0);
@@ -144,16 +180,19 @@ export class Wasi {
     return this.number(to, done);
   }
 
+  /** @type {(descriptor: number, address: number, count: number, place: bigint, to: number) => number} */
   fd_pread(descriptor, address, count, place, to) {
-    return this.number(to, this.fill(this.files[this.opened.get(descriptor).path], Number(place), address, count));
+    return this.number(to, this.fill(this.files[this.pathOf(descriptor)], Number(place), address, count));
   }
 
+  /** @type {(descriptor: number, address: number, count: number, to: number) => number} */
   fd_write(descriptor, address, count, to) {
     const parts = this.parts(address, count);
-    for (const part of parts) this.complain(new TextDecoder().decode(part.slice()));
+    for (const part of parts) this.host.complain(new TextDecoder().decode(part.slice()));
     return this.number(to, parts.reduce((size, part) => size + part.length, 0));
   }
 
+  /** @type {(descriptor: number, offset: bigint, whence: number, to: number) => number} */
   fd_seek(descriptor, offset, whence, to) {
     const file = this.opened.get(descriptor);
     if (!file || descriptor < ROOT) return NO_SEEK;
@@ -161,19 +200,22 @@ export class Wasi {
     return this.large(to, file.place);
   }
 
+  /** @type {(descriptor: number, to: number) => number} */
   fd_tell(descriptor, to) {
     const file = this.opened.get(descriptor);
     return file ? this.large(to, file.place) : NO_SEEK;
   }
 
+  /** @type {(descriptor: number) => number} */
   fd_close(descriptor) {
     this.opened.delete(descriptor);
     return OK;
   }
 
+  /** @type {(descriptor: number, address: number, size: number, cookie: bigint, to: number) => number} */
   fd_readdir(descriptor, address, size, cookie, to) {
-    const { path } = this.opened.get(descriptor);
-    const names = this.names(path);
+    const path = this.pathOf(descriptor);
+    const names = this.names(path) ?? [];
     let done = 0;
     for (let place = Number(cookie); place < names.length && done < size; place++) {
       const name = new TextEncoder().encode(names[place]);
@@ -181,7 +223,7 @@ export class Wasi {
       const data = new DataView(entry.buffer);
       data.setBigUint64(0, BigInt(place + 1), true);
       data.setUint32(16, name.length, true);
-      data.setUint8(20, this.kind(path ? `${path}/${names[place]}` : names[place]));
+      data.setUint8(20, this.kind(path ? `${path}/${names[place]}` : names[place]) ?? 0);
       entry.set(name, 24);
       const part = entry.subarray(0, size - done);
       this.bytes(address + done, part.length).set(part);
@@ -190,19 +232,23 @@ export class Wasi {
     return this.number(to, done);
   }
 
+  /** @type {(clock: number, precision: bigint, to: number) => number} */
   clock_time_get(clock, precision, to) {
-    return this.large(to, BigInt(Math.round((clock === 0 ? this.now() : this.ticks()) * 1000)) * 1000n);
+    return this.large(to, BigInt(Math.round((clock === 0 ? this.host.now() : this.host.ticks()) * 1000)) * 1000n);
   }
 
+  /** @type {(clock: number, to: number) => number} */
   clock_res_get(clock, to) {
     return this.large(to, 1000);
   }
 
+  /** @type {(address: number, size: number) => number} */
   random_get(address, size) {
-    this.random(this.bytes(address, size));
+    this.host.random(this.bytes(address, size));
     return OK;
   }
 
+  /** @type {(status: number) => never} */
   proc_exit(status) {
     throw new Error(`Python ended with ${status}`);
   }

@@ -3,58 +3,77 @@
 import { Machine } from "./machine.js";
 import { Python } from "./python.js";
 
+/** @typedef {import("./playground").FromWorker} FromWorker */
+/** @typedef {import("./playground").Part} Part */
+/** @typedef {import("./playground").Texts} Texts */
+/** @typedef {import("./playground").ToWorker} ToWorker */
+
 const KEEP_PAUSE = 300; // ms after which what was done is saved
 const DIGEST_BYTES = 32; // of the module that a snapshot belongs to, before the snapshot
 const { port1: bell, port2: rung } = new MessageChannel(); // between turns, so that requests come in
-let python, module, parts, isRinging, timer;
-const [machines, files, pythonFiles] = [new Map(), {}, {}];
+/** @type {Python} */
+let python;
+/** @type {WebAssembly.Module} */
+let module;
+/** @type {import("./playground").PageParts} */
+let parts;
+let isRinging = false;
+let timer = 0; // until what was done is saved
+/** @type {Map<number, Machine>} */
+const machines = new Map();
+/** @type {Record<string, Uint8Array>} */
+const files = {}; // of machines, by path
+/** @type {Record<string, Uint8Array>} */
+const pythonFiles = {};
 
+/** @type {import("./playground").Host} */
 const host = {
   start: (number, words) => machines.set(number, new Machine(module, words, files)),
   machine: (number, lines) => machines.get(number)?.ask(lines) ?? null,
   end: (number) => machines.delete(number),
   file: (path, content) => (files[path] = pythonFiles[path.slice(1)] = content),
-  keep: (entry) => postMessage({ kind: "keep", entry }),
+  keep: (entry) => send({ kind: "keep", entry }),
   complain: (text) => console.error(text),
   now: () => Date.now(),
   ticks: () => performance.now(),
   random: (bytes) => crypto.getRandomValues(bytes),
 };
 
+/** Send a message to the page. */
+const send = (/** @type {FromWorker} */ message) => postMessage(message);
+
 /** Send a message to Python, and its answer to the page. */
-function give(message) {
+function give(/** @type {ToWorker} */ message) {
   const [answer, isBusy] = python.answer(message);
-  if (answer.kind) postMessage(answer);
+  if (answer.kind) send(answer);
   if (isBusy && !isRinging) bell.postMessage((isRinging = true));
 }
 
 /** A part of the page, from an address or in base64; both are compressed by gzip. */
-async function load(part, type = "") {
-  let stream;
+async function load(/** @type {Part} */ part, type = "") {
+  let compressed;
   if (part.url) {
-    const answer = await fetch(part.url);
-    if (!answer.ok) throw new Error(`${part.url}: ${answer.status}`);
-    stream = answer.body;
-  } else {
-    const bytes = Uint8Array.from(atob(part.base64), (letter) => letter.charCodeAt(0));
-    stream = new ReadableStream({ start: (controller) => (controller.enqueue(bytes), controller.close()) });
-  }
-  return new Response(stream.pipeThrough(new DecompressionStream("gzip")), { headers: { "Content-Type": type } });
+    compressed = await fetch(part.url);
+    if (!compressed.ok) throw new Error(`${part.url}: ${compressed.status}`);
+  } else compressed = new Response(Uint8Array.from(atob(part.base64 ?? ""), (letter) => letter.charCodeAt(0)));
+  return new Response(compressed.body?.pipeThrough(new DecompressionStream("gzip")), { headers: { "Content-Type": type } });
 }
 
-const bytesOf = async (part) => new Uint8Array(await (await load(part)).arrayBuffer());
-const hexadecimal = (bytes) => Array.from(bytes, (byte) => byte.toString(16).padStart(2, "0")).join("");
+const bytesOf = async (/** @type {Part} */ part) => new Uint8Array(await (await load(part)).arrayBuffer());
+const hexadecimal = (/** @type {Uint8Array} */ bytes) => Array.from(bytes, (byte) => byte.toString(16).padStart(2, "0")).join("");
 
 /** Load pyelftools, which only images need. */
 async function loadLater() {
   pythonFiles["later.zip"] ??= await bytesOf(parts.later);
 }
 
-async function begin(texts) {
+async function begin(/** @type {Texts} */ texts) {
+  /** @type {Record<string, number>} */
   const times = { start: performance.now() };
-  const compiled = (part) => WebAssembly.compileStreaming(load(part, "application/wasm"));
-  const found = [compiled(parts.python), bytesOf(parts.memory), compiled(parts.machine), bytesOf(parts.lessons)];
-  const [code, memory, machine, lessons] = await Promise.all(found);
+  const compiled = (/** @type {Part} */ part) => WebAssembly.compileStreaming(load(part, "application/wasm"));
+  const modules = Promise.all([compiled(parts.python), compiled(parts.machine)]);
+  const contents = Promise.all([bytesOf(parts.memory), bytesOf(parts.lessons)]);
+  const [[code, machine], [memory, lessons]] = await Promise.all([modules, contents]);
   if (hexadecimal(memory.subarray(0, DIGEST_BYTES)) !== parts.python.digest) throw new Error("its parts don't belong together");
   times.loaded = performance.now();
   module = machine;
@@ -64,24 +83,25 @@ async function begin(texts) {
   times.python = performance.now();
   give({ begin: texts });
   times.hello = performance.now();
-  postMessage({ kind: "times", times: { ...times, memory: python.memory.buffer.byteLength } });
+  send({ kind: "times", times: { ...times, memory: python.memory.buffer.byteLength } });
 }
 
 /** Files of texts by path. */
-function unpacked(bytes) {
-  const texts = Object.entries(JSON.parse(new TextDecoder().decode(bytes)));
-  return Object.fromEntries(texts.map(([path, text]) => [path, new TextEncoder().encode(text)]));
+function unpacked(/** @type {Uint8Array} */ bytes) {
+  /** @type {Record<string, string>} */
+  const texts = JSON.parse(new TextDecoder().decode(bytes));
+  return Object.fromEntries(Object.entries(texts).map(([path, text]) => [path, new TextEncoder().encode(text)]));
 }
 
 /** Takes a message of the page. */
-async function take(message) {
-  if (message.begin) {
+async function take(/** @type {ToWorker} */ message) {
+  if (message.begin && message.parts) {
     parts = message.parts;
     return begin(message.begin);
   }
   if (message.image) {
     await loadLater();
-    pythonFiles.dropped = new Uint8Array(message.content);
+    pythonFiles.dropped = new Uint8Array(message.content ?? []);
     give({ image: message.image, path: "/dropped" });
   } else give(message);
   clearTimeout(timer);
@@ -90,11 +110,11 @@ async function take(message) {
 }
 
 /** Do something; report its failure to the page. */
-async function attempt(something) {
+async function attempt(/** @type {() => unknown} */ something) {
   try {
     await something();
   } catch (error) {
-    postMessage({ kind: "failed", text: `${error.message ?? error}` });
+    send({ kind: "failed", text: `${/** @type {Error} */ (error).message ?? error}` });
   }
 }
 

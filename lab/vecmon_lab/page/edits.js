@@ -1,0 +1,77 @@
+// What a press on an element changes: a breakpoint, a register, bytes of memory, or an element of a vector register.
+
+/**
+ * @typedef {{ of: "breakpoint", address: string }
+ *   | { of: "pc" }
+ *   | { of: "scalar", register: number }
+ *   | { of: "bytes", address: string }
+ *   | { of: "element", register: number, bits: number, index: number, form: string }} Edit
+ * bits: of the element, 1 for a bit of a mask; form: in which its value is shown; addresses are hexadecimal
+ * @typedef {Exclude<Edit, { of: "breakpoint" }>} ValueEdit
+ */
+
+/** @type {WeakMap<Element, Edit>} */
+const edits = new WeakMap(); // by the element that is pressed
+
+/** The line of the monitor that makes a change begins so; a breakpoint's name is that of the line that sets it. */
+/** @type {(edit: Edit) => string} */
+export function nameOf(edit) {
+  switch (edit.of) {
+    case "breakpoint":
+      return `break ${edit.address}`;
+    case "pc":
+      return "setpc";
+    case "scalar":
+      return `set x${edit.register}`;
+    case "bytes":
+      return `poke ${edit.address}`;
+    case "element":
+      return `vset v${edit.register} ${edit.bits} ${edit.index} ${edit.form}`;
+  }
+}
+
+/** What a change is called in its dialog. */
+export const titleOf = (/** @type {Edit} */ edit) =>
+  edit.of === "element" ? `vset v${edit.register} element ${edit.index}` : nameOf(edit);
+
+/** Has an element change something where it is pressed; its name is in `data-edit`. */
+/** @type {<Kind extends HTMLElement>(element: Kind, edit: Edit) => Kind} */
+export function editable(element, edit) {
+  edits.set(element, edit);
+  element.dataset.edit = nameOf(edit);
+  return element;
+}
+
+/** The change that an element, or one around it, makes. */
+/** @type {(element: Element | null) => Edit | undefined} */
+export const editOf = (element) => {
+  const place = element?.closest("[data-edit]");
+  return place ? edits.get(place) : undefined;
+};
+
+/** The bytes of a register with another element; all bytes in hexadecimal, the least first. */
+/** @type {(bytes: string, width: number, place: number, value: bigint) => string} */
+function withElement(bytes, width, place, value) {
+  const turned = (/** @type {string} */ digits) => (digits.match(/../g) ?? []).reverse().join("");
+  const shift = BigInt(width * place);
+  const others = BigInt("0x" + turned(bytes)) & ~(((1n << BigInt(width)) - 1n) << shift);
+  return turned((others | (BigInt.asUintN(width, value) << shift)).toString(16).padStart(bytes.length, "0"));
+}
+
+/**
+ * The line that writes a text where an edit says; an error in place of it if the text is no number that fits.
+ * isDecimal: whether scalar registers are shown in decimal; v: the vector registers' bytes by number
+ * @type {(edit: ValueEdit, text: string, isDecimal: boolean, v: Record<string, string>) => { line?: string, error?: string }}
+ */
+export function lineOf(edit, text, isDecimal, v) {
+  if (edit.of === "pc" || edit.of === "bytes") return { line: `${nameOf(edit)} ${text}` };
+  const isElement = edit.of === "element";
+  const decimal = isElement ? edit.form !== "hexadecimal" : isDecimal;
+  const [bits, kind] = [isElement ? edit.bits : 64, decimal ? "decimal" : "hexadecimal"];
+  const isNumber = (decimal ? /^-?\d{1,20}$/ : /^[0-9a-f]{1,16}$/i).test(text);
+  const value = isNumber ? BigInt(decimal ? text : "0x" + text) : 1n << 64n; // which fits nowhere
+  const fits = [BigInt.asUintN(bits, value), BigInt.asIntN(bits, value)].includes(value);
+  if (!fits) return { error: `\`${text}\` is no ${kind} number of ${bits} bits: nothing was sent.` };
+  if (!isElement) return { line: `${nameOf(edit)} ${BigInt.asUintN(64, value).toString(16)}` };
+  return { line: `vset v${edit.register} ${withElement(v[edit.register], bits, edit.index, value)}` };
+}
