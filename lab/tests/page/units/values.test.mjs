@@ -1,0 +1,102 @@
+// Vector types, numbers, places of rows and lines, edits and links: values worked out by hand from the RISC-V manuals.
+import assert from "node:assert/strict";
+import { test } from "node:test";
+import { lineOf, nameOf, titleOf } from "../../../vecmon_lab/page/edits.js";
+import { isLink, languageOf, linkOf, sourceOf, suffixOf } from "../../../vecmon_lab/page/links.js";
+import { inOrder, placesOf } from "../../../vecmon_lab/page/rows.js";
+import { lineBegins, startOf, stoppedLines } from "../../../vecmon_lab/page/source_lines.js";
+import { numberOf, numberText } from "../../../vecmon_lab/page/variables.js";
+import { saysMore, signedText, target, typeText, typeWords, vectorType, withNames } from "../../../vecmon_lab/page/words.js";
+
+test("vtype has vlmul in bits 2 to 0, vsew in bits 5 to 3, vta, vma, and vill in bit 63", () => {
+  const types = { d0: ["e32, m1, ta, ma", 8], c3: ["e8, m8, ta, ma", 256], 7: ["e8, mf2, tu, mu", 16], 58: ["e64, m1, ta, mu", 4] };
+  for (const [vtype, [text, most]] of Object.entries(types)) {
+    assert.equal(typeText(vectorType(vtype)), text);
+    assert.equal(vectorType(vtype).most, most); // VLMAX for VLEN = 256
+  }
+  assert.equal(typeText(vectorType("8000000000000000")), "vill");
+  assert.match(typeWords(vectorType("7")), /^up to 16 elements of 8 bits in half of a register; tail undisturbed, masked off undisturbed$/);
+});
+
+test("numbers are signed or not by their kind, with the lowest byte first", () => {
+  assert.equal(numberOf("feff"), 0xfffen);
+  assert.deepEqual(["i16", "u16", "x16"].map((kind) => numberText(kind, 0xfffen)), ["-2", "65534", "fffe"]);
+  assert.deepEqual([signedText("ffffffffffffffff"), signedText("7fffffffffffffff")], ["-1", "9223372036854775807"]);
+});
+
+test("a branch has its target, and other instructions none", () => {
+  assert.equal(target("10010", "bne x5, x0, -8"), "10008");
+  assert.equal(target("fffc", "jal x1, 2048"), "107fc");
+  assert.equal(target("10010", "addi x5, x5, -8"), "");
+});
+
+test("registers have their ABI names, and of a source line is shown what the machine's text hasn't", () => {
+  assert.equal(withNames("add x10, x2, x31", true), "add a0, sp, t6");
+  assert.equal(withNames("add x10, x2, x31", false), "add x10, x2, x31");
+  assert.equal(saysMore("addi t0, t0, -1  # count", "addi x5, x5, -1"), "# count");
+  assert.equal(saysMore("li t0, 3", "addi x5, x0, 3"), "li t0, 3");
+});
+
+test("addresses rise by their numbers, and rows have labels and gaps between them", () => {
+  assert.deepEqual(inOrder(["1000", "fff", "20"]), ["20", "fff", "1000"]);
+  const places = placesOf(["10000", "10010", "10004"], 4, { 10004: ["loop"], 20000: ["data"] });
+  const texts = places.map(({ address, text }) => address ?? text);
+  assert.deepEqual(texts, ["10000", "loop:", "10004", "⋯", "10010"]);
+});
+
+test("an instruction belongs to the line that starts last before it", () => {
+  const starts = { 10000: 3, 10008: 4, 10010: 3, 10018: 0 };
+  assert.deepEqual(["fffc", "10000", "1000c", "10014"].map((pc) => startOf(starts, pc)), [undefined, "10000", "10008", "10010"]);
+  const begins = lineBegins(starts, ["10000", "10004", "10008", "10010", "10018", "10000"]);
+  assert.deepEqual(begins, [{ place: 0, line: 3 }, { place: 2, line: 4 }, { place: 3, line: 3 }]);
+  assert.deepEqual(stoppedLines({ 3: ["10000", "10010"], 4: ["10008"] }, ["10010"]), [3]);
+});
+
+const element = (register, bits, index, form) => ({ of: "element", register, bits, index, form });
+const V = { 1: "00112233445566778899aabbccddeeff".repeat(2) };
+
+test("an edit becomes the line that writes a value", () => {
+  assert.deepEqual(lineOf({ of: "pc" }, "10004", false, V), { line: "setpc 10004" });
+  assert.deepEqual(lineOf({ of: "bytes", address: "20002" }, "0aff", false, V), { line: "poke 20002 0aff" });
+  assert.deepEqual(lineOf({ of: "scalar", register: 10 }, "1F", false, V), { line: "set x10 1f" });
+  assert.deepEqual(lineOf({ of: "scalar", register: 10 }, "-2", true, V), { line: "set x10 fffffffffffffffe" });
+  const bytes = { "32 1 hexadecimal": ["89abcdef", "00112233efcdab898899"], "8 0 signed": ["-2", "fe112233445566778899"] };
+  for (const [form, [text, start]] of Object.entries({ ...bytes, "1 8 mask": ["0", "00102233445566778899"] })) {
+    const [bits, index, shown] = form.split(" ");
+    const line = `vset v1 ${start}${V[1].slice(20)}`;
+    assert.deepEqual(lineOf(element(1, Number(bits), Number(index), shown), text, false, V), { line });
+  }
+});
+
+test("a value that doesn't fit is refused", () => {
+  for (const [edit, text] of [[element(1, 8, 0, "unsigned"), "256"], [element(1, 8, 0, "signed"), "-129"], [element(1, 1, 0, "mask"), "2"],
+    [element(1, 16, 0, "hexadecimal"), "12345"], [{ of: "scalar", register: 5 }, "0x5"], [{ of: "scalar", register: 5 }, ""]]) {
+    assert.equal(lineOf(edit, text, false, V).line, undefined);
+    assert.match(lineOf(edit, text, false, V).error, new RegExp(`^\`${text}\` is no .* number of \\d+ bits: nothing was sent.$`));
+  }
+});
+
+test("an edit has the name of its line, and a title", () => {
+  const edits = [{ of: "breakpoint", address: "10008" }, { of: "pc" }, element(1, 32, 3, "hexadecimal")];
+  assert.deepEqual(edits.map(nameOf), ["break 10008", "setpc", "vset v1 32 3 hexadecimal"]);
+  assert.equal(titleOf(edits[2]), "vset v1 element 3");
+});
+
+/** A list of languages, as far as it is read. */
+const languages = { options: ["assembler", "C, O0", "C, O2", "assembler, stock"].map((text) => ({ text })) };
+
+test("a source is in a link as base64url, and comes back", () => {
+  const source = { text: "li t0, 3 # ÿ?>", language: 2 };
+  const hash = linkOf(source, languages);
+  assert.equal(hash, "#source=eyJ0ZXh0IjoibGkgdDAsIDMgIyDDvz8-IiwibGFuZ3VhZ2UiOiJDLCBPMiJ9"); // by base64 of GNU coreutils
+  assert.equal(isLink(hash), true);
+  assert.deepEqual(sourceOf(hash, languages), source);
+  for (const damaged of ["#source=", "#source=%", "#source=W10"]) assert.equal(sourceOf(damaged, languages), null);
+  assert.equal(linkOf({ text: "x".repeat(100000), language: 0 }, languages), null);
+});
+
+test("a file's language is that of its suffix", () => {
+  assert.deepEqual([0, 1, 2, 3].map((language) => suffixOf(language, languages)), ["s", "O0.c", "O2.c", "stock.s"]);
+  const names = { "a.s": 0, "a.stock.s": 3, "a.O0.c": 1, "a.O2.c": 2, "a.c": 1, "a.txt": 0 };
+  for (const [name, language] of Object.entries(names)) assert.equal(languageOf(name, languages), language, name);
+});
