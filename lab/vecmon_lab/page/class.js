@@ -66,7 +66,7 @@ class ClassTab {
     byId("head").hidden = byId("desk").hidden = false;
     document.body.classList.add({ teacher: "teaching", wall: "watching" }[role] ?? "studying");
     const Page = { teacher: Teacher, wall: Wall }[role] ?? Student;
-    return new Page(this.connection);
+    return new Page(document.body, this.connection);
   }
 }
 

@@ -1,6 +1,6 @@
 // Codes on the teacher's page, which are there only while they are shown; and the sheet to print.
 
-import { ask, button, byId, make, put } from "./elements.js";
+import { ask, button, make, part, put } from "./elements.js";
 
 /** @typedef {(request: import("./types").Request) => unknown} Send */
 
@@ -26,14 +26,14 @@ export class CodeField {
   }
 }
 
-/** Shows a sheet with a slip for each seat, in place of the page; without any it is closed, and nothing is left of it. */
+/** Shows a sheet with a slip for each seat, in place of the rest of its root; without any it is closed, and nothing is left of it. */
 /** @typedef {{ codes?: Record<string, string>, pictures?: Record<string, string> }} Codes by name */
-/** @type {(answer?: Codes, address?: string, withName?: (seat: string) => string) => void} */
-export function showSheet({ codes = {}, pictures = {} } = {}, address = "", withName = (seat) => seat) {
+/** @type {(root: HTMLElement, answer?: Codes, address?: string, withName?: (seat: string) => string) => void} */
+export function showSheet(root, { codes = {}, pictures = {} } = {}, address = "", withName = (seat) => seat) {
   const seats = Object.keys(codes).filter((name) => name !== "wall");
-  byId("slips").replaceChildren(...seats.map((name) => slip(withName(name), codes[name], pictures[name], address)));
-  byId("sheet-says").hidden = address !== "";
-  document.body.classList.toggle("printing", seats.length > 0);
+  part(root, "slips").replaceChildren(...seats.map((name) => slip(withName(name), codes[name], pictures[name], address)));
+  part(root, "sheet-says").hidden = address !== "";
+  root.classList.toggle("printing", seats.length > 0);
 }
 
 /** @type {(name: string, code: string, picture: string | undefined, address: string) => HTMLElement} */

@@ -1,6 +1,6 @@
 // The teacher's table of exercises: the attempts of each seat, and the answers.
 
-import { byId, button, header, make, put, table, timeText } from "./elements.js";
+import { button, header, make, part, put, table, timeText } from "./elements.js";
 
 /** @typedef {import("./messages").CheckFailure} CheckFailure */
 
@@ -32,7 +32,7 @@ export class Scores {
     this.section = make("section", "seats", top, this.table, this.failed, this.answer);
     this.section.id = "scores";
     this.section.setAttribute("aria-labelledby", "scores-title");
-    byId("machines").before(this.section);
+    part(teacher.root, "machines").before(this.section);
   }
 
   show(/** @type {import("./messages").TeacherView} */ { exercises, failures, languages }) {

@@ -1,6 +1,6 @@
 // The table of a class's seats: the condition of each one, and for how long; stuck students come first.
 
-import { ask, button, byId, header, make, put } from "./elements.js";
+import { ask, button, header, make, part, put } from "./elements.js";
 
 /** @typedef {import("./messages").SeatView} SeatView */
 /** @typedef {import("./teacher.js").Teacher} Teacher */
@@ -70,7 +70,8 @@ export class SeatTable {
 
   constructor(/** @type {Teacher} */ teacher) {
     this.teacher = teacher;
-    byId("seats").addEventListener("mouseleave", () => this.sort());
+    this.body = part(teacher.root, "seats");
+    this.body.addEventListener("mouseleave", () => this.sort());
     setInterval(() => this.age(), AGES_EVERY);
   }
 
@@ -91,7 +92,7 @@ export class SeatTable {
 
   /** Puts those who are stuck above, longest first; not while somebody points, or types, at a row. */
   sort() {
-    const [body, focused] = [byId("seats"), document.activeElement];
+    const [body, focused] = [this.body, document.activeElement];
     const weight = (/** @type {SeatRow} */ { told }) => (told.stuck ? told.since : Infinity);
     const rows = [...this.rows].sort((one, other) => (weight(one) < weight(other) ? -1 : Number(weight(one) > weight(other))));
     const isHeld = body.matches(":hover") || (focused?.matches("input") && body.contains(focused));

@@ -1,7 +1,7 @@
 // A student's page: the bench, and what a class adds: the seat, a name, messages of the teacher, exercises, and work to take home.
 
 import { Bench } from "./bench.js";
-import { button, byId, make, pressNamed, put, say, timeText } from "./elements.js";
+import { button, make, part, pressNamed, put, say, timeText } from "./elements.js";
 import { Exercises } from "./exercises.js";
 
 /** @typedef {import("./messages").Notice} Notice */
@@ -12,13 +12,18 @@ export class Student {
   seat = "";
   /** @type {Notice[] | null} */ notices = null;
 
-  constructor(/** @type {import("./types").Connection} */ connection) {
+  /** @param {HTMLElement} root of all its parts @param {import("./types").Connection} connection */
+  constructor(root, connection) {
     this.connection = connection;
-    this.bench = new Bench(document.body, connection);
-    this.exercises = new Exercises(document.body, this.bench);
-    byId("foot").hidden = false;
-    byId("name").addEventListener("change", () => this.bench.request({ ask: "name", name: byId("name").value }));
-    byId("home").addEventListener("click", () => this.takeHome());
+    this.bench = new Bench(root, connection);
+    this.exercises = new Exercises(root, this.bench);
+    this.name = part(root, "name");
+    this.home = part(root, "home");
+    this.list = part(root, "notices");
+    this.root = root;
+    part(this.root, "foot").hidden = false;
+    this.name.addEventListener("change", () => this.bench.request({ ask: "name", name: this.name.value }));
+    this.home.addEventListener("click", () => this.takeHome());
     document.addEventListener("keydown", (event) => pressNamed(event, connection.waiting < MOST_WAITING));
     const name = sessionStorage.getItem("name"); // that was typed with the code
     sessionStorage.removeItem("name");
@@ -27,9 +32,9 @@ export class Student {
 
   /** Saves what there is to take home, which takes a while to be made. */
   async takeHome() {
-    byId("home").disabled = true;
+    this.home.disabled = true;
     const isThere = await this.connection.download(`${this.seat}/home`, `${this.seat}.zip`);
-    byId("home").disabled = false;
+    this.home.disabled = false;
     this.bench.refuse(isThere ? "" : "There is nothing to take home yet, or it can't be made now.");
   }
 
@@ -37,16 +42,16 @@ export class Student {
   show(view, logs, isAnew) {
     this.seat = view.seat;
     document.title = `Seat ${view.seat} – vecmon`;
-    put(byId("who"), `Seat ${view.seat}`);
+    put(part(this.root, "who"), `Seat ${view.seat}`);
     this.showNotices(view.notices);
-    if (document.activeElement !== byId("name")) byId("name").value = view.name;
-    put(byId("clock"), `the clock is ${view.clock ? "on" : "off"}`);
+    if (document.activeElement !== this.name) this.name.value = view.name;
+    put(part(this.root, "clock"), `the clock is ${view.clock ? "on" : "off"}`);
     const share = Math.floor((100 * view.share.used) / view.share.of);
     const warning = share < 90 ? "" : `${share} % of this seat's share of the script is used up.`;
     say("trouble", [view.trouble, warning].join(" ").trim());
     this.bench.show(view, logs[view.seat] ?? [], isAnew);
     this.exercises.show(view.exercises, view.source);
-    byId("log").ariaLive = "polite";
+    part(this.root, "log").ariaLive = "polite";
   }
 
   /** Shows messages of the teacher's, each until it is closed. */
@@ -57,6 +62,6 @@ export class Student {
       const close = button("Close", `Close the message: ${text}`, () => this.connection.ask({ ask: "close-notice", number }));
       return make("li", "", make("small", "", timeText(time)), make("span", "", `The teacher: ${text}`), close);
     };
-    byId("notices").replaceChildren(...notices.map(item));
+    this.list.replaceChildren(...notices.map(item));
   }
 }

@@ -3,7 +3,7 @@
 import { CodeField, showSheet } from "./codes.js";
 import { Desk } from "./desk.js";
 import { Editor } from "./editor.js";
-import { ask, byId, make, pressNamed, put, say } from "./elements.js";
+import { ask, make, part, pressNamed, put, say } from "./elements.js";
 import { offerLanguages } from "./languages.js";
 import { LineField, requestsOf, unfitLines } from "./lines.js";
 import { Scores } from "./scores.js";
@@ -63,38 +63,40 @@ export class Teacher {
   address = "";
   /** @type {Record<string, CodeField>} */ codes = {}; // by name
 
-  constructor(/** @type {import("./types").Connection} */ connection) {
+  /** @param {HTMLElement} root of all its parts @param {import("./types").Connection} connection */
+  constructor(root, connection) {
+    this.root = root;
     this.connection = connection;
-    this.desk = new Desk(document.body);
+    this.desk = new Desk(root);
     this.table = new SeatTable(this);
     this.scores = new Scores(this);
-    const field = (/** @type {string} */ name) => /** @type {HTMLInputElement} */ (byId("clocks").elements.namedItem(name));
+    const field = (/** @type {string} */ name) => /** @type {HTMLInputElement} */ (part(root, "clocks").elements.namedItem(name));
     const [on, own, slices, ms, limit] = ["on", "own", ...NUMBERS].map(field);
     this.clock = { on, own, slices, ms, limit };
-    byId("clocks").onchange = ({ target }) => this.setClocks(/** @type {HTMLInputElement} */ (target));
-    byId("wall-code").append(...this.codeField("wall").parts);
-    byId("on-wall").onchange = () => this.request({ ask: "wall", seat: byId("on-wall").value });
-    byId("show-codes").onclick = () => this.showAllCodes();
-    byId("open-sheet").onclick = () => this.openSheet();
-    byId("tell").onsubmit = () => this.write();
-    byId("save-table").onclick = () => connection.download("seats.csv", "seats.csv");
-    byId("print").onclick = () => print();
-    byId("close-sheet").onclick = () => showSheet();
+    part(root, "clocks").onchange = ({ target }) => this.setClocks(/** @type {HTMLInputElement} */ (target));
+    part(root, "wall-code").append(...this.codeField("wall").parts);
+    part(root, "on-wall").onchange = () => this.request({ ask: "wall", seat: part(root, "on-wall").value });
+    part(root, "show-codes").onclick = () => this.showAllCodes();
+    part(root, "open-sheet").onclick = () => this.openSheet();
+    part(root, "tell").onsubmit = () => this.write();
+    part(root, "save-table").onclick = () => connection.download("seats.csv", "seats.csv");
+    part(root, "print").onclick = () => print();
+    part(root, "close-sheet").onclick = () => showSheet(root);
     document.title = "Teacher – vecmon";
-    put(byId("who"), "Teacher");
-    byId("teacher").hidden = false;
-    new LineField(byId("operator-line"), (lines) => this.operate(lines));
-    chooseSides(document, ["listing", "source"]);
-    byId("source").readOnly = byId("language").disabled = true;
-    this.source = new Source(document, new Editor(byId("source"), undefined, byId("language")), connection);
-    byId("given").value = sessionStorage.getItem("given") ?? ""; // as before a reload
+    put(part(root, "who"), "Teacher");
+    part(root, "teacher").hidden = false;
+    new LineField(part(root, "operator-line"), (lines) => this.operate(lines));
+    chooseSides(root, ["listing", "source"]);
+    part(root, "source").readOnly = part(root, "language").disabled = true;
+    this.source = new Source(root, new Editor(part(root, "source"), undefined, part(root, "language")), connection);
+    part(root, "given").value = sessionStorage.getItem("given") ?? ""; // as before a reload
     /** @type {Editor} */
-    const given = new Editor(byId("given"), () => this.keep(given.source), byId("given-language"));
-    byId("take").onclick = () => given.put(this.source.editor.source);
+    const given = new Editor(part(root, "given"), () => this.keep(given.source), part(root, "given-language"));
+    part(root, "take").onclick = () => given.put(this.source.editor.source);
     document.addEventListener("keydown", (event) => pressNamed(event));
-    byId("give").onclick = () => this.give(given.source);
-    byId("take-back").onclick = () => this.takeBack();
-    byId("read").onclick = () => (sessionStorage.setItem("unencrypted", "read"), this.warn(this.view));
+    part(root, "give").onclick = () => this.give(given.source);
+    part(root, "take-back").onclick = () => this.takeBack();
+    part(root, "read").onclick = () => (sessionStorage.setItem("unencrypted", "read"), this.warn(this.view));
   }
 
   /** Keeps the source to give, until the tab is closed. */
@@ -106,18 +108,18 @@ export class Teacher {
   /** @type {import("./types").RolePage["show"]} */
   show(view, logs, isAnew) {
     this.view = view;
-    for (const list of [byId("language"), byId("given-language")]) offerLanguages(list, view);
-    put(byId("no-c"), view.no_c && `This class takes no C: ${view.no_c}`);
+    for (const list of [part(this.root, "language"), part(this.root, "given-language")]) offerLanguages(list, view);
+    put(part(this.root, "no-c"), view.no_c && `This class takes no C: ${view.no_c}`);
     const letters = Object.keys(view.machines);
     for (const letter of letters.filter((each) => !this.machines[each])) {
       this.machines[letter] = new ClassMachine(letter, this);
-      byId("machines").append(this.machines[letter].box);
-      byId("operated").append(make("option", "", letter));
+      part(this.root, "machines").append(this.machines[letter].box);
+      part(this.root, "operated").append(make("option", "", letter));
       const seats = Object.keys(view.machines[letter].seats).map((digit) => `${letter}${digit}`);
       const options = () => seats.map((seat) => make("option", "", seat));
-      for (const list of [byId("on-wall"), byId("receiver")]) list.append(...options());
+      for (const list of [part(this.root, "on-wall"), part(this.root, "receiver")]) list.append(...options());
     }
-    byId("operator-machine").hidden = letters.length === 1;
+    part(this.root, "operator-machine").hidden = letters.length === 1;
     for (const letter of letters) this.machines[letter].show(view.machines[letter]);
     this.table.show(view);
     this.scores.show(view);
@@ -125,20 +127,20 @@ export class Teacher {
     say("trouble", view.trouble);
     this.warn(view);
     this.showGiven(view.given);
-    if (isAnew) byId("operator-log").replaceChildren();
+    if (isAnew) part(this.root, "operator-log").replaceChildren();
     const place = (/** @type {string} */ letter) => (letters.length > 1 ? `${letter} ` : "");
     const items = letters.flatMap((letter) => (logs[letter] ?? []).map((entry) => toldEntry(entry, false, place(letter))));
-    addToLog(byId("operator-log"), items);
-    byId("operator-log").ariaLive = "polite";
+    addToLog(part(this.root, "operator-log"), items);
+    part(this.root, "operator-log").ariaLive = "polite";
     if (isAnew && this.seat) this.request({ ask: "shoulder", seat: this.seat }); // as before the connection broke
     if (isAnew && this.wall && !view.wall) this.request({ ask: "wall", seat: this.wall });
     Object.assign(this, { wall: view.wall, address: view.address });
-    byId("on-wall").value = view.wall;
+    part(this.root, "on-wall").value = view.wall;
     const isOther = isAnew || view.shoulder !== this.seat;
     this.seat = view.shoulder;
-    byId("desk").hidden = !this.seat;
-    if (isOther) byId("receiver").value = this.seat;
-    put(byId("shoulder"), this.seat && `Seat ${this.withName(this.seat)}, over the shoulder`);
+    part(this.root, "desk").hidden = !this.seat;
+    if (isOther) part(this.root, "receiver").value = this.seat;
+    put(part(this.root, "shoulder"), this.seat && `Seat ${this.withName(this.seat)}, over the shoulder`);
     if (!this.seat) return;
     this.desk.show(this.seat, view.state, logs[this.seat] ?? [], isOther);
     this.source.show(this.seat, view.source, view.exercises);
@@ -147,7 +149,7 @@ export class Teacher {
 
   /** Warns that codes travel unencrypted, where they do, until that is read in this tab. */
   warn(/** @type {TeacherView} */ { unencrypted }) {
-    byId("unencrypted").hidden = !unencrypted || sessionStorage.getItem("unencrypted") === "read";
+    part(this.root, "unencrypted").hidden = !unencrypted || sessionStorage.getItem("unencrypted") === "read";
   }
 
   /** The field of a code, which asks for it where it is wanted. */
@@ -163,13 +165,13 @@ export class Teacher {
 
   async openSheet() {
     const answer = await this.connection.ask({ ask: "codes", seat: "", pictures: true });
-    if (answer?.codes) showSheet(answer, this.address, (seat) => this.withName(seat));
+    if (answer?.codes) showSheet(this.root, answer, this.address, (seat) => this.withName(seat));
   }
 
   /** Looks at a seat, whose machine comes into sight; "" ends it. */
   async lookAt(/** @type {string} */ seat) {
     await this.request({ ask: "shoulder", seat });
-    if (seat && seat === this.seat) byId("shoulder").scrollIntoView();
+    if (seat && seat === this.seat) part(this.root, "shoulder").scrollIntoView();
   }
 
   /** Asks the same of each machine. */
@@ -182,7 +184,7 @@ export class Teacher {
     if (name === "own") return this.askAll({ ask: "rights", own_slices: checked });
     const numbers = NUMBERS.map((each) => [each, Number(this.clock[each].value)]);
     const settings = { on: this.clock.on.checked, ...Object.fromEntries(numbers) };
-    return byId("clocks").reportValidity() && this.askAll({ ask: "clock", ...settings });
+    return part(this.root, "clocks").reportValidity() && this.askAll({ ask: "clock", ...settings });
   }
 
   /** Shows the clock of all machines: the first one's numbers, and whether only some are on. */
@@ -196,7 +198,7 @@ export class Teacher {
 
   /** Gives a source to the seat that is chosen, or to all, which it asks before. */
   give(/** @type {SourceText} */ source) {
-    const receiver = byId("receiver").value;
+    const receiver = part(this.root, "receiver").value;
     if (!receiver || !source.text.trim()) return say("gone", receiver ? NO_SOURCE : NO_RECEIVER);
     const give = () => this.request({ ask: "give", seat: seatOf(receiver), ...source });
     return receiver === "all" ? ask(TO_ALL, "Give to all", give) : give();
@@ -204,20 +206,20 @@ export class Teacher {
 
   /** Shows in how many editors a source was replaced by the one given last, while that can be taken back. */
   showGiven(/** @type {TeacherView["given"]} */ given) {
-    byId("take-back").hidden = !given;
-    if (given) put(byId("gave"), `Given to ${given.seat || "all seats"}: ${editors(given.replaced)} replaced.`);
+    part(this.root, "take-back").hidden = !given;
+    if (given) put(part(this.root, "gave"), `Given to ${given.seat || "all seats"}: ${editors(given.replaced)} replaced.`);
   }
 
   /** Takes back what was given last, where no student has changed it since. */
   async takeBack() {
     const answer = await this.request({ ask: "take-back", seat: this.view.given?.seat ?? "" });
     if (!answer || answer.error) return;
-    put(byId("gave"), `Taken back: ${editors(answer.replaced ?? 0)} restored. A source that a student has changed since stays.`);
+    put(part(this.root, "gave"), `Taken back: ${editors(answer.replaced ?? 0)} restored. A source that a student has changed since stays.`);
   }
 
   /** Writes a line to students, which stays in its field where it is refused. */
   async write() {
-    const [words, receiver] = [byId("words"), byId("receiver").value];
+    const [words, receiver] = [part(this.root, "words"), part(this.root, "receiver").value];
     if (!receiver) return say("gone", NO_RECEIVER);
     const answer = await this.request({ ask: "write", seat: seatOf(receiver), text: words.value });
     if (answer && !answer.error) words.value = "";
@@ -231,7 +233,7 @@ export class Teacher {
   }
 
   operate(/** @type {string[]} */ lines) {
-    const [unfit, machine] = [unfitLines(lines), byId("operated").value];
+    const [unfit, machine] = [unfitLines(lines), part(this.root, "operated").value];
     if (unfit) return say("gone", unfit);
     return requestsOf(lines).forEach((request) => this.request({ machine, ...request }));
   }

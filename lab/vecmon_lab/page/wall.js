@@ -1,13 +1,14 @@
 // A page for a projector: the vectors and the program of the seat that the teacher has put there.
 
 import { Desk } from "./desk.js";
-import { byId, put, say } from "./elements.js";
+import { part, put, say } from "./elements.js";
 
 export class Wall {
   seat = "";
 
-  constructor() {
-    this.desk = new Desk(document.body);
+  constructor(/** @type {HTMLElement} */ root) {
+    this.root = root;
+    this.desk = new Desk(root);
     document.title = "Wall – vecmon";
   }
 
@@ -15,9 +16,9 @@ export class Wall {
   show({ seat, state, trouble }, logs, isAnew) {
     const isOther = isAnew || seat !== this.seat;
     this.seat = seat;
-    put(byId("who"), seat ? `Seat ${seat}${state.run === "running" ? ", running" : ""}` : "The teacher shows no seat here yet.");
+    put(part(this.root, "who"), seat ? `Seat ${seat}${state.run === "running" ? ", running" : ""}` : "The teacher shows no seat here yet.");
     say("trouble", trouble);
-    byId("desk").hidden = !seat;
+    part(this.root, "desk").hidden = !seat;
     if (seat) this.desk.show(seat, state, [], isOther);
   }
 }
