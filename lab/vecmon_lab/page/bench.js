@@ -28,7 +28,7 @@ const LEAVING = { absent: [], stopped: ["leave"], running: ["stop", "leave"] };
 
 /** Whether a state has nothing that could be lost. */
 const isBlank = (/** @type {State} */ { run, x, v, memory, code }) =>
-  run !== "running" && [x, v, memory, code].flatMap((part) => Object.values(part ?? {})).every((digits) => /^0*( |$)/.test(digits));
+  run !== "running" && [x, v, memory, code].flatMap((each) => Object.values(each ?? {})).every((digits) => /^0*( |$)/.test(digits));
 
 /** The refusals of a request, in words. */
 function refusals(/** @type {Request} */ request, /** @type {Message | null} */ answer) {
@@ -108,7 +108,7 @@ export class Bench {
     this.showSource(view);
   }
 
-  /** Shows how the machine stands, and what can be done with it. */
+  /** Shows the machine's state, and disables the buttons that it has no use for. */
   showRun(/** @type {View} */ { state, stop, ready, own_slices, again }) {
     /** @param {"one" | "many" | "step-line" | "number" | "go" | "halt" | "slice" | "again"} id */
     const its = (id) => part(this.root, id);

@@ -1,4 +1,4 @@
-// The dialog that asks for another value of a register, of bytes in memory, or of an element.
+// The dialog that asks for a new value of a register, of bytes in memory, or of an element.
 
 import { titleOf } from "./edits.js";
 import { part } from "./elements.js";
@@ -6,7 +6,7 @@ import { part } from "./elements.js";
 /** @typedef {import("./edits.js").ValueEdit} ValueEdit */
 
 export class EditDialog {
-  /** @type {ValueEdit | null} */ edit = null; // that is asked for
+  /** @type {ValueEdit | null} */ edit = null; // the open one
 
   /** @param {ParentNode} root @param {(edit: ValueEdit, text: string) => unknown} write receives what was typed */
   constructor(root, write) {

@@ -1,4 +1,4 @@
-// What a press on an element changes: a breakpoint, a register, bytes of memory, or an element of a vector register.
+// Edits: the change that a press on an element makes to a breakpoint, a register, bytes of memory, or an element of a vector register.
 
 /**
  * @typedef {{ of: "breakpoint", address: string }
@@ -13,7 +13,7 @@
 /** @type {WeakMap<Element, Edit>} */
 const edits = new WeakMap(); // by the element that is pressed
 
-/** The line of the monitor that makes a change begins so; a breakpoint's name is that of the line that sets it. */
+/** The start of the monitor's line that makes an edit; of a breakpoint, the line that sets it. */
 /** @type {(edit: Edit) => string} */
 export function nameOf(edit) {
   switch (edit.of) {
@@ -30,11 +30,11 @@ export function nameOf(edit) {
   }
 }
 
-/** What a change is called in its dialog. */
+/** The title of an edit's dialog. */
 export const titleOf = (/** @type {Edit} */ edit) =>
   edit.of === "element" ? `vset v${edit.register} element ${edit.index}` : nameOf(edit);
 
-/** Has an element change something where it is pressed; its name is in `data-edit`. */
+/** Gives an element its edit, whose name is in `data-edit`; returns the element. */
 /** @type {<Kind extends HTMLElement>(element: Kind, edit: Edit) => Kind} */
 export function editable(element, edit) {
   edits.set(element, edit);
@@ -42,7 +42,7 @@ export function editable(element, edit) {
   return element;
 }
 
-/** The change that an element, or one around it, makes. */
+/** The edit of an element, or of the nearest one around it. */
 /** @type {(element: Element | null) => Edit | undefined} */
 export const editOf = (element) => {
   const place = element?.closest("[data-edit]");

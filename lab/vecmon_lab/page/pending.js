@@ -1,4 +1,4 @@
-// Requests without an answer, by the numbers that answers have too.
+// Requests without an answer, by their `id`, which their answers have too.
 
 /** @typedef {import("./types").Message} Message */
 /** @typedef {import("./types").Request} Request */
@@ -13,13 +13,13 @@ export class Pending {
     return this.waiting.size;
   }
 
-  /** The request that has waited longest. */
+  /** The oldest request. */
   get first() {
     const [first] = this.waiting.values();
     return first?.request;
   }
 
-  /** Adds a request; its number is in `request`, and `answer` is fulfilled by its answer, or by null if there will be none. */
+  /** Numbers and adds a request; `answer` resolves to its answer, or to null if it is dropped. */
   add(/** @type {Request} */ request) {
     const numbered = { id: ++this.number, ...request };
     /** @type {Promise<Message | null>} */
@@ -27,7 +27,7 @@ export class Pending {
     return { request: numbered, answer };
   }
 
-  /** Gives an answer to the request of its number; false if no request with this number waits. */
+  /** Resolves the request with the id of an answer; returns false if there is none. */
   settle(/** @type {Message} */ answer) {
     const own = this.waiting.get(answer.id ?? 0);
     if (!own) return false;
@@ -36,7 +36,7 @@ export class Pending {
     return true;
   }
 
-  /** Ends all requests without an answer; returns them. */
+  /** Resolves all requests to null, and returns them. */
   drop() {
     const lost = [...this.waiting.values()];
     this.waiting.clear();
