@@ -546,6 +546,19 @@ export interface ShownLocation {
 }
 
 /**
+ * The meaning of a mnemonic.
+ *
+ * does: a sentence, with names in backquotes
+ * formula: in the language of `meanings/formula.py`; "" if there is none
+ * layout: how the elements of the sources become those of the result: `Record.layout`
+ */
+export interface ShownMeaning {
+  does: string;
+  formula: string;
+  layout: string;
+}
+
+/**
  * A vector register operand of an instruction.
  *
  * register, groups: the number of the first register, and the number of register groups that follow one another from it
@@ -629,6 +642,7 @@ export interface Start {
  * pc, and all up to `memory`: where the program was stopped at least once; a program that runs has them as they were before, but pc
  * x: 32 values by number; v: 32 times 32 bytes by number; policy: `keep` or `ones`
  * code, operands: the program's words with their texts, and their vector operands, by address
+ * meanings: of the program's instructions with vector operands, by mnemonic
  * memory: rows of 16 bytes by address
  * instruction: the address of the instruction that the last lines executed last, or that faulted
  * read, accessed: in a class, registers before that instruction, and the memory that it accessed, as far as they are known
@@ -653,6 +667,7 @@ export interface State {
   v?: { [name: string]: string };
   code?: { [name: string]: string };
   operands?: { [name: string]: ShownOperand[] };
+  meanings?: { [name: string]: ShownMeaning };
   memory?: { [name: string]: string };
   instruction?: string;
   faulted?: boolean;

@@ -25,6 +25,7 @@ from ..machine.answers import (
 )
 from ..machine.lines import words_of
 from .last_instruction import Access, ReadRegisters, accesses, read_registers, registers_kept, scalar_accesses
+from .meanings import ShownMeaning, shown_meaning
 from .operands import ShownOperand, shown_operands
 from .variables import ShownVariable
 
@@ -60,6 +61,7 @@ class State(TypedDict):
     pc, and all up to `memory`: where the program was stopped at least once; a program that runs has them as they were before, but pc
     x: 32 values by number; v: 32 times 32 bytes by number; policy: `keep` or `ones`
     code, operands: the program's words with their texts, and their vector operands, by address
+    meanings: of the program's instructions with vector operands, by mnemonic
     memory: rows of 16 bytes by address
     instruction: the address of the instruction that the last lines executed last, or that faulted
     read, accessed: in a class, registers before that instruction, and the memory that it accessed, as far as they are known
@@ -84,6 +86,7 @@ class State(TypedDict):
     v: NotRequired[dict[str, str]]
     code: NotRequired[dict[str, str]]
     operands: NotRequired[dict[str, Sequence[ShownOperand]]]
+    meanings: NotRequired[Mapping[str, ShownMeaning]]
     memory: NotRequired[dict[str, str]]
     instruction: NotRequired[str]
     faulted: NotRequired[bool]
@@ -212,10 +215,12 @@ def look_at(
 
 
 def _set_code(state: State, code: dict[str, str]) -> None:
-    """Set the listing of a state, and the operands of its lines, if it has changed."""
+    """Set the listing of a state, and the operands and meanings of its lines, if it has changed."""
     if code != state.get("code"):
         state["code"] = code
-        state["operands"] = {address: shown_operands(int(line[:8], 16)) for address, line in code.items()}
+        operands = {address: shown_operands(int(line[:8], 16)) for address, line in code.items()}
+        names = dict.fromkeys(line[9:].partition(" ")[0] for address, line in code.items() if operands[address])
+        state.update({"operands": operands, "meanings": {name: shown_meaning(name) for name in names}})
 
 
 def _set_stop(state: State, answers: Sequence[Answer], text: str, control: ControlRegisters) -> None:
