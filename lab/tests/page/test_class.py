@@ -30,9 +30,9 @@ def test_eight_tabs_are_independent(tabs: "Chrome", own_class: Served) -> None:
         tab.run("id('number').value = 3")
         tab.click("#many")
     for tab in students * 2:
-        own = [f"000000{tab.who[1]}{element}" for element in range(8)]
+        own = [f"{0x10 * int(tab.who[1]) + element}" for element in range(8)]
         tab.wait("id('step').textContent.includes('vadd.vx v2, v1, x10')")
-        cells = "all(\"#elements [data-register='2'] td\").map((cell) => cell.firstChild.data)"
+        cells = "all(\"#elements .after[data-register='2'] td\").map((cell) => cell.firstChild.data)"
         assert tab.run(cells) == own
         assert "stepped 3 pc=000000000001000c" in tab.text("#log")
         tab.activate().refresh()
@@ -66,7 +66,7 @@ def test_source_is_stepped(sit: Sit) -> None:
     tab.wait("id('clock').textContent === 'the clock is on'")
     tab.click("#go")
     tab.wait("id('run').textContent === 'break'")
-    count = "all(`#elements tr[data-register='9'] ${arguments[0]}`).length"
+    count = "all(`#elements .after[data-register='9'] ${arguments[0]}`).length"
     x = [9, 2, 7, 1, 8, 3, 6, 4, 5, 1, 12, 3, 20]  # the example's numbers: those up to 4 are masked off, 8 go at a time
     assert "vl8 of 8" in tab.text("#facts") and "vmacc.vx v9, x6, v8, v0.t" in tab.text("#step")
     assert [tab.run(count, kind) for kind in (".masked", ".tail")] == [sum(each <= 4 for each in x[:8]), 0]
@@ -195,9 +195,10 @@ def test_first_view_and_keys_work(sit: Sit) -> None:
     tab.wait("id('run').textContent === 'stopped'")
     tab.keys("#listing", Keys.SHIFT, Keys.F8)
     tab.wait("id('run').textContent === 'break'")
+    tab.choose("#view", "all 32 registers")
     for box, keys, place, text in (
         ("registers", [Keys.ARROW_DOWN, Keys.ARROW_DOWN, Keys.ARROW_RIGHT], "set x17", "5"),
-        ("elements", [Keys.ARROW_DOWN, Keys.ARROW_DOWN, Keys.ARROW_LEFT], "vset v1 32 7 hexadecimal", "00000005"),
+        ("elements", [*[Keys.ARROW_DOWN] * 3, Keys.ARROW_LEFT], "vset v1 32 7 signed", "5"),
     ):
         tab.keys(f"#{box}", *keys, Keys.ENTER)
         tab.wait("id('edit').open")
@@ -207,6 +208,7 @@ def test_first_view_and_keys_work(sit: Sit) -> None:
             tab.run("document.activeElement.id") == box
             and tab.run("one(`#at-${arguments[0]}`).dataset.edit", box) == place
         )
+    tab.choose("#view", "by element")
     _check_help(tab)
 
 
@@ -313,12 +315,13 @@ def test_values_are_edited_by_clicks_and_keys(sit: Sit) -> None:
     tab.command("peek 20000 16", "vset v1 " + "00" * 32)
     change("[data-edit='poke 20002']", "0aff")
     assert tab.text("tr[data-address='20000']").startswith("2000000 00 0a ff00")
-    tab.run("id('rows').value = 'all', id('rows').dispatchEvent(new Event('change', { bubbles: true }))")
+    tab.choose("#form", "hexadecimal")
+    tab.choose("#view", "all 32 registers")
     change("[data-edit='vset v1 32 3 hexadecimal']", "89abcdef")
     assert tab.text("[data-edit='vset v1 32 3 hexadecimal']").startswith("89abcdef")
-    tab.run("id('form').value = 'signed', id('form').dispatchEvent(new Event('change', { bubbles: true }))")
+    tab.choose("#form", "signed")
     change("[data-edit='vset v1 32 0 signed']", "-2")
-    tab.run("id('form').value = '', id('form').dispatchEvent(new Event('change', { bubbles: true }))")
+    tab.choose("#form", "hexadecimal")
     assert tab.text("[data-edit='vset v1 32 0 hexadecimal']").startswith("fffffffe")
     assert tab.text("[data-edit='vset v1 32 3 hexadecimal']").startswith("89abcdef")
     tab.click("[data-edit='set x10']")
@@ -525,7 +528,10 @@ def test_focus_is_visible_and_controls_have_names(sit: Sit) -> None:
     look = """[document.activeElement, getComputedStyle(document.activeElement).outlineStyle].map((each) =>
         typeof each === 'string' ? each : each === document.body ? '' : each.id || each.ariaLabel || each.textContent)"""
     for page, expected in (
-        (tab, {"one", "number", "go", "new", "images", "forget", "line", "show-source", "listing", "elements", "log"}),
+        (
+            tab,
+            {"one", "number", "go", "new", "images", "forget", "line", "show-source", "listing", "form", "view", "log"},
+        ),
         (teacher, {"Look at seat A1", "New code for seat A8", "Script", "operator-line", "operator-log"}),
     ):
         page.activate()

@@ -84,7 +84,7 @@ def test_page_operands_equal_decoded_words(browser: "Chrome", session: Session) 
         if not illegal_reasons(word, view):
             cases.append((text, view, operands, covered(word, view)))
     assert len({text.split()[0] for text, *_ in cases}) > 0.9 * len(names)
-    script = f"""{join_modules("vectors", page_file)}
+    script = f"""{join_modules("columns", page_file)}
         return arguments[0].map(([operands, vtype]) => $shapes.operandGroups(operands, $words.vectorType(vtype)))"""
     shown = browser.execute_script(script, [(operands, f"{view.vtype:x}") for _, view, operands, _ in cases])
     for (text, view, _, expected), groups in zip(cases, shown, strict=True):

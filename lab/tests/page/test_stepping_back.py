@@ -4,7 +4,7 @@ from page.conftest import Sit
 from support.class_pages import Tab
 
 SHOWN_ADDRESS = "one('#listing .told')?.dataset.address"
-V1 = "all(\"#elements [data-register='1'] td\").map((cell) => cell.firstChild.data).join(' ')"
+V1 = "all(\"#elements .after[data-register='1'] td\").map((cell) => cell.firstChild.data).join(' ')"
 DOUBLES = "vsetivli zero, 8, e32, m1, ta, ma\nvid.v v1\nvadd.vv v2, v1, v1\nli a0, 7\nebreak\n"
 
 
@@ -50,7 +50,7 @@ def test_steps_back_and_forth(sit: Sit) -> None:
     seen = "all('#log li').filter((item) => item.checkVisibility()).at(-1).textContent"
     assert tab.run(seen) == "stepped 1 pc=0000000000010004"
     tab.keys("#listing", Keys.SHIFT, Keys.F7, Keys.NULL)
-    assert tab.run(SHOWN_ADDRESS) == "10004" and tab.run(V1) == " ".join(f"{element:08x}" for element in range(8))
+    assert tab.run(SHOWN_ADDRESS) == "10004" and tab.run(V1) == "0 1 2 3 4 5 6 7"
     _check_read_only(tab)
     tab.keys("#listing", Keys.ESCAPE)
     assert (

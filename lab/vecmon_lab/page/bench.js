@@ -82,6 +82,7 @@ export class Bench {
     on("show-reference", "click", () => this.refer(""));
     on("find", "input", () => showReference(part(this.root, "entries"), this.find.value));
     this.desk.view.machine.addEventListener("click", ({ target }) => this.edit(/** @type {Element} */ (target)));
+    this.desk.view.machine.addEventListener("explain", (event) => this.explain(/** @type {CustomEvent} */ (event).detail));
     this.editor.numbers.addEventListener("click", (event) => this.breakAt(this.editor.lineAt(event)));
     document.addEventListener("selectionchange", () => this.tellNames());
   }
@@ -166,7 +167,14 @@ export class Bench {
     const { run, breaks = [] } = this.desk.state;
     if (!edit || run !== "stopped" || this.desk.past.moment) return undefined;
     if (edit.of === "breakpoint") return this.send([`${breaks.includes(edit.address) ? "un" : ""}break ${edit.address}`]);
-    return this.dialog.ask(edit, place.closest("[data-edit]")?.firstChild?.nodeValue ?? "");
+    const shown = /** @type {HTMLElement | null} */ (place.closest("[data-edit]"));
+    return this.dialog.ask(edit, (shown?.dataset.value ?? shown?.firstChild?.nodeValue ?? "").replace("−", "-"));
+  }
+
+  /** Gives the calculation of an element of the present state, if there is one. */
+  async explain(/** @type {import("./lanes.js").Question} */ { name, take }) {
+    if (this.desk.past.moment || this.desk.state.run !== "stopped") return;
+    take((await this.connection.ask({ ask: "why", name }))?.why ?? "");
   }
 
   /** Sets all breakpoints of a line of the source in C in the machine, or removes those that are there. */

@@ -97,7 +97,7 @@ class Lesson {
 
   pressed(/** @type {KeyboardEvent} */ event) {
     const at = /** @type {Element} */ (event.target);
-    if (event.ctrlKey || event.altKey || event.metaKey || at.matches("select, input")) return;
+    if (event.defaultPrevented || event.ctrlKey || event.altKey || event.metaKey || at.matches("select, input")) return;
     const box = at.closest(".scroll, #output");
     if (box && box.scrollWidth > box.clientWidth) return; // there the keys move the box
     const line = LINE_KEYS[event.key];
@@ -124,7 +124,9 @@ class Lesson {
     this.showPlace(user, states);
     this.showStage(frame, state, user, states);
     this.showLog(frame.log.length);
-    this.view.paint({ ...state, ...this.source }, this.states[this.place - 1]?.[user], this.used[user]);
+    const earlier = this.states.slice(0, this.place).map((each) => each[user]);
+    const step = earlier.findLast((each) => each !== state); // before what was done last, which frames that only look leave
+    this.view.paint({ ...state, ...this.source }, earlier.at(-1), this.used[user], step);
     this.log.scrollTop = this.log.scrollHeight;
     clearTimeout(this.address);
     this.address = setTimeout(() => history.replaceState(null, "", `#${this.place + 1}`), ADDRESS_DELAY);

@@ -26,6 +26,8 @@ class Page:
         frame, body, machine = map(read, ("page.html", f"{name}.html", "machine.html"))
         self._template = string.Template(frame.replace("$body", body).replace("$machine", machine))
         styles = {path.name for each in (FILES, folder) for path in each.glob(f"{name}*.css")}
+        if "$machine" in body:
+            styles.add("lanes.css")
         self._style = "".join(map(read, ("page.css", *sorted(styles))))
         self._script = join_modules(name, read)
         self.style_source, self.script_source = _digest(self._style), _digest(self._script)

@@ -21,16 +21,15 @@ export type Parts = Ids<
   Ids<HTMLScriptElement, "data" | "lesson" | "reference-data"> &
   Ids<
     HTMLSelectElement,
-    | "against" | "form" | "given-language" | "group" | "images" | "language" | "names" | "numbers" | "on-wall" | "operated" | "receiver"
-    | "versions" | "width"
+    | "against" | "form" | "given-language" | "images" | "language" | "names" | "numbers" | "on-wall" | "operated" | "receiver"
+    | "versions" | "view" | "width"
   > &
-  Ids<HTMLTableElement, "lengths"> &
+  Ids<HTMLTableElement, "lengths" | "rows"> &
   Ids<HTMLTableSectionElement, "seats"> &
   Ids<HTMLTextAreaElement, "given" | "operator-line" | "source"> &
   Ids<HTMLUListElement, "notices"> &
   Ids<HTMLFormElement | HTMLPreElement, "command"> &
   Ids<HTMLSelectElement | HTMLTextAreaElement, "line"> & // of a lesson, of the class
-  Ids<HTMLSelectElement | HTMLTableElement, "rows"> & // of a machine, of a profile
   Ids<
     HTMLElement,
     | "about" | "at" | "banner" | "bytes" | "calls" | "checked" | "clock" | "codes" | "course" | "desk" | "editor" | "elements"
@@ -39,5 +38,5 @@ export type Parts = Ids<
     | "giving-title" | "program-title" | "question" | "reference" | "registers" | "run" | "says-past" | "scalars-title"
     | "seats-title" | "sentence" | "sheet" | "sheet-says" | "shoulder" | "sides" | "start" | "step" | "stop" | "summary" | "tables"
     | "teacher" | "transcript-title" | "trouble" | "unencrypted" | "users" | "variables" | "variables-box" | "variables-title"
-    | "vectors-title" | "wall-code" | "who"
+    | "vectors" | "vectors-title" | "wall-code" | "who"
   >;

@@ -1,11 +1,11 @@
 // Paints the state of one user: from an object, and the one before, for the changes.
 
 import { make, part, prose, put } from "./elements.js";
+import { Lanes } from "./lanes.js";
 import { ListingPanel } from "./listing.js";
 import { MemoryPanel, OutputPanel } from "./memory.js";
 import { RegisterPanel } from "./scalars.js";
 import { VariablePanel } from "./variables.js";
-import { VectorPanel } from "./vectors.js";
 import { saysMore, withNames } from "./words.js";
 
 /** @typedef {import("./messages").State} State */
@@ -27,7 +27,8 @@ export class MachineView {
     this.step = part(root, "step");
     this.stop = part(root, "stop");
     this.output = new OutputPanel(root);
-    const panels = [ListingPanel, VectorPanel, VariablePanel, RegisterPanel, MemoryPanel];
+    this.lanes = new Lanes(part(root, "vectors"));
+    const panels = [ListingPanel, VariablePanel, RegisterPanel, MemoryPanel];
     this.panels = panels.map((Panel) => new Panel(root));
   }
 
@@ -50,14 +51,18 @@ export class MachineView {
     this.stop.classList.toggle("said", words !== "");
   }
 
-  /** Paints a state, compared with the one before it. `used` has the numbers of the vector registers that always have rows. */
-  /** @type {(state: State, previous: State | undefined, used: Set<number>) => void} */
-  paint(state, previous, used) {
+  /**
+   * Paints a state, compared with the one before it. `used` has the numbers of the vector registers that always have rows;
+   * `step` is the state that the elements are compared with, before the last step.
+   * @type {(state: State, previous: State | undefined, used: Set<number>, step?: State) => void}
+   */
+  paint(state, previous, used, step = previous) {
     const shown = machineOf(state);
     this.machine.classList.toggle("absent", !shown);
     this.machine.classList.toggle("running", shown?.run === "running");
     if (!shown) return;
     this.output.paint(shown); // first, since it asks how the page is laid out
-    for (const panel of this.panels) panel.paint(shown, machineOf(previous) ?? shown, used);
+    this.lanes.show({ state: shown, before: machineOf(step) ?? shown, used });
+    for (const panel of this.panels) panel.paint(shown, machineOf(previous) ?? shown);
   }
 }

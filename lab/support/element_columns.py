@@ -1,0 +1,55 @@
+"""The pure part of the pane of elements under node: the columns, the card and the detail lines of states."""
+
+import json
+import pathlib
+import subprocess
+from collections.abc import Sequence
+from typing import Any
+
+from vecmon_lab.page.modules import join_modules
+from vecmon_lab.page.pages import page_file
+
+NAMES = {
+    "columns": "columnsOf, fit, stripsOf",
+    "lane_rows": "headOf",
+    "card": "cardOf",
+    "calculation": "calculationText",
+    "detail": "detailOf",
+    "outcomes": "resultOutcome",
+    "wires": "curvesOf",
+}
+IMPORTS = "".join(f'import {{ {names} }} from "./{module}.js";\n' for module, names in NAMES.items())
+SHOWN = """
+const views = JSON.parse(require("fs").readFileSync(0, "utf-8"));
+const shown = views.map((given) => {
+  const view = { ...given, used: new Set(given.used ?? []) };
+  const columns = columnsOf(view);
+  const { rows, elements, outcomes, pairs, executed } = columns;
+  const head = (row) => `${headOf(row, 0, row.cells.length - 1)} ${row.words}`.trim();
+  return {
+    rows: rows.map((row) => ({ head: head(row), kind: row.kind, register: row.register, width: row.width, cells: row.cells })),
+    ...{ elements, outcomes, pairs, card: cardOf(view, columns) },
+    results: executed?.destination ? outcomes.map((_, each) => resultOutcome(executed, outcomes, each)) : [],
+    strips: [16, 8, 4, 2].map((width) => stripsOf(columns, width)).map(({ strips, folded }) => [strips.length, folded]),
+    calculations: (given.elements ?? []).map((each) => calculationText(view, columns, each)),
+    details: (given.elements ?? []).map((each) => detailOf(view, columns, each)),
+    fits: (given.rooms ?? []).map((width) => fit(columns, { width, unit: 1, letter: 0.602 })),
+    curves: curvesOf(pairs, 0, 8).map(({ path }) => path),
+  };
+});
+process.stdout.write(JSON.stringify(shown));
+"""
+
+
+def shown_columns(views: Sequence[Any], folder: pathlib.Path) -> list[dict[str, Any]]:
+    """What the page's modules make of views: a state, the one before it, the form of numbers, and elements to explain.
+
+    folder: for the script
+    """
+    script = folder / "shown.js"
+    script.write_text(
+        join_modules("shown", lambda name: IMPORTS + SHOWN if name == script.name else page_file(name)), "utf-8"
+    )
+    done = subprocess.run(["node", str(script)], input=json.dumps(views), stdout=subprocess.PIPE, text=True, check=True)
+    found: list[dict[str, Any]] = json.loads(done.stdout)
+    return found

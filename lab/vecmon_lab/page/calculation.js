@@ -1,0 +1,162 @@
+// Formulas of the reference with an instruction's own operands, and with an element's numbers.
+
+import { bitOf, elementOf, numberText } from "./numbers.js";
+import { resultOutcome } from "./outcomes.js";
+import { ABI_NAMES, vectorType } from "./words.js";
+
+/** @typedef {import("./executed.js").Executed} Executed */
+/** @typedef {import("./executed.js").View} View */
+/** @typedef {import("./columns.js").Columns} Columns */
+
+const CONVERTED = /\b(signed|sext|zext)\(([^()]*)\)/g;
+const MOVES = ["gather", "slide", "compress"];
+
+/** @param {number} word */
+const fieldsOf = (word) => ({ vd: (word >> 7) & 31, vs1: (word >> 15) & 31, vs2: (word >> 20) & 31 });
+
+/**
+ * Returns the scalar register or the immediate that an instruction has in place of vs1; "" without one.
+ * @param {Executed} executed
+ */
+export const scalarOf = ({ text, access }) =>
+  access ? "" : (text.split(/ |, /).slice(2).find((each) => !/^v\d+(\.t)?$/.test(each)) ?? "");
+
+/**
+ * Returns the formula of an instruction with its own operands: `v8[i] = v4[i] * a0 + v8[i]`.
+ * @param {Executed} executed
+ */
+export function formulaText(executed) {
+  const { word, access, text, meaning } = executed;
+  const [scalar, own] = [bracketed(scalarOf(executed)), fieldsOf(word)];
+  const step = /\), (\w+)/.exec(text)?.[1] ?? "";
+  return meaning.formula
+    .replace(/\bvs1\[i\]/g, scalar || `v${own.vs1}[i]`)
+    .replace(/\bvs1\b/g, `v${own.vs1}`)
+    .replace(/\bvs2\b/g, `v${own.vs2}`)
+    .replace(/\b(?:vd|vs3)\b/g, `v${own.vd}`)
+    .replace(/x\[rs1\]/g, access?.base ?? scalar)
+    .replace(/x\[rs2\]/g, step)
+    .replace(/x\[rd\]/g, text.split(/ |, /)[1])
+    .replace(/\b(?:imm|uimm|offset)\b/g, scalar)
+    .replace(/\bbytes\b/g, `${Math.max(8, access?.width ?? 8) / 8}`)
+    .replace(/\bnf\b/g, `${access?.fields}`)
+    .replace(/ \* 1\b/g, "");
+}
+
+/**
+ * Returns the values of the scalar registers that an instruction names: `a0 = 3`.
+ * @param {View} view
+ * @param {Executed} executed
+ */
+export function scalarTexts({ state }, { text, access }) {
+  const names = text.split(/[^\w.]+/).filter((name) => ABI_NAMES.indexOf(name) > 0);
+  return [...new Set(names)].map((name) => {
+    const value = BigInt("0x" + state.x[ABI_NAMES.indexOf(name)]);
+    return `${name} = ${name === access?.base ? `0x${value.toString(16)}` : numberText(value, 64, "signed")}`;
+  });
+}
+
+/**
+ * Returns an element's calculation: the formula with its number, with the values, and the result; "" where there is none, or where
+ * the sources aren't known.
+ * @param {View} view
+ * @param {Columns} columns
+ * @param {number} element
+ */
+export function calculationText(view, { executed, outcomes }, element) {
+  if (!executed?.earlier.isKnown || !executed.destination || executed.access) return "";
+  if (resultOutcome(executed, outcomes, element) !== "active") return "";
+  const { register, width } = executed.destination;
+  const [target, formula] = formulaText(executed).split(/ = (.*)/);
+  if (/ = .*\bvd\b/.test(executed.meaning.formula) && !executed.earlier.hasOld) return "";
+  const branch = /\b(for|nth)\b/.test(formula) ? "" : chosenBranch(numbered(view, executed, formula, element));
+  const hasSign = /signed|sext/.test(executed.meaning.formula) || (view.form !== "unsigned" && hasEitherSign(executed, branch));
+  const form = hasSign ? "signed" : "unsigned";
+  const converted = branch.replace(CONVERTED, (_, name, inner) =>
+    filledIn(view, executed, inner, name === "zext" ? "unsigned" : "signed"));
+  const values = filledIn(view, executed, converted, form).replace(/^\((−\d+)\)$/, "$1");
+  const result = numberText(elementOf(view.state.v, register, width, element), width, form);
+  return [...new Set([target.replace(/\[[i0]\]/, `[${element}]`), branch, values, result].filter(Boolean))].join(" = ");
+}
+
+/**
+ * Whether a result has the same bits for sources with and without a sign.
+ * @param {Executed} executed
+ * @param {string} branch
+ */
+const hasEitherSign = ({ meaning, destination, sources }, branch) => MOVES.includes(meaning.layout) ||
+  (!/min|max|[<>/%]|clip|round|zext/.test(branch) && sources.every(({ width }) => width === destination?.width));
+
+/**
+ * Returns a formula's right side with the numbers of an element and of those that it reads.
+ * @param {View} view
+ * @param {Executed} executed
+ * @param {string} formula
+ * @param {number} element
+ */
+function numbered(view, executed, formula, element) {
+  const [scalar, type] = [scalarOf(executed), vectorType(view.state.vtype)];
+  const offset = MOVES.includes(executed.meaning.layout) && /^[a-z]/.test(scalar) ? new RegExp(`\\b${scalar}(?=[ \\]])`, "g") : /$^/;
+  const value = numberText(BigInt("0x" + (view.state.x[(executed.word >> 15) & 31] ?? "0")), 64, "unsigned");
+  return formula
+    .replace(/\bi\b/g, `${element}`)
+    .replace(offset, value)
+    .replace(/\bv(\d+)\[(\d+)\](?=\]| <)/g, (_, register, index) => `${valueOf(executed, type.sew, register, "", index)}`)
+    .replace(/\[(\d+) ([+-]) (\d+)\]/g, (_, one, sign, other) => `[${BigInt(one) + BigInt(`${sign}${other}`.replace("+", ""))}]`)
+    .replace(/\b(sew|vlmax|vl)\b/g, (name) => `${{ sew: type.sew, vlmax: type.most, vl: executed.earlier.vl }[name]}`)
+    .replace(/v0\.mask\[(\d+)\](?= else)/g, (_, index) => `${bitOf(executed.earlier.v[0], Number(index))}`);
+}
+
+/**
+ * Returns the part of a choice `A if C else B` that counts, where C compares numbers or is one.
+ * @param {string} text
+ */
+function chosenBranch(text) {
+  const [, yes, condition, no] = /^(.*) if ([-+< \d]+) else (.*)$/.exec(text) ?? [];
+  if (condition === undefined) return text;
+  const sum = (/** @type {string} */ terms) =>
+    terms.replaceAll(" ", "").split(/(?=[+-])/).reduce((total, term) => total + BigInt(term.replace("+", "")), 0n);
+  const [one, other] = condition.split("<").map(sum);
+  return (other === undefined ? one > 0n : one < other) ? yes : no;
+}
+
+/**
+ * Returns a text with the values of elements, and of the scalar source, in place of their names.
+ * @param {View} view
+ * @param {Executed} executed
+ * @param {string} text
+ * @param {import("./numbers.js").NumberForm} form
+ */
+function filledIn({ state }, executed, text, form) {
+  const [scalar, { sew }] = [scalarOf(executed), vectorType(state.vtype)];
+  const elements = text.replace(/\bv(\d+)(\.mask)?\[(\d+)\]/g, (_, register, mask, index) =>
+    bracketed(numberText(valueOf(executed, sew, register, mask, index), mask ? 1 : widthOf(executed, register, sew), form)));
+  if (!/^[a-z]/.test(scalar)) return elements;
+  const value = numberText(BigInt.asUintN(sew, BigInt("0x" + state.x[(executed.word >> 15) & 31])), sew, form);
+  return elements.replace(new RegExp(`\\b${scalar}\\b`, "g"), bracketed(value));
+}
+
+/** @param {string} text */
+const bracketed = (text) => (/^[−-]/.test(text) ? `(${text})` : text);
+
+/**
+ * Returns an element of a register as it was, without a sign.
+ * @param {Executed} executed
+ * @param {number} sew
+ * @param {string} register
+ * @param {string | undefined} mask
+ * @param {string} index
+ */
+function valueOf(executed, sew, register, mask, index) {
+  const { destination, earlier } = executed;
+  const registers = Number(register) === destination?.register ? earlier.olds : earlier.v;
+  return elementOf(registers, Number(register), mask ? 1 : widthOf(executed, register, sew), Number(index));
+}
+
+/**
+ * @param {Executed} executed
+ * @param {string} register
+ * @param {number} sew
+ */
+const widthOf = ({ sources, destination }, register, sew) =>
+  [...sources, ...(destination ? [destination] : [])].find((each) => each.register === Number(register))?.width ?? sew;

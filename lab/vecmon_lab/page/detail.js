@@ -1,0 +1,74 @@
+// The line of the chosen element: where it is, how it took part, and the line that can change it.
+
+import { REGISTER_BITS, elementOf, numberText } from "./numbers.js";
+import { OUTCOMES, resultOutcome } from "./outcomes.js";
+
+/** @typedef {import("./executed.js").View} View */
+/** @typedef {import("./columns.js").Columns} Columns */
+/**
+ * name: of the element; place: its bytes or its address; sentence: how it took part, or what it was before;
+ * value: as the pane shows it; edit: what changes it; explain: the element's name for `why`
+ * @typedef {{ name: string, place: string, sentence: string, value: string, explain: string,
+ *   edit: import("./edits.js").Edit | null }} Detail
+ */
+
+/**
+ * Returns the line of an element. chosen: the register whose row is chosen, where no instruction has one result
+ * @param {View} view
+ * @param {Columns} columns
+ * @param {number} element
+ * @param {number} [chosen]
+ * @returns {Detail}
+ */
+export function detailOf(view, columns, element, chosen) {
+  const results = columns.rows.filter(({ kind, cells }) => (kind === "after" || kind === "plain") && cells[element]);
+  const row = results.find((each) => each.register === chosen) ?? results[0];
+  const nothing = { name: "", place: "", sentence: "", value: "", edit: null, explain: "" };
+  if (!columns.rows.length) return nothing;
+  const [name, sentence] = [`Element ${element}`, sentenceOf(view, columns, element)];
+  if (!row) return { ...nothing, name, sentence };
+  const { register, width } = row;
+  const address = columns.executed?.access?.address(element).toString(16);
+  if (register < 0) return { ...nothing, name, place: columns.outcomes[element] === "tail" ? "" : `0x${address}`, sentence };
+  const own = register + (width > 1 ? Math.floor((element * width) / REGISTER_BITS) : 0);
+  const place = width > 1 ? element % (REGISTER_BITS / width) : element;
+  const form = width === 1 ? "mask" : (view.form ?? "signed");
+  const value = row.cells[element].text;
+  const hexadecimal = width > 1 ? ` = 0x${numberText(elementOf(view.state.v, register, width, element), width, "hexadecimal")}` : "";
+  return {
+    ...{ name, place: `${placeText(own, width, place)}: ${value}${hexadecimal}`, sentence, value },
+    ...{ edit: { of: "element", register: own, bits: width, index: place, form }, explain: `v${register}[${element}]` },
+  };
+}
+
+/** @type {(register: number, width: number, place: number) => string} */
+function placeText(register, width, place) {
+  if (width === 1) return `bit ${place} of v${register}`;
+  const bytes = width / 8;
+  return `v${register}, ${bytes === 1 ? `byte ${place}` : `bytes ${place * bytes} to ${(place + 1) * bytes - 1}`}`;
+}
+
+/**
+ * Returns why an element has its value, where no formula says it.
+ * @param {View} view
+ * @param {Columns} columns
+ * @param {number} element
+ */
+function sentenceOf({ state }, { executed, outcomes, rows, vl }, element) {
+  if (!executed) return "";
+  const outcome = executed.destination ? resultOutcome(executed, outcomes, element) : outcomes[element];
+  const { access } = executed;
+  const where = access && outcome !== "tail" ? `${access.isStore ? "to" : "from"} 0x${access.address(element).toString(16)}` : "";
+  const [before, after] = ["before", "after"].map((kind) => rows.find((row) => row.kind === kind)?.cells[element]?.text);
+  const was = before === undefined ? "" : before === after ? `it was ${before} before, too` : `${before} → ${after}`;
+  /** @type {Record<string, string>} */
+  const sentences = {
+    masked: `masked off: v0[${element}] is 0`,
+    tail: element >= vl ? `tail: ${element} is at or above vl = ${vl}` : "tail: the instruction doesn't write it",
+    prestart: state.faulted ? `done before the fault ${where}` : `before vstart = ${executed.earlier.vstart}`,
+    fault: `the access ${where} faulted`,
+    pending: "not reached",
+    kept: `kept: ${element} is below the offset`,
+  };
+  return [sentences[outcome] ?? where, was].filter(Boolean).join("; ") || (executed.destination ? "" : OUTCOMES[outcome]);
+}

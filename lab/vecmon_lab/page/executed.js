@@ -1,0 +1,170 @@
+// The vector instruction that a state executed last: its operands by their parts in it, and their values before it.
+
+import { REGISTER_BITS, elementOf } from "./numbers.js";
+import { ABI_NAMES, vectorType } from "./words.js";
+
+/** @typedef {import("./numbers.js").Registers} Registers */
+/** @typedef {import("./messages").ShownMeaning} Meaning */
+/** @typedef {import("./messages").ShownOperand} ShownOperand */
+/**
+ * The registers of an instruction's operands as they were before it, and v0, vl and vstart of then, if they are known.
+ * @typedef {{ v: Registers, v0?: string, vl?: number, vstart?: number }} Read
+ */
+/** @typedef {import("./types").MachineState & { read?: Read }} State */
+/**
+ * A state, the one before it, the registers that always have rows, and the form of numbers.
+ * @typedef {{ state: State, before: State, used?: Set<number>, form?: import("./numbers.js").NumberForm }} View
+ */
+/**
+ * A register operand. size: registers of a group; groups: how many there are, one behind another; width: of an element in bits,
+ * 1 in a mask; isWhole: whether it takes single registers under all vector types.
+ * @typedef {{ register: number, size: number, groups: number, width: number, isWhole: boolean }} Operand
+ */
+/**
+ * A memory access. base: the name of the register with the address; width: of an element in bits; fields: of a segment.
+ * @typedef {object} Access
+ * @property {string} base
+ * @property {number} width
+ * @property {number} fields
+ * @property {boolean} isStore
+ * @property {Operand | undefined} index
+ * @property {(element: number, field?: number) => bigint} address
+ */
+/**
+ * What was before an instruction. v: of sources; olds: of the destination; isKnown, hasOld: whether sources, and the destination, are
+ * those before it; else sources are as they are now, and the destination is as in the state before.
+ * @typedef {{ v: Registers, olds: Registers, vl: number, vstart: number, isKnown: boolean, hasOld: boolean,
+ *   memory: State["memory"] }} Earlier
+ */
+/**
+ * @typedef {object} Executed
+ * @property {string} text in ABI names
+ * @property {string} name the mnemonic
+ * @property {number} word
+ * @property {boolean} isMasked whether elements whose bit in v0 is 0 are masked off
+ * @property {boolean} isWhole whether it takes whole registers, whatever vl is
+ * @property {Operand | undefined} destination
+ * @property {Operand[]} sources as registers: vs2, vs1; in a store the data first
+ * @property {boolean} hasChooser whether v0 is a source, a bit for each element
+ * @property {Access | undefined} access
+ * @property {Meaning} meaning
+ * @property {Earlier} earlier
+ * @property {bigint} offset of a slide, in elements
+ * @property {number} elements the most that it has under the vector type
+ */
+
+const V0 = { register: 0, size: 1, groups: 1, width: 1, isWhole: true };
+const NO_MEANING = { does: "", formula: "", layout: "by element" };
+
+/**
+ * Returns the vector instruction that a state executed last, or that faulted; undefined if it is none with vector operands.
+ * @param {View} view
+ * @returns {Executed | undefined}
+ */
+export function executedOf({ state, before }) {
+  const [line, shown] = [state.code[state.instruction ?? ""], state.operands[state.instruction ?? ""] ?? []];
+  if (!line || !shown.length) return undefined;
+  const [word, machineText] = [parseInt(line.slice(0, 8), 16), line.slice(9)];
+  const name = machineText.split(" ")[0];
+  const type = vectorType(state.vtype);
+  const isWhole = /^v(?:[ls]|mv)\dr/.test(name);
+  const isMasked = machineText.endsWith(", v0.t");
+  const hasChooser = /\.v[vxi]m$/.test(name) && !isMasked;
+  const operands = shown.map((each) => operandOf(each, type, isWhole));
+  if (isMasked || hasChooser) operands.pop();
+  const destination = shown[0].written ? operands.shift() : undefined;
+  const earlier = earlierOf(state, before, operands, destination, isMasked || hasChooser);
+  const most = isWhole ? wholeElements(destination ?? operands[0]) : Math.max(1, Math.floor(type.most));
+  return {
+    ...{ text: withAbiNames(machineText), name, word, isMasked, isWhole, destination, sources: operands, hasChooser, earlier },
+    ...{ access: accessOf(state, machineText, destination, operands, earlier), elements: most },
+    ...{ meaning: state.meanings?.[name] ?? NO_MEANING, offset: offsetOf(state, name, word) },
+  };
+}
+
+/**
+ * Returns by how many elements a slide moves its source; 0n of other instructions.
+ * @param {State} state
+ * @param {string} name
+ * @param {number} word
+ */
+function offsetOf(state, name, word) {
+  if (!name.startsWith("vslide")) return 0n;
+  const rs1 = (word >> 15) & 31;
+  if (name.startsWith("vslide1")) return 1n;
+  return name.endsWith(".vi") ? BigInt(rs1) : BigInt("0x" + state.x[rs1]);
+}
+
+/** @param {string} text */
+export const withAbiNames = (text) => text.replace(/\bx(\d+)\b/g, (_, number) => ABI_NAMES[Number(number)]);
+
+/** The operand that a mask in v0 is. */
+export const maskOperand = () => V0;
+
+/** @param {Operand} operand */
+const wholeElements = ({ size, width }) => (size * REGISTER_BITS) / width;
+
+/**
+ * @param {ShownOperand} shown
+ * @param {{ sew: number, lmul: number }} type
+ * @param {boolean} isAll whether all its registers are one group
+ * @returns {Operand}
+ */
+function operandOf({ register, groups, bits, part, whole }, type, isAll) {
+  const width = bits || part * type.sew;
+  if (isAll) return { register, size: groups, groups: 1, width, isWhole: whole };
+  const size = whole ? 1 : Math.max(1, (type.lmul * width) / type.sew);
+  return { register, size, groups, width, isWhole: whole };
+}
+
+/**
+ * Returns the state before the last instruction, as far as it is known.
+ * @param {State} state
+ * @param {State} before
+ * @param {Operand[]} sources
+ * @param {Operand | undefined} destination
+ * @param {boolean} hasMask
+ * @returns {Earlier}
+ */
+function earlierOf(state, before, sources, destination, hasMask) {
+  const { read } = state;
+  const isStep = before.v !== undefined && before.pc === state.instruction; // one instruction lies between them
+  const known = { ...(read?.v0 === undefined ? {} : { 0: read.v0 }), ...read?.v };
+  const isRead = (/** @type {Operand} */ { register, size, groups }) =>
+    Array.from({ length: Math.ceil(size) * groups }, (_, place) => register + place).every((each) => each in known);
+  return {
+    v: { ...(isStep ? before.v : state.v), ...known },
+    olds: { ...(before.v ?? state.v), ...known },
+    vl: read?.vl ?? (isStep ? before.vl : state.vl),
+    vstart: read?.vstart ?? (isStep ? before.vstart : 0),
+    isKnown: isStep || (read !== undefined && sources.every(isRead) && (!hasMask || 0 in known)),
+    hasOld: isStep || destination === undefined || isRead(destination),
+    memory: before.memory ?? state.memory,
+  };
+}
+
+/**
+ * @param {State} state
+ * @param {string} text
+ * @param {Operand | undefined} destination
+ * @param {Operand[]} sources
+ * @param {Earlier} earlier
+ * @returns {Access | undefined}
+ */
+function accessOf(state, text, destination, sources, earlier) {
+  const [, base, step] = /\(x(\d+)\)(?:, x(\d+))?/.exec(text) ?? [];
+  if (!base) return undefined;
+  const { width } = destination ?? sources[0];
+  const fields = Number(/seg(\d)/.exec(text)?.[1] ?? 1);
+  const index = /^v[ls][uo]x/.test(text) ? sources.at(-1) : undefined;
+  const register = (/** @type {string} */ number) => BigInt("0x" + state.x[number]);
+  const bytes = BigInt(Math.max(8, width) / 8);
+  const distance = (/** @type {number} */ element) => {
+    if (index) return elementOf(earlier.v, index.register, index.width, element);
+    if (step) return BigInt.asIntN(64, register(step)) * BigInt(element);
+    return width === 1 ? BigInt(element >> 3) : bytes * BigInt(fields * element);
+  };
+  const address = (/** @type {number} */ element, field = 0) =>
+    BigInt.asUintN(64, register(base) + distance(element) + bytes * BigInt(field));
+  return { base: ABI_NAMES[Number(base)], width, fields, isStore: !destination, index, address };
+}

@@ -1,0 +1,283 @@
+// The pane of elements: a column for each element of the last vector instruction, with its mask bit, its sources, and its value
+// before and after it; or all vector registers. A press or an arrow key chooses an element, whose calculation is below the strips.
+
+import { calculationText } from "./calculation.js";
+import { cardOf, paintCard, paintFacts } from "./card.js";
+import { columnsOf, fit, stripsOf } from "./columns.js";
+import { detailOf } from "./detail.js";
+import { editable } from "./edits.js";
+import { header, make, unseen } from "./elements.js";
+import { REGISTER_BITS } from "./numbers.js";
+import { longestElement, registerTable } from "./vectors.js";
+import { markWires, wiresPicture } from "./wires.js";
+import { vectorType } from "./words.js";
+
+/** @typedef {import("./executed.js").View} View */
+/** @typedef {import("./columns.js").Columns} Columns */
+/** @typedef {import("./columns.js").Fit} Fit */
+/** @typedef {import("./columns.js").Strip} Strip */
+/** @typedef {import("./lane_rows.js").Row} Row */
+/** @typedef {import("./lane_rows.js").Cell} Cell */
+/** @typedef {{ name: string, take: (text: string) => void }} Question the detail of an event `explain` */
+
+const WIRED = ["gather", "slide", "compress", "reduce"];
+const PROBE = { letters: 20, tenths: 13 }; // of the text that is measured: its letters, and their size in tenths of a rem
+
+/** Shows the elements of a machine's state in its root. */
+export class Lanes {
+  /** @param {Element} root has the classes facts, card, strips and detail, and the lists form, view and width */
+  constructor(root) {
+    const part = (/** @type {string} */ name) => /** @type {HTMLElement} */ (root.querySelector(name));
+    const list = (/** @type {string} */ name) => /** @type {HTMLSelectElement} */ (root.querySelector(`select[name="${name}"]`));
+    this.root = root;
+    this.facts = part(".facts");
+    this.card = part(".card");
+    this.box = part(".strips");
+    this.detail = part(".detail");
+    this.form = list("form");
+    this.layout = list("view");
+    this.width = list("width");
+    this.probe = make("span", "probe", "0".repeat(PROBE.letters));
+    this.box.before(this.probe);
+    this.chosen = 0;
+    this.register = -1; // the chosen row's, where there are several results
+    this.room = { width: 0, unit: 1, letter: 0.6 }; // px: as `fit` takes it
+    this.isOpen = false; // whether the tail is unfolded
+    /** @type {View | undefined} */
+    this.view = undefined;
+    /** @type {Columns | undefined} */
+    this.columns = undefined;
+    /** @type {Fit} */
+    this.fit = { columns: 8, size: "medium", head: "wide" };
+    this.listen();
+  }
+
+  listen() {
+    for (const each of [this.form, this.layout, this.width]) each.addEventListener("change", () => this.paint());
+    this.box.addEventListener("click", ({ target }) => this.pressed(/** @type {Element} */ (target)));
+    this.box.addEventListener("keydown", (event) => this.keyed(event));
+    new ResizeObserver(() => this.measured()).observe(this.box);
+  }
+
+  /**
+   * Shows a state, compared with the one before it.
+   * @param {View} view
+   */
+  show(view) {
+    const isOther = view.state.instruction !== this.view?.state.instruction || view.state.vtype !== this.view?.state.vtype;
+    if (isOther) this.isOpen = false;
+    this.view = view;
+    this.paint();
+  }
+
+  /** Whether all registers are shown in place of elements. */
+  get hasAll() {
+    return this.layout.value === "all";
+  }
+
+  /** Takes the room of the strips, and paints them again where it is another one. */
+  measured() {
+    const { width } = this.box.getBoundingClientRect();
+    const letter = this.probe.getBoundingClientRect().width / PROBE.letters / PROBE.tenths;
+    const unit = parseFloat(getComputedStyle(document.documentElement).fontSize) / 10;
+    const { room } = this;
+    if (!width || (room.width === width && room.unit === unit && room.letter === letter)) return;
+    this.room = { width, unit, letter };
+    this.paint();
+  }
+
+  paint() {
+    if (!this.view) return;
+    const form = /** @type {import("./numbers.js").NumberForm} */ (this.form.value || "signed");
+    this.view = { ...this.view, form };
+    this.columns = columnsOf(this.view);
+    paintFacts(this.facts, this.view.state, this.view.before);
+    paintCard(this.card, cardOf(this.view, this.columns));
+    this.root.classList.toggle("all", this.hasAll);
+    if (this.hasAll) this.paintRegisters(this.view);
+    else this.paintStrips(this.columns);
+  }
+
+  /** @param {View} view */
+  paintRegisters(view) {
+    const width = Number(this.width.value) || vectorType(view.state.vtype).sew;
+    const how = { width, form: view.form ?? "signed" };
+    const most = REGISTER_BITS / width;
+    this.fit = fit({ longest: longestElement(view, how), elements: most, vl: most }, this.room);
+    const shown = registerTable(view, how, Math.min(most, this.fit.columns));
+    shown.classList.add("lanes", this.fit.size, this.fit.head);
+    this.box.tabIndex = 0;
+    this.box.replaceChildren(shown);
+  }
+
+  /** @param {Columns} columns */
+  paintStrips(columns) {
+    const hadFocus = this.box.contains(document.activeElement) && document.activeElement !== this.box;
+    this.fit = fit(columns, this.room);
+    const { strips, folded } = stripsOf(columns, this.fit.columns, this.isOpen);
+    const tail = folded < columns.elements ? [this.foldedTail(folded, columns.elements)] : [];
+    const parts = [make("colgroup", "", make("col", "head")), ...strips.map((strip) => this.strip(columns, strip)), ...tail];
+    const grid = make("table", `lanes ${this.fit.size} ${this.fit.head}`, ...parts);
+    grid.setAttribute("role", "grid");
+    grid.setAttribute("aria-label", `Elements${columns.executed ? ` of ${columns.executed.text}` : " of the registers in use"}`);
+    const empty = make("p", "empty", "No vector register is in use yet.");
+    this.box.tabIndex = -1;
+    this.box.replaceChildren(columns.rows.length ? grid : empty);
+    this.choose(Math.min(this.chosen, Math.max(0, columns.elements - 1)), hadFocus);
+  }
+
+  /**
+   * @param {Columns} columns
+   * @param {Strip} strip
+   */
+  strip(columns, { first, rows }) {
+    const numbers = Array.from({ length: this.fit.columns }, (_, place) =>
+      first + place < columns.elements ? header("col", `${first + place}`) : make("td", ""));
+    const heads = make("tr", "numbers", header("row", make("small", "", "element")), ...numbers);
+    const made = rows.map(({ row, head, cells }) => this.row(row, head, first, cells));
+    const last = rows.findIndex(({ row }) => row.kind === "before" || row.kind === "after");
+    const { executed, pairs } = columns;
+    if (pairs.length && WIRED.includes(executed?.meaning.layout ?? "")) {
+      const { columns: colSpan } = this.fit;
+      const picture = Object.assign(make("td", "", wiresPicture(pairs, first, colSpan)), { colSpan });
+      made.splice(last, 0, make("tr", "wires", make("td", ""), picture));
+    }
+    return make("tbody", "", heads, ...made);
+  }
+
+  /**
+   * @param {Row} row
+   * @param {string} head
+   * @param {number} first
+   * @param {(Cell | undefined)[]} cells
+   */
+  row({ kind, register, words }, head, first, cells) {
+    const what = make("small", words.startsWith("field") ? "field" : "", words);
+    const name = header("row", make("b", "", head), ...(words ? [" ", what] : []));
+    const made = cells.map((cell, place) => {
+      if (!cell) return make("td", "");
+      const shown = make("td", cell.classes.join(" "), cell.text);
+      shown.dataset.element = `${first + place}`;
+      shown.setAttribute("role", "gridcell");
+      shown.title = `element ${first + place} of ${head}${words ? `, ${words}` : ""}${cell.words ? `: ${cell.words}` : ""}`;
+      if (cell.words) shown.append(unseen(` ${cell.words}`));
+      return shown;
+    });
+    const shown = make("tr", kind, name, ...made);
+    if (register >= 0) shown.dataset.register = `${register}`;
+    return shown;
+  }
+
+  /**
+   * @param {number} first
+   * @param {number} elements
+   */
+  foldedTail(first, elements) {
+    const text = `Elements ${first} to ${elements - 1}: tail, unchanged`;
+    const open = Object.assign(make("button", "", text), { onclick: () => ((this.isOpen = true), this.paint()) });
+    const cell = Object.assign(make("td", "", open), { colSpan: this.fit.columns + 1 });
+    return make("tbody", "folded", make("tr", "", cell));
+  }
+
+  /** @param {Element} target */
+  pressed(target) {
+    const cell = /** @type {HTMLElement | null} */ (target.closest("td[data-element]"));
+    if (!cell) return;
+    this.register = Number(cell.parentElement?.dataset.register ?? -1);
+    this.choose(Number(cell.dataset.element), true);
+    this.ask();
+  }
+
+  /** @param {KeyboardEvent} event */
+  keyed(event) {
+    if (this.hasAll || !this.columns || event.ctrlKey || event.altKey || event.metaKey) return;
+    const [last, { columns }] = [this.columns.elements - 1, this.fit];
+    const down = { ArrowDown: 1, ArrowUp: -1 }[event.key];
+    if (down && !this.columns.executed) return this.chooseRow(event, down);
+    const steps = { ArrowRight: 1, ArrowLeft: -1, ArrowDown: columns, ArrowUp: -columns, Home: -last, End: last };
+    const step = steps[/** @type {keyof typeof steps} */ (event.key)];
+    if (event.key === "Enter" && /** @type {Element} */ (event.target).matches("td")) {
+      event.preventDefault(); // or the dialog takes the same key
+      this.detail.querySelector("button")?.click();
+    }
+    if (step === undefined || last < 0) return;
+    event.preventDefault();
+    const next = this.chosen + step;
+    const isEnd = event.key === "Home" || event.key === "End";
+    if (isEnd || (next >= 0 && next <= last)) this.choose(Math.max(0, Math.min(last, next)), true);
+    this.ask();
+  }
+
+  /**
+   * Chooses the register in the next row, where registers in use are shown.
+   * @param {KeyboardEvent} event
+   * @param {number} step
+   */
+  chooseRow(event, step) {
+    const registers = (this.columns?.rows ?? []).filter(({ cells }) => cells[this.chosen]).map(({ register }) => register);
+    const place = Math.max(0, registers.indexOf(this.register)) + step;
+    event.preventDefault();
+    this.register = registers[Math.max(0, Math.min(registers.length - 1, place))] ?? -1;
+    this.choose(this.chosen, true);
+  }
+
+  /**
+   * Chooses an element: marks its column, its sources and its curves, and shows its calculation.
+   * @param {number} element
+   * @param {boolean} takesFocus
+   */
+  choose(element, takesFocus) {
+    if (!this.view || !this.columns) return;
+    this.chosen = element;
+    const isShown = this.box.querySelector(`td[data-element="${element}"]`);
+    if (!isShown && this.columns.elements > element && !this.isOpen && this.columns.rows.length) {
+      this.isOpen = true; // the element is in the folded tail
+      return this.paintStrips(this.columns);
+    }
+    const cells = [...this.box.querySelectorAll("td[data-element]")].map((cell) => /** @type {HTMLElement} */ (cell));
+    for (const cell of cells) {
+      const isChosen = Number(cell.dataset.element) === this.placeIn(/** @type {HTMLElement} */ (cell.parentElement));
+      cell.classList.toggle("chosen", isChosen);
+      cell.ariaSelected = `${isChosen}`;
+      cell.removeAttribute("tabindex");
+    }
+    const own = cells.filter((cell) => Number(cell.dataset.element) === element);
+    const results = own.filter((cell) => cell.parentElement?.matches(".after, .plain"));
+    const reached = results.find((cell) => cell.parentElement?.dataset.register === `${this.register}`) ?? results[0] ?? own.at(-1);
+    if (reached) reached.tabIndex = 0;
+    if (reached && takesFocus) reached.focus();
+    markWires(this.box, element);
+    this.paintDetail(calculationText(this.view, this.columns, element));
+  }
+
+  /**
+   * Returns the element that is chosen in a row: above curves the source of the chosen one.
+   * @param {HTMLElement} row
+   */
+  placeIn(row) {
+    const isSource = row.nextElementSibling?.matches(".wires") ?? false;
+    if (!this.columns || !isSource || this.columns.executed?.meaning.layout === "reduce") return this.chosen;
+    return this.columns.pairs.find(([, to]) => to === this.chosen)?.[0] ?? -1;
+  }
+
+  /** @param {string} calculation */
+  paintDetail(calculation) {
+    if (!this.view || !this.columns) return;
+    const { name, place, sentence, value, edit } = detailOf(this.view, this.columns, this.chosen, this.register);
+    const parts = [make("b", "", name), make("small", "", place), make("span", "", sentence), make("code", "", calculation)];
+    const change = Object.assign(make("button", "change", "Change"), { title: "Write another value to this element (Enter)" });
+    change.dataset.value = value;
+    this.detail.replaceChildren(...parts.filter((part) => part.textContent), ...(edit ? [editable(change, edit)] : []));
+  }
+
+  /** Asks the page for the calculation of the chosen element: an event `explain` with the name and a function that takes the text. */
+  ask() {
+    if (!this.view || !this.columns?.executed) return;
+    const [{ chosen }, { state }] = [this, this.view];
+    const { explain } = detailOf(this.view, this.columns, chosen, this.register);
+    const take = (/** @type {string} */ text) => {
+      if (text && this.chosen === chosen && this.view?.state === state) this.paintDetail(text);
+    };
+    if (explain) this.root.dispatchEvent(new CustomEvent("explain", { bubbles: true, detail: { name: explain, take } }));
+  }
+}

@@ -1,0 +1,78 @@
+// How each element takes part in an instruction, and how the result has it.
+
+import { bitOf } from "./numbers.js";
+
+/** @typedef {import("./executed.js").Executed} Executed */
+/**
+ * `kept`: the formula doesn't count for it, as below a slide's offset; `pending`: not reached, since the access of an element
+ * before it wasn't possible; `idle`: the instruction doesn't read it.
+ * @typedef {"active" | "masked" | "tail" | "prestart" | "fault" | "pending" | "kept" | "idle"} Outcome
+ */
+
+/** @type {Record<Outcome, string>} */
+export const OUTCOMES = {
+  active: "active",
+  masked: "masked off",
+  tail: "tail",
+  prestart: "before vstart",
+  fault: "fault",
+  pending: "not reached",
+  kept: "kept",
+  idle: "not read",
+};
+
+/**
+ * Returns the number of elements that an instruction works on; of a reduction that of its source.
+ * @param {Executed} executed
+ */
+export function bodyOf({ isWhole, elements, access, earlier, meaning, destination }) {
+  if (isWhole) return elements;
+  if (access?.width === 1) return Math.min(elements, 8 * Math.ceil(earlier.vl / 8)); // masks are loaded and stored by bytes
+  const isSingle = destination?.isWhole && destination.width > 1; // element 0 alone is written
+  return isSingle && meaning.layout !== "reduce" ? Math.min(1, earlier.vl) : earlier.vl;
+}
+
+/**
+ * Returns how an element takes part; in a reduction an element of the source.
+ * @param {import("./executed.js").State} state
+ * @param {Executed} executed
+ * @param {number} element
+ * @returns {Outcome}
+ */
+export function outcomeOf(state, executed, element) {
+  const { earlier, access, isMasked, name } = executed;
+  if (element >= bodyOf(executed)) return "tail";
+  const isAccess = access !== undefined && !/illegal/i.test(state.stop ?? "");
+  if (state.faulted && !isAccess) return "pending"; // an illegal instruction changes nothing
+  const start = state.faulted ? state.vstart : earlier.vstart;
+  if (element < start) return "prestart";
+  if (state.faulted) return element === start ? "fault" : "pending";
+  if (isMasked && !bitOf(earlier.v[0], element)) return "masked";
+  return name.endsWith("ff.v") && element >= state.vl ? "pending" : "active";
+}
+
+/**
+ * Returns how an element of the destination is written: in a reduction and a compression not all are.
+ * @param {Executed} executed
+ * @param {Outcome[]} outcomes
+ * @param {number} element
+ * @returns {Outcome}
+ */
+export function resultOutcome(executed, outcomes, element) {
+  const { meaning, name, earlier, offset } = executed;
+  const outcome = outcomes[element];
+  if (meaning.layout === "reduce") return element || !earlier.vl ? "tail" : "active";
+  if (outcome !== "active") return outcome;
+  if (meaning.layout === "compress") return element < chosenOf(executed, outcomes).length ? "active" : "tail";
+  return name.startsWith("vslideup.") && BigInt(element) < offset ? "kept" : "active";
+}
+
+/**
+ * Returns the elements that a compression's mask selects.
+ * @param {Executed} executed
+ * @param {Outcome[]} outcomes
+ */
+export function chosenOf({ word, earlier }, outcomes) {
+  const mask = earlier.v[(word >> 15) & 31];
+  return outcomes.flatMap((outcome, element) => (outcome === "active" && bitOf(mask, element) ? [element] : []));
+}
