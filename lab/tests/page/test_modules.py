@@ -39,6 +39,17 @@ say(half(4));
 return {  };
 })();
 """
+DOCUMENTED = """\
+/**
+ * Returns twice a number.
+ * @param {number} one
+ */
+const twice = (one) => /** @type {number} */ (2 * one);
+class Some {
+  /** The numbers. */
+  /** @type {Set<number>} */ used = new Set();
+}
+"""
 
 
 class Elements(html.parser.HTMLParser):
@@ -113,3 +124,10 @@ def test_content_policy_names_one_script(name: str) -> None:
 def named(text: str) -> str:
     """The hash of a text in a content policy: Content Security Policy Level 3, section 2.3.1."""
     return f"'sha256-{base64.b64encode(hashlib.sha256(text.encode()).digest()).decode()}'"
+
+
+def test_documentation_is_left_out() -> None:
+    """Comments on lines of their own aren't in the script; types within code stay, which have the code after them."""
+    code = "const twice = (one) => /** @type {number} */ (2 * one);\nclass Some {\n"
+    code += "  /** @type {Set<number>} */ used = new Set();\n}\n"
+    assert join_modules("main", lambda name: DOCUMENTED) == f"const $main = (() => {{\n{code}return {{  }};\n}})();\n"
