@@ -69,7 +69,9 @@ BODIES: dict[str, Callable[[ControlRegisters, int], range]] = {
     ),
 }
 SCALARS = {"rd": 7, "rs1": 15, "rs2": 20}  # the lowest bits of scalar registers in a word
-OPERANDS = 16 << 7 | 24 << 15 | 8 << 20  # registers that differ, aligned for groups of up to eight; 8 is also vstart as a control register
+OPERANDS = (
+    16 << 7 | 24 << 15 | 8 << 20
+)  # registers that differ, aligned for groups of up to eight; 8 is also vstart as a control register
 NO_RESULT = ("ecall", "ebreak")  # whose opcode is that of instructions with a result; ecall has one for some calls
 SEW, VTYPE, V0 = 32, 0x11, bytes([0x16, 0x80]) + bytes(30)  # e32, m2: VLMAX is 16
 LENGTHS = [(vl, vstart) for vl in (0, 1, 5, 16) for vstart in (0, 1, 2)]
@@ -270,7 +272,9 @@ def operand_faults(row: Row, word: int) -> Iterator[str]:
 def register_faults(row: Row, word: int) -> Iterator[str]:
     """The differences between the scalar registers and the address of a row and those that the lab has for a word of it."""
     names, fields = {word >> low & 31: name for name, low in SCALARS.items()}, {*row.fields()}
-    read = {names.get(number, f"x{number}") for number in scalars_read(word) if number} | ({"rs2"} if row.opcode == STORE else set())
+    read = {names.get(number, f"x{number}") for number in scalars_read(word) if number} | (
+        {"rs2"} if row.opcode == STORE else set()
+    )
     if row.name != "ecall" and read != fields & {"rs1", "rs2"}:
         yield f"scalars_read has {sorted(read)}"
     looks = changes._looks(word, [])
