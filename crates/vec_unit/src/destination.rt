@@ -1,6 +1,6 @@
 //! The destination of an element-wise instruction: a kernel borrows it for its results, then agnostic elements are
 //! filled ("V" Vector Extension 1.0, sections 3.4.3, 5.3 and 5.4).
-ghost use Rattle.std.specs.Prelude.{◌≡◌, ◌*◌, ◌<◌, ◌≤◌, ℕ, false, if◌then◌else◌, length, true};
+ghost use Rattle.std.specs.Prelude.{◌≡◌, ◌*◌, ◌<◌, ◌≤◌, ◌^◌, ℕ, false, if◌then◌else◌, length, true};
 ghost use Rattle.rv_model.specs.elements.Arithmetic.{fills_masked_off, fills_tail, with_results};
 ghost use Rattle.rv_model.specs.elements.Elements.{is_changed, result_or_ones};
 ghost use Rattle.rv_model.specs.elements.Formulas.{ones};
@@ -36,24 +36,23 @@ impl Target {
         }
     }
 
-    /// Return the destination for a body. Its `count` is the number of registers, which the caller multiplies by
-    /// the number of elements in a register.
+    /// Return the destination's registers for a body.
     #[inline(always)]
-    pub(crate) fn destination(self, body: &Body<'_>) -> Destination
+    pub(crate) fn registers(self, body: &Body<'_>) -> DestinationRegisters
         ensures { result ≡ record {
           vd = self.vd;
           emul = lmul_eighths self.vtype.lmul;
-          count = registers (lmul_eighths self.vtype.lmul);
+          registers = registers (lmul_eighths self.vtype.lmul);
           fill_masked_off = fills_masked_off self.policy self.vtype body.now;
           fill_tail = fills_tail self.policy self.vtype body.now;
         } }
     {
         let emul = u32::from(self.vtype.lmul.eighths());
         let agnostic = agnostic_under(self.policy, self.vtype, body);
-        Destination {
+        DestinationRegisters {
             vd: self.vd,
             emul,
-            count: registers(emul) as usize,
+            registers: registers(emul) as usize,
             fill_masked_off: agnostic.fill_masked_off,
             fill_tail: agnostic.fill_tail,
         }
@@ -106,6 +105,39 @@ pub(crate) struct Destination {
     pub count: usize,
     pub fill_masked_off: bool,
     pub fill_tail: bool,
+}
+
+/// The registers of a destination: as `Destination`, with the number of registers in the group.
+#[derive(Clone, Copy)]
+pub(crate) struct DestinationRegisters {
+    pub vd: VReg,
+    pub emul: u32,
+    pub registers: usize,
+    pub fill_masked_off: bool,
+    pub fill_tail: bool,
+}
+
+impl DestinationRegisters {
+    /// Return the destination if each register has this number of elements.
+    #[inline(always)]
+    pub(crate) fn elements(self, in_register: usize) -> Destination
+        requires { self.registers * in_register < 2 ^ 64 }
+        ensures { result ≡ record {
+          vd = self.vd;
+          emul = self.emul;
+          count = self.registers * in_register;
+          fill_masked_off = self.fill_masked_off;
+          fill_tail = self.fill_tail;
+        } }
+    {
+        Destination {
+            vd: self.vd,
+            emul: self.emul,
+            count: self.registers * in_register,
+            fill_masked_off: self.fill_masked_off,
+            fill_tail: self.fill_tail,
+        }
+    }
 }
 
 impl Destination {

@@ -51,25 +51,13 @@ pub(crate) fn perform<O: Operation>(
     let sew = target.vtype.sew;
     let mask = mask_register(&state.file);
     let body = body_under(target.unmasked, &mask, state);
-    let mut to = target.destination(&body);
+    let to = target.registers(&body);
     let file = &mut state.file;
     match sew {
-        Sew::E8 => {
-            to.count *= VLENB;
-            operation.write::<u8>(to, &body, file, scalar);
-        }
-        Sew::E16 => {
-            to.count *= VLENB / 2;
-            operation.write::<u16>(to, &body, file, scalar);
-        }
-        Sew::E32 => {
-            to.count *= VLENB / 4;
-            operation.write::<u32>(to, &body, file, scalar);
-        }
-        Sew::E64 => {
-            to.count *= VLENB / 8;
-            operation.write::<u64>(to, &body, file, scalar);
-        }
+        Sew::E8 => operation.write::<u8>(to.elements(VLENB), &body, file, scalar),
+        Sew::E16 => operation.write::<u16>(to.elements(VLENB / 2), &body, file, scalar),
+        Sew::E32 => operation.write::<u32>(to.elements(VLENB / 4), &body, file, scalar),
+        Sew::E64 => operation.write::<u64>(to.elements(VLENB / 8), &body, file, scalar),
     }
 }
 

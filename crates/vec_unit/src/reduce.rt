@@ -19,7 +19,7 @@ use lane_arith::{Body, Lane};
 use lane_reduce::{Reduction, WideningReduction, reduce};
 use reg_groups::{group, mask_register};
 use rv_model::instructions::operations::{ReduceOp, WidenReduceOp};
-use rv_model::{Scalar, Sew, VFile, VState};
+use rv_model::{Scalar, Sew, VFile, VLENB, VState};
 
 impl Operation for WithSources<ReduceOp> {
     ghost written = { λ o vd agnostic g body file x.
@@ -82,12 +82,12 @@ impl WithSources<WidenReduceOp> {
         let sew = target.vtype.sew;
         let mask = mask_register(&state.file);
         let body = body_under(target.unmasked, &mask, state);
-        let to = target.destination(&body);
+        let to = target.registers(&body);
         let file = &mut state.file;
         match sew {
-            Sew::E8 => self.write::<u8, u16>(to, &body, file, scalar),
-            Sew::E16 => self.write::<u16, u32>(to, &body, file, scalar),
-            Sew::E32 => self.write::<u32, u64>(to, &body, file, scalar),
+            Sew::E8 => self.write::<u8, u16>(to.elements(VLENB / 2), &body, file, scalar),
+            Sew::E16 => self.write::<u16, u32>(to.elements(VLENB / 4), &body, file, scalar),
+            Sew::E32 => self.write::<u32, u64>(to.elements(VLENB / 8), &body, file, scalar),
             Sew::E64 => unreachable!(),
         }
     }
