@@ -105,6 +105,7 @@ def wrong_kit(page: str) -> Iterator[str]:
 
 
 CITED = re.compile(r"\((`[\w:]+`(?:: `\w+`(?:, `\w+`)*)?(?:; `[\w:]+`(?:: `\w+`(?:, `\w+`)*)?)*)\)")
+SUBJECT = re.compile(r"`[\w:]+`(?:(?:, | and )`[\w:]+`)*")
 
 
 def clauses_of(crate: str) -> dict[str, set[str]]:
@@ -116,15 +117,23 @@ def clauses_of(crate: str) -> dict[str, set[str]]:
     return found
 
 
+def cited_in(statement: str) -> list[str]:
+    """Return the contracts of a statement, each with its clauses: those in parentheses, or else the functions that it begins with."""
+    if cells := CITED.findall(statement):
+        return [it for cell in cells for it in cell.split("; ")]
+    subject = SUBJECT.match(statement)
+    return re.findall(r"`[\w:]+`", subject[0]) if subject else []
+
+
 def wrong_contracts(page: str) -> Iterator[str]:
     """Yield a message for each statement about a crate without a contract, and for each contract that isn't in the crate."""
     for crate, section in re.findall(r"^### `(\w+)`\n(.*?)(?=^##)", page, re.MULTILINE | re.DOTALL):
         clauses = clauses_of(crate)
         for statement in re.split(r"^- ", section, flags=re.MULTILINE)[1:]:
-            contracts = CITED.findall(re.sub(r"\s+", " ", statement))
+            contracts = cited_in(re.sub(r"\s+", " ", statement))
             if not contracts:
                 yield f"a statement about {crate} names no contract: {statement[:60]}"
-            for name, _, cited in (it.partition(": ") for cell in contracts for it in cell.split("; ")):
+            for name, _, cited in (it.partition(": ") for it in contracts):
                 if name.strip("`") not in clauses:
                     yield f"{crate} has no contract {name}"
                 for clause in set(re.findall(r"\w+", cited)) - clauses.get(

@@ -1,15 +1,15 @@
 #!/usr/bin/env python3
-"""Checks that each must-fail edit can be applied, and that docs/GUARANTEES.md lists it: `tools/check_edits.py`, at the top of the repository.
+"""Checks that each must-fail edit can be applied, and that docs/PROOFS.md lists it: `tools/check_edits.py`, at the top of the repository.
 
 Each text after `old: ` in a file `crates/NAME/must-fail/*.edit` has to stand exactly once in the file that the line `file: ` before it
-names, once the pairs before it are applied. The table at the end of docs/GUARANTEES.md has to be the one that `tools/edit_clauses.py --page`
+names, once the pairs before it are applied. The list at the end of docs/PROOFS.md has to be the one that `tools/edit_clauses.py --page`
 writes. This takes no proof; whether an edit is refused, only `rt ci` tells. The status is 1 where something isn't so.
 """
 
 import pathlib
 import sys
 
-from edit_clauses import PAGE, with_table
+from edit_clauses import PAGE, with_list
 
 
 def fault_of(edit: pathlib.Path) -> str | None:
@@ -42,8 +42,8 @@ def main() -> int:
     for edit, fault in faults:
         print(f"{edit}: {fault}")
     page = PAGE.read_text(encoding="utf-8")
-    if wrong := page != with_table(page):
-        print(f"{PAGE}: the table of edits isn't current: run `python3 tools/edit_clauses.py --page`")
+    if wrong := page != with_list(page):
+        print(f"{PAGE}: the list of edits isn't current: run `python3 tools/edit_clauses.py --page`")
     print(f"{len(edits)} must-fail edits, {len(faults)} of them can't be applied")
     return 1 if faults or wrong or not edits else 0
 

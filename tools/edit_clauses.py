@@ -1,6 +1,6 @@
 #!/usr/bin/env python3
 """Lists the must-fail edits that can break each clause of a public call: `tools/edit_clauses.py [CRATE.. | --page]`, at the top of the
-repository. With `--page` it writes the table of docs/GUARANTEES.md instead: each edit once, behind the function or constant that it changes.
+repository. With `--page` it writes the list of docs/PROOFS.md instead: each edit once, behind the function or constant that it changes.
 
 A public call is a function that a crate exports and whose contract has clauses `ensures`, or a method of another crate's trait that the
 crate implements. For each call the tool prints its clauses (`-` for one without a name), the edits of the function itself, and, behind
@@ -16,6 +16,7 @@ doesn't list edits of a definition alone.
 
 import re
 import sys
+import textwrap
 from collections import defaultdict
 from collections.abc import Iterator
 from dataclasses import dataclass, field
@@ -28,8 +29,8 @@ BLOCK = re.compile(
     r"(?:pub(?:\(\w+\))? )?(?P<kind>impl|trait)\b(?:<.*?>)? (?:(?P<trait>[\w:]+)(?:<.*>)? for )?(?P<owner>\w+)"
 )
 CALL = re.compile(r"(?:(?P<qualifier>\w+)(?:::<[^<>]*>)?::|(?P<dot>\.))?\b(?P<name>[A-Za-z_]\w*)\b")
-PAGE = Path("docs/GUARANTEES.md")
-LONGEST = 240  # characters of a cell
+PAGE = Path("docs/PROOFS.md")
+LONGEST = 140  # characters of a line
 NO_CODE = re.compile(r"//[^\n]*|^\s*ghost [^;]*;", re.MULTILINE)
 
 
@@ -174,33 +175,28 @@ def changed_names(crate: str, edit: Path) -> str:
     )
 
 
-def rows_of_edits(crate: str) -> Iterator[str]:
-    """Return the rows of a crate: its edits by what they change, at most LONGEST characters in a cell."""
+def item_of_edits(crate: str) -> str:
+    """Return the item of a crate's edits in the page's list: the edits by what they change, in lines of at most LONGEST characters."""
     edits: defaultdict[str, list[str]] = defaultdict(list)
     for edit in sorted((CRATES / crate / "must-fail").glob("*.edit")):
         edits[changed_names(crate, edit)].append(f"`{edit.stem}`")
-    cell = ""
-    for item in (f"{names}: {', '.join(edits[names])}" for names in sorted(edits)):
-        if cell and len(f"{cell}; {item}") > LONGEST:
-            yield f"| `{crate}` | {cell} |"
-            cell = ""
-        cell = f"{cell}; {item}" if cell else item
-    yield f"| `{crate}` | {cell} |"
+    text = "; ".join(f"{names}: {', '.join(edits[names])}" for names in sorted(edits))
+    return textwrap.fill(
+        f"- `{crate}`: {text}", LONGEST, subsequent_indent="  ", break_long_words=False, break_on_hyphens=False
+    )
 
 
-def with_table(page: str) -> str:
-    """Return docs/GUARANTEES.md with the table of all edits in place of the one below its heading."""
+def with_list(page: str) -> str:
+    """Return docs/PROOFS.md with the list of all edits in place of the one that ends it."""
     before, heading, section = page.partition("\n## Edits that must fail\n")
-    text, _, rest = section.partition("\n| crate | ")
-    after = rest.partition("\n\n")[2]
-    rows = [row for it in sorted(CRATES.glob("*/must-fail")) for row in rows_of_edits(it.parent.name)]
-    table = "\n".join(["| crate | edits, by the functions and constants that they change |", "|---|---|", *rows])
-    return f"{before}{heading}{text}\n{table}\n" + (f"\n{after}" if after else "")
+    text = section.partition("\n- `")[0]
+    items = [item_of_edits(it.parent.name) for it in sorted(CRATES.glob("*/must-fail"))]
+    return "\n".join([f"{before}{heading}{text}", *items, ""])
 
 
 def main(names: list[str]) -> int:
     if names == ["--page"]:
-        PAGE.write_text(with_table(PAGE.read_text(encoding="utf-8")), encoding="utf-8")
+        PAGE.write_text(with_list(PAGE.read_text(encoding="utf-8")), encoding="utf-8")
         return 0
     if any(it.startswith("-") for it in names):
         sys.exit(__doc__)
