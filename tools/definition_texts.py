@@ -72,7 +72,7 @@ def by_file(found: dict[Name, Text]) -> dict[Path, list[Definition]]:
         files[text.path].append(Definition(name, text, comment_above(source, text.text)))
     order = {path: place for place, path in enumerate(reading_order())}
     return {
-        path: sorted(files[path], key=lambda it: source_of(path).find(it.text.text.split("\n")[0]))
+        path: sorted(files[path], key=lambda it: (source_of(path).find(it.text.text.split("\n")[0]), it.name))
         for path in sorted(files, key=lambda path: (order.get(path, len(order)), path))
     }
 
