@@ -163,6 +163,12 @@ def _ranges(vector: Vector) -> list[tuple[int, int]]:
     return [(start, end - start + 1) for start, end in zip(starts, ends)]
 
 
+def compared_size(vector: Vector) -> int:
+    """The number of written bytes times that of compared ones: the size of a store's proof. 0 if memory isn't compared."""
+    written = sum(len(digits) // 2 for digits in vector.after.get("memory", {}).values())
+    return written * sum(size for _, size in _ranges(vector)) if is_store(vector) else 0
+
+
 def _is_data(address: int) -> bool:
     return any(address in it for it in DATA)
 
