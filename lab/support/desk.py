@@ -1,5 +1,6 @@
 """A student's desk in tests: as a page has it (playground/desk.py), but a request's consequences are done at once."""
 
+import json
 from collections.abc import Mapping
 from typing import Any
 
@@ -66,3 +67,8 @@ def untimed(value: Any) -> Any:
     if isinstance(value, dict):
         return {name: untimed(part) for name, part in value.items() if name not in OF_TIMES}
     return [untimed(part) for part in value] if isinstance(value, list) else value
+
+
+def ask(desk: Desk, **request: object) -> Mapping[str, Any]:
+    """The answer of a desk to a request."""
+    return desk.answer(json.dumps({"id": 1, **request}))

@@ -1,13 +1,12 @@
 """Cases of an exercise on a student's page, and a machine with the inputs of one. Expected numbers are twice those of doubles."""
 
-import json
 import pathlib
 from collections.abc import Iterator, Mapping
 from typing import Any
 
 import pytest
 
-from support.desk import Desk
+from support.desk import Desk, ask
 from vecmon_lab.exercises.answer import settled
 from vecmon_lab.exercises.exercise import read_exercise
 
@@ -20,11 +19,6 @@ def desk(program: pathlib.Path) -> Iterator[Desk]:
     desk = Desk(program, exercises, 100_000)
     yield desk
     desk.close()
-
-
-def ask(desk: Desk, **request: object) -> Mapping[str, Any]:
-    """The answer to a request."""
-    return desk.answer(json.dumps({"id": 1, **request}))
 
 
 def view(desk: Desk) -> Mapping[str, Any]:

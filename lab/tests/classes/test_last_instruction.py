@@ -1,13 +1,11 @@
 """What the last instruction read and accessed, as a student's page has it. Expected values are worked by hand."""
 
-import json
 import pathlib
-from collections.abc import Iterator, Mapping
-from typing import Any
+from collections.abc import Iterator
 
 import pytest
 
-from support.desk import Desk
+from support.desk import Desk, ask
 
 SOURCE = """la a0, xs
 vsetivli t0, 4, e32, m1, ta, ma
@@ -35,11 +33,6 @@ def desk(program: pathlib.Path) -> Iterator[Desk]:
     ask(desk, ask="source", text=SOURCE)
     yield desk
     desk.close()
-
-
-def ask(desk: Desk, **request: object) -> Mapping[str, Any]:
-    """The answer to a request."""
-    return desk.answer(json.dumps({"id": 1, **request}))
 
 
 def step(desk: Desk, count: int) -> None:

@@ -1,13 +1,11 @@
 """Problems of a source, which are found without a machine for it."""
 
-import json
 import pathlib
-from collections.abc import Iterator, Mapping
-from typing import Any
+from collections.abc import Iterator
 
 import pytest
 
-from support.desk import Desk
+from support.desk import Desk, ask
 from vecmon_lab.classes.languages import C
 
 
@@ -17,11 +15,6 @@ def desk(program: pathlib.Path) -> Iterator[Desk]:
     desk = Desk(program, {}, 100_000)
     yield desk
     desk.close()
-
-
-def ask(desk: Desk, **request: object) -> Mapping[str, Any]:
-    """The answer to a request."""
-    return desk.answer(json.dumps({"id": 1, **request}))
 
 
 def test_problems_leave_the_machine_as_it_is(desk: Desk) -> None:

@@ -1,13 +1,11 @@
 """Run and step with a build first, over calls and out of functions. Expected places and values are worked by hand."""
 
-import json
 import pathlib
 from collections.abc import Iterator, Mapping
-from typing import Any
 
 import pytest
 
-from support.desk import Desk
+from support.desk import Desk, ask
 
 FACTORIAL = """_start: la sp, top
 li a0, 3
@@ -41,11 +39,6 @@ def desk(program: pathlib.Path) -> Iterator[Desk]:
     desk = Desk(program, {}, 100_000)
     yield desk
     desk.close()
-
-
-def ask(desk: Desk, **request: object) -> Mapping[str, Any]:
-    """The answer to a request."""
-    return desk.answer(json.dumps({"id": 1, **request}))
 
 
 def line(desk: Desk) -> int:

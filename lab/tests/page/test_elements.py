@@ -93,10 +93,8 @@ def test_stored_states_are_those_of_machine(program: pathlib.Path) -> None:
 
 
 def test_cards_and_details_have_own_operands(shown: dict[str, dict[str, Any]]) -> None:
-    """Formulas, values of scalars, counts, and the calculation of the elements 0, 1, 2 and 5, by hand."""
-    masked, fault, cut = (
-        shown[name] for name in ("multiply and add, masked", "load with a fault", "load up to a fault")
-    )
+    """Formulas, values of scalars, counts, and the calculations and details of masked elements, by hand."""
+    masked = shown["multiply and add, masked"]
     assert masked["card"]["formula"] == "if v0.mask[i]: v8[i] = v4[i] * a1 + v8[i]" and masked["card"]["scalars"] == [
         "a1 = 3"
     ]
@@ -112,6 +110,17 @@ def test_cards_and_details_have_own_operands(shown: dict[str, dict[str, Any]]) -
         "edit": {"of": "element", "register": 8, "bits": 32, "index": 1, "form": "signed"},
         "explain": "v8[1]",
     }
+    assert shown["count of ones"]["card"]["scalars"] == ["a2 = 3"] and shown["first one"]["card"]["scalars"] == [
+        "a2 = 1"
+    ]
+    assert shown["load with a stride"]["card"]["scalars"] == ["a0 = 0x11000", "a4 = 8"]
+    assert shown["indexed load"]["card"]["formula"] == "v19[i] = memory[a0 + v1[i]]"
+    assert shown["store of segments"]["card"]["formula"] == "memory[a3 + (3 * i + f)] = v4[i]"
+
+
+def test_cards_count_elements_around_a_fault(shown: dict[str, dict[str, Any]]) -> None:
+    """By hand: element 5 of both loads is the first one without memory."""
+    fault, cut = shown["load with a fault"], shown["load up to a fault"]
     assert fault["card"]["meaning"].endswith("Element 5 faulted: those before it are done, and `vstart` is 5.")
     assert [words for _, words in fault["card"]["counts"]] == [
         "5 done before the fault",
@@ -123,12 +132,10 @@ def test_cards_and_details_have_own_operands(shown: dict[str, dict[str, Any]]) -
     assert cut["card"]["meaning"].endswith("Element 5 can't be read, so `vl` becomes 5.")
     assert "3 not loaded" in [words for _, words in cut["card"]["counts"]]
     assert "8 not executed" in [words for _, words in shown["illegal"]["card"]["counts"]]
-    assert shown["count of ones"]["card"]["scalars"] == ["a2 = 3"] and shown["first one"]["card"]["scalars"] == [
-        "a2 = 1"
-    ]
-    assert shown["load with a stride"]["card"]["scalars"] == ["a0 = 0x11000", "a4 = 8"]
-    assert shown["indexed load"]["card"]["formula"] == "v19[i] = memory[a0 + v1[i]]"
-    assert shown["store of segments"]["card"]["formula"] == "memory[a3 + (3 * i + f)] = v4[i]"
+
+
+def test_calculations_of_an_element(shown: dict[str, dict[str, Any]]) -> None:
+    """Of element 1 in different kinds of instructions, by hand."""
     calculations = {
         "add an immediate": "v9[1] = v4[1] + (-2) = (−1) + (-2) = −3",
         "unsigned minimum": "v9[1] = min(v4[1], a1) = min(4294967295, 4) = 4",
