@@ -18,6 +18,13 @@ from support.places import SUM, TOP
 if TYPE_CHECKING:
     from selenium.webdriver import Chrome
 
+PANES = "vecmon-panes-student"  # the browser's storage keeps the arrangement of panes under this name
+UNFOLDED = f"""try {{ localStorage["{PANES}"] ??=
+    '{{"version": 1, "sizes": {{}}, "folded": {{"dock": false, "exercise": false}}}}'; }} catch {{}}"""  # steps fold no pane
+PIECES = """all('#source + .CodeMirror .CodeMirror-line [class^=cm-]').map((piece) =>
+    `${piece.className.slice(3)} ${piece.textContent}`)"""  # of the source in sight, with their kinds
+SIGNS = """Array.from({ length: code().lineCount() }, (_, line) =>
+    `${code().lineInfo(line).gutterMarkers?.marks?.textContent ?? ""}${line + 1}`).filter((sign) => /[●▶]/.test(sign)).join()"""
 PATIENCE = 60  # seconds: after so long a test that waits has failed
 FRAME = "requestAnimationFrame(() => setTimeout(arguments[0])), setTimeout(arguments[0], 100)"  # which none has out of sight
 
@@ -71,6 +78,10 @@ class Served:
         """The address of a seat's page, or the teacher's."""
         return f"http://127.0.0.1:{self.port}/#{self.codes[role]}"
 
+    def title(self, role: str) -> str:
+        """The title of a page."""
+        return role.title() if role in ("teacher", "wall") else f"Seat {role}"
+
     def programs(self) -> list[int]:
         """The numbers of the program's processes, the server's children."""
         output = subprocess.run(["ps", "-o", "pid=", "--ppid", str(self.server.pid)], stdout=subprocess.PIPE, text=True)
@@ -121,6 +132,10 @@ class Explored(Served):
         """That of the page, which is one seat's."""
         return f"http://127.0.0.1:{self.port}/#{self.code}"
 
+    def title(self, role: str) -> str:
+        """The name of the source."""
+        return self.source.name
+
     def end(self) -> None:
         self.server.terminate()  # so that its folder is removed
         self.server.wait()
@@ -135,10 +150,9 @@ class Tab:
         self.browser, self.served, self.who = browser, served, role
         browser.switch_to.new_window("tab")
         self.handle = browser.current_window_handle
-        browser.execute_cdp_cmd("Page.addScriptToEvaluateOnNewDocument", {"source": before})
+        browser.execute_cdp_cmd("Page.addScriptToEvaluateOnNewDocument", {"source": UNFOLDED + before})
         browser.get(served.address(role))
-        name = role.title() if role in ("teacher", "wall") else f"Seat {role}"
-        self.wait("document.title === arguments[0]", f"{name} – vecmon")
+        self.wait("document.title === arguments[0]", f"{served.title(role)} – vecmon")
 
     def activate(self) -> "Chrome":
         """The browser, with this tab before all others."""
@@ -147,9 +161,10 @@ class Tab:
         return self.browser
 
     def run(self, script: str, *arguments: Any) -> Any:
-        """The value of a script in the page; in it, `id`, `one` and `all` find elements."""
+        """The value of a script in the page; in it, `id`, `one` and `all` find elements, and `code` an editor."""
         helpers = """const id = (name) => document.getElementById(name), one = (css) => document.querySelector(css),
-            all = (css) => [...document.querySelectorAll(css)];"""
+            all = (css) => [...document.querySelectorAll(css)], code = (name = "source") => id(name).nextSibling?.CodeMirror,
+            text = (name) => code(name)?.getValue();"""
         return self.activate().execute_script(f"{helpers} return {script}", *arguments)
 
     def wait(self, script: str, *arguments: Any) -> Any:
@@ -165,15 +180,30 @@ class Tab:
         except TimeoutException as error:
             raise AssertionError(f"{script} {arguments}: {self.run('document.body.innerText')}") from error
 
+    def open_menu(self, selector: str) -> None:
+        """Opens the menu that an element is in, if any."""
+        self.run("one(arguments[0])?.closest('.menu')?.setAttribute('open', '')", selector)
+
     def click(self, selector: str) -> None:
+        """Clicks an element, and opens its menu before."""
         from selenium.webdriver.common.by import By
 
+        self.open_menu(selector)
         self.activate().find_element(By.CSS_SELECTOR, selector).click()
 
     def keys(self, selector: str, *keys: str) -> None:
         from selenium.webdriver.common.by import By
 
+        self.open_menu(selector)
         self.activate().find_element(By.CSS_SELECTOR, selector).send_keys(*keys)
+
+    def type(self, *keys: str, field: str = "source") -> None:
+        """Press keys in an editor."""
+        self.keys(f"#{field} + .CodeMirror .CodeMirror-code", *keys)
+
+    def write(self, text: str) -> None:
+        """Put a source into the editor, and show it."""
+        self.run("(id('show-source').click(), code().setValue(arguments[0]))", text)
 
     def choose(self, selector: str, text: str) -> None:
         """Chooses what has this text in a list."""
@@ -199,14 +229,14 @@ class Tab:
         self.run("all('#log li').forEach((item) => item.classList.add('before'))")  # 500 at most
         self.run("arguments[0].forEach((line) => (id('line').value = line, id('command').requestSubmit()))", lines)
         asked = "all('#log .asked:not(.before)').length"
-        self.wait(f"{asked} >= arguments[0] && !one('#log li:last-child').matches('.asked')", len(lines))
+        self.wait(f"{asked} >= arguments[0] && !one('#log > li:last-child').matches('.asked')", len(lines))
 
     def begin(self, *lines: str) -> None:
         """A new machine with these instructions at 10000 on."""
         self.click("#new")
         if self.run("id('ask').open"):
             self.click("#yes")
-        self.wait("one('#log li:nth-last-child(2)')?.textContent === '> setpc 10000'")
+        self.wait("one('#log > li:nth-last-child(2)')?.textContent === '> setpc 10000'")
         self.command(*(f"asm {0x10000 + 4 * place:x} {line}" for place, line in enumerate(lines)))
 
     def text(self, selector: str) -> str:

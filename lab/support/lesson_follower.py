@@ -25,7 +25,7 @@ const ofElements = rows.filter((row) => !row.querySelector(".set, .clear"));
 const shown = {};
 const add = (name, isChanged) => (shown[name] ||= isChanged);
 for (const row of ofElements) add(row.querySelector("b").textContent, row.querySelector(".changed") !== null);
-for (const name of document.querySelectorAll("#registers th")) add(name.textContent, name.nextSibling.matches(".changed"));
+for (const cell of document.querySelectorAll("#registers dd")) add(cell.title.split(",")[0] || "pc", cell.matches(".changed"));
 const texts = ["#count", "main"].map((name) => document.querySelector(name).textContent);
 return [...texts, groups, shown];
 """

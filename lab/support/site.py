@@ -16,7 +16,7 @@ from support.skips import NO_SITE, leave_out
 if TYPE_CHECKING:
     from selenium.webdriver import Chrome
 
-TITLE = "Seat A1 – vecmon"
+TITLE = "Playground – vecmon"
 PARTS = ("python", "memory", "machine", "lessons", "later")
 
 
@@ -77,7 +77,7 @@ class SiteTab(Tab):
     def write(self, source: str) -> None:
         """Writes a source into memory."""
         self.run(
-            "(id('show-source').click(), id('source').value = arguments[0], id('source').dispatchEvent(new Event('input')))",
+            "(id('show-source').click(), code().setValue(arguments[0]))",
             source,
         )
         self.wait("!id('assemble').disabled")
@@ -86,5 +86,5 @@ class SiteTab(Tab):
     def register(self, number: int) -> str:
         """The value of a scalar register as the command `regs` prints it."""
         self.command("regs")
-        words = self.text("#log li:last-child").split()
+        words = self.text("#log > li:last-child").split()
         return words[words.index(f"x{number}") + 1] if f"x{number}" in words else ""

@@ -356,7 +356,7 @@ def test_missing_packages_are_reported(clone: Clone) -> None:
     clone.write("rattle/sudo", "#!/bin/sh\nexit 1\n")
     clone.write("rattle/dpkg-query", "#!/bin/sh\nprintf 'python3:ii \\npython3-pip:rc \\npython3-wheel:ii \\n'\n")
     completed = clone.run()
-    packages = "python3-pip python3-setuptools python3-aiohttp python3-prompt-toolkit python3-pyelftools python3-segno"
+    packages = "python3-pip python3-setuptools python3-aiohttp python3-prompt-toolkit python3-pyelftools python3-segno libjs-codemirror"
     command = f"apt-get update && apt-get install --no-install-recommends {packages}"
     expected = f"tools/debian_packages: missing packages; as root, run: {command}\n"
     assert (completed.returncode, completed.stdout, completed.stderr) == (2, "", expected)

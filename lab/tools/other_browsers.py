@@ -2,7 +2,7 @@
 
 SITE is the output folder of tools/site. In each browser, `chromium`, `firefox` or `webkit`, it works at the page from a server: the
 page, a reload, an exercise failed and passed, a lesson, an image. It prints a row for MEASUREMENTS.md, in milliseconds: the first
-interaction cold and warm, a step, and 10,000,000 instructions by Go; and the MB of Python's memory. The packages are those of
+interaction cold and warm, a step, and 10,000,000 instructions by Run; and the MB of Python's memory. The packages are those of
 `tools/debian_packages other-browsers`; WebKitGTK needs a display, for instance that of `xvfb-run`.
 """
 
@@ -25,6 +25,7 @@ PATIENCE = 60.0
 SOURCE = "        li t0, 10\nloop:   vsetivli zero, 8, e32, m1, ta, ma\n        vid.v v1\n        addi t0, t0, -1\n        bnez t0, loop\n        ebreak\n"
 LONG = "        li t0, 5000000\nloop:   addi t0, t0, -1\n        bnez t0, loop\n        ebreak\n"
 GOOD = TOP / "lab" / "vecmon_lab" / "exercises" / "given" / "doubles" / "good.s"
+CODE = "document.getElementById('source').nextSibling.CodeMirror"
 RUN = "document.getElementById('run').textContent"
 CHECK = "[...document.querySelectorAll('#exercise button')].find((each) => each.textContent === 'Check')"
 LESSON = "[...document.querySelectorAll('#exercise a')].find((each) => each.textContent.includes('lesson'))"
@@ -69,14 +70,13 @@ class Page:
     def write(self, text: str) -> None:
         """Puts a source into the editor."""
         self.click("show-source")
-        script = "const it = document.getElementById('source'); it.value = arguments[0]; it.dispatchEvent(new Event('input'))"
-        self.run(script, text)
+        self.run(f"{CODE}.setValue(arguments[0])", text)
 
     def assemble(self, text: str) -> None:
         """Writes a source into memory."""
         self.write(text)
         self.click("assemble")
-        self.wait(f"{RUN} === 'stopped'")
+        self.wait(f"{RUN} === 'Ready'")
 
 
 def chromium() -> Any:
@@ -130,19 +130,19 @@ def work(page: Page) -> list[str]:
         page.wait(f"document.getElementById('step').textContent !== {before!r}")
         steps.append(time.monotonic() - start)
     page.click("go")
-    page.wait(f"{RUN} === 'ebreak'")
+    page.wait(f"{RUN} === 'Ended'")
     page.click("backward")
     page.wait("!document.getElementById('says-past').hidden")
     page.click("now")
     page.assemble(LONG)
     start = time.monotonic()
     page.click("go")
-    page.wait(f"{RUN} === 'ebreak'")
+    page.wait(f"{RUN} === 'Ended'")
     went = time.monotonic() - start
     time.sleep(1)
     page.open()
-    page.wait(f"document.getElementById('source').value === {json.dumps(LONG)}")
-    page.wait(f"['ebreak', 'stopped'].includes({RUN})")
+    page.wait(f"{CODE}.getValue() === {json.dumps(LONG)}")
+    page.wait(f"['Ended', 'Ready', 'Paused'].includes({RUN})")
     page.open("#exercise=doubles")
     for answer, told in (("        ret\n", "1 try"), (GOOD.read_text(), "2 tries, passed")):
         page.write(answer)

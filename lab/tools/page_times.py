@@ -93,7 +93,7 @@ def eight_seats(browser: "Chrome", served: Served, count: int) -> None:
     print_times("the same, seven others run", clicks(first, count))
     press_all(others, "#halt")
     teacher.click("[name=on]")
-    first.run("(id('source').value = arguments[0], id('assemble').click())", LONG)
+    first.run("(code().setValue(arguments[0]), id('assemble').click())", LONG)
     first.wait("id('listing').textContent.includes('vid.v') && !id('one').disabled")
     print_times("the first one with 3,900 rows", clicks(first, count))
     print_times("a stop until the teacher's page shows it", stops(others[0], teacher, count // 3))

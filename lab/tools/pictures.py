@@ -81,11 +81,12 @@ def seat_students(browser: "Chrome", served: Served) -> Tab:
     tabs = [Tab(browser, served, f"A{number}") for number in range(1, 7)]
     programs: list[list[str]] = [COUNT_UP, [], [], ODD_GROUP, ["vid.v v1", "ebreak"], ["vid.v v1"]]
     for tab, program, name in zip(tabs, programs, ["Ada", "Bela", "Chiara", "", "Emil", "Fatma"]):
+        tab.click("#menu summary")
         tab.keys("#name", f"{name}\n")
         tab.begin(*program)
     tabs[0].command("go")
     tabs[1].command("load sum", "go")
-    tabs[2].run("(id('source').value = arguments[0], id('assemble').click())", EXAMPLE.read_text("utf-8"))
+    tabs[2].run("(code().setValue(arguments[0]), id('assemble').click())", EXAMPLE.read_text("utf-8"))
     tabs[2].wait("id('listing').textContent.includes('next:') && !id('listing').hidden")
     tabs[2].command(f"step {MASKED - 1}", "asm 10044 vadd.vv v1, v2")
     tabs[3].command("step 2")
@@ -123,7 +124,7 @@ def picture_exercise(browser: "Chrome", served: Served, folder: pathlib.Path) ->
     tab = Tab(browser, served, "A1")
     give_room(browser, EXERCISE_HEIGHT)  # so that what was found is in sight
     tab.click("#show-source")
-    tab.run("(id('source').value = arguments[0], id('assemble').click())", WRONG.read_text("utf-8"))
+    tab.run("(code().setValue(arguments[0]), id('assemble').click())", WRONG.read_text("utf-8"))
     tab.wait("id('listing').textContent.includes('vminu') && !id('listing').hidden")
     tab.click("#show-source")
     tab.click("#exercise .main")
@@ -142,14 +143,14 @@ def picture_kernels(browser: "Chrome", served: Served, own: Served, folder: path
         tab = Tab(browser, page, "A2" if page is served else "A1")
         give_room(browser, HEIGHT)
         tab.choose("#language", "C, O2")
-        tab.run("(id('source').value = arguments[0], id('assemble').click())", text)
+        tab.run("(code().setValue(arguments[0]), id('assemble').click())", text)
         tab.wait("id('editor').hidden && one('#listing .next')")
         line = next(number for number, each in enumerate(text.split("\n"), 1) if mark in each)
         address = tab.run(
             "all('#listing tr').find((row) => row.textContent.includes(arguments[0])).dataset.address", f"{line}  "
         )
         tab.command(f"break {address}", "go")
-        tab.wait("one('#run').textContent === 'break'")
+        tab.wait("one('#run').textContent === 'Paused'")
         tab.command("step 1")
         if name == "explore":
             tab.click("#show-source")

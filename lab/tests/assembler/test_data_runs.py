@@ -45,3 +45,9 @@ def test_type_changes_within_a_label() -> None:
         0x10006: DataRun("text", 1),
         0x10007: DataRun("i8", 1),
     }
+
+
+def test_summary_counts_instructions_and_bytes() -> None:
+    """16 + 3, 4 + 16 + 7 and 4 + 4 bytes; the gap and the 8 bytes of `.zero` aren't counted."""
+    assert read_source(SOURCE).summary() == "1 instruction, from 0x10000; 54 bytes of data, from 0x11000"
+    assert read_source("nop\nli a0, 0x12345\n").summary() == "3 instructions, from 0x10000"

@@ -207,7 +207,7 @@ async def test_go_waits_while_clock_is_off(tmp_path: pathlib.Path) -> None:
         await tab.do(*LOOP, "go")
         await tab.do("stop")
         expected = "!The clock is off, so the program waits: the teacher can turn it on"
-        assert f"{expected}, or Slice grants some slices." in tab.logs["A1"]
+        assert f"{expected}, or press Go on a little." in tab.logs["A1"]
         await teacher.ask("rights", machine="A", own_slices=False)
         await tab.do("go")
         await tab.do("stop")

@@ -8,7 +8,7 @@ from typing import TYPE_CHECKING
 import pytest
 
 from support.browser import CONTRAST
-from support.class_pages import Explored, Served, Tab
+from support.class_pages import PIECES, SIGNS, Explored, Served, Tab
 from support.skips import NO_SANDBOX, leave_out
 from support.places import DATA, EXAMPLES
 from vecmon_lab.compilers.compiler import Compiler
@@ -17,7 +17,7 @@ if TYPE_CHECKING:
     from selenium.webdriver import Chrome
 
 SAXPY = (EXAMPLES / "kernels" / "saxpy.c").read_text("ascii")
-TEXT = "id('source').value"
+TEXT = "text()"
 
 
 @pytest.fixture
@@ -31,12 +31,8 @@ def with_c(clang: Compiler, program: pathlib.Path, tmp_path: pathlib.Path) -> It
 
 
 def put_in(tab: Tab, text: str, language: str = "C, O2") -> None:
-    """Puts a source into the editor, as a paste does, and chooses its language."""
-    from selenium.webdriver.common.keys import Keys
-
-    tab.click("#show-source")
-    tab.keys("#source", Keys.CONTROL, "a", Keys.NULL, Keys.DELETE)
-    tab.activate().execute_cdp_cmd("Input.insertText", {"text": text})
+    """Puts a source into the editor, and chooses its language."""
+    tab.write(text)
     tab.choose("#language", language)
 
 
@@ -47,17 +43,17 @@ def test_c_kernel_is_built_and_shown(tabs: "Chrome", with_c: Served) -> None:
     tab, teacher = Tab(tabs, with_c, "A1"), Tab(tabs, with_c, "teacher")
     put_in(tab, SAXPY)
     assert tab.text("#assemble") == "Compile" and "are left" in tab.text("#left")
-    tab.run("id('source').scrollTop = 0")
-    tab.wait("one('#editor .colours').textContent.startsWith(arguments[0])", SAXPY[:400])
-    pieces = tab.run("all('#editor .colours span').map((piece) => `${piece.className} ${piece.textContent}`)")
-    assert {"directive #include", "string <riscv_vector.h>", "register int32_t", "directive static"} <= set(pieces)
-    assert "instruction __riscv_vsetvl_e32m2" in pieces and "unknown" not in str(pieces)
-    tab.keys("#source", Keys.CONTROL, Keys.ENTER)
+    tab.run("code().scrollTo(0, 0)")
+    tab.wait(f"{PIECES}.join().includes('meta #include <riscv_vector.h>')")
+    pieces = tab.run(PIECES)
+    assert {"type int32_t", "keyword static"} <= set(pieces)
+    assert "builtin __riscv_vsetvl_e32m2" in tab.run(f"(code().scrollTo(0, 300), code().refresh(), {PIECES})")
+    tab.type(Keys.CONTROL, Keys.ENTER)
     tab.wait("id('editor').hidden && one('#listing .next')")
     shown = tab.run("all('#listing .source').map((cell) => cell.textContent).join()")
     assert "__riscv_vmacc_vx_i32m2(sum, factor" in shown and "(saxpy, inlined)" in shown
     teacher.click("#seats tr button[aria-label='Look at seat A1']")
-    teacher.wait("id('source').value === arguments[0] && id('language').selectedOptions[0].text === 'C, O2'", SAXPY)
+    teacher.wait("text() === arguments[0] && id('language').selectedOptions[0].text === 'C, O2'", SAXPY)
     teacher.click("#show-source")
     teacher.click("#take")
     assert teacher.run("id('given-language').selectedOptions[0].text") == "C, O2"
@@ -66,7 +62,7 @@ def test_c_kernel_is_built_and_shown(tabs: "Chrome", with_c: Served) -> None:
     other = Tab(tabs, with_c, "A2")
     other.wait(f"{TEXT} === arguments[0] && id('assemble').textContent === 'Compile'", SAXPY)
     put_in(tab, "nop", "assembler")
-    tab.keys("#source", Keys.CONTROL, "z", Keys.NULL)  # also of the choice of a language
+    tab.type(Keys.CONTROL, "z", Keys.NULL)  # also of the choice of a language
     assert tab.run("id('language').selectedOptions[0].text") == "C, O2"
 
 
@@ -75,37 +71,35 @@ def test_line_step_shows_next_line(tabs: "Chrome", with_c: Served) -> None:
     from selenium.webdriver.common.keys import Keys
 
     tab = Tab(tabs, with_c, "A1")
-    assert not tab.activate().find_element("id", "step-line").is_displayed()
     put_in(tab, SAXPY)
     tab.click("#assemble")
     tab.wait("one('#listing .next')")
     tab.click("#show-source")
-    here = "one('#editor .numbers').textContent.split('\\n').find((number) => number.includes('▶'))"
-    tab.keys("body", Keys.F10)
+    here = f"{SIGNS}.split(',').find((sign) => sign.includes('▶'))"
+    tab.keys("body", Keys.F11)  # by lines, since the source is in C
     first = tab.wait(here)
-    text = tab.run("all('#editor .colours .here').map((piece) => piece.textContent).join('')")
+    text = tab.run("one('#editor .next').parentElement.querySelector('.CodeMirror-line').textContent")
     assert text == SAXPY.splitlines()[int(first.strip("▶")) - 1] and int(first.strip("▶")) > 22
-    tab.click("#step-line")
+    tab.click("#step-over")
     tab.wait(f"{here} !== arguments[0]", first)
     line = SAXPY[: SAXPY.index("sum = __riscv_vmacc")].count("\n") + 1
     click_number(tab, line)
-    tab.wait(f"one('#editor .numbers').textContent.split('\\n')[{line - 1}].includes('●')")
+    tab.wait(f"{SIGNS}.split(',').includes('●{line}')")
     tab.click("#go")
     tab.wait("!id('slice').disabled")
     tab.click("#slice")
     tab.wait(f"{here} === arguments[0]", f"●▶{line}")
-    tab.keys("#source", " ")  # another source than that in the machine
+    tab.type(" ")  # another source than that in the machine
     assert not tab.run(here)
 
 
 def click_number(tab: Tab, line: int) -> None:
     """Clicks the number of a line in the editor."""
-    tab.run(
-        """((numbers, height) => numbers.dispatchEvent(new MouseEvent("click", { clientY: numbers.getBoundingClientRect().top
-            + (arguments[0] - 0.4) * height + 4 - id("source").scrollTop })))(one("#editor .numbers"),
-            parseFloat(getComputedStyle(id("source")).lineHeight))""",
-        line,
-    )
+    from selenium.webdriver import ActionChains
+
+    tab.run("code().scrollIntoView({ line: arguments[0] - 1, ch: 0 }, 40)", line)
+    number = tab.wait(f"all('#editor .CodeMirror-linenumber').find((each) => each.textContent === '{line}')")
+    ActionChains(tab.browser).click(number).perform()
 
 
 def test_inlined_line_breakpoint_stops(tabs: "Chrome", with_c: Served) -> None:
@@ -115,7 +109,7 @@ def test_inlined_line_breakpoint_stops(tabs: "Chrome", with_c: Served) -> None:
     tab.click("#assemble")
     tab.wait("one('#listing .next')")
     tab.click("#show-source")
-    marks = "one('#editor .numbers').textContent.split('\\n').filter((number) => number.includes('●')).join()"
+    marks = f"{SIGNS}.split(',').filter((sign) => sign.includes('●')).join()"
     asked = "all('#log .asked').map((item) => item.textContent.slice(2).split(' ')[0]).join(' ')"
     click_number(tab, 10)
     tab.wait(
@@ -129,7 +123,7 @@ def test_inlined_line_breakpoint_stops(tabs: "Chrome", with_c: Served) -> None:
     tab.click("#go")
     tab.wait("!id('slice').disabled")
     tab.click("#slice")
-    tab.wait(f"id('run').textContent === 'break' && {marks} === '●▶17'")
+    tab.wait(f"id('run').textContent === 'Paused' && {marks} === '●▶17'")
     tab.command(*(f"break {4 * place:x}" for place in range(10)))
     click_number(tab, 9)
     tab.wait(
@@ -141,15 +135,16 @@ def test_messages_are_shown_at_their_lines(tabs: "Chrome", with_c: Served) -> No
     """In the editor, until it changes; and below it, from where a click leads to the place. A linker's have none."""
     tab = Tab(tabs, with_c, "A1")
     put_in(tab, "int main(void)\n{\n    /* one\n two */ return missing;\n}\n")
-    assert tab.run("all('#editor .colours .comment').map((piece) => piece.textContent)") == ["/* one", " two */"]
+    comments = [piece for piece in tab.run(PIECES) if piece.startswith("comment")]
+    assert comments == ["comment /* one", "comment two */"]
     tab.click("#assemble")
-    tab.wait("one('#editor .colours .message')")
-    assert "missing" in tab.text("#editor .colours .message")
+    tab.wait("one('#editor .problem')")
+    assert tab.text("#editor .problem") == "missing" and "missing" in tab.run("one('#editor .problem-sign').title")
     assert tab.text("#mistakes").startswith("4:16: ")
     tab.click("#mistakes button")
-    assert tab.run("id('source').selectionStart") == tab.run(f"{TEXT}.indexOf('missing')")
-    tab.keys("#source", "0")
-    assert not tab.run("one('#editor .colours .message')")
+    assert tab.run("code().indexFromPos(code().getCursor('from'))") == tab.run(f"{TEXT}.indexOf('missing')")
+    tab.type("0")
+    assert not tab.run("one('#editor .problem')")
     put_in(tab, "long other(void);\nint main(void) { return other(); }\n")
     tab.click("#assemble")
     tab.wait("id('mistakes').textContent === 'undefined symbol: other'")
@@ -179,7 +174,7 @@ def test_given_source_reaches_seats(tabs: "Chrome", with_c: Served, tmp_path: pa
     other.run(f"void (location.hash = {link.partition('#')[2]!r})")
     other.wait(f"{TEXT}?.includes('é') && id('language').selectedOptions[0].text === 'C, O3-scalar'")
     assert other.run("document.title") == "Seat A2 – vecmon" and "#" not in other.activate().current_url
-    assert other.text("#run") == "not entered" and "A link has brought" in other.text("#stop")
+    assert other.text("#run") == "Not begun" and "A link has brought" in other.text("#stop")
     other.run("void (location.hash = 'source=junk')")
     other.wait("document.title === 'Seat A2 – vecmon' && !location.hash")
     file = tmp_path / "kernel.O1.c"
@@ -194,10 +189,11 @@ def test_stock_assembler_source_is_shown(tabs: "Chrome", with_c: Served, tmp_pat
     tab, text = Tab(tabs, with_c, "A3"), "        .rept 2\n        addi a0, a0, 4\n        .endr\n        ebreak\n"
     put_in(tab, text, "assembler, stock")
     assert tab.text("#assemble") == "Compile" and "are left" in tab.text("#left")
-    tab.wait("all('#editor .colours .register').length === 2")
+    tab.wait(f"{PIECES}.filter((piece) => piece.startsWith('variable-2 ')).length === 2")
     tab.click("#assemble")
     tab.wait("id('editor').hidden && one('#listing .next')")
-    tab.click("#step-line")
+    tab.run("id('by').value = 'line'")
+    tab.click("#one")
     tab.wait("one('#listing .next').textContent.includes('ebreak')")
     tab.click("#show-source")
     tab.click("#link")

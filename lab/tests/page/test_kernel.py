@@ -86,8 +86,9 @@ def test_variables_follow_current_line(kernel: "Chrome") -> None:
     kernel.find_element("id", "last").click()
     rows = kernel.execute_script(MEMORY)
     place = rows.index(["int32_t y[10]:"])
-    numbers = [number for row in rows[place + 1 :] for cell in row[1:5] for number in cell.split()]
-    assert numbers[1:11] == [f"{number}" for number in range(100, 120, 2)]
+    numbers = [number for row in rows[place + 1 :] for cell in row[1:-1] for number in cell.split()]
+    first = numbers.index("100")
+    assert numbers[first : first + 10] == [f"{number}" for number in range(100, 120, 2)]
     assert "size_t count" not in kernel.execute_script(VARIABLES)
 
 

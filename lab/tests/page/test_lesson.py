@@ -106,10 +106,10 @@ def test_lesson_is_navigated_by_keys_and_clicks(opened: Callable[[str], "Chrome"
     browser.get(browser.current_url.partition("#")[0] + f"#{place.split()[0]}")
     browser.refresh()
     assert text_of(browser, "#count") == place
-    Select(browser.find_element(By.ID, "names")).select_by_visible_text("a0")
-    assert "vsetivli zero, 6" in text_of(browser, "#listing") and "s11" in text_of(browser, "#registers")
+    Select(browser.find_element(By.ID, "names")).select_by_visible_text("x10")
+    assert "vsetivli x0, 6" in text_of(browser, "#listing") and "x27 s11" in text_of(browser, "#registers")
     browser.find_element(By.ID, "names").send_keys(Keys.ARROW_UP)
-    assert text_of(browser, "#count") == place and "vsetivli x0, 6" in text_of(browser, "#listing")
+    assert text_of(browser, "#count") == place and "vsetivli zero, 6" in text_of(browser, "#listing")
 
 
 def test_element_formats_can_be_chosen(opened: Callable[[str], "Chrome"], program: pathlib.Path) -> None:
@@ -142,11 +142,11 @@ def test_element_formats_can_be_chosen(opened: Callable[[str], "Chrome"], progra
         "−2",
     ]  # 8 have room, and 16 of the others
     choose("form", "unsigned")
-    assert row(2, 0)[1:3] == ["32769", "32767"] and row(2, 1)[1] == "65534"
+    assert row(2, 0)[1:3] == ["32769", "32767"] and row(2, 2)[1] == "65534"
     choose("form", "hexadecimal")
-    assert row(2, 0)[1:3] == ["8001", "7fff"] and row(2, 1)[1] == "fffe"
+    assert row(2, 0)[1:3] == ["8001", "7fff"] and row(2, 2)[1] == "fffe"
     choose("view", "all 32 registers")
-    assert row(2, 0)[1:3] == ["8001", "7fff"] and row(31, 0)[1:] == ["0000"] * 16
+    assert row(2, 0)[1:3] == ["8001", "7fff"] and row(31, 0)[1:] == ["0000"] * 8
     choose("width", "32 bits")
     assert row(2, 0)[1] == "7fff8001" and row(3, 0)[:2] == ["v3", "0000fffe"]
     choose("width", "mask bits")
@@ -165,9 +165,9 @@ def test_every_user_has_tab(opened: Callable[[str], "Chrome"], program: pathlib.
     assert "user 2: stopped" in text_of(browser, "#users")
     assert "3 step 1" in text_of(browser, "#step") and "x5" in text_of(browser, "#registers")
     browser.find_element(By.CSS_SELECTOR, "#users [data-user='2']").click()
-    assert "addi x5, x5, 1" in text_of(browser, "#listing") and "c8" in text_of(browser, "#registers")
+    assert "addi t0, t0, 1" in text_of(browser, "#listing") and "200" in text_of(browser, "#registers")
     press(browser, Keys.ARROW_LEFT)
-    assert "addi x5, x5, 1" in text_of(browser, "#listing")
+    assert "addi t0, t0, 1" in text_of(browser, "#listing")
 
 
 def test_text_is_never_markup(opened: Callable[[str], "Chrome"], program: pathlib.Path) -> None:

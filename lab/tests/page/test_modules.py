@@ -3,14 +3,18 @@
 import base64
 import hashlib
 import html.parser
+import pathlib
 import re
 
 import pytest
 
+from vecmon_lab import LabError
 from vecmon_lab.page.modules import join_modules
-from vecmon_lab.page.pages import FILES, Page, lone_page, page_file
+from vecmon_lab.page.pages import FILES, PIECES, Page, lone_page, page_file
 
-PAGES = sorted(path.stem for path in FILES.glob("*.html") if path.with_suffix(".js").exists())
+PAGES = sorted(
+    path.stem for path in FILES.glob("*.html") if path.stem not in PIECES and path.with_suffix(".js").exists()
+)
 FILE = {
     "main.js": 'import { half } from "./numbers.js";\nimport { say, Loud } from "./words.js";\n\nsay(half(4));\n',
     "numbers.js": "// Numbers.\n\nexport const half = (number) => number / 2;\nconst own = 1;\n",
@@ -103,7 +107,20 @@ def test_page_has_every_module_once_after_its_imports(name: str) -> None:
 def test_every_module_is_used_by_page() -> None:
     assert {"class", "lesson", "profile"} <= set(PAGES)
     scripts = "".join(join_modules(name, page_file) for name in PAGES)
-    assert {path.stem for path in FILES.glob("*.js")} == set(re.findall(r"^const \$(\w+) = ", scripts, re.MULTILINE))
+    assert {"codemirror", *(path.stem for path in FILES.glob("*.js"))} == set(
+        re.findall(r"^const \$(\w+) = ", scripts, re.MULTILINE)
+    )
+
+
+def test_missing_library_of_editor_is_reported(monkeypatch: pytest.MonkeyPatch, tmp_path: pathlib.Path) -> None:
+    monkeypatch.setenv("CODEMIRROR", str(tmp_path))
+    assert Page("lesson").text("x")  # which has no editor
+    with pytest.raises(LabError) as raised:
+        Page("class")
+    assert str(raised.value) == (
+        f"{tmp_path}/lib/codemirror.js not found: install Debian's libjs-codemirror, or unpack CodeMirror 5 "
+        "(https://codemirror.net/5/codemirror.zip) and name its folder in the variable CODEMIRROR"
+    )
 
 
 @pytest.mark.parametrize("name", PAGES)

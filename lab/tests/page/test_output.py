@@ -34,19 +34,21 @@ COUNTS = """addEventListener("DOMContentLoaded", () => {
 });"""
 LEFT = "id('output').scrollHeight - id('output').clientHeight - id('output').scrollTop"  # px below what is in sight
 STOP = """const done = arguments[0], begun = performance.now(), run = document.getElementById("run");
-new MutationObserver(() => run.textContent === "stopped" && done(performance.now() - begun)).observe(run, { childList: true });
+new MutationObserver(() => run.textContent === "Paused" && done(performance.now() - begun)).observe(run, { childList: true });
 document.getElementById("halt").click();"""
 
 
 def test_endlessly_printing_program_is_stopped(tabs: "Chrome", own_class: Served) -> None:
     """The panel has the end in sight, is changed once a frame at most, and Stop is answered while all of it comes."""
     teacher, tab = Tab(tabs, own_class, "teacher"), Tab(tabs, own_class, "A1", COUNTS)
-    tab.run("id('source').value = arguments[0]", PRINTS)
+    tab.run("code().setValue(arguments[0])", PRINTS)
     tab.click("#assemble")
     tab.wait("one('#listing .next')")
     teacher.click("#clocks [name='on']")
-    tab.wait("id('clock').textContent === 'the clock is on'")
+    teacher.wait("one('#clocks [name=on]').checked")
     tab.click("#go")
+    tab.wait("!id('output-new').hidden")  # the tab of the output is marked, and stays behind the console
+    tab.click("#show-output")
     tab.wait("id('output').textContent.length > 9000")
     tab.wait(f"{LEFT} < 2")
     shown = tab.text("#output").splitlines()

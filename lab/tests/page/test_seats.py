@@ -23,6 +23,7 @@ def served(program: pathlib.Path, tmp_path_factory: pytest.TempPathFactory) -> I
 def test_typed_name_is_shown(tabs: "Chrome", served: Served) -> None:
     """With the code, at the top of the page, and by the teacher; in the table, over the shoulder, and on the sheet."""
     tab, teacher = Tab(tabs, served, "A2"), Tab(tabs, served, "teacher")
+    tab.click("#menu summary")
     tab.click("#forget")
     tab.click("#yes")
     tab.wait("!id('join').hidden")
@@ -30,6 +31,7 @@ def test_typed_name_is_shown(tabs: "Chrome", served: Served) -> None:
     tab.keys("#code", served.codes["A2"] + "\n")
     tab.wait("id('who').textContent === 'Seat A2' && id('name').value === 'Bo'")
     teacher.wait("one(\"tr[data-seat='A2'] input\").value === 'Bo'")
+    tab.click("#menu summary")
     tab.keys("#name", " <b>\n")
     tab.wait("id('stop').textContent.includes('a name begins with a letter') && !one('b')")
     tab.run("id('name').value = ''")
@@ -62,8 +64,7 @@ def test_stuck_students_are_listed_first(tabs: "Chrome", served: Served) -> None
     assert teacher.text("tr[data-seat='B1'] .wraps").startswith("at addi x5, x5, 1, ")
     assert teacher.run(f"{seats}.slice(1, 3)") == ["A1", "A2"]
     teacher.click("#clocks [name=on]")
-    for each in (tab, other):
-        each.wait("id('clock').textContent === 'the clock is on'")
+    teacher.wait("one('#clocks [name=on]').checked")
     teacher.choose("#receiver", "D7")
     teacher.keys("#words", "Set a vector type <i>first</i>.\n")
     tab.wait("id('log').textContent.includes('The teacher: Set a vector type <i>first</i>.')")
@@ -74,7 +75,7 @@ def test_stuck_students_are_listed_first(tabs: "Chrome", served: Served) -> None
     tab.wait("!one('#notices li')")
     teacher.click("tr[data-seat='D7'] [aria-label^='Reset']")
     teacher.click("#yes")
-    tab.wait("id('run').textContent === 'not entered' && id('log').textContent.includes('taken this machine away')")
+    tab.wait("id('run').textContent === 'Not begun' && id('log').textContent.includes('taken this machine away')")
     teacher.run("document.activeElement.blur()")
     teacher.keys("#operator-line", "list\n")
     teacher.wait("one(\"tr[data-seat='D7'] .pill\").textContent === 'not entered'")

@@ -4,13 +4,15 @@ import pathlib
 from typing import TYPE_CHECKING
 
 from page.conftest import Sit
-from support.class_pages import Served, Tab
+from support.class_pages import PIECES, Served, Tab
 
 if TYPE_CHECKING:
     from selenium.webdriver import Chrome
 
 COUNTS = "loop:   addi t0, t0, 1   # counts\n        li a0, 0x12345   # two words\n        vid.v v1\n        j loop\n"
-TEXT = "id('source').value"
+TEXT = "text()"
+PASTE = """((data) => (data.setData("text/plain", arguments[0]), code().getInputField().dispatchEvent(
+    new ClipboardEvent("paste", { clipboardData: data, bubbles: true, cancelable: true }))))(new DataTransfer())"""
 TYPED = "loop: vadd.vx v1, v2, x5\n        j loop\n        nop     # it's an add\n        fro"
 
 
@@ -18,44 +20,39 @@ def empty(tab: Tab, field: str = "source") -> None:
     """Empties a source by keys."""
     from selenium.webdriver.common.keys import Keys
 
-    tab.keys(f"#{field}", Keys.CONTROL, "a", Keys.NULL, Keys.DELETE)
+    tab.type(Keys.CONTROL, "a", Keys.NULL, Keys.DELETE, field=field)
 
 
 def start_line(tab: Tab) -> None:
     """Type the beginning of a name, for which the page then offers several."""
     empty(tab)
-    tab.keys("#source", "loop: vadd.v")
+    tab.type("loop: vadd.v")
 
 
 def type_on(tab: Tab) -> None:
     """Takes the last name that is offered, and types the rest of a text."""
     from selenium.webdriver.common.keys import Keys
 
-    tab.keys("#source", *[Keys.ARROW_DOWN] * 4, Keys.ENTER)
-    assert tab.run(TEXT) == "loop: vadd.vx" and tab.run("one('#editor .choices').hidden")
-    tab.keys("#source", " v1, v2, x5", Keys.ENTER, "j lo", Keys.TAB, Keys.ENTER)
-    tab.keys("#source", "nop", Keys.TAB, "# it's an add", Keys.ENTER, "fro")
+    tab.type(*[Keys.ARROW_DOWN] * 3, Keys.ENTER)
+    assert tab.run(TEXT) == "loop: vadd.vx" and not tab.run("one('.CodeMirror-hints')")
+    tab.type(" v1, v2, x5", Keys.ENTER, "j lo", Keys.TAB, Keys.ENTER)
+    tab.type("nop", Keys.TAB, "# it's an add", Keys.ENTER, "fro")
     assert tab.run(TEXT) == TYPED
 
 
 def test_editor_completes_and_highlights(sit: Sit) -> None:
     tab = sit("A1")
     start_line(tab)
-    offered = "all('#editor .choices li').map((item) => item.textContent)"
+    offered = "all('.CodeMirror-hints li').map((item) => item.textContent)"
     assert tab.run(offered) == [
         f"vadd.v{kind} vd, vs2, {last}[, v0.t]" for kind, last in (("i", "imm"), ("v", "vs1"), ("x", "rs1"))
     ]
     type_on(tab)
-    assert tab.run("one('#editor .numbers').textContent") == "1\n2\n3\n4"
-    assert tab.run("one('#editor .colours').textContent") == TYPED + "\n"
-    pieces = "all('#editor .colours span').map((piece) => `${piece.className} ${piece.textContent}`)"
-    assert tab.run(pieces) == [
-        *("label loop", "instruction vadd.vx", "register v1", "register v2", "register x5", "instruction j"),
-        *("instruction nop", "comment # it's an add", "unknown fro"),
+    assert tab.run("all('#editor .CodeMirror-linenumber').map((each) => each.textContent)")[-4:] == ["1", "2", "3", "4"]
+    assert tab.run(PIECES) == [
+        *("def loop", "keyword vadd.vx", "variable-2 v1", "variable-2 v2", "variable-2 x5", "keyword j"),
+        *("keyword nop", "comment # it's an add", "error fro"),
     ]
-    same = "['fontFamily', 'fontSize', 'lineHeight', 'paddingLeft', 'paddingTop', 'tabSize', 'whiteSpace']"
-    styles = f"{same}.map((name) => getComputedStyle(one(arguments[0]))[name])"
-    assert tab.run(styles, "#editor .colours") == tab.run(styles, "#source")
 
 
 def test_tab_indents_and_undo_survives_write(sit: Sit) -> None:
@@ -64,22 +61,22 @@ def test_tab_indents_and_undo_survives_write(sit: Sit) -> None:
     tab = sit("A7")
     start_line(tab)
     type_on(tab)
-    tab.keys("#source", Keys.SHIFT, Keys.TAB)
+    tab.type(Keys.SHIFT, Keys.TAB)
     assert tab.run(TEXT).endswith("\nfro")
-    tab.keys("#source", Keys.CONTROL, "a", Keys.NULL, Keys.TAB)
+    tab.type(Keys.CONTROL, "a", Keys.NULL, Keys.TAB)
     assert tab.run(TEXT).splitlines()[1] == " " * 16 + "j loop"
-    tab.keys("#source", Keys.CONTROL, "z", Keys.NULL, Keys.CONTROL, "z", Keys.NULL)
+    tab.type(Keys.CONTROL, "z", Keys.NULL, Keys.CONTROL, "z", Keys.NULL)
     assert tab.run(TEXT) == TYPED
-    tab.keys("#source", Keys.CONTROL, "y", Keys.NULL)
+    tab.type(Keys.CONTROL, "y", Keys.NULL)
     assert tab.run(TEXT).endswith("\nfro")
-    tab.keys("#source", Keys.CONTROL, Keys.END, Keys.NULL, *[Keys.BACKSPACE] * 3, Keys.CONTROL, Keys.ENTER)
+    tab.type(Keys.CONTROL, Keys.END, Keys.NULL, *[Keys.BACKSPACE] * 3, Keys.CONTROL, Keys.ENTER)
     tab.wait("id('editor').hidden && one('#listing .next')")
     tab.command("set x5 1")
     tab.click("#show-source")
-    tab.keys("#source", Keys.CONTROL, "z", Keys.NULL)
+    tab.type(Keys.CONTROL, "z", Keys.NULL)
     assert tab.run(TEXT).endswith("\nfro")
     for _ in range(30):
-        tab.keys("#source", Keys.CONTROL, "z", Keys.NULL)
+        tab.type(Keys.CONTROL, "z", Keys.NULL)
     assert tab.run(TEXT).startswith("# Doubles")
 
 
@@ -87,31 +84,29 @@ def test_every_paste_is_undone_separately(sit: Sit) -> None:
     from selenium.webdriver.common.keys import Keys
 
     tab = sit("A8")
-    tab.click("#source")
+    tab.click("#editor .CodeMirror-code")
     for paste in ("# one\n", "# two\n"):
-        tab.activate().execute_cdp_cmd("Input.insertText", {"text": paste})
-    tab.keys("#source", "# three", Keys.CONTROL, "z", Keys.NULL, Keys.CONTROL, "z", Keys.NULL)
+        tab.run(PASTE, paste)
+    tab.type("# three", Keys.CONTROL, "z", Keys.NULL, Keys.CONTROL, "z", Keys.NULL)
     assert "# one" in tab.run(TEXT) and "# two" not in tab.run(TEXT)
-    tab.keys("#source", Keys.ESCAPE, Keys.TAB)
+    tab.type(Keys.ESCAPE, Keys.TAB)
     assert tab.run("document.activeElement.id") == "assemble"
 
 
 def test_visible_part_of_long_source_is_highlighted(sit: Sit) -> None:
-    """Of 4,000 lines those in sight are painted, at the height of the field's own."""
+    """Of 4,000 lines those in sight are painted, and the last one is at the end."""
     tab = sit("A5")
     tab.run(
-        "(id('source').value = arguments[0], id('source').dispatchEvent(new Event('input')))",
+        "code().setValue(arguments[0])",
         "nop # one\n" * 4000 + "last: ret",
     )
-    tab.run("id('source').scrollTop = 1e9")
-    tab.wait("one('#editor .colours').textContent.trim().endsWith('last: ret')")
-    assert tab.run("all('#editor .colours span').length") < 200
-    boxes = "['.colours', 'textarea'].map((css) => one(`#editor ${css}`)).map((box) => box.scrollHeight)"
-    colours, field = tab.run(boxes)
-    assert abs(colours - field) < 20  # its last newline is a line more
-    last = tab.run("all('#editor .colours .label').at(-1).getBoundingClientRect().bottom")
-    assert tab.run("id('source').getBoundingClientRect().bottom") - last < 40
-    tab.run("id('source').value = 'nop'")
+    tab.click("#show-source")
+    tab.run("code().scrollTo(0, 1e9)")
+    tab.wait(f"{PIECES}.includes('def last')")
+    assert tab.run("all('#editor .CodeMirror-line').length") < 200
+    last = tab.run("all('#editor .cm-def').at(-1).getBoundingClientRect().bottom")
+    assert abs(tab.run("one('#editor .CodeMirror-scroll').getBoundingClientRect().bottom") - last) < 90
+    tab.run("code().setValue('nop')")
 
 
 def test_source_is_shared_by_tabs_of_seat(sit: Sit) -> None:
@@ -122,25 +117,25 @@ def test_source_is_shared_by_tabs_of_seat(sit: Sit) -> None:
     teacher.click("tr[data-seat='A2'] td:nth-child(2) button")
     teacher.wait("!id('desk').hidden")
     teacher.click("#show-source")
-    tab.keys("#source", Keys.CONTROL, Keys.END, Keys.NULL, "# mine")
+    tab.type(Keys.CONTROL, Keys.END, Keys.NULL, "# mine")
     for page in (other, teacher):
         page.wait(f"{TEXT}.endsWith('# mine')")
-    tab.keys("#source", " and more")
+    tab.type(" and more")
     tab.activate().refresh()  # before it is sent by itself
     tab.wait(f"id('who').textContent === 'Seat A2' && {TEXT}.endsWith('# mine and more')")
     other.wait(f"{TEXT}.endsWith('# mine and more')")
-    other.keys("#source", Keys.CONTROL, "z", Keys.NULL)
+    other.type(Keys.CONTROL, "z", Keys.NULL)
     tab.wait(f"{TEXT}.endsWith('# mine')")
-    tab.keys("#source", Keys.CONTROL, Keys.END, Keys.NULL, " again")
+    tab.type(Keys.CONTROL, Keys.END, Keys.NULL, " again")
     other.wait(f"{TEXT}.endsWith('# mine again')")
-    other.keys("#source", Keys.CONTROL, "z", Keys.NULL)
+    other.type(Keys.CONTROL, "z", Keys.NULL)
     tab.wait(f"{TEXT}.endsWith('# mine')")
-    other.keys("#source", Keys.CONTROL, "y", Keys.NULL)
+    other.type(Keys.CONTROL, "y", Keys.NULL)
     tab.wait(f"{TEXT}.endsWith('# mine again')")
-    other.keys("#source", Keys.CONTROL, "z", Keys.NULL)
+    other.type(Keys.CONTROL, "z", Keys.NULL)
     tab.wait(f"{TEXT}.endsWith('# mine')")
     assert "mine" not in outsider.run(TEXT)
-    teacher.keys("#source", "x")
+    teacher.type("x")
     assert teacher.run(f"{TEXT}.endsWith('# mine')")
 
 
@@ -150,24 +145,24 @@ def test_given_source_is_offered(sit: Sit, tmp_path: pathlib.Path) -> None:
 
     tab, other, teacher = sit("A3"), sit("A4"), sit("teacher")
     empty(tab)
-    tab.keys("#source", "nop # mine", Keys.CONTROL, Keys.ENTER)
+    tab.type("nop # mine", Keys.CONTROL, Keys.ENTER)
     tab.wait("id('editor').hidden && one('#listing .next')")
     teacher.click("tr[data-seat='A3'] td:nth-child(2) button")
     teacher.wait(f"!id('desk').hidden && {TEXT} === 'nop # mine'")
     teacher.click("#show-source")
     teacher.click("#take")
-    assert teacher.run("id('given').value") == "nop # mine"
-    teacher.keys("#given", Keys.CONTROL, Keys.HOME, Keys.NULL, "# theirs", Keys.ENTER)
+    assert teacher.run("text('given')") == "nop # mine"
+    teacher.type(Keys.CONTROL, Keys.HOME, Keys.NULL, "# theirs", Keys.ENTER, field="given")
     assert teacher.run("id('receiver').value") == "A3"  # the seat that is looked at
     teacher.click("#give")
     tab.wait(f"{TEXT} === '# theirs\\nnop # mine' && !id('editor').hidden")
     assert "The teacher gave a source" in tab.text("#log") and "theirs" not in other.run(TEXT)
-    tab.keys("#source", Keys.CONTROL, "z", Keys.NULL)
+    tab.type(Keys.CONTROL, "z", Keys.NULL)
     assert tab.run(TEXT) == "nop # mine"
     teacher.wait(f"{TEXT} === 'nop # mine'")
     assert [
         each.split(" ", 1)[1] for each in tab.run("[...id('versions').options].map((each) => each.textContent)")
-    ] == [*("…", "given by the teacher", "written into memory")]
+    ] == [*("…", "given", "assembled")]
     tab.run("(id('versions').selectedIndex = 1, id('versions').dispatchEvent(new Event('change')))")
     tab.wait(f"{TEXT}.startsWith('# theirs')")
     teacher.wait(f"{TEXT}.startsWith('# theirs')")  # the server has it
@@ -179,10 +174,10 @@ def test_given_source_is_offered(sit: Sit, tmp_path: pathlib.Path) -> None:
 def _give_to_all(teacher: Tab, tab: Tab, other: Tab) -> None:
     """The teacher gives every seat a source, while the source of one is too long for a version."""
     teacher.run("id('receiver').value = 'all'")
-    teacher.keys("#given", "# all ")
+    teacher.type("# all ", field="given")
     teacher.click("#give")
     assert "every seat" in teacher.text("#question")
-    replace = f"(id('source').value = arguments[0], id('source').dispatchEvent(new Event('input')), {TEXT}.length)"
+    replace = f"(code().setValue(arguments[0]), {TEXT}.length)"
     assert tab.run(replace, "#" * 65537) == 65537  # which can't become a version
     assert "the server doesn't save it, and nothing replaces it" in tab.text("#left")
     teacher.click("#yes")
@@ -206,13 +201,13 @@ def _take_back(teacher: Tab, tab: Tab) -> None:
     teacher.click("#give")
     assert teacher.text("#gone").startswith("Nothing was sent: choose a seat")
     teacher.activate().refresh()
-    teacher.wait("document.title === 'Teacher – vecmon' && id('given').value.includes('# all')")
+    teacher.wait("document.title === 'Teacher – vecmon' && text('given').includes('# all')")
 
 
 def test_listing_shows_source_lines(sit: Sit) -> None:
     """A word has its source line next to it if that differs, or its comment; of one line's words, the first has it."""
     tab = sit("A6")
-    tab.run("id('source').value = arguments[0]", COUNTS)
+    tab.run("code().setValue(arguments[0])", COUNTS)
     tab.click("#assemble")
     tab.wait("one('#listing .next')")
     beside = "all('#listing tr[data-address]').map((row) => [row.dataset.address, row.lastChild.textContent.trim(), row.lastChild.title])"
@@ -227,7 +222,7 @@ def test_listing_shows_source_lines(sit: Sit) -> None:
     tab.command("asm 1000c vsetvli x5, x10, e32, m1, ta, mu", "step 1")
     over = "((text, source) => [text.scrollWidth - text.clientWidth > 0, source.textContent])(...all(arguments[0]))"
     place = "#listing tr[data-address='1000c']"
-    assert tab.run(over, f"{place} .text, {place} .source") == [True, " " * 13 + "vid.v v1"]
+    assert tab.run(over, f"{place} .text, {place} .source") == [True, " " * 12 + "vid.v v1"]
 
 
 def test_source_survives_server_restart(tabs: "Chrome", own_class: Served) -> None:
@@ -235,10 +230,10 @@ def test_source_survives_server_restart(tabs: "Chrome", own_class: Served) -> No
     from selenium.webdriver.common.keys import Keys
 
     tab = Tab(tabs, own_class, "A1")
-    tab.keys("#source", Keys.CONTROL, Keys.END, Keys.NULL, "# typed")
+    tab.type(Keys.CONTROL, Keys.END, Keys.NULL, "# typed")
     own_class.kill()
     tab.wait("id('gone').textContent.includes('is gone')")
-    tab.keys("#source", " on")
+    tab.type(" on")
     own_class.begin()
     tab.wait("id('gone').hidden")
     other = Tab(tabs, own_class, "A1")

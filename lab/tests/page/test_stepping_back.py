@@ -15,7 +15,7 @@ def _check_read_only(tab: Tab) -> None:
     asked = tab.run("all('#log .asked').length")
     for button in ("one", "many", "go", "again", "new"):
         assert tab.run("id(arguments[0]).matches(':disabled')", button)
-    tab.keys("#listing", Keys.F8, Keys.F9)
+    tab.keys("#listing", Keys.F11, Keys.F5)
     tab.click("#listing [data-address='10008'] .text")
     tab.click("[data-edit='set x10']")
     assert tab.run("all('#log .asked').length") == asked and not tab.run("id('edit').open || one('.breakpoint')")
@@ -23,7 +23,7 @@ def _check_read_only(tab: Tab) -> None:
 
 def _step_thrice(tab: Tab, teacher: Tab) -> None:
     """Step a source at a seat that the teacher watches."""
-    tab.run("id('source').value = arguments[0]", DOUBLES)
+    tab.run("code().setValue(arguments[0])", DOUBLES)
     tab.click("#assemble")
     tab.wait("one('#listing .next')")
     teacher.click("tr[data-seat='A1'] td:nth-child(2) button")
@@ -43,9 +43,9 @@ def test_steps_back_and_forth(sit: Sit) -> None:
     for page in (tab, teacher):
         assert page.run("[id('forth').disabled, id('now').disabled, id('says-past').hidden]") == [True, True, True]
         page.click("#backward")
-        assert page.run(SHOWN_ADDRESS) == "10004" and page.text("#says-past") == "This is the past, one moment ago."
+        assert page.run(SHOWN_ADDRESS) == "10004" and page.text("#says-past") == "This is the past: step 2 of 3."
     tab.keys("#listing", Keys.F7)
-    assert tab.run(SHOWN_ADDRESS) == "10000" and "2 moments" in tab.text("#says-past")
+    assert tab.run(SHOWN_ADDRESS) == "10000" and "step 1 of 3" in tab.text("#says-past")
     assert "vsetivli" in tab.text("#step") and tab.run("id('facts').textContent.includes('vl8 of 8')")
     seen = "all('#log li').filter((item) => item.checkVisibility()).at(-1).textContent"
     assert tab.run(seen) == "stepped 1 pc=0000000000010004"
@@ -60,7 +60,9 @@ def test_steps_back_and_forth(sit: Sit) -> None:
     )
     tab.run("(id('moment').value = 0, id('moment').dispatchEvent(new Event('input')))")
     assert (
-        tab.run(SHOWN_ADDRESS) is None and tab.run("id('backward').disabled") and "3 moments" in tab.text("#says-past")
+        tab.run(SHOWN_ADDRESS) is None
+        and tab.run("id('backward').disabled")
+        and "step 0 of 3" in tab.text("#says-past")
     )
     tab.command("step 1")
     assert (
@@ -68,7 +70,9 @@ def test_steps_back_and_forth(sit: Sit) -> None:
         and tab.text("[data-edit='set x10']") == "7"
         and tab.run("id('says-past').hidden")
     )
-    assert teacher.run(SHOWN_ADDRESS) == "10004" and "2 moments" in teacher.text("#says-past")  # who stays in the past
+    assert teacher.run(SHOWN_ADDRESS) == "10004" and "step 2 of 4" in teacher.text(
+        "#says-past"
+    )  # who stays in the past
     teacher.click("#now")
     assert teacher.run(SHOWN_ADDRESS) == "1000c"
     teacher.click("tr[data-seat='A1'] td:nth-child(2) button")
@@ -80,13 +84,13 @@ def test_steps_back_over_run(sit: Sit) -> None:
     tab, teacher = sit("A2"), sit("teacher")
     tab.begin("addi x5, x5, 1", "jal x0, -4")
     tab.command("set x5 0", "go")
-    tab.wait("id('run').textContent === 'running'")
+    tab.wait("id('run').textContent === 'Running'")
     teacher.keys("#operator-line", "slices 3\n")
     tab.wait("id('registers').textContent.includes('x5')")
     tab.command("stop")
-    tab.wait("id('run').textContent === 'stopped' && one(\"[data-edit='set x5']\").textContent !== '0'")
+    tab.wait("id('run').textContent === 'Paused' && one(\"[data-edit='set x5']\").textContent !== '0'")
     tab.click("#backward")
-    assert tab.text("[data-edit='set x5']") == "0" and "one moment" in tab.text("#says-past")
+    assert tab.text("[data-edit='set x5']") == "0" and "From here the program ran" in tab.text("#says-past")
     tab.click("#now")
 
 
@@ -94,19 +98,19 @@ def test_restart_warns_about_lost_state(sit: Sit) -> None:
     """Again begins with the same source and breakpoints in one click; a new machine asks where this one has anything."""
     tab = sit("A3")
     assert tab.run("id('again').disabled")
-    tab.run("id('source').value = arguments[0]", DOUBLES)
+    tab.run("code().setValue(arguments[0])", DOUBLES)
     tab.click("#assemble")
     tab.wait("one('#listing .next')")
     tab.click("#listing [data-address='10008'] .text")
     tab.wait("one('.breakpoint')")
     tab.run("id('number').value = 3")
     tab.click("#many")
-    tab.wait("id('run').textContent === 'break'")
-    tab.run("id('source').value = 'nop'")  # not written
+    tab.wait("id('run').textContent === 'Paused' && one('#listing .next').dataset.address === '10008'")
+    tab.run("code().setValue('nop')")  # not written
     tab.click("#again")
-    tab.wait("id('run').textContent === 'stopped' && one('#listing .next').dataset.address === '10000'")
+    tab.wait("id('run').textContent === 'Ready' && one('#listing .next').dataset.address === '10000'")
     assert tab.run("one('.breakpoint').closest('tr').dataset.address") == "10008" and not tab.run(SHOWN_ADDRESS)
-    assert "li a0, 7" in DOUBLES and "addi x10, x0, 7" in tab.text("#listing")
+    assert "li a0, 7" in DOUBLES and "addi a0, zero, 7" in tab.text("#listing")
     tab.click("#new")
     assert "would be lost" in tab.text("#question")
     tab.click("#no")
@@ -117,6 +121,7 @@ def test_restart_warns_about_lost_state(sit: Sit) -> None:
     tab.click("#new")  # which has nothing
     tab.wait("all('#log .asked').filter((item) => item.textContent === '> enter').length === 4")
     assert not tab.run("id('ask').open")
+    tab.click("#menu summary")
     tab.click("#forget")
     tab.click("#no")
     assert tab.text("#who") == "Seat A3" and not tab.run("id('ask').open")

@@ -12,7 +12,9 @@ if TYPE_CHECKING:
     from selenium.webdriver import Chrome
 
 BODY = """<body>
-<template id="parts">$machine<p id="step"></p><p id="stop"></p></template>
+<template id="parts">
+$bench
+<p id="step"></p><p id="stop"></p></template>
 <div class="host"></div><div class="host"></div>
 <script type="application/json" id="data">$data</script>
 """
@@ -32,10 +34,10 @@ for (const [place, state] of JSON.parse(byId("data").textContent).entries()) {
 SHOWN = """return [...document.querySelectorAll(".host")].map(({ shadowRoot: root }) => {
   const cell = root.querySelector("[data-edit='set x5']");
   const [listing, output] = ["#listing .text", "#output"].map((it) => root.querySelector(it).textContent);
-  return [cell.previousSibling.textContent, cell.textContent, listing, output];
+  return [cell.previousSibling.firstChild.data, cell.textContent, listing, output];
 });"""
 NAME = """const list = document.querySelector(".host").shadowRoot.querySelector("#names");
-list.value = "abi";
+list.value = "x";
 list.dispatchEvent(new Event("change", { bubbles: true }));"""
 
 
@@ -60,9 +62,9 @@ def pair(browser: "Chrome", tmp_path: pathlib.Path) -> "Chrome":
 
 
 def test_each_machine_has_its_own_state(pair: "Chrome") -> None:
-    assert pair.execute_script(SHOWN) == [["x5", "7", "addi x5, x5, 1", "a"], ["x5", "1f", "addi x6, x6, 7", "b"]]
+    assert pair.execute_script(SHOWN) == [["t0", "7", "addi t0, t0, 1", "a"], ["t0", "31", "addi t1, t1, 7", "b"]]
 
 
 def test_choice_in_one_machine_leaves_the_other(pair: "Chrome") -> None:
     pair.execute_script(NAME)
-    assert pair.execute_script(SHOWN) == [["t0", "7", "addi t0, t0, 1", "a"], ["x5", "1f", "addi x6, x6, 7", "b"]]
+    assert pair.execute_script(SHOWN) == [["x5", "7", "addi x5, x5, 1", "a"], ["t0", "31", "addi t1, t1, 7", "b"]]

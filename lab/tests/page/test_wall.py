@@ -9,7 +9,7 @@ import pytest
 
 from page.conftest import Sit
 from support.browser import CONTRAST, media
-from support.class_pages import Served, Tab
+from support.class_pages import PANES, Served, Tab
 
 if TYPE_CHECKING:
     from selenium.webdriver import Chrome
@@ -63,7 +63,8 @@ def test_codes_are_shown_and_printed(sit: Sit, served: Served) -> None:
     assert seen() == seats and teacher_code not in teacher.run(PAGE)
     teacher.click("#close-sheet")
     assert seen() == [] and teacher.run("id('teacher').checkVisibility()")
-    assert teacher.run("Object.values({ ...sessionStorage, ...localStorage })") == [teacher_code]
+    stored = teacher.run("Object.entries({ ...sessionStorage, ...localStorage })")
+    assert [value for name, value in stored if name != PANES] == [teacher_code]
 
 
 def _check_layout(wall: Tab) -> None:

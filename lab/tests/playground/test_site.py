@@ -71,19 +71,19 @@ def forget(tab: SiteTab) -> None:
 def test_the_page_steps_goes_and_goes_back(tabs: "Chrome", site: pathlib.Path) -> None:
     tab = SiteTab(tabs, (site / "playground.html").as_uri())
     tab.write(LOOP)
-    tab.wait("id('run').textContent === 'stopped'")
+    tab.wait("id('run').textContent === 'Ready'")
     for _ in range(4):
         tab.click("#one")
-    tab.wait("one('#log li:last-child').textContent.includes('stepped 1')")
+    tab.wait("one('#log > li:last-child').textContent.includes('stepped 1')")
     tab.command("regs")
     tab.command("break 10014", "go")
-    tab.wait("id('run').textContent === 'break'")
+    tab.wait("id('stop').textContent.includes('breakpoint')")
     tab.click("#backward")
     tab.wait("!id('says-past').hidden")
     tab.click("#now")
     tab.command("unbreak 10014")
     tab.click("#go")
-    tab.wait("id('run').textContent === 'ebreak'")
+    tab.wait("id('run').textContent === 'Ended'")
     tab.command("vreg v2 32")
     assert "v2 00000000 00000002 00000004 00000006 00000008 0000000a 0000000c 0000000e" in tab.text("#log")
     tab.write("bad x1\n")
@@ -95,7 +95,7 @@ def test_the_page_steps_goes_and_goes_back(tabs: "Chrome", site: pathlib.Path) -
 def test_work_comes_back_after_a_reload(tabs: "Chrome", server: tuple[str, list[str]]) -> None:
     tab = SiteTab(tabs, f"{server[0]}/play/index.html")
     tab.write(LOOP)
-    tab.wait("id('run').textContent === 'stopped'")
+    tab.wait("id('run').textContent === 'Ready'")
     tab.command("step 3", "set x11 1f")
     answer = "a = indexedDB.open('vecmon playground'); a.onsuccess = () => { const all = a.result.transaction('texts').objectStore('texts').get('A.script');"
     tab.activate().set_script_timeout(30)
@@ -107,7 +107,7 @@ def test_work_comes_back_after_a_reload(tabs: "Chrome", server: tuple[str, list[
             break
     assert "1 set x11 1f" in kept
     tab.open(f"{server[0]}/play/index.html")
-    tab.wait("id('run').textContent === 'stopped' && id('source').value === arguments[0]", LOOP)
+    tab.wait("['Ready', 'Paused'].includes(id('run').textContent) && text() === arguments[0]", LOOP)
     assert "x11" in tab.text("body") and tab.run("!id('versions').hidden")
     forget(tab)
 
@@ -118,7 +118,7 @@ def test_an_exercise_fails_and_passes(tabs: "Chrome", site: pathlib.Path) -> Non
     tab = SiteTab(tabs, (site / "playground.html").as_uri() + "#exercise=doubles")
     tab.wait("one('#exercise .reading') && !one('#exercise').hidden")
     for answer, told in (("        ret\n", "1 try"), ((GIVEN / "good.s").read_text(), "2 tries, passed")):
-        tab.run("(id('source').value = arguments[0], id('source').dispatchEvent(new Event('input')))", answer)
+        tab.run("code().setValue(arguments[0])", answer)
         tab.run("all('#exercise button').find((each) => each.textContent === 'Check').click()")
         tab.wait("one('#exercise [role=status]').textContent === arguments[0]", told)
     before = set(tabs.window_handles)
@@ -150,6 +150,7 @@ def test_a_refused_storage_is_said_at_once(tabs: "Chrome", site: pathlib.Path, t
     assert tab.text("#stored").startswith("This browser stores nothing for this page (SecurityError).")
     tab.write(LOOP)
     tab.command("step 3")
+    tab.click("#menu summary")
     saved = tab.save("#home", tmp_path / "vecmon-work.json", lambda content: content.rstrip().endswith(b"}"))
     work = json.loads(saved)
     assert work["format"] == "vecmon work" and "1 step 3" in str([each["text"] for each in work["texts"]])
@@ -160,6 +161,7 @@ def test_work_is_brought_from_a_file(tabs: "Chrome", site: pathlib.Path, tmp_pat
     tab.write(LOOP)
     tab.command("set x11 1234567")
     path = tmp_path / "vecmon-work.json"
+    tab.click("#menu summary")
     tab.save("#home", path, lambda content: content.rstrip().endswith(b"}"))
     tab.command("set x11 0")
     tab.write("nop\n")
@@ -167,7 +169,7 @@ def test_work_is_brought_from_a_file(tabs: "Chrome", site: pathlib.Path, tmp_pat
     tab.keys("input[type=file][accept='.json']", str(path))
     tab.wait("id('ask').open")
     tab.click("#yes")
-    tab.wait("!id('ask').open && id('gone').hidden && id('source').value === arguments[0]", LOOP)
+    tab.wait("!id('ask').open && id('gone').hidden && text() === arguments[0]", LOOP)
     tab.command("regs")
     assert "1234567" in tab.text("#log")
     path.write_text("{}")
@@ -181,10 +183,10 @@ def test_links_carry_sources_and_no_markup(tabs: "Chrome", site: pathlib.Path) -
     tab.write("# <img src=x onerror=alert(1)>\n")
     tab.run("(id('show-source').click(), id('link').click())")
     link = tab.run("location.hash")
-    tab.run("(id('source').value = 'nop', id('source').dispatchEvent(new Event('input')))")
+    tab.run("code().setValue('nop')")
     tab.activate().get("about:blank")
     tab.open(address + link)
-    tab.wait("id('source').value.startsWith('# <img')")
+    tab.wait("text().startsWith('# <img')")
     assert tab.run("all('img').length") == 0
     for hash in ("#source=%%%", "#source=" + "A" * 200_000, "#source=e30"):
         tab.activate().get("about:blank")
@@ -209,7 +211,7 @@ def test_files_are_dropped(tabs: "Chrome", site: pathlib.Path) -> None:
         tab.activate().execute_script(DROP, name, base64.b64encode(content).decode())
         tab.wait("id('log').textContent.includes(arguments[0])", told)
     assert tab.run("all('#log img, #log b').length") == 0
-    tab.wait("id('run').textContent === 'stopped'")
+    tab.wait("id('run').textContent === 'Ready'")
 
 
 def test_a_second_tab_is_told(tabs: "Chrome", server: tuple[str, list[str]]) -> None:

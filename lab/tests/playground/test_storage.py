@@ -62,7 +62,7 @@ def wait_for_text(tab: SiteTab, part: str) -> None:
 def test_a_full_storage_is_reported_until_there_is_room(browser: "Chrome", address: str) -> None:
     tab = SiteTab(browser, f"{address}/play/index.html", before=FULL)
     tab.write(LOOP)
-    tab.wait("id('run').textContent === 'stopped'")
+    tab.wait("id('run').textContent === 'Ready'")
     wait_for_text(tab, "A loop")
     tab.run("window.isFull = true")
     tab.write("# no room for this\n" + LOOP)
@@ -86,13 +86,14 @@ def test_damaged_texts_leave_the_others(browser: "Chrome", address: str, tmp_pat
     damaged = [{"name": "A.script", "text": "1 enter\nno line\n", "time": 1}, {"name": "A1.note", "text": 5, "time": 1}]
     tab.activate().execute_async_script(CHANGE, damaged)
     tab.open(page)
-    tab.wait("id('source').value === arguments[0]", LOOP)
+    tab.wait("text() === arguments[0]", LOOP)
     said = tab.text("#stored")
     assert said.startswith("1 saved texts can't be read: Damaged texts saves them as a file.")
     assert "the machine's lines can't be executed again" in said or "the machine's lines are damaged" in said
     is_whole = lambda content: content.rstrip().endswith((b"]", b"}"))  # noqa: E731
     saved = tab.save("[aria-label='Save damaged texts as a file']", tmp_path / "vecmon-damaged.json", is_whole)
     assert json.loads(saved) == [damaged[1]]
+    tab.click("#menu summary")
     work = json.loads(tab.save("#home", tmp_path / "vecmon-work.json", is_whole))
     texts = {entry["name"]: entry["text"] for entry in work["texts"]}
     assert texts["damaged/A.script"] == "1 enter\nno line\n" and texts["A1.s"] == LOOP
@@ -108,7 +109,7 @@ def test_another_version_of_the_storage(browser: "Chrome", address: str) -> None
     tab.wait("id('stored').textContent.startsWith('A newer playground has saved the work in this browser.')")
     tab.activate().get("about:blank")  # so that the later one is the tab that saves
     later.open(page)
-    later.wait("id('source').value === arguments[0]", LOOP)
+    later.wait("text() === arguments[0]", LOOP)
     later.command("set x11 1f")
     wait_for_text(later, "set x11 1f")
     again = SiteTab(browser, page)

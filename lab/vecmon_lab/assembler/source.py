@@ -57,6 +57,10 @@ class Program:
         """The number of the line that the instruction at an address is of; 0 for none."""
         return next((statement.line for statement in self.statements if statement.address == address), 0)
 
+    def line_numbers(self) -> dict[str, int]:
+        """The number of the line that each instruction is of, by its address in hexadecimal digits."""
+        return {f"{statement.address:x}": statement.line for statement in self.statements}
+
     def source_lines(self, text: str) -> dict[str, str]:
         """The text of each line of the source after its labels, by the address of its first word.
 
@@ -71,6 +75,20 @@ class Program:
             is_alone = above.startswith(("#", "//")) and "#" not in own and "//" not in own
             comments[f"{statement.address:x}"] = f"{own}  {above}" if is_alone else own
         return comments
+
+    @property
+    def size(self) -> int:
+        """The number of its instructions."""
+        return len(self.statements)
+
+    def summary(self) -> str:
+        """The number of its instructions and where it starts, and the bytes of its data."""
+        parts = [f"{self.size:,} instruction{'s' * (self.size != 1)}, from 0x{self.entry:x}"]
+        pokes = [line.split() for line in self.lines if self.statements and line.startswith("poke ")]
+        if pokes:
+            size = sum(len(digits) // 2 for _, _, digits in pokes)
+            parts.append(f"{size:,} byte{'s' * (size != 1)} of data, from 0x{pokes[0][1]}")
+        return "; ".join(parts)
 
 
 def assemble(text: str, origin: int = 0x10000) -> Program:

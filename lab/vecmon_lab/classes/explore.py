@@ -42,6 +42,7 @@ def run(arguments: argparse.Namespace) -> int:
     with tempfile.TemporaryDirectory(prefix="vecmon-") as folder:
         store = Store(pathlib.Path(folder) / "own", find_program(), quantum=arguments.quantum)
         members = Class(store, PATIENCE, builds=builds)
+        members.title = arguments.source.name
         members.students[SEAT].source.give(source)
         asyncio.run(serve(members, HOST, listening(HOST, arguments.port), {HOST}, SEAT))
     return 0

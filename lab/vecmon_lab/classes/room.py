@@ -125,7 +125,7 @@ class Room:
     def explain_waiting(self, seat: Seat) -> None:
         """Explain in a seat's log why its program waits, if it runs and the clock is off."""
         if not self.clock.settings.on and seat.state["run"] == "running":
-            own_way = ", or Slice grants some slices" if self.own_slices else ""
+            own_way = ", or press Go on a little" if self.own_slices else ""
             self.add_log_entry(seat, f"!The clock is off, so the program waits: the teacher can turn it on{own_way}.")
 
     async def source(self, seat: Seat, source: SourceText | None) -> tuple[Mistakes, Mistakes]:

@@ -94,6 +94,8 @@ class Seat:
         """Set the source that is in the machine now."""
         self.written, self.program = source, program
         self.named = {"labels": program.names(), "lines": program.source_lines(source.text)}
+        if not isinstance(program, CompiledProgram):
+            self.named["line_numbers"] = program.line_numbers()
         if program.data:
             self.named["data"] = {f"{at:x}": {"type": run.type, "count": run.count} for at, run in program.data.items()}
         if isinstance(program, CompiledProgram) and program.rows:

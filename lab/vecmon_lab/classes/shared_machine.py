@@ -152,10 +152,14 @@ class SharedMachine:
             if turn.is_last:
                 seat.list_program(program)
 
-        while len(done) < len(lines):
-            turn = Turn(write_part, seat, before=done)
-            yield turn
-            done = [*done, *turn.done]
+        seat.add_log_entry(f"+Load {program.summary()} ({len(lines)} lines)")
+        try:
+            while len(done) < len(lines):
+                turn = Turn(write_part, seat, before=done)
+                yield turn
+                done = [*done, *turn.done]
+        finally:
+            seat.add_log_entry("-")
         return in_order(mistakes)
 
     def why(self, seat: Seat, name: str) -> Steps[str]:

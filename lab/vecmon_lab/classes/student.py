@@ -66,6 +66,7 @@ class SeatPart(TypedDict):
 class ClassView(TypedDict):
     """The other fields of a student's view.
 
+    title: of a page without a class, such as its file's name; "" in a class
     name: the student's, or ""; notices: the teacher's open messages, oldest first; images: names for `load`
     clock: whether it is on; own_slices: whether the student may grant slices
     hand: the student's, while it is up
@@ -73,6 +74,7 @@ class ClassView(TypedDict):
     ready: whether the machine takes lines, otherwise requests wait; trouble: a text for a banner, or ""
     """
 
+    title: str
     name: str
     notices: list[Notice]
     hand: NotRequired[Hand]

@@ -64,6 +64,7 @@ class Class:
         self.names = store.read(NAMES, texts, "the names at the seats are lost")  # by seat
         self.notices = Notices(store)
         self.hands = Hands(store)
+        self.title = ""  # of a page without a class
         self.address = ""  # where students reach the class, with a slash at its end
         self.is_unencrypted = False  # on the way to other computers
         self.wall: Seat | None = None  # the seat that it shows
@@ -159,6 +160,7 @@ class Class:
         """The student's view."""
         room = self.rooms[student.seat.name[0]]
         others: ClassView = {
+            "title": self.title,
             "name": self.names.get(student.seat.name, ""),
             "notices": self.notices.of(student.seat.name),
             "images": list(self.store.images),

@@ -55,6 +55,11 @@ class CompiledProgram(Program):
         """The addresses of its instructions."""
         return range(self.rows[0][0], self.rows[-1][0], 4) if self.rows else range(0)
 
+    @property
+    def size(self) -> int:
+        """The number of its instructions."""
+        return len(self.text())
+
     def line_at(self, address: int) -> int:
         """The number of the line that the instruction at an address is of; 0 for none."""
         at = bisect.bisect_right(self.rows, address, key=lambda row: row[0])

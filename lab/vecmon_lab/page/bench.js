@@ -5,13 +5,17 @@ import { Desk } from "./desk.js";
 import { EditDialog } from "./edit_dialog.js";
 import { editOf, lineOf } from "./edits.js";
 import { Editor } from "./editor.js";
-import { ask, button, make, part, put } from "./elements.js";
+import { ask, make, part } from "./elements.js";
+import { goToPane } from "./keys.js";
 import { offerLanguages } from "./languages.js";
 import { LineField, requestsOf, unfitLines } from "./lines.js";
 import { linkOf, sourceOf } from "./links.js";
+import { Panes } from "./panes.js";
+import { Problems } from "./problems.js";
 import { entryText, showReference, tellName } from "./reference.js";
-import { chooseSides } from "./sides.js";
+import { RunBar } from "./runbar.js";
 import { MOST_LETTERS, Source } from "./source.js";
+import { stopsOf } from "./source_lines.js";
 
 /** @typedef {import("./types").Message} Message */
 /** @typedef {import("./messages").Mistake} Mistake */
@@ -20,10 +24,11 @@ import { MOST_LETTERS, Source } from "./source.js";
 /** @typedef {import("./types").Request} Request */
 
 const MOST_BREAKPOINTS = 16;
+const PAUSE = 600; // ms in which nothing is typed, and then problems are asked for
 const NEW_MACHINE = ["map 10000 1 rwx", "map 20000 1 rw", "setpc 10000"];
-const LOSS = "Registers, memory and breakpoints of this machine would be lost. The source stays, and Back shows what was seen.";
-/** @type {["one" | "go" | "halt", string][]} */
-const LINES = [["one", "step 1"], ["go", "go"], ["halt", "stop"]]; // of buttons
+const LOSS = "Registers, memory and breakpoints of this machine would be lost. The source stays, and Back shows earlier steps.";
+const NO_BREAKPOINTS = "A breakpoint needs the program in the machine: assemble or compile this source first (Ctrl Shift B).";
+const MOST_LINES = 1000; // that a program is stepped through up to a line
 const LEAVING = { absent: [], stopped: ["leave"], running: ["stop", "leave"] };
 
 /** Whether a state has nothing that could be lost. */
@@ -39,42 +44,75 @@ function refusals(/** @type {Request} */ request, /** @type {Message | null} */ 
 
 /** A machine with its source, below a root that has the parts of both. */
 export class Bench {
-  side = "listing"; // what is shown since one entered, or left
+  timer = 0; // until problems are asked for
+  hasMachine = false; // since the view before
+  isEdited = false; // whether the source was changed since the machine began
 
   /** @param {HTMLElement} root @param {import("./types").Connection} connection */
   constructor(root, connection) {
     this.root = root;
     this.connection = connection;
     this.desk = new Desk(root);
+    this.bar = new RunBar(root, () => this.standing());
+    this.desk.past.told = () => this.bar.paint();
     this.line = /** @type {HTMLTextAreaElement} */ (part(root, "line"));
     this.images = part(root, "images");
     this.against = part(root, "against");
     this.find = part(root, "find");
-    this.desk.log.after(part(root, "command"), part(root, "hint"));
-    this.showSide = chooseSides(root, ["listing", "source", "reference"]);
+    this.panes = new Panes(root, root.matches(".alone") ? "author" : "student");
     this.editor = new Editor(part(root, "source"), () => this.typed(), part(root, "language"));
     this.source = new Source(root, this.editor, connection);
+    this.problems = new Problems(root, this.editor, (panel) => this.panes.show(panel));
     this.dialog = new EditDialog(root, (edit, text) => this.change(edit, text));
     this.listen();
   }
 
   /** Takes up what was typed. */
   typed() {
+    this.isEdited = true;
     this.source.typed();
     this.showMistakes([]);
+    this.bar.paint();
+    this.timer = setTimeout(() => this.findProblems(), PAUSE);
+  }
+
+  /** The page's state for the run bar. */
+  standing() {
+    const isBlank = !this.editor.source.text.trim();
+    return { isConnected: this.connection.isReady, isPast: this.desk.past.moment !== undefined, isBlank };
+  }
+
+  /**
+   * Asks for the problems of an assembler source, and lists them unless it has changed or others have come meanwhile.
+   * Not of C: a compiler that is at work would refuse the next source.
+   */
+  async findProblems() {
+    const { text, language } = this.editor.source;
+    if (language > 0 || !text.trim() || text.length > MOST_LETTERS || !this.connection.isReady) return;
+    const { timer } = this;
+    const { mistakes, warnings } = (await this.connection.ask({ ask: "problems", text, language })) ?? {};
+    if (!mistakes || this.timer !== timer) return;
+    this.listProblems(mistakes.filter(({ line }) => line), warnings); // those of a linker may be of text that is still to come
   }
 
   listen() {
     /** @type {(id: keyof import("./parts").Parts, event: string, heard: () => unknown) => void} */
     const on = (id, event, heard) => part(this.root, id).addEventListener(event, heard);
-    for (const [id, line] of LINES) on(id, "click", () => this.send([line]));
-    on("steps", "submit", () => this.send([`step ${part(this.root, "number").value}`]));
+    on("go", "click", () => this.run());
+    on("halt", "click", () => this.send(["stop"]));
+    on("one", "click", () => this.step("into"));
+    on("step-over", "click", () => this.step("over"));
+    on("step-out", "click", () => this.step("out"));
+    on("steps", "submit", () => this.step("into", Number(part(this.root, "number").value)));
+    on("until", "submit", () => this.stepUntil(Number(part(this.root, "until-line").value)));
+    on("break-here", "click", () => this.breakAt(this.editor.caretLine));
+    on("next-pane", "click", () => goToPane(this.root, 1));
+    on("previous-pane", "click", () => goToPane(this.root, -1));
     new LineField(this.line, (lines) => this.enter(lines));
     new Cursor(this.root, (place) => this.edit(place));
-    on("step-line", "click", () => this.request({ ask: "step-line" }));
     on("slice", "click", () => this.request({ ask: "lines", slices: 100 }));
     on("again", "click", () => this.assemble({ ask: "again" }));
-    on("new", "click", () => this.beginAnew("New machine", NEW_MACHINE));
+    on("new", "click", () => this.beginAnew("Empty machine", NEW_MACHINE));
     on("images", "change", () => this.beginAnew("Load", [`load ${this.images.value}`]));
     on("assemble", "click", () => this.write());
     on("against", "change", () => this.write({ ask: "listings", other: this.against.selectedIndex - 1 }));
@@ -83,44 +121,96 @@ export class Bench {
     on("find", "input", () => showReference(part(this.root, "entries"), this.find.value));
     this.desk.view.machine.addEventListener("click", ({ target }) => this.edit(/** @type {Element} */ (target)));
     this.desk.view.machine.addEventListener("explain", (event) => this.explain(/** @type {CustomEvent} */ (event).detail));
-    this.editor.numbers.addEventListener("click", (event) => this.breakAt(this.editor.lineAt(event)));
-    document.addEventListener("selectionchange", () => this.tellNames());
+    this.editor.toggleBreakpoint = (line) => this.breakAt(line);
+    this.editor.caretMoved = (line, place) => tellName(part(this.root, "entry"), line, place);
+    document.addEventListener("selectionchange", () => this.tellName());
   }
 
-  /** Explains the name at the caret. */
-  tellNames() {
-    const field = [this.editor.field, this.line].find((each) => each === document.activeElement);
-    if (field) tellName(part(this.root, field === this.line ? "hint" : "entry"), field);
+  /** Explains the name at the caret of the command line. */
+  tellName() {
+    if (document.activeElement === this.line) tellName(part(this.root, "hint"), this.line.value, this.line.selectionStart);
   }
 
   /** @type {(view: View, entries: string[], isAnew: boolean) => void} */
   show(view, entries, isAnew) {
-    const { run } = view.state;
-    this.showRun(view);
+    const { run, instruction } = view.state;
+    if (entries.some((entry) => /^>. (enter|load)\b/.test(entry))) this.isEdited = false;
+    this.bar.show(view, entries);
+    if (instruction) this.panes.makeRoom();
     const images = ["Load …", ...view.images].map((name) => make("option", "", name));
     if (this.images.length < images.length) this.images.replaceChildren(...images);
     Object.assign(this.images, { hidden: view.images.length === 0, selectedIndex: 0 });
     this.desk.show(view.seat, view.state, entries, isAnew);
-    const side = run === "absent" ? "source" : "listing";
-    if (side !== this.side) this.showSide((this.side = side));
+    this.chooseSide(run !== "absent", view.source);
     offerLanguages(this.editor.language, view);
     offerLanguages(this.against, { languages: ["Side by side …", ...view.against], no_c: "" });
     Object.assign(this.against, { hidden: !view.against.length, selectedIndex: 0 });
     this.showSource(view);
   }
 
-  /** Shows the machine's state, and disables the buttons that it has no use for. */
-  showRun(/** @type {View} */ { state, stop, ready, own_slices, again }) {
-    /** @param {"one" | "many" | "step-line" | "number" | "go" | "halt" | "slice" | "again"} id */
-    const its = (id) => part(this.root, id);
-    const [{ run }, why] = [state, state.run === "stopped" && state.stop && stop.split(" ")[0]];
-    put(part(this.root, "run"), run === "absent" ? "not entered" : why || run);
-    part(this.root, "run").className = `pill ${run}`;
-    its("step-line").hidden = !state.starts;
-    for (const each of [its("one"), its("many"), its("step-line"), its("number"), its("go")]) each.disabled = run !== "stopped" || !ready;
-    its("halt").disabled = its("slice").disabled = run !== "running" || !ready;
-    its("slice").hidden = !own_slices;
-    its("again").disabled = !again || !ready;
+  /** Shows the listing of a machine that has just begun without a source, and otherwise the editor, also once it has gone. */
+  chooseSide(/** @type {boolean} */ hasMachine, /** @type {import("./messages").SourceView} */ { stands, text }) {
+    if (hasMachine === this.hasMachine) return;
+    this.hasMachine = hasMachine;
+    this.panes.show(hasMachine && !(stands && text) ? "listing" : "editor");
+  }
+
+  /** Shows whether the machine can be reached. */
+  showConnection() {
+    this.bar.paint();
+  }
+
+  /** Whether the source has to be built before the program goes on: a machine without one is left as it is, until the source changes. */
+  get hasChanged() {
+    const { run, code = {} } = this.desk.state;
+    const isLoaded = this.bar.view?.again || this.isEdited || run === "absent" || !Object.keys(code).length;
+    return Boolean(isLoaded) && !this.source.stands;
+  }
+
+  /** Runs the program; one that has ended starts again. */
+  async run() {
+    if (this.bar.condition === "Ended" && this.bar.view?.again && !this.hasChanged) await this.assemble({ ask: "again" });
+    return this.execute({ ask: "run" });
+  }
+
+  /** Steps the program: into calls, over them, or out of a function. */
+  step(/** @type {"into" | "over" | "out"} */ kind, count = 1) {
+    const chosen = /** @type {"" | "instruction" | "line"} */ (part(this.root, "by").value);
+    const by = chosen || (this.editor.isC ? "line" : "instruction");
+    return this.execute({ ask: "step", kind, by, count });
+  }
+
+  /** Steps the program line by line until it comes to a line, or stops. */
+  async stepUntil(/** @type {number} */ line) {
+    for (let count = 0; count < MOST_LINES; count++) {
+      const before = this.desk.state;
+      const answer = await this.execute({ ask: "step", kind: "into", by: "line" });
+      const { pc, run, stop } = this.desk.state;
+      if (!answer || answer.error || answer.mistakes?.length || stop || run !== "stopped" || pc === before.pc) return undefined;
+      if (this.source.nextLine(this.desk.state) === line) return undefined;
+    }
+    const lines = `${MOST_LINES.toLocaleString("en")} lines`;
+    return this.refuse(`The program went through ${lines}, but not through line ${line}: set a breakpoint (F9), and run.`);
+  }
+
+  /** Runs or steps the program; a source that has changed is built first. With problems it leads to the first one. */
+  async execute(/** @type {import("./types").RunAction} */ request) {
+    if (!this.hasChanged) return this.request(request);
+    if (this.isTooMuch()) return null;
+    const { source } = this.editor;
+    const whole = { ...request, ...source, number: this.source.told?.number };
+    const answer = await this.source.bring(source, () => this.bar.building(this.request(whole)));
+    this.showMistakes(answer?.mistakes, answer?.warnings);
+    if (answer?.mistakes?.length) this.problems.goOn(1);
+    return answer;
+  }
+
+  /** Whether the source is too long to be sent; says so. */
+  isTooMuch() {
+    const { length } = this.editor.source.text;
+    const [size, most] = [length, MOST_LETTERS].map((each) => each.toLocaleString("en"));
+    if (length > MOST_LETTERS) this.refuse(`This source has ${size} characters, and ${most} are the most: nothing was sent.`);
+    return length > MOST_LETTERS;
   }
 
   /** Sends requests one after the other; reports refusals in words. Returns the answer to the first one. */
@@ -135,7 +225,7 @@ export class Bench {
   enter(/** @type {string[]} */ lines) {
     const [, name] = /^help\b *(.*)$/.exec(lines[0]) ?? [];
     if (lines.length > 1 || name === undefined) return this.send(lines);
-    this.showSide("reference");
+    this.panes.show("reference");
     this.refer(name);
     return this.refuse(entryText(name) || (name && `There is no command and no instruction \`${name}\`.`));
   }
@@ -177,16 +267,19 @@ export class Bench {
     take((await this.connection.ask({ ask: "why", name }))?.why ?? "");
   }
 
-  /** Sets all breakpoints of a line of the source in C in the machine, or removes those that are there. */
+  /** Sets all breakpoints of a line of the source in the machine, or removes those that are there. */
   breakAt(/** @type {number} */ line) {
-    const { stops, breaks = [] } = this.desk.state;
-    const addresses = (this.source.stands && stops?.[line]) || [];
+    const { state } = this.desk;
+    const { breaks = [] } = state;
+    if (!this.source.stands) return this.refuse(NO_BREAKPOINTS);
+    const addresses = stopsOf(state)[line] ?? [];
     const there = addresses.filter((address) => breaks.includes(address));
     const left = MOST_BREAKPOINTS - breaks.length;
     const much = `Line ${line} needs ${addresses.length} breakpoints, and ${left} of ${MOST_BREAKPOINTS} are left: none was set.`;
     if (there.length) return this.send(there.map((address) => `unbreak ${address}`));
     if (addresses.length > left) return this.refuse(much);
-    return addresses.length && this.send(addresses.map((address) => `break ${address}`));
+    if (!addresses.length) return this.refuse(`Line ${line} has no instruction to stop at.`);
+    return this.send(addresses.map((address) => `break ${address}`));
   }
 
   /** Sends the line that writes a value, which is decimal where decimal ones are shown. */
@@ -200,7 +293,7 @@ export class Bench {
   refer(/** @type {string} */ find) {
     this.find.value = find;
     showReference(part(this.root, "entries"), find);
-    if (document.activeElement !== this.line) this.find.focus();
+    this.find.focus();
   }
 
   /** Shows the seat's source; one that the teacher has just given is opened. */
@@ -211,9 +304,9 @@ export class Bench {
     this.source.mark(state);
     this.source.showLanguage(share);
     this.takeLinked();
-    if (!isGiven || source.text !== this.editor.field.value) return;
-    this.showSide("source");
-    this.editor.field.scrollTop = 0;
+    if (!isGiven || source.text !== this.editor.source.text) return;
+    this.panes.show("editor");
+    this.editor.scrollToTop();
   }
 
   /** Puts the source into the page's address. */
@@ -221,7 +314,7 @@ export class Bench {
     const hash = linkOf(this.editor.source, this.editor.language);
     if (!hash) return this.refuse("This source is too long for a link. Save it as a file instead.");
     history.replaceState(null, "", hash);
-    return this.refuse("The address of this page has the source now. Opened at a seat, it puts the source into the editor.");
+    return this.refuse("The address of this page has the source now. Opened, it puts the source into the editor.");
   }
 
   /** Puts a source into the editor that a link has brought; it is compiled only where that is asked for. */
@@ -232,16 +325,14 @@ export class Bench {
     const linked = sourceOf(hash, this.editor.language);
     if (!linked) return void this.refuse("The source in this link can't be read: it is damaged, or too long.");
     this.source.replace(linked);
-    this.showSide("source");
+    this.panes.show("editor");
     this.refuse("A link has brought this source; undo takes it back.");
   }
 
   /** Begins a machine with the source, as the request says that is sent with it. */
   async write(/** @type {import("./types").SourceAction} */ request = { ask: "source" }) {
     const { source } = this.editor;
-    const [size, most] = [source.text.length, MOST_LETTERS].map((each) => each.toLocaleString("en"));
-    const much = `This source has ${size} characters, and ${most} are taken at most: nothing was sent.`;
-    if (source.text.length > MOST_LETTERS) return this.refuse(much);
+    if (this.isTooMuch()) return;
     this.source.assemble.disabled = true; // one at a time
     const number = this.source.told?.number; // what is there becomes a version if it has another one
     const whole = request.ask === "source" ? { ...request, ...source, number } : { ...request, ...source };
@@ -250,31 +341,22 @@ export class Bench {
   }
 
   async assemble(/** @type {Request} */ request) {
-    const { mistakes, warnings, listings } = (await this.request(request)) ?? {};
+    const { mistakes, warnings, listings } = (await this.bar.building(this.request(request))) ?? {};
     if (listings) open(`listings/${listings}`);
     this.showMistakes(mistakes, warnings);
-    return mistakes && this.showSide(mistakes.length ? "source" : "listing");
+    return mistakes && this.panes.show(mistakes.length ? "editor" : "listing");
   }
 
-  /** Lists the messages about the source below it, and shows them at its lines, until it changes. */
+  /** Lists the problems of the source, and shows them at its lines, until it changes. */
   showMistakes(/** @type {Mistake[]} */ mistakes = [], /** @type {Mistake[]} */ warnings = []) {
-    const told = [...mistakes, ...warnings.map((each) => ({ ...each, message: `warning: ${each.message}` }))];
-    part(this.root, "mistakes").replaceChildren(...told.map((mistake) => this.mistake(mistake)));
-    this.editor.tell(told);
+    this.listProblems(mistakes, warnings);
+    if (mistakes.length) this.panes.show("problems");
   }
 
-  /** A mistake of the source, which leads to its place. */
-  mistake(/** @type {Mistake} */ { line, column, message }) {
-    const words = line ? `${line}:${column}: ${message}` : message; // a linker knows no line
-    const goThere = () => {
-      if (!line) return;
-      const { field } = this.editor;
-      const lines = field.value.split("\n");
-      const start = lines.slice(0, line - 1).reduce((sum, each) => sum + each.length + 1, 0);
-      field.focus();
-      field.setSelectionRange(start + column - 1, start + lines[line - 1].length);
-      field.scrollTop = parseFloat(getComputedStyle(field).lineHeight) * (line - 3);
-    };
-    return make("li", "", button(words, words, goThere));
+  /** Lists problems, and asks for no others until the source changes. */
+  listProblems(/** @type {Mistake[]} */ mistakes, /** @type {Mistake[]} */ warnings = []) {
+    clearTimeout(this.timer);
+    this.timer = 0;
+    this.problems.show([...mistakes, ...warnings]);
   }
 }

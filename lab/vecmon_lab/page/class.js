@@ -8,8 +8,8 @@ import { Student } from "./student.js";
 import { Teacher } from "./teacher.js";
 import { Wall } from "./wall.js";
 
-/** @type {("head" | "teacher" | "desk" | "foot")[]} */
-const PARTS = ["head", "teacher", "desk", "foot"];
+/** @type {("head" | "teacher" | "desk")[]} */
+const PARTS = ["head", "teacher", "desk"];
 const LEAVING = "This tab forgets its code, and nobody can come back without it. The class keeps the work of this seat.";
 
 /** Begins anew with a code, or with none, that is kept for this tab's session alone, and not in the address. */
@@ -54,6 +54,7 @@ class ClassTab {
 
   gone(/** @type {string} */ words) {
     say("gone", words);
+    this.page?.showConnection?.();
   }
 
   ended(/** @type {string} */ words) {
@@ -65,6 +66,7 @@ class ClassTab {
   begin(role = "") {
     byId("head").hidden = byId("desk").hidden = false;
     document.body.classList.add({ teacher: "teaching", wall: "watching" }[role] ?? "studying");
+    document.body.classList.toggle("alone", Boolean(this.view.title));
     const Page = { teacher: Teacher, wall: Wall }[role] ?? Student;
     return new Page(document.body, this.connection);
   }

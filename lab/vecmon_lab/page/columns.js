@@ -30,10 +30,10 @@ import { vectorType } from "./words.js";
  */
 /** @typedef {{ columns: number, size: "large" | "medium" | "small" | "tiny", head: "wide" | "narrow" | "least" }} Fit */
 
-/** @type {[Fit["size"], number][]} sizes of letters, in tenths of a rem, and which of them are used for more than 4 columns */
+/** @type {[Fit["size"], number][]} sizes of letters, in sixteenths of a rem, and which of them are used for more than 4 columns */
 const SIZES = [["large", 15], ["medium", 13], ["small", 12], ["tiny", 11]];
-const HEADS = { wide: 112, narrow: 84, least: 54 }; // widths of a row's head in tenths of a rem
-const NARROW = 480; // tenths of a rem
+const HEADS = { wide: 112, narrow: 84, least: 54 }; // widths of a row's head in sixteenths of a rem
+const NARROW = 480; // sixteenths of a rem
 
 /**
  * Returns the columns of elements of the last vector instruction; without one those of the registers in use.
@@ -116,8 +116,8 @@ export function fit({ longest, elements, vl }, { width, unit, letter }) {
   const most = Math.min(enough, elements);
   for (const columns of [16, 8, 4].filter((each) => each / 2 < most)) {
     const sizes = columns > 4 ? SIZES.slice(0, 3) : SIZES;
-    const size = sizes.find(([, tenths]) =>
-      rest / columns >= longest * tenths * letter + (tenths > 13 ? 20 : 6) * unit);
+    const size = sizes.find(([, sixteenths]) =>
+      rest / columns >= longest * sixteenths * letter + (sixteenths > 13 ? 20 : 6) * unit);
     if (size) return { columns, size: size[0], head };
   }
   return { columns: Math.min(2, Math.max(1, elements)), size: "tiny", head };

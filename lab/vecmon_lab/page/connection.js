@@ -12,7 +12,7 @@ const [FIRST_PAUSE, LONGEST_PAUSE] = [500, 15000]; // ms
 const LONGEST_SILENCE = 60000; // until a request without an answer means a broken connection
 const QUIET = { shoulder: "", wall: "", draft: "", "close-notice": "" };
 const EXERCISES = { check: "the check", open: "the exercise", answer: "the earlier answer" };
-const SOURCE = { source: "the source", again: "the source", "step-line": "a step of a line" };
+const SOURCE = { source: "the source", again: "the source", run: "a run", step: "a step" };
 /** @type {Record<string, string>} */
 const NAMES = { lines: "slices", name: "the name", ...EXERCISES, ...SOURCE, ...QUIET };
 /** @type {Record<number, string>} */
@@ -59,7 +59,7 @@ export class Connection {
       this.isReady = true;
       this.ahead = (message.time ?? 0) - Date.now() / 1000; // seconds that the server's clock is ahead of this one
       this.pause = FIRST_PAUSE;
-      this.listener.gone(this.lost && `The class is there again. ${this.lost}`);
+      this.listener.gone(this.lost && `The server is there again. ${this.lost}`);
     }
     this.listener.told(message);
     if (message.kind === "answer" && this.pending.settle(message)) this.next();
@@ -70,7 +70,7 @@ export class Connection {
     const words = nameOf(request);
     if (!this.isReady) {
       this.lose([], [words]);
-      this.listener.gone(`The class isn't there now. ${this.lost}`);
+      this.listener.gone(`The server can't be reached now. ${this.lost}`);
       return null;
     }
     if (this.lost && words) this.listener.gone((this.lost = ""));
@@ -105,13 +105,13 @@ export class Connection {
     if (ENDINGS[reason]) return this.listener.ended(ENDINGS[reason]);
     setTimeout(() => this.open(), this.pause * (0.75 + Math.random() / 2));
     this.pause = Math.min(LONGEST_PAUSE, this.pause * 2);
-    return this.listener.gone(`The class's server is gone. This page tries again by itself. ${this.lost}`);
+    return this.listener.gone(`The server is gone. This page tries again by itself. ${this.lost}`);
   }
 
   /** Takes up what was under way, and what wasn't sent: no request is sent twice. */
   lose(/** @type {(string | undefined)[][]} */ ...lost) {
     const [underWay, unsent] = lost.map((names) => names.filter(Boolean));
-    const told = underWay.map((words) => `${words} was under way: the transcript shows whether it was executed.`);
+    const told = underWay.map((words) => `${words} was under way: the console shows whether it was executed.`);
     if (unsent.length) told.push(`${unsent.join(", ")} ${unsent.length > 1 ? "weren't" : "wasn't"} sent.`);
     this.lost = [this.lost, ...told].join(" ").trim();
   }

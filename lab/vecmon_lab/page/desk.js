@@ -2,7 +2,7 @@
 
 import { make, part } from "./elements.js";
 import { Past } from "./past.js";
-import { addToLog, toldEntry } from "./transcript.js";
+import { Log } from "./transcript.js";
 import { MachineView, machineOf, usedIn } from "./view.js";
 
 /** @typedef {import("./messages").State} State */
@@ -23,16 +23,18 @@ export class Desk {
   constructor(/** @type {HTMLElement} */ root) {
     this.view = new MachineView(root);
     this.log = part(root, "log");
+    this.entries = new Log(this.log, true);
     this.view.machine.addEventListener("change", () => this.paint());
     this.past = new Past(root, () => (this.paint(), this.log.scrollTo(0, this.log.scrollHeight))); // with lines up to it
   }
 
   /** @type {(seat: string, state: State, entries: string[], isAnew: boolean) => void} */
   show(seat, state, entries, isAnew) {
-    if (isAnew) this.log.replaceChildren();
+    if (isAnew) this.entries.clear();
     if (seat !== this.seat) this.past.forget();
     this.seat = seat;
-    addToLog(this.log, entries.map((entry) => toldEntry(entry, true)));
+    this.entries.add(entries);
+    if (entries.some((entry) => /^>. go$/.test(entry))) this.past.hasRun = true;
     if (state === this.state) return;
     this.before = isAnew ? state : this.state;
     this.state = state;

@@ -1,287 +1,262 @@
-// A field for a source: the browser's own, with line numbers and colours around it, indents, names to choose, and undo.
+// The editor of a source: CodeMirror with the machine's lines, breakpoints, problems, names to choose, and the source's language.
 
+import { ASSEMBLER } from "./asm_mode.js";
+import { CodeMirror } from "./codemirror.js";
 import { make } from "./elements.js";
-import { choicesAt, piecesOf, piecesOfC } from "./syntax.js";
+import { namesAt } from "./hints.js";
+import { ProblemMarks } from "./problem_marks.js";
 
 const [INDENT, INDENT_OF_C] = [8, 4]; // columns
 const TOGETHER = 1000; // ms: what is typed without a longer pause is undone at once
-const [MOST_STATES, MOST_LETTERS] = [300, 4e6]; // that undo goes back to, and of their texts together
+const MOST_CHANGES = 300; // that undo goes back to
+const ALSO_PAINTED = 80; // lines above and below those in sight: a screen reader has only what is painted
+const MARGIN = 60; // px around a line that is scrolled into sight
 
 /** @typedef {import("./types").SourceText} SourceText */
-/** @typedef {SourceText & { start: number, end: number }} EditorState */
-/** @typedef {{ line: number, message: string }} LineMessage */
+/** @typedef {{ last: number, next: number, stops: number[] }} LineMarks lines by number: executed last, and next; 0 for none */
 
-const columnOf = (/** @type {string} */ text) => [...text].reduce((at, letter) => at + (letter === "\t" ? INDENT - (at % INDENT) : 1), 0);
+/** @type {LineMarks} */
+const NO_MARKS = { last: 0, next: 0, stops: [] };
 
 export class Editor {
-  numbers = make("pre", "numbers");
-  colours = make("pre", "colours");
-  choices = make("ul", "choices");
-  /** @type {EditorState[]} */ past = [];
-  /** @type {EditorState[]} */ future = [];
-  kind = ""; // of the last change
-  time = 0; // of the last change, in ms
-  /** @type {Map<number, string>} */ told = new Map(); // messages by line
-  here = 0; // the machine's line
-  seen = 0; // the line that was scrolled into sight last
-  /** @type {number[]} */ stops = []; // lines with breakpoints
-  marked = ""; // the numbers as they are shown
-  isLeaving = false; // whether Tab leaves the field
-  /** @type {import("./syntax.js").Choices["names"]} */ names = []; // to choose from
-  word = ""; // that they complete
-  chosen = -1; // of the names
+  /** @type {(line: number) => void} */ toggleBreakpoint = () => {};
+  /** @type {(line: string, place: number) => void} */ caretMoved = () => {};
+  marks = NO_MARKS;
+  /** @type {(() => unknown)[]} */ removers = []; // of the marks
+  unseen = 0; // a line that comes into sight when the editor does
+  isLetter = false; // whether the last change was a typed letter
+  isLeaving = false; // whether Tab leaves the editor
+  /** @type {Map<number, number>} */ languages = new Map(); // by CodeMirror's number of each state of the text
 
   /**
-   * @param {HTMLTextAreaElement} field
-   * @param {() => unknown} changed is called when the text has become another one
+   * @param {HTMLTextAreaElement} field is replaced by the editor; readOnly and aria-label are its own
+   * @param {() => unknown} changed is called when the source has become another one
    * @param {HTMLSelectElement} language a list of languages, one of them chosen
    */
   constructor(field, changed = () => {}, language = make("select", "")) {
-    const { numbers, colours, choices } = this;
-    this.field = field;
     this.changed = changed;
     this.language = language;
-    numbers.ariaHidden = colours.ariaHidden = "true";
-    const box = make("div", "lines", numbers);
+    const box = make("div", "lines");
     field.replaceWith(box);
-    box.append(make("div", "text", colours, field, choices));
-    /** @type {EditorState} */
-    this.state = { text: field.value, language: 0, start: 0, end: 0 };
-    this.offer();
-    language.addEventListener("change", () => (this.remember(), this.took()));
-    const inputOf = (/** @type {Event} */ event) => /** @type {InputEvent} */ (event);
-    const turned = (/** @type {InputEvent} */ event) =>
-      /^history/.test(event.inputType) && this.turn(event, event.inputType === "historyUndo");
-    field.addEventListener("input", (event) => this.typed(inputOf(event)));
-    field.addEventListener("beforeinput", (event) => turned(inputOf(event)));
-    field.addEventListener("keydown", (event) => this.pressed(event));
-    field.addEventListener("scroll", () => this.paint());
-    field.addEventListener("blur", () => this.offer());
-    field.addEventListener("pointerdown", () => this.offer());
-    field.addEventListener("focus", () => (this.isLeaving = true)); // so Tab passes by, until something is typed or clicked
-    field.addEventListener("pointerup", () => (this.isLeaving = false));
-    new ResizeObserver(() => this.paint()).observe(field);
+    box.append(field);
+    this.code = CodeMirror.fromTextArea(field, this.options(field));
+    const input = this.code.getInputField();
+    for (const [name, value] of [["role", "textbox"], ["aria-multiline", "true"]]) input.setAttribute(name, value);
+    if (field.readOnly) input.setAttribute("aria-readonly", "true");
+    this.problems = new ProblemMarks(this.code, !field.readOnly);
+    this.languages.set(this.code.changeGeneration(), this.source.language);
+    this.listen(box);
+  }
+
+  options(/** @type {HTMLTextAreaElement} */ { readOnly, ariaLabel }) {
+    const extraKeys = {
+      Tab: () => (this.code.somethingSelected() ? this.indent("add") : this.code.execCommand("insertSoftTab")),
+      "Shift-Tab": () => this.indent("subtract"),
+      Esc: false, // Escape, then Tab leaves the editor
+      "Ctrl-/": "toggleComment",
+      "Cmd-/": "toggleComment",
+      "Ctrl-Space": () => this.suggest(true),
+      "Ctrl-.": () => this.problems.fix(),
+      "Cmd-.": () => this.problems.fix(),
+      F9: () => this.toggleBreakpoint(this.code.getCursor().line + 1),
+    };
+    return {
+      mode: ASSEMBLER, lineNumbers: true, gutters: ["marks", "CodeMirror-linenumbers", "problems"], inputStyle: "contenteditable",
+      readOnly, screenReaderLabel: ariaLabel, indentUnit: INDENT, tabSize: INDENT, historyEventDelay: TOGETHER, undoDepth: MOST_CHANGES,
+      viewportMargin: ALSO_PAINTED, matchBrackets: true, autoCloseBrackets: true, styleActiveLine: true,
+      extraKeys: readOnly ? { F9: extraKeys.F9, Esc: false } : extraKeys,
+    };
+  }
+
+  listen(/** @type {HTMLElement} */ box) {
+    const { code } = this;
+    this.language.addEventListener("change", () => this.chooseLanguage());
+    code.on("change", (_, { origin, text }) => (this.isLetter = origin === "+input" && text.length === 1 && text[0].length === 1));
+    code.on("changes", (_, changes) => this.took(changes.some(({ origin }) => origin === "undo" || origin === "redo")));
+    code.on("cursorActivity", () => this.moved());
+    code.on("gutterClick", (_, line) => this.toggleBreakpoint(line + 1));
+    code.on("keydown", (_, event) => this.pressed(event));
+    code.on("focus", () => (this.isLeaving = true)); // so Tab passes by, until something is typed or clicked
+    box.addEventListener("pointerup", () => (this.isLeaving = false));
+    new ResizeObserver(() => this.shown()).observe(box);
   }
 
   /** The source: its text and the number of its language. */
   get source() {
-    return { text: this.field.value, language: Math.max(0, this.language.selectedIndex) };
+    return { text: this.code.getValue(), language: Math.max(0, this.language.selectedIndex) };
   }
 
   get isC() {
     return this.language.selectedOptions[0]?.text.startsWith("C") ?? false;
   }
 
+  get isReadOnly() {
+    return Boolean(this.code.getOption("readOnly"));
+  }
+
+  /** Whether undo has something to take back. */
+  get hasPast() {
+    return this.code.historySize().undo > 0;
+  }
+
   /** Puts in another source, which can be undone. */
   put(/** @type {SourceText} */ { text, language }) {
-    if (text === this.field.value && language === this.source.language) return;
-    this.remember();
-    Object.assign(this.field, { value: text });
+    const own = this.source;
+    if (text === own.text && language === own.language) return;
     this.language.selectedIndex = language;
-    this.took(0);
+    this.code.setValue(text);
   }
 
-  /** Replaces a part of the text, and selects some of it. */
-  /** @type {(start: number, end: number, text: string, from?: number, to?: number) => void} */
-  edit(start, end, text, from = start + text.length, to = from) {
-    this.remember();
-    this.field.setRangeText(text, start, end);
-    this.took(from, to);
+  /** Takes up a language that was chosen, which can be undone. */
+  chooseLanguage() {
+    const caret = this.code.getCursor();
+    this.code.setValue(this.code.getValue());
+    this.code.setCursor(caret);
   }
 
-  /** Shows messages at their lines, until the text is another one. */
-  tell(/** @type {LineMessage[]} */ messages) {
-    this.told = new Map([...messages].reverse().map(({ line, message }) => [line, message]));
-    this.paint();
+  /** Indents the lines that are selected, which is undone apart from what is typed before and behind it. */
+  indent(/** @type {"add" | "subtract"} */ how) {
+    this.code.changeGeneration(true);
+    this.code.indentSelection(how);
+    this.code.changeGeneration(true);
   }
 
-  /** Keeps the text as it was, to undo what comes. */
-  remember() {
-    const { past } = this;
-    past.push(this.state);
-    this.future = [];
-    const isMuch = () => past.length > MOST_STATES || past.reduce((sum, { text }) => sum + text.length, 0) > MOST_LETTERS;
-    while (past.length > 1 && isMuch()) past.shift();
+  /** The number of the caret's line. */
+  get caretLine() {
+    return this.code.getCursor().line + 1;
+  }
+
+  /** Replaces the word of a problem, which undo takes back. */
+  replace(/** @type {import("./messages").Mistake} */ problem, /** @type {string} */ text) {
+    this.problems.replace(problem, text);
   }
 
   /** Forgets what undo would bring back. */
   forget() {
-    Object.assign(this, { past: [], future: [] });
+    this.code.clearHistory();
   }
 
-  /** Takes up the text as it has become, and selects some of it, unless it was typed. */
-  took(/** @type {number | undefined} */ from = undefined, to = from) {
-    if (from !== undefined) this.field.setSelectionRange(from, to ?? from);
-    if (from !== undefined) this.kind = "";
-    this.state = { ...this.source, start: this.field.selectionStart, end: this.field.selectionEnd };
-    this.told.clear();
-    [this.here, this.stops] = [0, []];
-    this.offer();
-    this.paint();
+  /** Takes up the text as it has become. isTurned: by undo or redo, which bring back the language of then */
+  took(/** @type {boolean} */ isTurned) {
+    const number = this.code.changeGeneration();
+    const language = this.languages.get(number);
+    if (isTurned && language !== undefined) this.language.selectedIndex = language;
+    this.languages.set(number, this.source.language);
+    this.showLanguage();
+    this.problems.show([]);
+    this.mark(NO_MARKS);
     this.changed();
   }
 
-  typed(/** @type {InputEvent} */ { inputType, data, timeStamp }) {
-    if (this.field.value === this.state.text) return; // an event more of the same paste
-    const isLetter = data?.length === 1;
-    if (inputType !== this.kind || timeStamp - this.time > TOGETHER) this.remember();
-    Object.assign(this, { kind: isLetter || inputType?.startsWith("delete") ? inputType : "", time: timeStamp });
-    this.took();
-    if (isLetter) this.suggest(2);
+  /** Colours and indents the text as its language has it. */
+  showLanguage() {
+    const mode = this.isC ? "text/x-csrc" : ASSEMBLER;
+    if (this.code.getOption("mode") === mode) return;
+    const indent = this.isC ? INDENT_OF_C : INDENT;
+    this.code.setOption("mode", mode);
+    for (const name of ["indentUnit", "tabSize"]) this.code.setOption(name, indent);
   }
 
-  /** Undoes or redoes a change, as the event asks. */
-  turn(/** @type {Event} */ event, /** @type {boolean} */ isBack) {
-    event.preventDefault();
-    const [from, to] = isBack ? [this.past, this.future] : [this.future, this.past];
-    const state = from.pop();
-    if (!state) return;
-    to.push(this.state);
-    const { text, language, start, end } = state;
-    this.field.value = text;
-    this.language.selectedIndex = language;
-    this.took(start, end);
+  /** Follows the caret: behind a typed letter it offers names. */
+  moved() {
+    const { line, ch } = this.code.getCursor();
+    if (this.isLetter) this.suggest(false);
+    else this.code.closeHint();
+    this.isLetter = false;
+    this.problems.showBelow();
+    this.caretMoved(this.code.getLine(line), ch);
   }
 
-  /** Handles a key; returns false if the browser handles it. */
-  pressed(/** @type {KeyboardEvent} */ event) {
-    const wasLeaving = this.isLeaving;
-    this.isLeaving = wasLeaving && ["Shift", "Tab"].includes(event.key);
-    if (event.isComposing || event.altKey || this.field.readOnly) return;
-    const key = `${event.ctrlKey || event.metaKey ? "Ctrl " : ""}${event.shiftKey ? "Shift " : ""}${event.key.toLowerCase()}`;
-    /** @type {Record<string, () => unknown>} */
-    const keys = {
-      "Ctrl z": () => this.turn(event, true),
-      "Ctrl y": () => this.turn(event, false),
-      "Ctrl Shift z": () => this.turn(event, false),
-      "Ctrl  ": () => this.suggest(0),
-      tab: () => (this.names.length ? this.take(Math.max(0, this.chosen)) : !wasLeaving && this.indent(false)),
-      "Shift tab": () => !wasLeaving && this.indent(true),
-      enter: () => (this.chosen >= 0 ? this.take(this.chosen) : this.breakLine()),
-      escape: () => this.escape(),
-      arrowdown: () => this.choose(1),
-      arrowup: () => this.choose(-1),
-    };
-    if (keys[key] && keys[key]() !== false) event.preventDefault();
-    else if (event.key.length > 1) this.offer();
+  pressed(/** @type {KeyboardEvent & { codemirrorIgnore?: boolean }} */ event) {
+    const { isLeaving } = this;
+    if (event.key === "Escape") this.isLeaving = !this.code.state.completionActive;
+    else this.isLeaving = isLeaving && ["Shift", "Tab"].includes(event.key);
+    event.codemirrorIgnore = event.key === "Tab" && isLeaving; // the browser moves the focus
   }
 
-  /** Closes the names to choose; where there are none, Tab leaves the field next. */
-  escape() {
-    this.isLeaving = !this.names.length;
-    this.offer();
-    return !this.isLeaving;
-  }
-
-  /** Where the line of a place begins. */
-  lineStart(/** @type {number} */ at) {
-    return this.field.value.lastIndexOf("\n", at - 1) + 1;
-  }
-
-  breakLine() {
-    const { selectionStart: start, selectionEnd: end } = this.field;
-    const line = this.field.value.slice(this.lineStart(start), start);
-    const more = (this.isC ? /\{\s*$/ : /^[\w.$]+:/).test(line) ? " ".repeat(this.columns) : "";
-    const [indent = ""] = /^\s*/.exec(line) ?? [];
-    this.edit(start, end, `\n${this.isC ? indent + more : indent || more}`);
-  }
-
-  get columns() {
-    return this.isC ? INDENT_OF_C : INDENT;
-  }
-
-  /** Goes to the next column that is indented to, or moves the lines that are selected. */
-  indent(/** @type {boolean} */ isBack) {
-    const { selectionStart: start, selectionEnd: end } = this.field;
-    const first = this.lineStart(start);
-    const isSelected = this.field.value.slice(start, end).includes("\n");
-    const column = columnOf(this.field.value.slice(first, start));
-    if (!isBack && !isSelected) return this.edit(start, end, " ".repeat(this.columns - (column % this.columns)));
-    const last = `${this.field.value}\n`.indexOf("\n", isSelected ? end - 1 : end);
-    const lines = this.field.value.slice(first, last).split("\n");
-    const [spaces, back] = [" ".repeat(this.columns), new RegExp(`^(\t| {1,${this.columns}})`)];
-    const moved = lines.map((line) => (isBack ? line.replace(back, "") : line && spaces + line)).join("\n");
-    const caret = Math.max(first, start + moved.length - (last - first));
-    return this.edit(first, last, moved, ...(isSelected ? [first, first + moved.length] : [caret]));
-  }
-
-  /** Offers names that go on from the word before the caret, if it has this number of letters. */
-  suggest(/** @type {number} */ least) {
-    if (!this.isC) this.offer(choicesAt(this.field.value, this.field.selectionEnd, least));
-  }
-
-  /** Shows names below the word, or above it in the lower half. */
-  offer(/** @type {import("./syntax.js").Choices} */ { names, word } = { names: [], word: "" }) {
-    const { field, choices } = this;
-    Object.assign(this, { names, word, chosen: -1 });
-    choices.hidden = !names.length;
-    const items = names.map(([name, form]) => make("li", "", make("b", "", name), form.slice(name.length)));
-    choices.replaceChildren(...items);
-    items.forEach((item, place) => (item.onpointerdown = (event) => (event.preventDefault(), this.take(place))));
+  /** Offers names that go on from the word before the caret. isAsked: by a key; after typing, Enter takes only a name that was chosen */
+  suggest(/** @type {boolean} */ isAsked) {
+    this.code.closeHint();
+    if (this.isC || this.isReadOnly) return;
+    const { line, ch } = this.code.getCursor();
+    const text = this.code.getLine(line);
+    const { word, names } = namesAt(text.slice(0, ch), text.slice(ch), this.source.text, isAsked);
     if (!names.length) return;
-    const before = this.field.value.slice(0, field.selectionEnd - word.length);
-    const column = columnOf(before.slice(this.lineStart(before.length)));
-    choices.style.left = `calc(${column}ch + 0.6rem - ${field.scrollLeft}px)`;
-    choices.style.top = `calc(${before.split("\n").length * 1.7 + 0.4}rem - ${field.scrollTop}px)`;
-    choices.classList.toggle("above", choices.offsetTop > field.clientHeight / 2);
-  }
-
-  choose(/** @type {number} */ step) {
-    if (!this.names.length) return false;
-    this.chosen = Math.min(this.names.length - 1, Math.max(-1, this.chosen + step));
-    [...this.choices.children].forEach((item, place) => item.classList.toggle("chosen", place === this.chosen));
-    return true;
-  }
-
-  /** Takes a name in place of the word. */
-  take(/** @type {number} */ place) {
-    const at = this.field.selectionEnd;
-    this.edit(at - this.word.length, at, this.names[place][0]);
-  }
-
-  /** Paints the numbers, and the lines in sight in their colours. */
-  paint() {
-    const { field, numbers, colours } = this;
-    if (!field.clientHeight) return;
-    const lines = this.field.value.split("\n");
-    const marksOf = (/** @type {number} */ line) => (this.stops.includes(line) ? "●" : "") + (line === this.here ? "▶" : "");
-    const marked = `${lines.length} ${this.here} ${this.stops}`;
-    if (marked !== this.marked) numbers.textContent = lines.map((_, place) => `${marksOf(place + 1)}${place + 1}`).join("\n");
-    this.marked = marked;
-    const height = parseFloat(getComputedStyle(field).lineHeight);
-    this.bringIntoSight(height);
-    const first = Math.max(0, Math.floor(field.scrollTop / height) - 2);
-    const shown = lines.slice(first, first + Math.ceil(field.clientHeight / height) + 5);
-    const ofC = this.isC && piecesOfC(lines.slice(0, first).join("\n"));
-    const partOf = (/** @type {string} */ kind, /** @type {string} */ text) => (kind ? make("span", kind, text) : text);
-    const partsAt = (/** @type {string} */ text, /** @type {number} */ line) => {
-      const parts = (ofC ? ofC(text) : piecesOf(text)).map(([kind, word]) => partOf(line === this.here ? `${kind} here` : kind, word));
-      return [...parts, ...(this.told.has(line) ? [partOf("message", `  ◂ ${this.told.get(line)}`)] : []), "\n"];
+    const render = (/** @type {HTMLElement} */ item, /** @type {string} */ name, /** @type {string} */ form) =>
+      item.append(make("b", "", name), form.slice(name.length));
+    const list = names.map(([name, form]) => ({ text: name, render: (/** @type {HTMLElement} */ item) => render(item, name, form) }));
+    const hints = { list, from: { line, ch: ch - word.length }, to: { line, ch }, selectedHint: isAsked ? 0 : -1 };
+    let isChosen = isAsked;
+    CodeMirror.on(hints, "select", (hint) => (isChosen ||= hint !== undefined));
+    /** @type {Record<string, (code: unknown, handle: import("./codemirror.js").HintHandle) => unknown>} */
+    const extraKeys = {
+      Enter: (_, handle) => (isChosen ? handle.pick() : CodeMirror.Pass),
+      Tab: (_, handle) => (isChosen || handle.setFocus(0), handle.pick()),
     };
-    colours.replaceChildren("\n".repeat(first), ...shown.flatMap((text, at) => partsAt(text, first + at + 1)));
-    colours.style.transform = `translate(${-field.scrollLeft}px, ${-field.scrollTop}px)`;
-    numbers.scrollTop = field.scrollTop;
+    // CodeMirror's own update would take an Enter that comes at once for a choice.
+    const own = { completeSingle: false, updateOnCursorActivity: false, scrollMargin: 1, alignWithWord: true };
+    this.code.showHint({ hint: () => hints, extraKeys, ...own });
   }
 
-  /** Marks the machine's line, which comes into sight, and those of breakpoints. */
-  mark(/** @type {number} */ here, /** @type {number[]} */ stops) {
-    Object.assign(this, { here, stops });
-    this.paint();
+  /** Shows problems at their places, until the text is another one. */
+  tell(/** @type {import("./messages").Mistake[]} */ problems) {
+    this.problems.show(problems);
   }
 
-  /** Scrolls the machine's line into sight, once. */
-  bringIntoSight(/** @type {number} */ height) {
-    const { field, here } = this;
-    const [first, last] = [field.scrollTop / height, (field.scrollTop + field.clientHeight) / height - 1];
-    if (here && here !== this.seen && (here - 1 < first || here > last)) field.scrollTop = (here - 4) * height;
-    this.seen = here;
+  /** Selects the word of a problem, in sight. */
+  select(/** @type {import("./messages").Mistake} */ problem) {
+    const { from, to } = this.problems.rangeOf(problem);
+    this.code.focus();
+    this.code.setSelection(problem.length ? from : to, to);
+    this.code.scrollIntoView(from, MARGIN);
   }
 
-  /** The line whose number an event is at. */
-  lineAt(/** @type {MouseEvent} */ { clientY }) {
-    const { field, numbers } = this;
-    const { lineHeight, paddingTop } = getComputedStyle(field);
-    const top = numbers.getBoundingClientRect().top + parseFloat(paddingTop) - field.scrollTop;
-    return Math.floor((clientY - top) / parseFloat(lineHeight)) + 1;
+  scrollToTop() {
+    this.code.scrollTo(0, 0);
+  }
+
+  /** Marks lines of the machine; the next one to be executed comes into sight. */
+  mark(/** @type {LineMarks} */ marks) {
+    if (JSON.stringify(marks) === JSON.stringify(this.marks)) return;
+    const isOther = marks.next !== this.marks.next;
+    this.marks = marks;
+    this.code.operation(() => {
+      this.removers.splice(0).forEach((remove) => remove());
+      if (marks.last) this.markLine(marks.last, "executed");
+      if (marks.next) this.markLine(marks.next, "next");
+      for (const line of new Set([...marks.stops, ...(marks.next ? [marks.next] : [])])) this.signLine(line);
+    });
+    this.unseen = isOther ? marks.next : this.unseen;
+    this.bringIntoSight();
+  }
+
+  /** Gives a line a ground. */
+  markLine(/** @type {number} */ line, /** @type {string} */ kind) {
+    if (line > this.code.lineCount()) return;
+    const handle = this.code.addLineClass(line - 1, "background", kind);
+    this.removers.push(() => this.code.removeLineClass(handle, "background", kind));
+  }
+
+  /** Shows in the gutter of a line whether it has a breakpoint, and whether it is the next one. */
+  signLine(/** @type {number} */ line) {
+    const { stops, next } = this.marks;
+    if (line > this.code.lineCount()) return;
+    const signs = make("span", "");
+    if (stops.includes(line)) signs.append(make("span", "breakpoint", "●"));
+    if (line === next) signs.append(make("span", "arrow", "▶"));
+    const handle = this.code.setGutterMarker(line - 1, "marks", signs);
+    this.removers.push(() => this.code.setGutterMarker(handle, "marks", null));
+  }
+
+  /** Lays the editor out again, where it has another size or is shown. */
+  shown() {
+    this.code.refresh();
+    this.bringIntoSight();
+  }
+
+  bringIntoSight() {
+    if (!this.unseen || !this.code.getWrapperElement().offsetHeight) return;
+    this.code.scrollIntoView({ line: this.unseen - 1, ch: 0 }, MARGIN);
+    this.unseen = 0;
   }
 }

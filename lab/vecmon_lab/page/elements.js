@@ -13,6 +13,10 @@ export const part = (root, id) => /** @type {any} a test compares the kinds with
 /** @type {<Id extends keyof Parts>(id: Id) => Parts[Id]} */
 export const byId = (id) => part(document, id);
 
+/** The elements below a root that a selector finds. */
+/** @type {(root: ParentNode, selector: string) => HTMLElement[]} */
+export const elementsIn = (root, selector) => [.../** @type {NodeListOf<HTMLElement>} */ (root.querySelectorAll(selector))];
+
 /**
  * An element with a class and contents.
  * @type {<Tag extends keyof HTMLElementTagNameMap>(tag: Tag, kind: string, ...contents: Content[]) => HTMLElementTagNameMap[Tag]}
@@ -72,18 +76,6 @@ export function ask(question, yes, carryOut) {
   byId("yes").onclick = () => (byId("ask").close(), carryOut());
   byId("no").onclick = () => byId("ask").close();
   byId("ask").showModal();
-}
-
-/** Presses the button in sight whose title names a key, as `(Shift F8)`; in the editor, where the key is pressed there. */
-export function pressNamed(/** @type {KeyboardEvent} */ event, mayPress = true) {
-  const held = `${event.ctrlKey || event.metaKey ? "Ctrl " : ""}${event.shiftKey ? "Shift " : ""}`;
-  const own = event.key?.length > 1 && document.querySelector(`button[title$="(${held}${event.key})"]`);
-  if (!(own instanceof HTMLButtonElement) || !own.checkVisibility()) return;
-  if (event.defaultPrevented || document.querySelector("dialog[open]")) return;
-  const isOutside = own.closest("#editor")?.contains(/** @type {Node} */ (event.target)) === false;
-  if ((event.key === "Escape" && own.disabled) || isOutside) return;
-  event.preventDefault();
-  if (mayPress) own.click();
 }
 
 /** Shows a sentence in an element, or hides it. */

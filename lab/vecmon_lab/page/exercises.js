@@ -11,7 +11,6 @@ export class Exercises {
   /** @type {Record<string, ExerciseView>} */ all = {};
   name = ""; // of the exercise that is open
   /** @type {Partial<ExerciseView>} */ shown = {};
-  /** @type {boolean | undefined} */ isOpen;
   awaited = ""; // the exercise that is being checked
 
   /** @param {HTMLElement} root @param {import("./bench.js").Bench} bench whose source is checked */
@@ -20,11 +19,13 @@ export class Exercises {
     this.bench = bench;
     this.editor = bench.editor;
     this.choice = Object.assign(make("select", ""), { ariaLabel: "Exercise", onchange: () => this.choose(this.choice.value) });
-    this.toggle = Object.assign(make("button", "student", "Exercise"), { hidden: true, onclick: () => this.open(!this.isOpen) });
-    this.check = Object.assign(make("button", "main", "Check"), { title: "Checks the source (Ctrl Shift Enter)" });
+    this.tab = part(root, "tab-exercise");
+    this.check = Object.assign(make("button", "main", "Check"), { title: "Check the source in all cases" });
+    this.check.setAttribute("aria-keyshortcuts", "Control+Shift+Enter");
     this.check.onclick = () => this.checkSource();
     this.answers = Object.assign(make("select", ""), { ariaLabel: "Earlier answers", onchange: () => this.takeAnswer() });
-    this.begin = Object.assign(make("button", "", "Begin"), { title: "Puts the source to begin with into Source; undo takes it back" });
+    const title = "Put the source to start with into the editor; undo takes it back";
+    this.begin = Object.assign(make("button", "", "Start over"), { title });
     this.begin.onclick = () => this.takeStart();
     this.state = Object.assign(make("span", ""), { role: "status" });
     this.text = make("div", "text");
@@ -33,20 +34,10 @@ export class Exercises {
     const controls = make("p", "", this.check, " ", this.begin, " ", this.answers, " ", this.state);
     const parts = [this.text, controls, this.verdict, this.hints];
     this.reading = Object.assign(make("div", "reading", ...parts), { tabIndex: 0, role: "region", ariaLabel: "Text of the exercise" });
-    const head = make("div", "top", Object.assign(make("h2", "", "Exercise"), { id: "exercise-title" }), this.choice);
-    this.panel = Object.assign(make("section", "student", head, this.reading), { id: "exercise" });
-    this.panel.setAttribute("aria-labelledby", "exercise-title");
+    this.panel = part(root, "exercise");
+    part(root, "exercise-title").after(this.choice);
+    this.panel.append(this.reading);
     this.editor.language.addEventListener("change", () => this.changeStart());
-    part(root, "home").before(this.toggle);
-    part(root, "desk").prepend(this.panel);
-  }
-
-  /** Shows or hides the panel. */
-  open(/** @type {boolean} */ isOpen) {
-    this.isOpen = isOpen;
-    this.root.classList.toggle("exercising", isOpen);
-    this.toggle.ariaPressed = `${isOpen}`;
-    this.panel.hidden = !isOpen;
   }
 
   /** Shows the server's data of all exercises, at a seat that has this source. */
@@ -57,15 +48,15 @@ export class Exercises {
     const isOpened = this.name && name !== this.name;
     if (all === this.all && !isOpened) return;
     Object.assign(this, { all, name });
-    this.toggle.hidden = !names.length;
+    this.tab.hidden = this.panel.hidden = !names.length;
+    this.root.classList.toggle("exercising", names.length > 0);
     const titles = names.map((value) => ({ value, title: `${all[value].passed ? "✓ " : ""}${all[value].title}` }));
     this.choice.replaceChildren(...titles.map(({ value, title }) => Object.assign(make("option", "", title), { value })));
     this.choice.value = this.name;
-    this.open(names.length > 0 && this.isOpen !== false);
     if (!names.length) return;
     if (isOpened) this.reading.scrollTop = 0;
     this.paint();
-    if (!source.text && this.all[name].starts.length && (isOpened || !this.editor.past.length)) this.takeStart();
+    if (!source.text && this.all[name].starts.length && (isOpened || !this.editor.hasPast)) this.takeStart();
   }
 
   /** Opens another exercise, in all tabs of the seat: each has a source, which is the one to begin with at first. */
@@ -84,7 +75,7 @@ export class Exercises {
     const answer = await this.bench.request({ ask: "answer", exercise: this.name, number });
     if (answer?.text === undefined) return;
     await this.bench.source.replace({ text: answer.text, language: answer.language ?? 0 });
-    this.bench.showSide("source");
+    this.bench.panes.show("editor");
   }
 
   /** The source to begin with: of two, the one of the language that is chosen, be it C by whatever options. */
@@ -124,7 +115,7 @@ export class Exercises {
     this.awaited = "";
     this.reading.scrollTop = this.state.parentElement?.offsetTop ?? 0;
     this.bench.showMistakes(mistakes, warnings);
-    if (mistakes) this.bench.showSide("source");
+    if (mistakes) this.bench.panes.show("editor");
   }
 
   /** Sends the source in the editor. */
@@ -141,12 +132,12 @@ export class Exercises {
 
   /** Another language was chosen: where nothing was written yet, one begins with its source. */
   changeStart() {
-    if (this.all[this.name]?.starts.some(({ text }) => text === this.editor.field.value)) this.editor.put(this.start);
+    if (this.all[this.name]?.starts.some(({ text }) => text === this.editor.source.text)) this.editor.put(this.start);
   }
 
   /** Puts the source to begin with into the editor, and opens it. */
   takeStart() {
     this.bench.source.replace(this.start);
-    this.bench.showSide("source");
+    this.bench.panes.show("editor");
   }
 }

@@ -21,7 +21,7 @@ import { vectorType } from "./words.js";
 /** @typedef {{ name: string, take: (text: string) => void }} Question the detail of an event `explain` */
 
 const WIRED = ["gather", "slide", "compress", "reduce"];
-const PROBE = { letters: 20, tenths: 13 }; // of the text that is measured: its letters, and their size in tenths of a rem
+const PROBE = { letters: 20, sixteenths: 13 }; // of the text that is measured: its letters, and their size in sixteenths of a rem
 
 /** Shows the elements of a machine's state in its root. */
 export class Lanes {
@@ -56,7 +56,7 @@ export class Lanes {
     for (const each of [this.form, this.layout, this.width]) each.addEventListener("change", () => this.paint());
     this.box.addEventListener("click", ({ target }) => this.pressed(/** @type {Element} */ (target)));
     this.box.addEventListener("keydown", (event) => this.keyed(event));
-    new ResizeObserver(() => this.measured()).observe(this.box);
+    new ResizeObserver(([{ contentRect }]) => this.measured(contentRect.width)).observe(this.box);
   }
 
   /**
@@ -75,11 +75,10 @@ export class Lanes {
     return this.layout.value === "all";
   }
 
-  /** Takes the room of the strips, and paints them again where it is another one. */
-  measured() {
-    const { width } = this.box.getBoundingClientRect();
-    const letter = this.probe.getBoundingClientRect().width / PROBE.letters / PROBE.tenths;
-    const unit = parseFloat(getComputedStyle(document.documentElement).fontSize) / 10;
+  /** Takes the room of the strips, in px, and paints them again where it is another one. */
+  measured(/** @type {number} */ width) {
+    const letter = this.probe.getBoundingClientRect().width / PROBE.letters / PROBE.sixteenths;
+    const unit = parseFloat(getComputedStyle(document.documentElement).fontSize) / 16;
     const { room } = this;
     if (!width || (room.width === width && room.unit === unit && room.letter === letter)) return;
     this.room = { width, unit, letter };

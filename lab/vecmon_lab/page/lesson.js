@@ -1,6 +1,7 @@
 // A lesson: frames made beforehand, stepped back and forth. Each has what changed of the states.
 
 import { byId, make, part, prose, put } from "./elements.js";
+import { Panes } from "./panes.js";
 import { patched } from "./patches.js";
 import { lineBegins } from "./source_lines.js";
 import { STOP_LINE, entryParts, logEntry } from "./transcript.js";
@@ -33,7 +34,7 @@ class Lesson {
     this.source = source;
     this.view = new MachineView(root);
     this.log = part(root, "log");
-    root.classList.toggle("sourced", Object.keys(source.lines).length > 0);
+    new Panes(root, "lesson");
     this.view.machine.addEventListener("change", () => this.show(this.place));
     /** @type {States} */
     let states = {};

@@ -249,6 +249,7 @@ export interface Hello {
 export interface LessonData {
   labels: { [name: string]: string[] };
   lines: { [name: string]: string };
+  line_numbers?: { [name: string]: number };
   starts?: { [name: string]: number };
   stops?: { [name: string]: string[] };
   variables?: ShownVariable[];
@@ -651,7 +652,7 @@ export interface Start {
  *     program reached; without one there is no such key
  * output: the bytes that answers to `out` have shown
  * outputs: in a class in place of it, the last 64 KB of them, in blocks by number
- * labels, lines, starts, stops, variables, data: in a class, those of `SourceNames`
+ * labels, lines, line_numbers, starts, stops, variables, data: in a class, those of `SourceNames`
  */
 export interface State {
   run: "absent" | "stopped" | "running";
@@ -679,6 +680,7 @@ export interface State {
   outputs?: { [name: string]: string };
   labels?: { [name: string]: string[] };
   lines?: { [name: string]: string };
+  line_numbers?: { [name: string]: number };
   starts?: { [name: string]: number };
   stops?: { [name: string]: string[] };
   variables?: ShownVariable[];
@@ -719,6 +721,7 @@ export interface StudentView {
   source: SourceView;
   exercises: { [name: string]: ExerciseView };
   again: boolean;
+  title: string;
   name: string;
   notices: Notice[];
   hand?: Hand;

@@ -9,9 +9,11 @@ import pathlib
 import string
 from collections.abc import Iterable, Mapping
 
+from . import codemirror
 from .modules import join_modules
 
 FILES = pathlib.Path(__file__).parent
+PIECES = ("bench", "vectors")  # files of HTML that are parts of pages
 
 
 class Page:
@@ -23,13 +25,16 @@ class Page:
     def __init__(self, name: str, folder: pathlib.Path = FILES) -> None:
         """folder: its files replace those of the same name here"""
         read = functools.partial(page_file, folder=folder)
-        frame, body, machine = map(read, ("page.html", f"{name}.html", "machine.html"))
-        self._template = string.Template(frame.replace("$body", body).replace("$machine", machine))
+        text = read("page.html").replace("$body", read(f"{name}.html"))
+        for piece in PIECES:
+            text = text.replace(f"${piece}\n", read(f"{piece}.html"))
+        self._template = string.Template(text)
         styles = {path.name for each in (FILES, folder) for path in each.glob(f"{name}*.css")}
-        if "$machine" in body:
-            styles.add("lanes.css")
-        self._style = "".join(map(read, ("page.css", *sorted(styles))))
         self._script = join_modules(name, read)
+        bench = ["bench.css", "lanes.css"] if 'class="bench"' in text else []
+        has_editor = f"const ${pathlib.Path(codemirror.MODULE).stem} = " in self._script
+        library, editor = (codemirror.style(), ["editor.css"]) if has_editor else ("", [])
+        self._style = library + "".join(map(read, ("tokens.css", "parts.css", *bench, *editor, *sorted(styles))))
         self.style_source, self.script_source = _digest(self._style), _digest(self._script)
         own = f"style-src {self.style_source}; script-src {self.script_source}"
         self.policy = f"default-src 'none'; img-src data:; {own}; base-uri 'none'; form-action 'none'"
@@ -80,6 +85,8 @@ def _digest(text: str) -> str:
 
 
 def page_file(name: str, folder: pathlib.Path = FILES) -> str:
-    """The text of a file of a folder, or of this one if that has no such file."""
+    """The text of a file of a folder, or of this one if that has no such file; the module of CodeMirror is made from its files."""
+    if name == codemirror.MODULE:
+        return codemirror.module()
     path = folder / name
     return (path if path.exists() else FILES / name).read_text("utf-8")

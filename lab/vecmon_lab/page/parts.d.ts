@@ -2,26 +2,29 @@
 
 type Ids<Kind, Names extends string> = { [Name in Names]: Kind };
 
-export type Parts = Ids<
-  HTMLButtonElement,
-  | "again" | "assemble" | "back" | "backward" | "by-address" | "by-ticks" | "close-sheet" | "edit-close" | "first" | "forget" | "forth"
-  | "give" | "go" | "halt" | "home" | "last" | "line-back" | "line-go" | "line-next" | "link" | "many" | "new" | "next" | "no" | "now"
-  | "one" | "open-file" | "open-sheet" | "print" | "read" | "save" | "save-table" | "show-codes" | "show-listing" | "show-reference"
-  | "show-source" | "slice" | "step-line" | "take" | "take-back" | "yes"
-> &
+export type Parts =
+  Ids<
+    HTMLButtonElement,
+    | "again" | "break-here" | "next-pane" | "next-problem" | "previous-pane" | "previous-problem" | "step-out" | "step-over" | "until-go" | "assemble" | "back" | "backward" | "by-address" | "by-ticks" | "close-sheet" | "edit-close" | "first" | "fold-dock"
+    | "fold-exercise" | "fold-state" | "forget" | "forth" | "give" | "go" | "halt" | "hand" | "home" | "last" | "line-back" | "line-go"
+    | "line-next" | "link" | "many" | "new" | "next" | "no" | "now" | "one" | "open-file" | "open-sheet" | "print" | "read" | "save"
+    | "save-table" | "show-codes" | "show-console" | "show-listing" | "show-memory" | "show-output" | "show-problems" | "show-reference"
+    | "show-registers" | "show-source" | "show-variables" | "slice" | "tab-dock" | "tab-exercise" | "tab-program"
+    | "tab-state" | "tab-vectors" | "take" | "take-back" | "unfold-exercise" | "yes"
+  > &
+  Ids<HTMLDListElement, "facts" | "keys"> &
   Ids<HTMLDialogElement, "ask" | "edit"> &
-  Ids<HTMLDListElement, "facts"> &
   Ids<HTMLFieldSetElement, "controls"> &
-  Ids<HTMLFormElement, "change" | "clocks" | "join" | "operate" | "steps" | "tell"> &
-  Ids<HTMLInputElement, "called" | "code" | "find" | "moment" | "name" | "number" | "open" | "place" | "value" | "words"> &
+  Ids<HTMLFormElement, "change" | "clocks" | "join" | "operate" | "steps" | "tell" | "until"> &
+  Ids<HTMLInputElement, "called" | "code" | "find" | "moment" | "name" | "number" | "open" | "place" | "until-line" | "value" | "words"> &
   Ids<HTMLLabelElement, "edit-name" | "operator-machine"> &
   Ids<HTMLOListElement, "lessons" | "log" | "mistakes" | "operator-log" | "slips"> &
-  Ids<HTMLOutputElement, "count"> &
+  Ids<HTMLOutputElement, "count" | "moment-count"> &
   Ids<HTMLPreElement, "output"> &
   Ids<HTMLScriptElement, "data" | "lesson" | "reference-data"> &
   Ids<
     HTMLSelectElement,
-    | "against" | "form" | "given-language" | "images" | "language" | "names" | "numbers" | "on-wall" | "operated" | "receiver"
+    | "against" | "by" | "form" | "given-language" | "images" | "language" | "names" | "numbers" | "on-wall" | "operated" | "receiver"
     | "versions" | "view" | "width"
   > &
   Ids<HTMLTableElement, "lengths" | "rows"> &
@@ -29,14 +32,15 @@ export type Parts = Ids<
   Ids<HTMLTextAreaElement, "given" | "operator-line" | "source"> &
   Ids<HTMLUListElement, "notices"> &
   Ids<HTMLFormElement | HTMLPreElement, "command"> &
-  Ids<HTMLSelectElement | HTMLTextAreaElement, "line"> & // of a lesson, of the class
+  Ids<HTMLSelectElement | HTMLTextAreaElement, "line"> &
   Ids<
     HTMLElement,
-    | "about" | "at" | "banner" | "bytes" | "calls" | "checked" | "clock" | "codes" | "course" | "desk" | "editor" | "elements"
-    | "entries" | "entry" | "flame" | "foot" | "gave" | "gone" | "head" | "hint" | "join-says" | "left" | "line-ways" | "links"
-    | "listing" | "machine" | "machines" | "memory-title" | "no-c" | "operator-title" | "output-box" | "output-title" | "past"
-    | "giving-title" | "program-title" | "question" | "reference" | "registers" | "run" | "says-past" | "scalars-title"
-    | "seats-title" | "sentence" | "sheet" | "sheet-says" | "shoulder" | "sides" | "start" | "step" | "stop" | "summary" | "tables"
-    | "teacher" | "transcript-title" | "trouble" | "unencrypted" | "users" | "variables" | "variables-box" | "variables-title"
-    | "vectors" | "vectors-title" | "wall-code" | "who"
+    | "about" | "at" | "banner" | "bytes" | "calls" | "checked" | "codes" | "console" | "course" | "desk" | "dock" | "editor"
+    | "elements" | "entries" | "entry" | "exercise" | "exercise-title" | "flame" | "gave" | "giving-title" | "gone" | "head"
+    | "hint" | "join-says" | "key-says" | "left" | "left-column" | "line-ways" | "links" | "listing" | "machine" | "machines" | "memory" | "menu"
+    | "middle" | "no-c" | "no-output" | "no-problems" | "operator-title" | "output-box" | "output-new" | "past" | "problems"
+    | "problems-count" | "program" | "program-title" | "question" | "reference" | "registers" | "right" | "run" | "says-past" | "scalars"
+    | "scalars-title" | "seats-title" | "sentence" | "sheet" | "sheet-says" | "shoulder" | "sides" | "split-dock" | "split-exercise"
+    | "split-left" | "split-middle" | "split-state" | "start" | "state" | "step" | "stop" | "summary" | "tables" | "teacher" | "trouble"
+    | "unencrypted" | "users" | "variables" | "vectors" | "vectors-title" | "wall-code" | "who"
   >;

@@ -3,7 +3,7 @@
 import { part, put } from "./elements.js";
 
 /** @typedef {import("./messages").State} State */
-/** @typedef {{ state: State, before: State, used: Set<number>, entry: Element | null }} Moment */
+/** @typedef {{ state: State, before: State, used: Set<number>, entry: Element | null, hasRun?: boolean }} Moment hasRun: up to it */
 
 const MOST_MOMENTS = 240; // so that the transcript still has the entries of most
 const BESIDES = ["labels", "lines", "outputs"]; // parts of a state that change without a line
@@ -17,6 +17,7 @@ const isAlike = (one, other) => {
 export class Past {
   /** @type {Moment[]} */ moments = [];
   isStill = false;
+  hasRun = false; // whether the program has run since the last moment
   /** @type {number | null} */ place = null; // null: the present is shown
 
   /**
@@ -31,6 +32,7 @@ export class Past {
     this.now = part(root, "now");
     this.slider = part(root, "moment");
     this.says = part(root, "says-past");
+    this.count = part(root, "moment-count");
     this.backward.addEventListener("click", () => this.show((this.place ?? this.end) - 1));
     this.forth.addEventListener("click", () => this.show((this.place ?? this.end) + 1));
     this.now.addEventListener("click", () => this.show(this.end));
@@ -47,11 +49,17 @@ export class Past {
     return this.moments.length - Number(this.isStill);
   }
 
+  /** Called when another moment is shown, or their number has changed. */
+  told = () => {};
+
   /** Adds a moment: its state, the state before, and their explanation. Moments of a running program aren't kept. */
   add(/** @type {Moment} */ moment) {
     const last = this.moments.at(-1);
     if (last && isAlike(last.state, moment.state)) last.state = moment.state;
-    else if (moment.state.run === "stopped") this.moments.push(moment);
+    else if (moment.state.run === "stopped") {
+      this.moments.push({ ...moment, hasRun: this.hasRun });
+      this.hasRun = false;
+    }
     this.isStill = moment.state.run === "stopped";
     if (this.moments.length <= MOST_MOMENTS) return this.tell();
     this.moments.shift();
@@ -60,7 +68,7 @@ export class Past {
 
   forget() {
     this.moments = [];
-    Object.assign(this, { isStill: false, place: null });
+    Object.assign(this, { isStill: false, hasRun: false, place: null });
     this.tell();
   }
 
@@ -74,14 +82,17 @@ export class Past {
 
   tell() {
     const place = this.place ?? this.end;
-    const [isPast, back] = [this.place !== null, this.end - place];
+    const isPast = this.place !== null;
     this.backward.disabled = place === 0;
     this.forth.disabled = this.now.disabled = !isPast;
-    const ariaValueText = isPast ? `${back} before now` : "now";
-    Object.assign(this.slider, { max: this.end, value: place, disabled: this.end === 0, ariaValueText });
-    put(this.says, isPast ? `This is the past, ${back === 1 ? "one moment" : `${back} moments`} ago.` : "");
+    const count = isPast ? `step ${place} of ${this.end}` : `step ${this.end}, now`;
+    Object.assign(this.slider, { max: this.end, value: place, disabled: this.end === 0, ariaValueText: count });
+    put(this.count, count);
+    const next = this.moments[place + 1];
+    const gap = next?.hasRun ? " From here the program ran: no step up to the next one was recorded." : "";
+    put(this.says, isPast ? `This is the past: ${count}.${gap}` : "");
     this.says.hidden = !isPast;
-    part(this.root, "controls").disabled = isPast;
     this.root.classList.toggle("past", isPast);
+    this.told();
   }
 }

@@ -45,8 +45,8 @@ export function showReference(/** @type {HTMLElement} */ box, /** @type {string}
   box.replaceChildren(...(parts.length ? parts : [make("p", "empty", "Nothing is called so.")]));
 }
 
-/** Shows in an element the entry of the name at the caret of a field. */
-export function tellName(/** @type {HTMLElement} */ element, /** @type {HTMLTextAreaElement} */ field) {
-  const words = entryText(wordAt(field.value, field.selectionStart));
+/** Shows in an element the entry of the name at a place of a text. */
+export function tellName(/** @type {HTMLElement} */ element, /** @type {string} */ text, /** @type {number} */ place) {
+  const words = entryText(wordAt(text, place));
   put(element, words, prose(words));
 }

@@ -49,7 +49,7 @@ class SeatRow {
     put(this.tabs, `${told.tabs || "–"}`);
     put(this.run, told.run === "absent" ? "not entered" : told.run);
     this.run.className = `pill ${told.run}`;
-    this.row.classList.toggle("stuck", told.stuck);
+    this.row.classList.toggle("stuck", this.waitingSince < Infinity);
     put(this.line, told.answer && `${told.line.slice(0, 80)} → ${short(told.answer.slice(0, 80))}`);
     this.line.title = this.line.textContent ?? "";
     put(this.used, `${Math.ceil((100 * told.used) / share)} %`);
@@ -58,9 +58,16 @@ class SeatRow {
 
   /** Shows its condition, and for how long; now is the server's time in seconds. */
   age(/** @type {number} */ now) {
-    const { run, stands, since } = this.told;
+    const { run, stands, since, hand } = this.told;
     const isThere = run !== "absent" || stands;
-    put(this.stands, isThere ? [stands, forHow(now - since)].filter(Boolean).join(", ") : "");
+    const raised = hand ? ["hand raised", hand.text, forHow(now - hand.since)] : [];
+    put(this.stands, [...raised, ...(isThere ? [stands, forHow(now - since)] : [])].filter(Boolean).join(", "));
+  }
+
+  /** Since when its student waits for help, in seconds since 1970; Infinity without need of any. */
+  get waitingSince() {
+    const { hand, stuck, since } = this.told;
+    return hand?.since ?? (stuck ? since : Infinity);
   }
 }
 
@@ -93,7 +100,7 @@ export class SeatTable {
   /** Puts those who are stuck above, longest first; not while somebody points, or types, at a row. */
   sort() {
     const [body, focused] = [this.body, document.activeElement];
-    const weight = (/** @type {SeatRow} */ { told }) => (told.stuck ? told.since : Infinity);
+    const weight = (/** @type {SeatRow} */ row) => row.waitingSince;
     const rows = [...this.rows].sort((one, other) => (weight(one) < weight(other) ? -1 : Number(weight(one) > weight(other))));
     const isHeld = body.matches(":hover") || (focused?.matches("input") && body.contains(focused));
     if (body.childElementCount === rows.length && (isHeld || rows.every(({ row }, place) => row === body.children[place]))) return;

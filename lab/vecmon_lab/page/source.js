@@ -2,7 +2,7 @@
 
 import { make, offerFile, part, put, timeText } from "./elements.js";
 import { languageOf, suffixOf } from "./links.js";
-import { startOf, stoppedLines } from "./source_lines.js";
+import { lineOf, stoppedLines, stopsOf } from "./source_lines.js";
 
 /** @typedef {import("./types").Message} Message */
 /** @typedef {import("./messages").SourceView} SourceView */
@@ -15,11 +15,11 @@ const MOST = MOST_LETTERS.toLocaleString("en");
 const TOO_LONG = `This text has more than ${MOST} characters: the server doesn't save it, and nothing replaces it. Save it, or shorten it.`;
 const PAUSE = 700; // ms in which nothing is typed, and then it is sent
 /** @type {Record<string, string>} */
-const REASONS = { typed: "typed", written: "written into memory", given: "given by the teacher" };
+const REASONS = { typed: "typed", written: "assembled", given: "given" };
 
 const keyOf = (/** @type {SourceText} */ { text, language }) => `${language} ${text}`;
 
-/** A version in words, as `14:05 given by the teacher, Doubles`; exercises have their titles. */
+/** A version in words, as `14:05 given, Doubles`; exercises have their titles. */
 /** @type {(version: Version, exercises: Exercises) => string} */
 const versionText = ({ time, why, exercise }, exercises) =>
   [`${timeText(time)} ${REASONS[why]}`, exercise && (exercises[exercise]?.title ?? exercise)].filter(Boolean).join(", ");
@@ -104,14 +104,14 @@ export class Source {
 
   /** Whether the text is too long to become a version. */
   get isTooLong() {
-    return !this.editor.field.readOnly && this.editor.field.value.length > MOST_LETTERS;
+    return !this.editor.isReadOnly && this.editor.source.text.length > MOST_LETTERS;
   }
 
   /** Puts another source into the editor, where undo takes it back; what is there becomes a version first, or stays. */
   async replace(/** @type {SourceText} */ source) {
     if (this.isTooLong) return;
     const own = this.editor.source;
-    const isOwn = own.text.trim() && !this.editor.field.readOnly && (this.isTyped || keyOf(own) === this.key);
+    const isOwn = own.text.trim() && !this.editor.isReadOnly && (this.isTyped || keyOf(own) === this.key);
     const isKept = isOwn && keyOf(own) !== keyOf(source);
     const answer = isKept ? await this.bringOwn(true) : { error: "" };
     if (answer && !answer.error) this.editor.put(source);
@@ -136,8 +136,8 @@ export class Source {
     this.share = share;
     const isCompiled = this.editor.source.language > 0;
     const bytes = share && (share.of - share.used).toLocaleString("en");
-    const left = bytes && isCompiled ? `${bytes} bytes of this seat's share of the script are left.` : "";
-    put(this.assemble, isCompiled ? "Compile" : "Write into memory");
+    const left = bytes && isCompiled ? `${bytes} bytes of the script's room are left.` : "";
+    put(this.assemble, isCompiled ? "Compile" : "Assemble");
     put(this.left, this.isTooLong ? TOO_LONG : left);
   }
 
@@ -151,8 +151,8 @@ export class Source {
     if (told?.versions !== source.versions) this.listVersions(source.versions, exercises);
     if (isOther && this.isTooLong) return;
     Object.assign(this, { seat, told: source });
-    if (isNew || editor.field.readOnly) {
-      if (isNew ? source.text || editor.field.readOnly : keyOf(source) !== keyOf(told)) editor.put(source);
+    if (isNew || editor.isReadOnly) {
+      if (isNew ? source.text || editor.isReadOnly : keyOf(source) !== keyOf(told)) editor.put(source);
     } else if (isOther) {
       const { number, exercise } = told;
       if (this.isTyped && !isOwn(editor.source)) this.connection.ask({ ask: "draft", ...editor.source, number, exercise }); // a version
@@ -166,10 +166,17 @@ export class Source {
     return Boolean(this.told?.stands) && this.key === keyOf(this.editor.source);
   }
 
-  /** Marks the machine's line of C, and those with breakpoints. */
-  mark(/** @type {import("./messages").State} */ { starts = {}, stops = {}, breaks = [], pc = "" }) {
-    const isThere = this.stands && Object.keys(starts).length > 0;
-    this.editor.mark(isThere ? starts[startOf(starts, pc) ?? ""] : 0, isThere ? stoppedLines(stops, breaks) : []);
+  /** The number of the line that the machine executes next, in a state with the loaded source; 0 for none. */
+  nextLine(/** @type {import("./messages").State} */ state) {
+    return lineOf(state, state.pc);
+  }
+
+  /** Marks the lines that the machine executed last and executes next, and those with breakpoints. */
+  mark(/** @type {import("./messages").State} */ state) {
+    if (!this.stands) return this.editor.mark({ last: 0, next: 0, stops: [] });
+    const { breaks = [], pc, instruction } = state;
+    const stops = breaks.length ? stoppedLines(stopsOf(state), breaks) : [];
+    return this.editor.mark({ last: lineOf(state, instruction), next: lineOf(state, pc), stops });
   }
 
   listVersions(/** @type {Version[]} */ versions, /** @type {Exercises} */ exercises) {

@@ -4,6 +4,7 @@
 import { inOrder } from "./rows.js";
 
 /** @typedef {Record<string, number>} Starts */
+/** @typedef {import("./messages").State} State */
 
 /** @type {WeakMap<Starts, string[]>} */
 const addresses = new WeakMap(); // in rising order, by the starts that they are of
@@ -22,6 +23,29 @@ export const startOf = (starts, pc) => addressesOf(starts).findLast((address) =>
 /** @type {(stops: Record<string, string[]>, breaks: string[]) => number[]} */
 export const stoppedLines = (stops, breaks) =>
   Object.keys(stops).filter((line) => stops[line].some((address) => breaks.includes(address))).map(Number);
+
+/** @type {WeakMap<Record<string, number>, Record<string, string[]>>} */
+const firstAddresses = new WeakMap(); // of each line's first instruction, by the numbers of lines that they are of
+
+/** The address of the first instruction of each line of an assembler source, by the line numbers of its instructions. */
+function firstsOf(/** @type {Record<string, number>} */ numbers) {
+  /** @type {Record<string, string[]>} */
+  const found = firstAddresses.get(numbers) ?? {};
+  if (!firstAddresses.has(numbers)) for (const address of inOrder(Object.keys(numbers))) found[numbers[address]] ??= [address];
+  firstAddresses.set(numbers, found);
+  return found;
+}
+
+/** The addresses of each line's breakpoints, by its number. */
+/** @type {(state: State) => Record<string, string[]>} */
+export const stopsOf = ({ stops, line_numbers: numbers }) => stops ?? (numbers ? firstsOf(numbers) : {});
+
+/** The line of the source that an instruction is of; 0 of none. */
+/** @type {(state: State, address: string | undefined) => number} */
+export function lineOf({ starts, line_numbers: numbers }, address) {
+  if (!address) return 0;
+  return numbers?.[address] ?? (starts && starts[startOf(starts, address) ?? ""]) ?? 0;
+}
 
 /** The places, among addresses of instructions that follow each other, where another line begins, with its number. */
 export function lineBegins(/** @type {Starts} */ starts, /** @type {(string | undefined)[]} */ instructions) {

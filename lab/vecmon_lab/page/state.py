@@ -42,12 +42,14 @@ class SourceNames(TypedDict):
 
     labels, lines: names, and lines with their comments, by address
     data: numbers and texts of an assembler source's directives, by address
+    line_numbers: of an assembler source: the line number of each instruction, by address
     starts, stops, variables: of a compiled source (`compilers/compiled.py`): the line number, or 0, by start address; the addresses of a
         line's breakpoints by line number; and those of the debug data
     """
 
     labels: dict[str, list[str]]
     lines: dict[str, str]
+    line_numbers: NotRequired[Mapping[str, int]]
     starts: NotRequired[Mapping[str, int]]
     stops: NotRequired[Mapping[str, Sequence[str]]]
     variables: NotRequired[Sequence[ShownVariable]]
@@ -70,7 +72,7 @@ class State(TypedDict):
         program reached; without one there is no such key
     output: the bytes that answers to `out` have shown
     outputs: in a class in place of it, the last 64 KB of them, in blocks by number
-    labels, lines, starts, stops, variables, data: in a class, those of `SourceNames`
+    labels, lines, line_numbers, starts, stops, variables, data: in a class, those of `SourceNames`
     """
 
     run: Run
@@ -98,6 +100,7 @@ class State(TypedDict):
     outputs: NotRequired[Mapping[str, str]]
     labels: NotRequired[dict[str, list[str]]]
     lines: NotRequired[dict[str, str]]
+    line_numbers: NotRequired[Mapping[str, int]]
     starts: NotRequired[Mapping[str, int]]
     stops: NotRequired[Mapping[str, Sequence[str]]]
     variables: NotRequired[Sequence[ShownVariable]]

@@ -1,8 +1,9 @@
 // A student's page: the bench, and what a class adds: the seat, a name, messages of the teacher, exercises, and work to take home.
 
 import { Bench } from "./bench.js";
-import { button, make, part, pressNamed, put, say, timeText } from "./elements.js";
+import { button, make, part, put, say, timeText } from "./elements.js";
 import { Exercises } from "./exercises.js";
+import { Keys } from "./keys.js";
 
 /** @typedef {import("./messages").Notice} Notice */
 
@@ -19,12 +20,15 @@ export class Student {
     this.exercises = new Exercises(root, this.bench);
     this.name = part(root, "name");
     this.home = part(root, "home");
+    this.hand = part(root, "hand");
     this.list = part(root, "notices");
     this.root = root;
-    part(this.root, "foot").hidden = false;
+    part(root, "menu").before(part(root, "past")); // which is below the bar at the teacher's
     this.name.addEventListener("change", () => this.bench.request({ ask: "name", name: this.name.value }));
     this.home.addEventListener("click", () => this.takeHome());
-    document.addEventListener("keydown", (event) => pressNamed(event, connection.waiting < MOST_WAITING));
+    this.hand.addEventListener("click", () => this.bench.request({ ask: "hand", up: this.hand.ariaPressed !== "true" }));
+    const keys = new Keys(root, () => connection.waiting < MOST_WAITING, (words) => put(part(root, "key-says"), words));
+    part(root, "show-reference").addEventListener("click", () => part(root, "keys").replaceChildren(...keys.list()));
     const name = sessionStorage.getItem("name"); // that was typed with the code
     sessionStorage.removeItem("name");
     if (name) this.bench.request({ ask: "name", name });
@@ -41,17 +45,25 @@ export class Student {
   /** @type {import("./types").RolePage["show"]} */
   show(view, logs, isAnew) {
     this.seat = view.seat;
-    document.title = `Seat ${view.seat} – vecmon`;
-    put(part(this.root, "who"), `Seat ${view.seat}`);
+    const title = view.title || `Seat ${view.seat}`;
+    document.title = `${title} – vecmon`;
+    put(part(this.root, "who"), title);
+    if (view.title) this.home.title = "An archive: the source, the script, and a lesson of it";
     this.showNotices(view.notices);
+    this.hand.hidden = Boolean(view.title); // of a page without a teacher
+    this.hand.ariaPressed = `${Boolean(view.hand)}`;
+    put(this.hand, view.hand ? "Hand raised" : "Raise hand");
     if (document.activeElement !== this.name) this.name.value = view.name;
-    put(part(this.root, "clock"), `the clock is ${view.clock ? "on" : "off"}`);
     const share = Math.floor((100 * view.share.used) / view.share.of);
-    const warning = share < 90 ? "" : `${share} % of this seat's share of the script is used up.`;
+    const warning = share < 90 ? "" : `${share} % of the script's room is used up.`;
     say("trouble", [view.trouble, warning].join(" ").trim());
     this.bench.show(view, logs[view.seat] ?? [], isAnew);
     this.exercises.show(view.exercises, view.source);
     part(this.root, "log").ariaLive = "polite";
+  }
+
+  showConnection() {
+    this.bench.showConnection();
   }
 
   /** Shows messages of the teacher's, each until it is closed. */

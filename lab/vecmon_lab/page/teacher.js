@@ -3,14 +3,15 @@
 import { CodeField, showSheet } from "./codes.js";
 import { Desk } from "./desk.js";
 import { Editor } from "./editor.js";
-import { ask, make, part, pressNamed, put, say } from "./elements.js";
+import { ask, make, part, put, say } from "./elements.js";
+import { Keys } from "./keys.js";
 import { offerLanguages } from "./languages.js";
 import { LineField, requestsOf, unfitLines } from "./lines.js";
+import { Panes } from "./panes.js";
 import { Scores } from "./scores.js";
 import { SeatTable } from "./seats.js";
-import { chooseSides } from "./sides.js";
 import { MOST_LETTERS, Source } from "./source.js";
-import { addToLog, toldEntry } from "./transcript.js";
+import { Log } from "./transcript.js";
 
 /** @typedef {import("./messages").TeacherView} TeacherView */
 /** @typedef {import("./messages").MachineView} MachineView */
@@ -68,6 +69,7 @@ export class Teacher {
     this.root = root;
     this.connection = connection;
     this.desk = new Desk(root);
+    this.log = new Log(part(root, "operator-log"), false);
     this.table = new SeatTable(this);
     this.scores = new Scores(this);
     const field = (/** @type {string} */ name) => /** @type {HTMLInputElement} */ (part(root, "clocks").elements.namedItem(name));
@@ -86,14 +88,15 @@ export class Teacher {
     put(part(root, "who"), "Teacher");
     part(root, "teacher").hidden = false;
     new LineField(part(root, "operator-line"), (lines) => this.operate(lines));
-    chooseSides(root, ["listing", "source"]);
+    this.panes = new Panes(root, "teacher");
+    this.panes.show("listing");
     part(root, "source").readOnly = part(root, "language").disabled = true;
     this.source = new Source(root, new Editor(part(root, "source"), undefined, part(root, "language")), connection);
     part(root, "given").value = sessionStorage.getItem("given") ?? ""; // as before a reload
     /** @type {Editor} */
     const given = new Editor(part(root, "given"), () => this.keep(given.source), part(root, "given-language"));
     part(root, "take").onclick = () => given.put(this.source.editor.source);
-    document.addEventListener("keydown", (event) => pressNamed(event));
+    new Keys(root, () => true, () => {});
     part(root, "give").onclick = () => this.give(given.source);
     part(root, "take-back").onclick = () => this.takeBack();
     part(root, "read").onclick = () => (sessionStorage.setItem("unencrypted", "read"), this.warn(this.view));
@@ -127,10 +130,9 @@ export class Teacher {
     say("trouble", view.trouble);
     this.warn(view);
     this.showGiven(view.given);
-    if (isAnew) part(this.root, "operator-log").replaceChildren();
+    if (isAnew) this.log.clear();
     const place = (/** @type {string} */ letter) => (letters.length > 1 ? `${letter} ` : "");
-    const items = letters.flatMap((letter) => (logs[letter] ?? []).map((entry) => toldEntry(entry, false, place(letter))));
-    addToLog(part(this.root, "operator-log"), items);
+    for (const letter of letters) this.log.add(logs[letter] ?? [], place(letter));
     part(this.root, "operator-log").ariaLive = "polite";
     if (isAnew && this.seat) this.request({ ask: "shoulder", seat: this.seat }); // as before the connection broke
     if (isAnew && this.wall && !view.wall) this.request({ ask: "wall", seat: this.wall });

@@ -1,4 +1,4 @@
-// The transcript: lines and answers, and those with a stop or a refusal.
+// The console's log: lines and answers, those with a stop or a refusal, and groups that unfold.
 
 import { make, prose } from "./elements.js";
 
@@ -36,9 +36,41 @@ export function toldEntry(/** @type {string} */ entry, /** @type {boolean} */ is
   return item;
 }
 
-/** Adds entries to a log in one batch, and shows its end. */
-export function addToLog(/** @type {HTMLElement} */ log, /** @type {HTMLElement[]} */ items) {
-  log.append(...items);
-  while (log.childElementCount > LOG_LENGTH) log.firstChild?.remove();
-  if (items.length) log.scrollTop = log.scrollHeight;
+/** A log, whose groups are one item each: `+` and a text starts a group, and `-` ends it. */
+export class Log {
+  /** @type {HTMLOListElement | null} */ group = null; // that new entries belong to
+
+  /** @param {HTMLElement} box @param {boolean} isOnly whether all entries are of one user, whose digit is left out */
+  constructor(box, isOnly) {
+    this.box = box;
+    this.isOnly = isOnly;
+  }
+
+  clear() {
+    this.group = null;
+    this.box.replaceChildren();
+  }
+
+  /** Adds entries in one batch, and shows the end. `place` comes before all. */
+  add(/** @type {string[]} */ entries, place = "") {
+    this.box.append(...entries.flatMap((entry) => this.items(entry, place)));
+    while (this.box.childElementCount > LOG_LENGTH) this.box.firstChild?.remove();
+    if (entries.length) this.box.scrollTop = this.box.scrollHeight;
+  }
+
+  /** The item that an entry adds to the log, if it isn't part of a group. A stop or a refusal unfolds its group. */
+  /** @type {(entry: string, place: string) => HTMLElement[]} */
+  items(entry, place) {
+    if (entry[0] === "-") this.group = null;
+    if (entry[0] === "-") return [];
+    if (entry[0] === "+") {
+      this.group = make("ol", "");
+      return [make("li", "group", make("details", "", make("summary", "", place + entry.slice(1)), this.group))];
+    }
+    const item = toldEntry(entry, this.isOnly, place);
+    if (!this.group) return [item];
+    this.group.append(item);
+    if (item.matches(".stopped")) /** @type {HTMLDetailsElement} */ (this.group.parentElement).open = true;
+    return [];
+  }
 }

@@ -23,6 +23,9 @@ export type Request = Without<Messages.StudentRequestForm | Messages.TeacherRequ
 /** A request with the source in an editor, without that source. */
 export type SourceAction = Without<Messages.SourceRequest | Messages.CaseRequest | Messages.ListingsRequest, "id" | keyof SourceText>;
 
+/** A request to run or step, without the source that is built first. */
+export type RunAction = Without<Messages.RunRequest | Messages.StepRequest, "id" | "number" | keyof SourceText>;
+
 /** A request to each machine, without the machine. */
 export type MachineAction = Without<Messages.ClockRequest | Messages.RightsRequest, "id" | "machine">;
 
@@ -57,4 +60,6 @@ export type View = Messages.StudentView & Messages.TeacherView & Messages.WallVi
 /** A page of a role. */
 export interface RolePage {
   show(view: View, logs: Record<string, string[]>, isAnew: boolean): void;
+  /** Shows whether the server can be reached. */
+  showConnection?(): void;
 }

@@ -51,12 +51,12 @@ export function knownVariables(/** @type {MachineState} */ { variables = [], pc,
 /** The variables of a machine's program. */
 export class VariablePanel {
   constructor(/** @type {ParentNode} */ root) {
-    this.box = part(root, "variables-box");
+    this.tab = part(root, "show-variables");
     this.list = part(root, "variables");
   }
 
   paint(/** @type {MachineState} */ state, /** @type {MachineState} */ before) {
-    this.box.hidden = !state.variables?.length;
+    this.tab.hidden = !state.variables?.length;
     const known = knownVariables({ ...before, variables: state.variables });
     const texts = new Map(known.map(({ declaration, text }) => [declaration, text]));
     const rows = knownVariables(state).map(({ declaration, text, where }) => {

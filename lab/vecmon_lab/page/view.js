@@ -37,7 +37,7 @@ export class MachineView {
     if (state.run === "running") done.push(make("small", "", "it runs: registers and memory are those from before"));
     if (state.instruction) {
       const line = (state.code?.[state.instruction] ?? "").slice(9);
-      const text = withNames(line, this.names.value === "abi");
+      const text = withNames(line, this.names.value === "abi") || `0x${state.instruction}`; // nothing is mapped there
       const said = saysMore(state.lines?.[state.instruction] ?? "", line); // which the listing may cut
       done.push(make("span", "instruction", make("small", "", state.faulted ? "stopped at " : "executed "), text));
       done.push(make("small", "", ...prose(said)));

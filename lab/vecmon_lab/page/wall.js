@@ -2,6 +2,7 @@
 
 import { Desk } from "./desk.js";
 import { part, put, say } from "./elements.js";
+import { Panes } from "./panes.js";
 
 export class Wall {
   seat = "";
@@ -9,6 +10,7 @@ export class Wall {
   constructor(/** @type {HTMLElement} */ root) {
     this.root = root;
     this.desk = new Desk(root);
+    new Panes(root, "wall").show("listing");
     document.title = "Wall – vecmon";
   }
 

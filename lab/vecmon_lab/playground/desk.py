@@ -158,6 +158,7 @@ class Desk:
     def _more(self) -> ClassView:
         """The parts of the page's view that belong to no seat."""
         return {
+            "title": "Playground",
             "name": "",
             "notices": [],
             "images": self.names_of_images(),

@@ -13,7 +13,7 @@ import { Pending } from "./pending.js";
 const WORK_FILE = "vecmon-work.json";
 const REPLACED = "The work in this file replaces the sources, versions, tries and machine of this page. Take home exports them before.";
 const MOST_IMAGE_BYTES = 1 << 20;
-const HIDDEN = [byId("name"), byId("forget"), byId("clock")]; // elements of a class
+const HIDDEN = [byId("name"), byId("forget")]; // elements of a class
 /** What is in an element of the page: its data, or the text of the worker. */
 const dataOf = (/** @type {"parts" | "worker"} */ id) => JSON.parse(textOf(id));
 const textOf = (/** @type {string} */ id) => document.getElementById(id)?.textContent ?? "";
@@ -103,7 +103,7 @@ export class Connection {
     this.examples.addEventListener("change", () => this.takeExample());
     byId("versions").before(this.examples, " ");
     byId("banner").append(this.words);
-    byId("foot").append(make("span", "", ` ${pageData().about}`));
+    byId("keys").after(make("p", "", pageData().about));
   }
 
   say(/** @type {string} */ words) {

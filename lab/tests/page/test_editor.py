@@ -1,0 +1,147 @@
+"""The editor of a source: marks of the machine, problems with their fixes, keys, and its size, in Chromium."""
+
+from typing import Any
+
+import pytest
+
+from page.conftest import Sit
+from support.class_pages import SIGNS, Tab
+
+SOURCE = """\
+# Doubles.
+start:  vsetivli zero, 8, e32, m1, ta, ma
+        li t0, 0x12345          # two words
+        vid.v v1
+        ebreak
+"""
+WRONG = "        nop\n        vad.vv v1, v2, v3\n        addi a0, a1\n"
+MARKED = "all('#editor .problem').map((word) => word.textContent).join()"
+BELOW = "one('#editor .problems-below')?.textContent"
+KINDS = """['executed', 'next'].map((kind) => one(`#editor .CodeMirror-linebackground.${kind}`)
+    ?.parentElement.querySelector('.CodeMirror-line').textContent)"""
+PLACES = "all('#mistakes li > :first-child').map((each) => each.textContent.split(':', 2).join(':'))"
+SIZES = [(1280, 657), (1280, 640), (1080, 640), (1920, 1080), (820, 1180), (390, 844), (640, 400)]
+
+
+@pytest.fixture
+def started(sit: Sit) -> Tab:
+    """A tab whose machine has SOURCE, with its editor in sight."""
+    tab = sit("A1")
+    tab.write(SOURCE)
+    tab.click("#assemble")
+    tab.wait("id('editor').hidden && one('#listing .next')")
+    tab.click("#show-source")
+    return tab
+
+
+def test_lines_of_machine_are_marked(started: Tab) -> None:
+    """The line of both words of `li` is one line; the marks go with the first change of the text."""
+    started.wait(f"{SIGNS} === '▶2'")
+    for executed, following in ((2, 3), (3, 3), (3, 4)):
+        started.click("#one")
+        lines = SOURCE.splitlines()
+        kinds = f"JSON.stringify({KINDS}) === JSON.stringify(arguments[0])"
+        started.wait(f"{SIGNS} === '▶{following}' && {kinds}", [lines[executed - 1], lines[following - 1]])
+    started.run("code().replaceRange(' ', { line: 0, ch: 0 })")
+    started.wait(f"{SIGNS} === '' && !one('#editor .executed')")
+
+
+def test_breakpoint_is_set_at_line(started: Tab) -> None:
+    """F9 sets that of the caret's line, at the first word of it, and a click on the number removes it."""
+    from selenium.webdriver import ActionChains
+    from selenium.webdriver.common.keys import Keys
+
+    started.run("(code().focus(), code().setCursor(2, 0))")
+    started.type(Keys.F9)
+    started.wait(f"{SIGNS} === '▶2,●3' && id('log').textContent.includes('> break 10004')")
+    number = started.run("all('#editor .CodeMirror-linenumber').find((each) => each.textContent === '3')")
+    ActionChains(started.browser).click(number).perform()
+    started.wait(f"{SIGNS} === '▶2' && id('log').textContent.includes('> unbreak 10004')")
+    started.run("code().setCursor(0, 0)")
+    started.type(Keys.F9)  # a comment has none
+    started.click("#one")
+    started.wait(f"{SIGNS} === '▶3'")
+    assert started.run("id('log').textContent.split('> break').length") == 2 and started.text("#run") == "Paused"
+
+
+def test_problems_are_shown_while_typing(sit: Sit) -> None:
+    """Without a machine, in a moment; a key takes the word that is offered first, and undo takes that back."""
+    from selenium.webdriver.common.keys import Keys
+
+    tab = sit("A2")
+    tab.write(WRONG)
+    tab.wait(f"{MARKED} === 'vad.vv,1'")  # the last character where an operand is missing
+    assert tab.run(PLACES) == ["2:9", "3:20"]
+    assert tab.text("#run") == "Not begun"
+    tab.run("(code().focus(), code().setCursor(0, 0))")
+    assert tab.run(BELOW) is None
+    tab.run("code().setCursor(1, 0)")
+    assert "there is no instruction vad.vv" in tab.run(BELOW)
+    first = tab.text(".problems-below button")
+    tab.type(Keys.CONTROL, ".", Keys.NULL)
+    assert tab.run("code().getLine(1)") == f"        {first} v1, v2, v3"
+    tab.wait(f"{MARKED} === '1'")
+    tab.type(Keys.CONTROL, "z", Keys.NULL)
+    tab.wait(f"{MARKED} === 'vad.vv,1'")
+    tab.click(".problems-below button")
+    assert tab.run("code().getLine(1)") == f"        {first} v1, v2, v3"
+
+
+def test_keys_comment_and_find(sit: Sit) -> None:
+    from selenium.webdriver.common.keys import Keys
+
+    tab = sit("A3")
+    tab.write(SOURCE)
+    tab.run("(code().focus(), code().setCursor(3, 0))")
+    tab.type(Keys.CONTROL, "/", Keys.NULL)
+    assert tab.run("code().getLine(3)").startswith("#")
+    tab.type(Keys.CONTROL, "/", Keys.NULL)
+    assert tab.run("text()") == SOURCE
+    tab.type(Keys.CONTROL, "f", Keys.NULL)
+    tab.keys("#editor .CodeMirror-search-field", "ebreak", Keys.ENTER)
+    assert tab.run("code().getSelection()") == "ebreak"
+    tab.run("(code().focus(), code().setCursor(3, 16))")
+    tab.type(", v", Keys.CONTROL, " ", Keys.NULL)
+    offered = tab.run("all('.CodeMirror-hints li').map((each) => each.textContent)")
+    assert offered == [f"v{number}" for number in range(32)]
+    tab.type(Keys.ESCAPE, *[Keys.BACKSPACE] * 3, Keys.ESCAPE, Keys.TAB)
+    assert tab.run("text()") == SOURCE and tab.run("document.activeElement.id") == "assemble"
+
+
+def test_editor_is_named_text_box(sit: Sit) -> None:
+    """In the accessibility tree, with its lines and without their numbers."""
+    tab = sit("A4")
+    tab.write("nop\nret")
+    tab.run("code().focus()")
+    tree = tab.browser.execute_cdp_cmd("Accessibility.getFullAXTree", {})["nodes"]
+    (box,) = (node for node in tree if node.get("name", {}).get("value") == "Assembler source" and not node["ignored"])
+    assert box["role"]["value"] == "textbox"
+    assert {"name": "multiline", "value": {"type": "boolean", "value": True}} in box["properties"]
+    children = {node["nodeId"]: node for node in tree}
+    names = [name for name in spoken(box, children) if name.strip()]
+    assert names == ["nop", "ret"]
+
+
+def spoken(node: dict[str, Any], nodes: dict[str, Any]) -> list[str]:
+    """The texts below a node."""
+    if node.get("role", {}).get("value") == "StaticText" and not node["ignored"]:
+        return [node["name"]["value"]]
+    return [text for child in node.get("childIds", []) if child in nodes for text in spoken(nodes[child], nodes)]
+
+
+def test_editor_has_eight_lines_at_all_sizes(sit: Sit) -> None:
+    """With problems below it as well; nothing makes the page wider than the window."""
+    tab = sit("A5")
+    tab.write(WRONG)
+    tab.wait("all('#mistakes button').length")
+    before = tab.browser.get_window_size()
+    try:
+        for width, height in SIZES:
+            size = {"width": width, "height": height, "deviceScaleFactor": 1, "mobile": False}
+            tab.browser.execute_cdp_cmd("Emulation.setDeviceMetricsOverride", size)
+            lines = "code().getScrollInfo().clientHeight / code().defaultTextHeight()"
+            assert tab.wait(f"innerWidth === {width} && {lines}") >= 8, (width, height)
+            assert tab.run("document.documentElement.scrollWidth <= innerWidth"), (width, height)
+    finally:
+        tab.browser.execute_cdp_cmd("Emulation.clearDeviceMetricsOverride", {})
+        tab.browser.set_window_size(before["width"], before["height"])

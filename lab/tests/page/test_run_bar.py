@@ -1,0 +1,207 @@
+"""The run bar and its keys: a changed source is built first, steps go over calls and out of functions, and what is off says why."""
+
+import pytest
+
+from page.conftest import Sit
+from support.class_pages import Tab
+
+DOUBLES = "vsetivli zero, 8, e32, m1, ta, ma\nvid.v v1\nvadd.vv v2, v1, v1\nebreak\n"
+CALL = "li a0, 1\njal ra, twice\nebreak\ntwice: add a0, a0, a0\nret\n"  # at 10000, 10004, 10008, 1000c, 10010
+A0 = "one(\"[data-edit='set x10']\").textContent"
+NEXT = "one('#listing .next')?.dataset.address"
+CONDITION = "id('run').textContent"
+
+# The keys of docs/CLASS.md, each with the button that does the same.
+KEYS = {
+    "F5": "go",
+    "Shift+F5": "halt",
+    "Control+Shift+F5": "again",
+    "F11": "one",
+    "Control+F11": "one",
+    "F10": "step-over",
+    "Shift+F11": "step-out",
+    "F9": "break-here",
+    "F7": "backward",
+    "Shift+F7": "forth",
+    "Escape": "now",
+    "F8": "next-problem",
+    "Shift+F8": "previous-problem",
+    "Control+Shift+B": "assemble",
+    "Control+Enter": "assemble",
+    "Control+J": "fold-dock",
+    "F6": "next-pane",
+    "Shift+F6": "previous-pane",
+    "F1": "show-reference",
+    "Alt+Shift+H": "hand",
+}
+
+
+def write(tab: Tab, text: str) -> None:
+    """Puts a source into the editor, as typing does."""
+    tab.run("code().setValue(arguments[0])", text)
+
+
+def press_key(tab: Tab, name: str) -> None:
+    """Presses a key that aria-keyshortcuts names."""
+    from selenium.webdriver.common.keys import Keys
+
+    from support.browser import press
+
+    *held, key = name.split("+")
+    letters = {each: getattr(Keys, each.upper()) for each in (*held, key) if len(each) > 1}
+    press(tab.activate(), *(letters.get(each, each.lower()) for each in (*held, key)))
+
+
+def test_run_and_step_build_a_changed_source(sit: Sit) -> None:
+    """The first step loads the source; a change loads it anew, with the breakpoints; with problems the machine stays."""
+    tab = sit("A1")
+    assert tab.text("#run") == "Not begun"
+    write(tab, DOUBLES)
+    tab.click("#one")
+    tab.wait(f"{CONDITION} === 'Paused' && {NEXT} === '10004'")
+    tab.click("#show-listing")
+    tab.click("#listing [data-address='10008'] .text")
+    tab.wait("one('.breakpoint')")
+    tab.click("#show-source")
+    write(tab, f"li a0, 5\n{DOUBLES}")
+    tab.click("#one")
+    tab.wait(f"{A0} === '5' && {NEXT} === '10004'")
+    assert tab.run("one('#listing .breakpoint').closest('tr').dataset.address") == "1000c"
+    write(tab, "li a0, 6\nvadd v1\n")
+    tab.click("#one")
+    tab.wait("all('#mistakes li').length === 1")
+    assert tab.run("code().getSelection()") == "vadd"
+    assert tab.run(A0) == "5" and tab.text("#run") == "Paused" and tab.text("#problems-count") == "1"
+
+
+def test_step_over_and_out_of_a_function(sit: Sit) -> None:
+    tab = sit("A2")
+    write(tab, CALL)
+    tab.click("#one")
+    tab.wait(f"{NEXT} === '10004'")
+    press_key(tab, "F10")
+    tab.wait(f"{NEXT} === '10008' && {A0} === '2'")
+    press_key(tab, "Control+Shift+F5")
+    tab.wait(f"{CONDITION} === 'Ready' && {NEXT} === '10000'")
+    for address in ("10004", "1000c"):
+        press_key(tab, "F11")
+        tab.wait(f"{NEXT} === arguments[0]", address)
+    press_key(tab, "Shift+F11")
+    tab.wait(f"{NEXT} === '10008' && {A0} === '2'")
+    press_key(tab, "Control+Shift+F5")
+    tab.wait(f"{CONDITION} === 'Ready'")
+    tab.run("(id('until-line').value = 5, id('until-go').click())")
+    tab.wait(f"{NEXT} === '10010' && {A0} === '2'")
+
+
+def test_loading_a_program_is_one_entry_of_the_console(sit: Sit) -> None:
+    """It unfolds to all its lines: a new machine, a page, four instructions, and the program counter."""
+    tab = sit("A3")
+    write(tab, DOUBLES)
+    tab.click("#assemble")
+    tab.wait(f"{CONDITION} === 'Ready'")
+    (entry,) = tab.run("all('#log > li').map((item) => item.querySelector('summary').textContent)")
+    assert entry == "Load 4 instructions, from 0x10000 (7 lines)"
+    assert not tab.run("one('#log details').open")
+    asked = tab.run("all('#log .group .asked').map((item) => item.textContent.split(' ')[1]).join(' ')")
+    assert asked == "enter map asm asm asm asm setpc"
+    tab.command("set x5 1")
+    assert tab.run("all('#log > .asked').map((item) => item.textContent)") == ["> set x5 1"]
+
+
+def test_each_key_has_a_button(sit: Sit) -> None:
+    tab = sit("A4")
+    for key, button in KEYS.items():
+        assert tab.run("all(`button[aria-keyshortcuts~='${arguments[0]}']`).map((each) => each.id)", key) == [button]
+    assert tab.run("all('button[aria-keyshortcuts]:enabled').every(({ title }) => title.endsWith(')'))")
+
+
+@pytest.mark.parametrize("key", KEYS)
+def test_key_presses_its_button(key: str, sit: Sit) -> None:
+    """The button is pressed, or what is off says in the status line why; the browser leaves the key to the page."""
+    tab = sit("A5")
+    tab.run("(window.pressed = [], document.addEventListener('click', ({ target }) => pressed.push(target.id), true))")
+    tab.run("all('button:disabled').forEach((each) => (each.disabled = false))")
+    tab.run(
+        "document.addEventListener('keydown', (event) => setTimeout(() => (window.isHeld = event.defaultPrevented)))"
+    )
+    press_key(tab, key)
+    tab.wait("window.isHeld")
+    assert tab.run("pressed") == [KEYS[key]]
+
+
+def test_earlier_keys_name_the_new_ones(sit: Sit) -> None:
+    """Without a problem to go to, F8 steps, as in version 1.0, and says which key does; so does Ctrl F9."""
+    tab = sit("A6")
+    write(tab, DOUBLES)
+    press_key(tab, "F8")
+    tab.wait(f"{NEXT} === '10004'")
+    assert tab.text("#key-says") == "Step is F11 now."
+    press_key(tab, "Control+F9")
+    tab.wait(f"{NEXT} === '10000'")
+    assert tab.text("#key-says") == "Reset is Ctrl Shift F5 now."
+    write(tab, "foo\nnop\nbar\n")
+    press_key(tab, "F5")
+    tab.wait("all('#mistakes li').length === 2")
+    selected = "code().getSelection()"
+    for word in ("bar", "foo"):
+        press_key(tab, "F8")
+        assert tab.run(selected) == word and tab.text("#key-says") == ""
+    press_key(tab, "Shift+F8")
+    assert tab.run(selected) == "bar"
+
+
+def test_what_is_off_says_why(sit: Sit) -> None:
+    tab = sit("A7")
+    title = "id(arguments[0]).title"
+    assert tab.run(title, "halt") == "No program runs." and tab.run(title, "again").startswith("No source is loaded")
+    press_key(tab, "Shift+F5")
+    assert tab.text("#key-says") == "No program runs."
+    write(tab, "")
+    assert tab.run(title, "one") == "There is no program: write a source first."
+    write(tab, "loop: j loop\n")
+    assert tab.run(title, "one") == "Step, into a function that is called (F11 or Ctrl F11)"
+    press_key(tab, "F5")
+    tab.wait(f"{CONDITION} === 'Running'")
+    assert tab.run(title, "one") == "The program runs: stop it first." and not tab.run("id('halt').disabled")
+    press_key(tab, "Shift+F5")
+    tab.wait(f"{CONDITION} === 'Paused' && id('go').textContent === 'Continue'")
+
+
+def test_fault_outside_of_memory_names_the_address(sit: Sit) -> None:
+    """`ret` returns to address 0, where nothing is mapped."""
+    tab = sit("A6")
+    write(tab, "ret\n")
+    tab.click("#one")
+    tab.wait(f"{CONDITION} === 'Paused'")
+    tab.click("#one")
+    tab.wait(f"{CONDITION} === 'Fault'")
+    assert tab.text("#step") == "stopped at 0x0"
+
+
+def test_fix_replaces_the_word(sit: Sit) -> None:
+    """The nearest name is offered first, and undo brings back what was typed."""
+    from selenium.webdriver.common.keys import Keys
+
+    tab = sit("A8")
+    write(tab, "vad.vv v1, v2, v3\n")
+    tab.click("#go")
+    tab.wait("all('#mistakes li button').length > 1")
+    assert tab.run("all('#mistakes li button')[1].textContent") == "Replace with vand.vv"
+    tab.run("all('#mistakes li button')[1].click()")
+    tab.wait("text() === 'vand.vv v1, v2, v3\\n'")
+    assert tab.run("all('#mistakes li').length") == 0
+    tab.type(Keys.CONTROL, "z", Keys.NULL)
+    assert tab.run("text()") == "vad.vv v1, v2, v3\n"
+
+
+def test_hand_reaches_the_class(sit: Sit) -> None:
+    """Alt Shift H raises the hand, in all tabs of the seat and before the teacher, and lowers it."""
+    tab, other, teacher = sit("A4"), sit("A4"), sit("teacher")
+    press_key(tab, "Alt+Shift+H")
+    for page in (tab, other):
+        page.wait("id('hand').textContent === 'Hand raised' && id('hand').ariaPressed === 'true'")
+    teacher.wait("one('#seats .stuck[data-seat=A4] .wraps')?.textContent.startsWith('hand raised')")
+    press_key(other, "Alt+Shift+H")
+    teacher.wait("!one('#seats [data-seat=A4].stuck')")
+    tab.wait("id('hand').textContent === 'Raise hand' && id('hand').ariaPressed === 'false'")

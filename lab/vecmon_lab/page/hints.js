@@ -1,0 +1,36 @@
+// Names that may go on from a place in an assembler source: mnemonics, directives, labels and registers.
+
+import { SECTIONS } from "./reference.js";
+import { ABI_NAMES } from "./words.js";
+
+const MOST_HINTS = 10;
+const LABEL = /^\s*([A-Za-z_.$][\w.$]*):|^\s*\.(?:equ|set)\s+([A-Za-z_.$][\w.$]*)/gm;
+const SHOWN = ["Instructions", "Pseudo-instructions", "Directives"].flatMap((section) => SECTIONS[section]);
+const VTYPE = ["e8", "e16", "e32", "e64", "mf8", "mf4", "mf2", "m1", "m2", "m4", "m8", "ta", "tu", "ma", "mu"];
+
+/** The form of each mnemonic and directive, by its name. */
+export const FORMS = new Map(SHOWN.map(([name, form]) => [name, form]));
+
+export const REGISTERS = new Set([...ABI_NAMES, "fp", ...Array.from({ length: 32 }, (_, at) => [`x${at}`, `v${at}`]).flat()]);
+
+/** @typedef {{ word: string, names: [name: string, form: string][] }} Names that go on from a word, with their forms */
+
+/** The labels of a text, and the names that `.equ` and `.set` define. */
+const labelsOf = (/** @type {string} */ text) => [...text.matchAll(LABEL)].map(([, label, equal]) => label ?? equal);
+
+/**
+ * Names that go on from the word before the caret: of mnemonics and directives, or of an operand.
+ * before, after: the caret's line up to the caret, and from it on; text: the source; isAsked: whether all operands are wanted, also
+ * registers and the words of a vector type, and those with the word alone; else only names that go on from two letters
+ * @type {(before: string, after: string, text: string, isAsked: boolean) => Names}
+ */
+export function namesAt(before, after, text, isAsked) {
+  const [word = ""] = /[\w.$]*$/.exec(before) ?? [];
+  const head = before.slice(0, before.length - word.length);
+  const isFirst = /^\s*([\w.$]+:\s*)*$/.test(head);
+  if ((!isAsked && word.length < 2) || /#|\/\/|"/.test(head) || /^[\w.$]/.test(after)) return { word, names: [] };
+  const operands = () => [...labelsOf(text).sort(), ...(isAsked ? [...REGISTERS, ...(/^\s*vset/.test(head) ? VTYPE : [])] : [])];
+  const known = isFirst ? [...FORMS.keys()].sort() : [...new Set(operands())];
+  const names = known.filter((name) => name !== word && name.startsWith(word));
+  return { word, names: names.slice(0, isAsked ? names.length : MOST_HINTS).map((name) => [name, FORMS.get(name) ?? ""]) };
+}

@@ -1,0 +1,85 @@
+// Keys of the pages. Each presses a button, whose `aria-keyshortcuts` names it, as `Control+Shift+F5`.
+
+import { elementsIn, make } from "./elements.js";
+
+/** @type {Record<string, string>} */
+const EARLIER = { F8: "F11", "Control+F9": "Control+Shift+F5" }; // keys of version 1.0, and those of today
+const FOCUSABLE = 'textarea, [contenteditable="true"], [tabindex="0"], input, select, button';
+const PANELS = '[role="tabpanel"], .menu';
+
+/** The name of the key that an event is of, with the keys that are held. */
+export function keyOf(/** @type {KeyboardEvent} */ { key, code, ctrlKey, metaKey, altKey, shiftKey }) {
+  const letter = /^Key([A-Z])$/.exec(code)?.[1];
+  const held = [ctrlKey || metaKey ? "Control" : "", altKey ? "Alt" : "", shiftKey ? "Shift" : ""];
+  return [...held, letter ?? key].filter(Boolean).join("+");
+}
+
+/** A key as the page names it: `Ctrl Shift F5`. */
+export const keyText = (/** @type {string} */ key) => key.replace("Control", "Ctrl").replaceAll("+", " ");
+
+const keysOf = (/** @type {Element} */ button) => button.getAttribute("aria-keyshortcuts")?.split(" ") ?? [];
+
+/** Whether an element itself is shown, wherever it is. */
+const isShown = (/** @type {HTMLElement} */ element) => getComputedStyle(element).display !== "none";
+
+/** Whether the page offers a button, perhaps in a menu or on a tab that is out of sight. */
+const isOffered = (/** @type {HTMLElement} */ button) =>
+  isShown(button) && (button.closest(PANELS)?.parentElement ?? button).checkVisibility();
+
+/** The keys of a button, and what they do, as a row of a list. */
+function keyRow(/** @type {Element} */ button, /** @type {string} */ does) {
+  const keys = keysOf(button).flatMap((key, place) => [place ? " or " : "", make("kbd", "", keyText(key))]);
+  return [make("dt", "", ...keys), make("dd", "", does)];
+}
+
+export class Keys {
+  /**
+   * @param {HTMLElement} root of the buttons
+   * @param {() => boolean} mayPress whether a key presses its button now
+   * @param {(words: string) => void} say shows a sentence about a key, or "" after it
+   */
+  constructor(root, mayPress, say) {
+    this.root = root;
+    this.mayPress = mayPress;
+    this.say = say;
+    const buttons = elementsIn(root, "button[aria-keyshortcuts]");
+    this.does = new Map(buttons.map((button) => [button, button.title])); // in words
+    for (const button of buttons) button.title = `${button.title} (${keysOf(button).map(keyText).join(" or ")})`;
+    document.addEventListener("keydown", (event) => this.pressed(event));
+  }
+
+  /** The keys of the buttons that the page offers. */
+  list() {
+    return [...this.does].filter(([button]) => isOffered(button)).flatMap(([button, does]) => keyRow(button, does));
+  }
+
+  /** The button of a key that the page offers, the one in sight first. */
+  buttonOf(/** @type {string} */ key) {
+    const own = elementsIn(this.root, `button[aria-keyshortcuts~="${key}"]`).filter(isOffered);
+    return /** @type {HTMLButtonElement | undefined} */ (own.find((each) => each.checkVisibility()) ?? own[0]);
+  }
+
+  pressed(/** @type {KeyboardEvent} */ event) {
+    if (event.defaultPrevented || event.isComposing || !event.key || document.querySelector("dialog[open]")) return;
+    const key = keyOf(event);
+    const own = this.buttonOf(key);
+    const later = EARLIER[key];
+    const isEarlier = later && (!own || own.disabled);
+    const button = isEarlier ? this.buttonOf(later) : own;
+    if (!button || (key === "Escape" && button.disabled)) return;
+    event.preventDefault();
+    const name = /** @type {string} */ (button.textContent).trim();
+    this.say(isEarlier ? `${name} is ${keyText(later)} now.` : button.matches(":disabled") ? button.title : "");
+    if (this.mayPress()) button.click();
+  }
+}
+
+/** Moves the focus to the next pane in sight, or with -1 to the one before. */
+export function goToPane(/** @type {HTMLElement} */ root, /** @type {number} */ step) {
+  const isSeen = (/** @type {HTMLElement} */ each) => each.checkVisibility() && getComputedStyle(each).visibility === "visible";
+  const panes = elementsIn(root, ".pane, header").filter(isSeen);
+  const place = panes.findIndex((pane) => pane.contains(document.activeElement));
+  const pane = panes[(Math.max(place, step < 0 ? 0 : -1) + step + panes.length) % panes.length];
+  const targets = elementsIn(pane ?? root, FOCUSABLE).filter((each) => isSeen(each) && !each.matches(":disabled"));
+  (targets.find((each) => !each.matches('[role="tab"], .fold')) ?? targets[0])?.focus();
+}
