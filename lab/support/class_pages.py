@@ -13,6 +13,7 @@ import urllib.request
 from collections.abc import Callable, Sequence
 from typing import IO, TYPE_CHECKING, Any
 
+from support.checked_requests import invalid_requests
 from support.places import SUM, TOP
 
 if TYPE_CHECKING:
@@ -30,9 +31,10 @@ FRAME = "requestAnimationFrame(() => setTimeout(arguments[0])), setTimeout(argum
 
 
 def lab_command(takes_c: bool) -> list[str]:
-    """The command that runs the lab; root may compile others' C, if that is asked for."""
-    start = "from vecmon_lab.compilers import sandbox; sandbox.check_sandbox = lambda: None; import vecmon_lab.__main__ as lab; "
-    return [sys.executable, *(["-c", f"{start}lab.main()"] if takes_c else ["-m", "vecmon_lab"])]
+    """The command that runs the lab, with checked requests; root may compile others' C, if that is asked for."""
+    compiles = "from vecmon_lab.compilers import sandbox; sandbox.check_sandbox = lambda: None; " if takes_c else ""
+    checks = "from support.checked_requests import check_requests; check_requests(); "
+    return [sys.executable, "-c", f"{compiles}{checks}import vecmon_lab.__main__ as lab; lab.main()"]
 
 
 class Served:
@@ -110,11 +112,18 @@ class Served:
         self.server.send_signal(signal.SIGKILL)
         self.server.wait()
 
+    def invalid_requests(self) -> list[str]:
+        """Lines on requests of pages that the server accepted, and that aren't as the schema has them."""
+        return invalid_requests(pathlib.Path(self.log.name).read_text())
+
     def end(self) -> None:
+        """End the server. Raises AssertionError if a page has sent a request that isn't as the schema has it."""
         self.kill()
         if self.server.stdout:
             self.server.stdout.close()
         self.log.close()
+        if invalid := self.invalid_requests():
+            raise AssertionError("\n".join(invalid))
 
 
 class Explored(Served):

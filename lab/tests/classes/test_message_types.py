@@ -50,7 +50,8 @@ def test_type_becomes_schema_and_declaration() -> None:
 @pytest.mark.parametrize("form, readers", [(StudentRequestForm, "_OF_STUDENTS"), (TeacherRequestForm, "_OF_TEACHERS")])
 def test_each_request_has_a_form(form: Any, readers: str) -> None:
     kinds = [typing.get_args(typing.get_type_hints(each)["ask"])[0] for each in typing.get_args(form)]
-    assert sorted(kinds) == sorted(getattr(requests, readers))
+    twice = ["open"] if form == StudentRequestForm else []  # an exercise, or an offered source
+    assert sorted(kinds) == sorted([*getattr(requests, readers), *twice])
 
 
 @pytest.mark.parametrize(

@@ -28,7 +28,10 @@ EXERCISE = pathlib.Path("doubles")
 
 @dataclass
 class Acknowledged:
-    """How much of each kind the server has acknowledged: lines of A1, drafts of A2, names and codes of A3, tries of A1."""
+    """How much of each kind the server has acknowledged: lines of A1, drafts of A2, names and codes of A3, tries of A1.
+
+    There are as many messages to A4 and A5 as names; A4 has read its own.
+    """
 
     lines: list[str] = field(default_factory=list)
     drafts: int = 0
@@ -99,6 +102,8 @@ class Lesson:
     async def _rename(self) -> None:
         self.members.set_name("A3", f"Ada {self.done.names + 1}")
         self.done.names += 1
+        self.members.notices.add(["A4", "A5"], f"message {self.done.names}")
+        self.members.notices.read("A4", self.done.names)
 
     async def _renew(self) -> None:
         await self.members.renew("A3")
@@ -152,6 +157,11 @@ def check(cut: Cut, folder: pathlib.Path, program: pathlib.Path) -> None:
     assert log == [f">{line}" for line in last if line[0] == "1" and not is_servers(line)]
     assert int(members.students["A2"].source.own.text.removeprefix("draft ") or 0) >= known.drafts
     assert int(members.names.get("A3", "").removeprefix("Ada ") or 0) >= known.names
+    for seat in ("A4", "A5"):
+        messages = members.notices.of(seat)
+        known_ones = [messages[f"{number}"] for number in range(1, known.names + 1)]
+        assert [each["text"] for each in known_ones] == [f"message {number}" for number in range(1, known.names + 1)]
+        assert {each["read"] for each in known_ones} <= {seat == "A4"}
     assert members.codes.codes["A3"] not in known.codes[:-1]
     if known.tries:
         assert len(members.checks.exercises.progress("A1", EXERCISE.name).tries) >= known.tries

@@ -126,35 +126,13 @@ async def test_given_source_is_withdrawn(room: Served) -> None:
     for each in (tab, other):
         await each.until(lambda view: view["source"]["text"] == "all")
     await other.ask("draft", text="all, changed", number=other.view["source"]["number"])
-    assert (await room.sit("teacher")).view["given"] == {"seat": "", "replaced": 2}
+    assert (await room.sit("teacher")).view["given"] == {"seats": [], "replaced": 2}
     assert (await teacher.ask("take-back", seat=""))["replaced"] == 1 and "given" not in teacher.view
     await tab.until(lambda view: view["source"]["text"] == "mine")
     assert other.view["source"]["text"] == "all, changed"
     assert [each["why"] for each in tab.view["source"]["versions"]] == ["typed", "given", "typed"]
     assert (await teacher.ask("take-back", seat=""))["replaced"] == 0
     assert "no such request" in (await tab.ask("take-back", seat=""))["error"]
-
-
-async def test_message_stays_until_closed(tmp_path: pathlib.Path) -> None:
-    """They survive a restart of the server; a seat closes its own alone."""
-    folder = tmp_path / "class"
-    async with served(folder) as room:
-        tab, teacher = await room.sit("A1"), await room.sit("teacher")
-        await teacher.ask("write", seat="", text="Save your work.")
-        await teacher.ask("write", seat="A1", text="Come to me.")
-        await tab.until(lambda view: len(view["notices"]) == 2)
-    async with served(folder) as room:
-        tab, again, other = await room.sit("A1"), await room.sit("A1"), await room.sit("A2")
-        first, second = tab.view["notices"]
-        assert [first["text"], second["text"]] == ["Save your work.", "Come to me."]
-        await tab.ask("close-notice", number=first["number"])
-        await again.until(lambda view: view["notices"] == [second])
-        assert [notice["text"] for notice in other.view["notices"]] == ["Save your work."]
-        await tab.ask("close-notice", number=second["number"])
-        assert "error" in await tab.ask("close-notice", number="1")
-    async with served(folder) as room:
-        tab, other = await room.sit("A1"), await room.sit("A2")
-        assert tab.view["notices"] == [] and len(other.view["notices"]) == 1
 
 
 async def test_versions_are_stored(room: Served, monkeypatch: pytest.MonkeyPatch) -> None:

@@ -79,3 +79,23 @@ def test_stuck_students_are_listed_first(tabs: "Chrome", served: Served) -> None
     teacher.run("document.activeElement.blur()")
     teacher.keys("#operator-line", "list\n")
     teacher.wait("one(\"tr[data-seat='D7'] .pill\").textContent === 'not entered'")
+
+
+OFFER = """((code, request) => {
+    const socket = new WebSocket(`ws://${location.host}/socket`);
+    socket.onopen = () => [{ code }, request].forEach((it) => socket.send(JSON.stringify(it)));
+})(...arguments)"""
+
+
+def test_offered_source_is_opened(tabs: "Chrome", served: Served) -> None:
+    """It has its title in the banner, replaces the source at a press of *Open*, and is gone from the banner then."""
+    tab = Tab(tabs, served, "C4")
+    before = tab.run("id('source').value")
+    words = {"title": "A <i>start</i>", "text": "addi x6, x6, 2"}
+    tab.run(OFFER, served.codes["teacher"], {"id": 1, "ask": "give", "seats": ["C4"], "how": "offer", **words})
+    tab.wait("all('#notices button').length === 2")
+    assert "The teacher offers a source: A <i>start</i>" in tab.text("#notices")
+    assert tab.run("id('source').value") == before
+    tab.click("#notices button")
+    tab.wait("id('source').value === 'addi x6, x6, 2' && !one('#notices li')")
+    assert "You opened the teacher's source." in tab.text("#log")

@@ -9,7 +9,7 @@ from .checks import ANSWERS, EXERCISES, found_answers
 from .hands import HANDS, raised_hands
 from .stored_files import texts
 from .names import NAMES
-from .notices import NOTICES, open_notices
+from .notices import NOTICES, sent_notices
 from .sources import kept_program
 from .store import Store
 
@@ -22,7 +22,7 @@ def folder_report(folder: pathlib.Path, program: pathlib.Path) -> tuple[Sequence
     store = Store(folder, program, is_reading=True)
     machines = [_machine(store, letter) for letter in store.machines]
     names, exercises = store.read(NAMES, texts), store.read(EXERCISES, texts)
-    messages = sum(map(len, store.read(NOTICES, open_notices).values()))
+    unread = sum(len(sent["to"]) - len(sent["read"]) for sent in store.read(NOTICES, sent_notices).values())
     store.read(HANDS, raised_hands)  # which reports damage
     for seat in (f"{letter}{digit}" for letter in store.machines for digit in DIGITS):
         try:
@@ -34,7 +34,7 @@ def folder_report(folder: pathlib.Path, program: pathlib.Path) -> tuple[Sequence
         f"class: --quantum {store.quantum}; images: {', '.join(store.images) or 'none'}",
         *machines,
         f"exercises: {', '.join(exercises) or 'none'}; {ANSWERS}: {answers}; versions of sources: {versions}; names: {len(names)}; "
-        f"open messages: {messages}",
+        f"unread messages: {unread}",
         *(f"lost: {sentence}" for sentence in store.lost),
         *(f"set aside before: {name}" for name, _ in sorted(store.files("**/*.damaged*"))),
     ]

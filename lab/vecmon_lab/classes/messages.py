@@ -31,12 +31,35 @@ class SourceView(TypedDict):
     versions: list[Version]
 
 
-class Notice(TypedDict):
-    """A message of the teacher's: its number, which no other open one has, its time in seconds since 1970, and its text."""
+class Offer(TypedDict):
+    """A source that the teacher offers: a title, which may be empty, its text, and the number of its language."""
 
-    number: int
-    time: int
+    title: str
     text: str
+    language: int
+
+
+class Notice(TypedDict):
+    """A message of the teacher's to a seat: a text or an offer. time: in seconds since 1970; read: whether the student has read it"""
+
+    time: int
+    text: NotRequired[str]
+    offer: NotRequired[Offer]
+    read: bool
+
+
+class SentNotice(TypedDict):
+    """A message of the teacher's: a text or an offer. time: in seconds since 1970
+
+    to, read, opened: the seats that have it, those that have read it, and those that have opened its source
+    """
+
+    time: int
+    text: NotRequired[str]
+    offer: NotRequired[Offer]
+    to: list[str]
+    read: list[str]
+    opened: list[str]
 
 
 class Hand(TypedDict):
@@ -105,6 +128,12 @@ class ReplacedResult(TypedDict):
     replaced: int
 
 
+class UnsentResult(TypedDict):
+    """The seats that had read a message which was taken back from the others."""
+
+    read: list[str]
+
+
 class WhyResult(TypedDict):
     """The sentence why a register or an element has its value."""
 
@@ -133,6 +162,7 @@ Result = (
     | TextResult
     | ListingsResult
     | ReplacedResult
+    | UnsentResult
     | WhyResult
     | CodesResult
     | Refusal
@@ -170,6 +200,10 @@ class ReplacedAnswer(AnswerHead, ReplacedResult):
     """The answer to `give` and `take-back`."""
 
 
+class UnsentAnswer(AnswerHead, UnsentResult):
+    """The answer to `unsend`."""
+
+
 class WhyAnswer(AnswerHead, WhyResult):
     """The answer to `why`."""
 
@@ -189,6 +223,7 @@ Answer = (
     | TextAnswer
     | ListingsAnswer
     | ReplacedAnswer
+    | UnsentAnswer
     | WhyAnswer
     | CodesAnswer
     | RefusedAnswer

@@ -30,6 +30,13 @@ class SeatFields(TypedDict):
     seat: str
 
 
+class SeatsFields(TypedDict):
+    """One seat, by default all, or a list of seats in place of it. seat: "" for all; seats: one or more"""
+
+    seat: NotRequired[str]
+    seats: NotRequired[list[str]]
+
+
 class LinesRequest(NumberedRequest, LinesFields):
     """A student's lines."""
 
@@ -173,10 +180,17 @@ class LowerHandRequest(NumberedRequest, SeatFields):
     ask: Literal["hand"]
 
 
-class CloseNoticeRequest(NumberedRequest):
-    """A message of the teacher's to close."""
+class ReadRequest(NumberedRequest):
+    """A message of the teacher's that the student has read."""
 
-    ask: Literal["close-notice"]
+    ask: Literal["read"]
+    number: int
+
+
+class OpenOfferRequest(NumberedRequest):
+    """A message of the teacher's whose source replaces that of the seat."""
+
+    ask: Literal["open"]
     number: int
 
 
@@ -187,23 +201,35 @@ class MachineLinesRequest(NumberedRequest, LinesFields):
     machine: str
 
 
-class GiveRequest(NumberedRequest, SeatFields, SourceFields):
-    """A source for a seat, or all."""
+class GiveRequest(NumberedRequest, SeatsFields, SourceFields):
+    """A source for seats.
+
+    how: whether it replaces their sources, the default, or is offered in a message; title: of an offer, by default none
+    """
 
     ask: Literal["give"]
+    how: NotRequired[Literal["replace", "offer"]]
+    title: NotRequired[str]
 
 
-class TakeBackRequest(NumberedRequest, SeatFields):
-    """The source before the last one given, at a seat or all."""
+class TakeBackRequest(NumberedRequest, SeatsFields):
+    """The source before the last one given, at seats."""
 
     ask: Literal["take-back"]
 
 
-class WriteRequest(NumberedRequest, SeatFields):
-    """A message to a seat, or all."""
+class WriteRequest(NumberedRequest, SeatsFields):
+    """A message to seats."""
 
     ask: Literal["write"]
     text: str
+
+
+class UnsendRequest(NumberedRequest):
+    """A message to take back from the seats that haven't read it."""
+
+    ask: Literal["unsend"]
+    number: int
 
 
 class ResetRequest(NumberedRequest, SeatFields):
@@ -274,7 +300,8 @@ StudentRequestForm = (
     | AnswerRequest
     | NameRequest
     | HandRequest
-    | CloseNoticeRequest
+    | ReadRequest
+    | OpenOfferRequest
 )
 TeacherRequestForm = (
     MachineLinesRequest
@@ -284,6 +311,7 @@ TeacherRequestForm = (
     | GiveRequest
     | TakeBackRequest
     | WriteRequest
+    | UnsendRequest
     | LowerHandRequest
     | ResetRequest
     | ClockRequest

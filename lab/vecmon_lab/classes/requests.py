@@ -27,6 +27,13 @@ class _OfSeat:
 
 
 @dataclass(frozen=True)
+class _OfSeats:
+    """A request that says seats, alone or before all else; none for all."""
+
+    seats: Sequence[str]
+
+
+@dataclass(frozen=True)
 class _OfExercise:
     """A request that says an exercise, and a source as an answer to it."""
 
@@ -175,14 +182,22 @@ class ReadVersion:
 
 
 @dataclass(frozen=True)
-class Give(_OfSeat):
-    """A source for a seat; "" for all."""
+class Give(_OfSeats):
+    """A source that replaces those of seats."""
 
     source: SourceText
 
 
-class TakeBack(_OfSeat):
-    """The source that the teacher gave a seat last is taken back; "" for all."""
+@dataclass(frozen=True)
+class OfferSource(_OfSeats):
+    """A source that seats may open, with a title; "" for none."""
+
+    source: SourceText
+    title: str
+
+
+class TakeBack(_OfSeats):
+    """The source that the teacher gave seats last is taken back."""
 
 
 @dataclass(frozen=True)
@@ -198,8 +213,22 @@ class LowerHand(_OfSeat):
 
 
 @dataclass(frozen=True)
-class CloseNotice:
+class ReadNotice:
     """A message of the teacher's that the student has read."""
+
+    number: int
+
+
+@dataclass(frozen=True)
+class OpenOffer:
+    """A message of the teacher's whose source replaces the student's."""
+
+    number: int
+
+
+@dataclass(frozen=True)
+class Unsend:
+    """A message that is taken back from the seats that haven't read it."""
 
     number: int
 
@@ -239,8 +268,8 @@ class SetName(_OfSeat):
 
 
 @dataclass(frozen=True)
-class Write(_OfSeat):
-    """A sentence of the teacher's for a seat; "" for all."""
+class Write(_OfSeats):
+    """A sentence of the teacher's for seats."""
 
     text: str
 
@@ -262,11 +291,13 @@ SeatsRequest = (
     | Check
     | TryCase
 )
-StudentRequest = Lines | SeatsRequest | SetName | SetHand | CloseNotice | Compare
+StudentRequest = Lines | SeatsRequest | SetName | SetHand | ReadNotice | OpenOffer | Compare
 TeacherRequest = (
     Give
+    | OfferSource
     | TakeBack
     | Write
+    | Unsend
     | LowerHand
     | Reset
     | SetClock
@@ -300,9 +331,9 @@ _OF_STUDENTS: Mapping[str, Reader] = {
     "step-line": lambda it: StepLine(),
     "why": lambda it: Why(_name(it, "name")),
     "draft": lambda it: Draft(_source(it), _number(it), _name(it, "exercise"), bool(it.get("keep"))),
-    "open": lambda it: OpenExercise(_name(it, "exercise")),
+    "open": lambda it: OpenOffer(_number(it)) if "number" in it else OpenExercise(_name(it, "exercise")),
     "answer": lambda it: ReadAnswer("", _name(it, "exercise"), _number(it)),
-    "close-notice": lambda it: CloseNotice(_number(it)),
+    "read": lambda it: ReadNotice(_number(it)),
     "hand": lambda it: SetHand(bool(it.get("up")), _sentence(it) if it.get("text") else ""),
     "listings": lambda it: Compare(_source(it), _number(it, "other")),
     "check": lambda it: Check(_name(it, "exercise"), _source(it)),
@@ -312,9 +343,10 @@ _OF_TEACHERS: Mapping[str, Reader] = {
     **_OF_ALL,
     "lines": lambda it: _lines(it, is_teacher=True),
     "answer": lambda it: ReadAnswer(_name(it, "seat"), _name(it, "exercise"), _number(it)),
-    "give": lambda it: Give(_name(it, "seat"), _given(it)),
-    "take-back": lambda it: TakeBack(_name(it, "seat")),
-    "write": lambda it: Write(_name(it, "seat"), _sentence(it)),
+    "give": lambda it: _give(it),
+    "take-back": lambda it: TakeBack(_seats(it)),
+    "write": lambda it: Write(_seats(it), _sentence(it)),
+    "unsend": lambda it: Unsend(_number(it)),
     "hand": lambda it: LowerHand(_name(it, "seat")),
     "reset": lambda it: Reset(_name(it, "seat")),
     "clock": lambda it: SetClock(_name(it, "machine"), _settings(it)),
@@ -391,17 +423,32 @@ def _step(message: JsonObject) -> StepProgram:
     return StepProgram(*_source_to_build(message), found, by == "line", count)
 
 
-def _given(message: JsonObject) -> SourceText:
+def _give(message: JsonObject) -> Give | OfferSource:
     """The source of a message for students, which isn't blank."""
-    source = _source(message)
+    seats, source, how = _seats(message), _source(message), message.get("how", "replace")
     if not source.text.strip():
         raise BadRequest("the source to give is empty: type one, or copy a seat's")
-    return source
+    if how == "offer":
+        return OfferSource(seats, source, _sentence(message, "title") if message.get("title") else "")
+    if how != "replace":
+        raise BadRequest("a source is given as replace or offer")
+    return Give(seats, source)
 
 
-def _sentence(message: JsonObject) -> str:
-    """The sentence of a message."""
-    text = message.get("text")
+def _seats(message: JsonObject) -> Sequence[str]:
+    """The names of seats in a message, each once; none for all."""
+    if "seats" not in message:
+        name = _name(message, "seat")
+        return [name] if name else []
+    names = message["seats"]
+    if "seat" in message or not isinstance(names, list) or not names or not all(type(it) is str and it for it in names):
+        raise BadRequest("seats is a list of one or more names of seats, in place of seat")
+    return [*dict.fromkeys(names)]
+
+
+def _sentence(message: JsonObject, name: str = "text") -> str:
+    """The sentence that a message has by a name."""
+    text = message.get(name)
     if not isinstance(text, str) or not 0 < len(text) <= SENTENCE_LETTERS or not text.isprintable():
         raise BadRequest(f"a line for students has 1 to {SENTENCE_LETTERS} characters that can be printed")
     return text

@@ -93,13 +93,18 @@ class SeatSource:
         self._add_version(source, "written")
 
     def give(self, source: SourceText) -> bool:
-        """Takes up the teacher's; the student's own becomes a version. Returns whether it replaces another text."""
+        """Take up the teacher's; the student's own becomes a version. Return whether it replaces another text."""
         before = self.own
-        self._add_version(before, "typed")
-        self._change(source)
-        self._add_version(source, "given")
+        self.take_up(source)
         self._gift = (source, before)
         return before.text not in ("", source.text)
+
+    def take_up(self, source: SourceText) -> None:
+        """Take up one that the teacher offered; the student's own becomes a version. The teacher can't take it back."""
+        self._add_version(self.own, "typed")
+        self._change(source)
+        self._add_version(source, "given")
+        self._gift = None
 
     def take_back(self) -> bool:
         """Takes back what the teacher gave last, unless it was changed since; returns whether the own source is back."""

@@ -67,7 +67,7 @@ class ClassView(TypedDict):
     """The other fields of a student's view.
 
     title: of a page without a class, such as its file's name; "" in a class
-    name: the student's, or ""; notices: the teacher's open messages, oldest first; images: names for `load`
+    name: the student's, or ""; messages: the teacher's last ones by number, oldest first; images: names for `load`
     clock: whether it is on; own_slices: whether the student may grant slices
     hand: the student's, while it is up
     no_c: why C is missing, or ""; against: compilers with options for side-by-side listings, numbered alike; none in a class
@@ -76,7 +76,7 @@ class ClassView(TypedDict):
 
     title: str
     name: str
-    notices: list[Notice]
+    messages: dict[str, Notice]
     hand: NotRequired[Hand]
     images: list[str]
     clock: bool

@@ -7,9 +7,9 @@ from .. import LabError
 from .codes import TEACHER, WALL
 from .messages import Answer, Changes, Hello, Result, answer_to, explain_refusals, request_of, with_changes
 from .names import checked_name
-from .requests import BadRequest, Check, CloseNotice, Compare, Draft, FindProblems, JsonObject, Lines, OpenExercise
-from .requests import ReadAnswer, ReadVersion, Request, RunProgram, SeatsRequest, SetHand, SetName, Source, StepLine
-from .requests import StepProgram, TryCase, Why, read_request
+from .requests import BadRequest, Check, Compare, Draft, FindProblems, JsonObject, Lines, OpenExercise, OpenOffer
+from .requests import ReadAnswer, ReadNotice, ReadVersion, Request, RunProgram, SeatsRequest, SetHand, SetName, Source
+from .requests import StepLine, StepProgram, TryCase, Why, read_request
 from .seats import Seat
 from .shared_machine import Answers
 from .student import text_of
@@ -86,8 +86,10 @@ class TabRequests:
                 members.set_name(members.seat(seat_name if is_teacher else tab.who).name, checked_name(name))
             case SetHand(up, text):
                 members.set_hand(tab.who, up, text)
-            case CloseNotice(number):
-                members.close_notice(tab.who, number)
+            case ReadNotice(number):
+                members.read_notice(tab.who, number)
+            case OpenOffer(number):
+                members.open_offer(tab.who, number)
             case Compare(source, other):
                 return {"listings": members.comparisons.ask(tab.who, source, other)}
             case ReadAnswer(seat_name, name, number):

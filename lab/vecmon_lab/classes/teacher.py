@@ -9,6 +9,7 @@ from .requests import (
     Give,
     LookOver,
     LowerHand,
+    OfferSource,
     PutOnWall,
     Renew,
     Reset,
@@ -17,6 +18,7 @@ from .requests import (
     ShowCodes,
     TakeBack,
     TeacherRequest,
+    Unsend,
     Write,
 )
 from .sheet import pictures
@@ -26,19 +28,16 @@ from .view import Class, Tab
 async def execute_teachers(members: Class, tab: Tab, request: TeacherRequest) -> Result:
     """Execute a request of a teacher's tab; return its result. Raises BadRequest."""
     match request:
-        case Give(name, source):
-            replaced = [members.students[seat.name].source.give(source) for seat in members.seats(name)]
-            members.add_log_entry(members.seats(name), "The teacher gave a source. Your own is kept, as a version.")
-            members.given = name, sum(replaced)
-            return {"replaced": sum(replaced)}
-        case TakeBack(name):
-            members.given = None
-            back = [seat for seat in members.seats(name) if members.students[seat.name].source.take_back()]
-            members.add_log_entry(back, "The teacher took a source back. Your own is in the editor again.")
-            return {"replaced": sum(members.students[seat.name].source.own.text != "" for seat in back)}
-        case Write(name, text):
-            members.notices.add([seat.name for seat in members.seats(name)], text)
-            members.add_log_entry(members.seats(name), f"The teacher: {text}")
+        case Give() | OfferSource() | TakeBack():
+            return {"replaced": _hand_out(members, request)}
+        case Write(names, text):
+            seats = members.seats(names)
+            members.notices.add([seat.name for seat in seats], text)
+            members.add_log_entry(seats, f"The teacher: {text}")
+        case Unsend(number):
+            read = members.notices.unsend(number)
+            members.tell(members.students)
+            return {"read": read}
         case LowerHand(name):
             members.set_hand(members.seat(name).name, up=False)
         case Reset(name):
@@ -62,6 +61,26 @@ async def execute_teachers(members: Class, tab: Tab, request: TeacherRequest) ->
         case ShowCodes(name, with_pictures):
             return await _shown_codes(members, name, with_pictures)
     return {}
+
+
+def _hand_out(members: Class, request: Give | OfferSource | TakeBack) -> int:
+    """Give or offer a source to seats, or take it back; return how many sources that replaced. Raises BadRequest."""
+    seats, students = members.seats(request.seats), members.students
+    match request:
+        case Give(names, source):
+            replaced = sum(students[seat.name].source.give(source) for seat in seats)
+            members.add_log_entry(seats, "The teacher gave a source. Your own is kept, as a version.")
+            members.given = {"seats": [*names], "replaced": replaced}
+            return replaced
+        case OfferSource(_, source, title):
+            members.notices.offer([seat.name for seat in seats], title, source)
+            members.add_log_entry(seats, f"The teacher offers a source{f': {title}' if title else '.'}")
+            return 0
+        case TakeBack():
+            members.given = None
+            back = [seat for seat in seats if students[seat.name].source.take_back()]
+            members.add_log_entry(back, "The teacher took a source back. Your own is in the editor again.")
+            return sum(students[seat.name].source.own.text != "" for seat in back)
 
 
 async def _shown_codes(members: Class, name: str, with_pictures: bool) -> CodesResult:

@@ -8,11 +8,11 @@ from ..page.state import State
 from .checks import ExerciseTable
 from .languages import LANGUAGES
 from .progress import CheckFailure
-from .messages import Hand, SourceView, shown, source_view
+from .messages import Hand, SentNotice, SourceView, shown, source_view
 from .room import Room
 from .seats import Seat
 from .shared_machine import SEAT_BYTES
-from .view import Class, Tab
+from .view import Class, Given, Tab
 
 
 class WallView(TypedDict):
@@ -72,19 +72,12 @@ class MachineView(TypedDict):
     trouble: str
 
 
-class Given(TypedDict):
-    """The source that was given last and can be taken back: to which seat, "" for all, and how many had another text."""
-
-    seat: str
-    replaced: int
-
-
 class TeacherView(TypedDict):
     """The teacher's view.
 
     machines: by letter; share: a seat's bytes of the script; shoulder: the observed seat, or "", with its state and source
     wall: the seat on the wall, or ""; address: where students reach the class, or ""
-    given: the last given source, while it can be taken back; unencrypted: whether codes travel unencrypted to other computers
+    sent: the last messages by number, oldest first; given: the last given source, while it can be taken back; unencrypted: whether codes travel unencrypted to other computers
     """
 
     machines: dict[str, MachineView]
@@ -101,6 +94,7 @@ class TeacherView(TypedDict):
     languages: list[str]
     no_c: str
     unencrypted: bool
+    sent: dict[str, SentNotice]
     given: NotRequired[Given]
     trouble: str
 
@@ -129,12 +123,13 @@ def teacher_view(members: Class, tab: Tab) -> TeacherView:
         "unencrypted": members.is_unencrypted,
         "exercises": members.checks.table(),
         "failures": members.checks.exercises.failures,
+        "sent": members.notices.sent,
     }
     if tab.shoulder:
         view["state"] = shown(tab.shoulder)
         view["source"] = source_view(members.students[tab.shoulder.name].source, tab.shoulder)
     if members.given:
-        view["given"] = {"seat": members.given[0], "replaced": members.given[1]}
+        view["given"] = members.given
     return view
 
 

@@ -7,6 +7,7 @@ import time
 from collections.abc import Callable, Iterable, Sequence
 from dataclasses import asdict, replace
 from functools import partial
+from typing import TypedDict
 
 from .. import LabError
 from .worker_pool import WorkerPool, exclusive
@@ -26,6 +27,13 @@ from .store import Store, script_name
 from .student import ClassView, Student, StudentView
 
 COUNTS_SECONDS = 1.0  # between notes of a machine that only count more lines
+
+
+class Given(TypedDict):
+    """The source that was given last and can be taken back: to which seats, none for all, and how many had another text."""
+
+    seats: list[str]
+    replaced: int
 
 
 class Tab:
@@ -68,9 +76,7 @@ class Class:
         self.address = ""  # where students reach the class, with a slash at its end
         self.is_unencrypted = False  # on the way to other computers
         self.wall: Seat | None = None  # the seat that it shows
-        self.given: tuple[
-            str, int
-        ] | None = None  # the seat that was given a source last, "" for all; and editors that had another
+        self.given: Given | None = None
         self.tabs: set[Tab] = set()
         self.rooms: dict[str, Room] = {}
         self.students: dict[str, Student] = {}
@@ -152,9 +158,9 @@ class Class:
             raise BadRequest("there is no such machine")
         return self.rooms[machine]
 
-    def seats(self, name: str) -> list[Seat]:
-        """The seat of a name, or all for "". Raises BadRequest."""
-        return [self.seat(name)] if name else [student.seat for student in self.students.values()]
+    def seats(self, names: Sequence[str] = ()) -> list[Seat]:
+        """The seats of these names, or all for none. Raises BadRequest."""
+        return [self.seat(name) for name in names or self.students]
 
     def student_view(self, student: Student) -> StudentView:
         """The student's view."""
@@ -162,7 +168,7 @@ class Class:
         others: ClassView = {
             "title": self.title,
             "name": self.names.get(student.seat.name, ""),
-            "notices": self.notices.of(student.seat.name),
+            "messages": self.notices.of(student.seat.name),
             "images": list(self.store.images),
             "clock": room.clock.settings.on,
             "own_slices": room.own_slices,
@@ -189,10 +195,15 @@ class Class:
         for seat in seats:
             self.rooms[seat.name[0]].add_log_entry(seat, f"!{sentence}")
 
-    def close_notice(self, seat: str, number: int) -> None:
-        """Closes a message of the teacher's, in all tabs of a seat."""
-        self.notices.close(seat, number)
+    def read_notice(self, seat: str, number: int) -> None:
+        """Mark a message of the teacher's as read, in all tabs of a seat. Raises BadRequest."""
+        self.notices.read(seat, number)
         self.tell([seat])
+
+    def open_offer(self, seat: str, number: int) -> None:
+        """Replace the source of a seat by one that the teacher offered. Raises BadRequest."""
+        self.students[seat].source.take_up(self.notices.open(seat, number))
+        self.add_log_entry([self.seat(seat)], "You opened the teacher's source. Your own is kept, as a version.")
 
     def set_hand(self, seat: str, up: bool, text: str = "") -> None:
         """Raise a seat's hand with a text, or lower it."""
@@ -220,7 +231,7 @@ class Class:
     def table(self) -> bytes:
         """The names and the conditions of all seats, as CSV."""
         rows: list[Sequence[object]] = [("seat", "name", "state", "details", "since", "bytes of the script")]
-        for seat in self.seats(""):
+        for seat in self.seats():
             name, since = self.names.get(seat.name, ""), local_time(seat.since)
             rows.append((seat.name, name, seat.state["run"], seat.condition, since, seat.used))
         return as_csv(rows)

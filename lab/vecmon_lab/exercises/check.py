@@ -27,6 +27,7 @@ from ..machine.process import Vecmon
 from .answer import inputs, read_answer, source_answer
 from .exercise import ADDRESSES, Case, Exercise, Results
 from .outcome import outcome
+from .cause import Cause, cause
 from .answer_cost import AnswerCost, answer_cost
 
 NAME = pathlib.Path("answer")
@@ -58,6 +59,7 @@ class CheckResult(TypedDict):
 
     Rows have what is given there, expected and found, and notes what else holds there. Without cases the source has
     mistakes, and wasn't tried. Warnings are a compiler's.
+    cause: of the first wrong number, if it is known
     failure: why the check itself failed, which says nothing about the source; then there are no cases
     unchecked: a sentence that says so to the student, without the cause
     """
@@ -69,6 +71,7 @@ class CheckResult(TypedDict):
     cases: NotRequired[list[CaseResult]]
     number: NotRequired[int]
     reason: NotRequired[str]
+    cause: NotRequired[Cause]
     notes: NotRequired[list[str]]
     given: NotRequired[list[NumberRow]]
     expected: NotRequired[list[NumberRow]]
@@ -125,6 +128,8 @@ def check(
             reply.update({"number": number, "reason": reason, "given": given, "expected": expected})
             reply["notes"] = _notes(exercise, case)
             reply.update({"found": found} if done else {})
+            if done and (known := cause(program, answer, exercise, case, done)):
+                reply["cause"] = known
             return reply
     if passes_all(reply) and "good" in exercise.files:
         with contextlib.suppress(LabError):  # without a compiler for C, or a recorder

@@ -1,6 +1,7 @@
 """The outcome of an answer in a case: it passes, or it fails for a reason, or a tool failed and there is no outcome."""
 
 from collections.abc import Iterator, Mapping
+from dataclasses import dataclass
 
 from .. import LabError
 from ..compilers.failures import ToolError
@@ -30,32 +31,51 @@ def outcome(program: Vecmon, answer: Answer, exercise: Exercise, case: Case) -> 
     return reason, done
 
 
+@dataclass(frozen=True)
+class WrongNumber:
+    """A number that an answer left, and that isn't the expected one. before: that the answer ran
+
+    where: the place in words; register: its name, as x10, or "" for memory; memory: the addresses of its bytes
+    """
+
+    where: str
+    register: str
+    memory: range
+    expected: int
+    before: int
+    found: int
+
+
 def difference(expected: Results, done: Attempt, given: Mapping[str, int]) -> str:
     """The first place where something else is found than is expected, in words; or nothing.
 
     given: registers before; a value found may be near one of them
     """
-    for where, value, old, left in _numbers(expected, done.before, done.found):
-        if left != value:
-            addresses = {name: it for name, it in given.items() if min(it, left) >= ADDRESSES}
-            near = next((ABI_NAMES[name] for name, it in addresses.items() if abs(left - it) < 4096), "")
-            found = f"found {left}" + (f" ({left:#x}, near {near}'s address)" if near else "")
-            return f"{where}: expected {value}, {'and it was left as it was' if left == old else found}"
+    for wrong in wrong_numbers(expected, done):
+        left = wrong.found
+        addresses = {name: it for name, it in given.items() if min(it, left) >= ADDRESSES}
+        near = next((ABI_NAMES[name] for name, it in addresses.items() if abs(left - it) < 4096), "")
+        found = f"found {left}" + (f" ({left:#x}, near {near}'s address)" if near else "")
+        return f"{wrong.where}: expected {wrong.expected}, {'and it was left as it was' if left == wrong.before else found}"
     if done.found.output != expected.output:
         return "output: expected {}, found {}".format(*map(_shown, (expected.output, done.found.output)))
     return ""
 
 
-def _numbers(expected: Results, before: Results, found: Results) -> Iterator[tuple[str, int, int, int]]:
-    """The places of numbers, and those that are expected there, were there before, and were found."""
+def wrong_numbers(expected: Results, done: Attempt) -> Iterator[WrongNumber]:
+    """The numbers that an answer left, and that aren't those expected there, registers first."""
     for name in expected.registers:
-        values = (each.registers[name] for each in (expected, before, found))
+        values = (each.registers[name] for each in (expected, done.before, done.found))
         value, old, left = (each - (each >> 63 << 64) for each in values)
-        yield ABI_NAMES[name], value, old, left
-    for place, *others in zip(expected.memory, before.memory, found.memory):
+        if left != value:
+            yield WrongNumber(ABI_NAMES[name], name, range(0), value, old, left)
+    for place, *others in zip(expected.memory, done.before.memory, done.found.memory):
         size = len(place.data) // len(place.numbers)
         for number, (value, old, left) in enumerate(zip(place.numbers, *(each.numbers for each in others))):
-            yield f"element {number}, {place.type} at {place.address + number * size:#x}", value, old, left
+            address = place.address + number * size
+            if left != value:
+                where = f"element {number}, {place.type} at {address:#x}"
+                yield WrongNumber(where, "", range(address, address + size), value, old, left)
 
 
 def _shown(output: bytes | None) -> str:

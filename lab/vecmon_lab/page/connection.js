@@ -10,7 +10,7 @@ import { Pending } from "./pending.js";
 
 const [FIRST_PAUSE, LONGEST_PAUSE] = [500, 15000]; // ms
 const LONGEST_SILENCE = 60000; // until a request without an answer means a broken connection
-const QUIET = { shoulder: "", wall: "", draft: "", "close-notice": "" };
+const QUIET = { shoulder: "", wall: "", draft: "", read: "" };
 const EXERCISES = { check: "the check", open: "the exercise", answer: "the earlier answer" };
 const SOURCE = { source: "the source", again: "the source", run: "a run", step: "a step" };
 /** @type {Record<string, string>} */

@@ -78,6 +78,7 @@ export interface CheckRequest {
  *
  * Rows have what is given there, expected and found, and notes what else holds there. Without cases the source has
  * mistakes, and wasn't tried. Warnings are a compiler's.
+ * cause: of the first wrong number, if it is known
  * failure: why the check itself failed, which says nothing about the source; then there are no cases
  * unchecked: a sentence that says so to the student, without the cause
  */
@@ -89,6 +90,7 @@ export interface CheckResult {
   cases?: CaseResult[];
   number?: number;
   reason?: string;
+  cause?: "left as it was" | "masked off" | "tail";
   notes?: string[];
   given?: NumberRow[];
   expected?: NumberRow[];
@@ -114,13 +116,6 @@ export interface ClockView {
   slices: number;
   ms: number;
   limit: number;
-}
-
-/** A message of the teacher's to close. */
-export interface CloseNoticeRequest {
-  id: number;
-  ask: "close-notice";
-  number: number;
 }
 
 /** The answer to `codes` and `renew`. */
@@ -207,18 +202,25 @@ export interface FrameData {
   states: { [name: string]: unknown };
 }
 
-/** A source for a seat, or all. */
+/**
+ * A source for seats.
+ *
+ * how: whether it replaces their sources, the default, or is offered in a message; title: of an offer, by default none
+ */
 export interface GiveRequest {
   id: number;
-  seat: string;
+  seat?: string;
+  seats?: string[];
   text: string;
   language?: number;
   ask: "give";
+  how?: "replace" | "offer";
+  title?: string;
 }
 
-/** The source that was given last and can be taken back: to which seat, "" for all, and how many had another text. */
+/** The source that was given last and can be taken back: to which seats, none for all, and how many had another text. */
 export interface Given {
-  seat: string;
+  seats: string[];
   replaced: number;
 }
 
@@ -373,11 +375,12 @@ export interface News {
   kind: "news";
 }
 
-/** A message of the teacher's: its number, which no other open one has, its time in seconds since 1970, and its text. */
+/** A message of the teacher's to a seat: a text or an offer. time: in seconds since 1970; read: whether the student has read it */
 export interface Notice {
-  number: number;
   time: number;
-  text: string;
+  text?: string;
+  offer?: Offer;
+  read: boolean;
 }
 
 export interface NumberRow {
@@ -386,6 +389,20 @@ export interface NumberRow {
   numbers: string[];
   more: number;
   wrong: number[];
+}
+
+/** A source that the teacher offers: a title, which may be empty, its text, and the number of its language. */
+export interface Offer {
+  title: string;
+  text: string;
+  language: number;
+}
+
+/** A message of the teacher's whose source replaces that of the seat. */
+export interface OpenOfferRequest {
+  id: number;
+  ask: "open";
+  number: number;
 }
 
 /** An exercise to open in all tabs of the seat. */
@@ -427,6 +444,13 @@ export interface ReadRegisters {
   vl?: number;
   vtype?: string;
   vstart?: number;
+}
+
+/** A message of the teacher's that the student has read. */
+export interface ReadRequest {
+  id: number;
+  ask: "read";
+  number: number;
 }
 
 /** The answer to a request that was refused. */
@@ -510,6 +534,20 @@ export interface SeatView {
   answer: string;
   used: number;
   hand?: Hand;
+}
+
+/**
+ * A message of the teacher's: a text or an offer. time: in seconds since 1970
+ *
+ * to, read, opened: the seats that have it, those that have read it, and those that have opened its source
+ */
+export interface SentNotice {
+  time: number;
+  text?: string;
+  offer?: Offer;
+  to: string[];
+  read: string[];
+  opened: string[];
 }
 
 /** Bytes of the script: those that the seat has used, and its share. */
@@ -723,7 +761,7 @@ export interface StudentView {
   again: boolean;
   title: string;
   name: string;
-  notices: Notice[];
+  messages: { [name: string]: Notice };
   hand?: Hand;
   images: string[];
   clock: boolean;
@@ -734,10 +772,11 @@ export interface StudentView {
   trouble: string;
 }
 
-/** The source before the last one given, at a seat or all. */
+/** The source before the last one given, at seats. */
 export interface TakeBackRequest {
   id: number;
-  seat: string;
+  seat?: string;
+  seats?: string[];
   ask: "take-back";
 }
 
@@ -746,7 +785,7 @@ export interface TakeBackRequest {
  *
  * machines: by letter; share: a seat's bytes of the script; shoulder: the observed seat, or "", with its state and source
  * wall: the seat on the wall, or ""; address: where students reach the class, or ""
- * given: the last given source, while it can be taken back; unencrypted: whether codes travel unencrypted to other computers
+ * sent: the last messages by number, oldest first; given: the last given source, while it can be taken back; unencrypted: whether codes travel unencrypted to other computers
  */
 export interface TeacherView {
   machines: { [name: string]: MachineView };
@@ -763,6 +802,7 @@ export interface TeacherView {
   languages: string[];
   no_c: string;
   unencrypted: boolean;
+  sent: { [name: string]: SentNotice };
   given?: Given;
   trouble: string;
 }
@@ -775,6 +815,22 @@ export interface TextAnswer {
   id: number;
   text: string;
   language: number;
+}
+
+/** A message to take back from the seats that haven't read it. */
+export interface UnsendRequest {
+  id: number;
+  ask: "unsend";
+  number: number;
+}
+
+/** The answer to `unsend`. */
+export interface UnsentAnswer {
+  patch?: { [name: string]: unknown };
+  logs?: { [name: string]: string[] };
+  kind: "answer";
+  id: number;
+  read: string[];
 }
 
 export interface Version {
@@ -823,10 +879,11 @@ export interface WhyRequest {
   name: string;
 }
 
-/** A message to a seat, or all. */
+/** A message to seats. */
 export interface WriteRequest {
   id: number;
-  seat: string;
+  seat?: string;
+  seats?: string[];
   ask: "write";
   text: string;
 }
@@ -849,7 +906,8 @@ export type StudentRequestForm =
   | AnswerRequest
   | NameRequest
   | HandRequest
-  | CloseNoticeRequest;
+  | ReadRequest
+  | OpenOfferRequest;
 
 export type TeacherRequestForm =
   | MachineLinesRequest
@@ -859,6 +917,7 @@ export type TeacherRequestForm =
   | GiveRequest
   | TakeBackRequest
   | WriteRequest
+  | UnsendRequest
   | LowerHandRequest
   | ResetRequest
   | ClockRequest
@@ -875,6 +934,7 @@ export type Answer =
   | TextAnswer
   | ListingsAnswer
   | ReplacedAnswer
+  | UnsentAnswer
   | WhyAnswer
   | CodesAnswer
   | RefusedAnswer;
@@ -888,6 +948,7 @@ export type Message =
   | TextAnswer
   | ListingsAnswer
   | ReplacedAnswer
+  | UnsentAnswer
   | WhyAnswer
   | CodesAnswer
   | RefusedAnswer;

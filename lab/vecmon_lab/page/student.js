@@ -11,7 +11,7 @@ const MOST_WAITING = 5; // requests: keys that repeat faster are left out
 
 export class Student {
   seat = "";
-  /** @type {Notice[] | null} */ notices = null;
+  /** @type {{ [number: string]: Notice } | null} */ messages = null;
 
   /** @param {HTMLElement} root of all its parts @param {import("./types").Connection} connection */
   constructor(root, connection) {
@@ -49,7 +49,7 @@ export class Student {
     document.title = `${title} – vecmon`;
     put(part(this.root, "who"), title);
     if (view.title) this.home.title = "An archive: the source, the script, and a lesson of it";
-    this.showNotices(view.notices);
+    this.showMessages(view.messages);
     this.hand.hidden = Boolean(view.title); // of a page without a teacher
     this.hand.ariaPressed = `${Boolean(view.hand)}`;
     put(this.hand, view.hand ? "Hand raised" : "Raise hand");
@@ -66,14 +66,19 @@ export class Student {
     this.bench.showConnection();
   }
 
-  /** Shows messages of the teacher's, each until it is closed. */
-  showNotices(/** @type {Notice[]} */ notices) {
-    if (notices === this.notices) return;
-    this.notices = notices;
-    const item = (/** @type {Notice} */ { number, time, text }) => {
-      const close = button("Close", `Close the message: ${text}`, () => this.connection.ask({ ask: "close-notice", number }));
-      return make("li", "", make("small", "", timeText(time)), make("span", "", `The teacher: ${text}`), close);
-    };
-    this.list.replaceChildren(...notices.map(item));
+  /** Shows messages of the teacher's that aren't read, each until it is closed or its source is opened. */
+  showMessages(/** @type {{ [number: string]: Notice }} */ messages) {
+    if (messages === this.messages) return;
+    this.messages = messages;
+    const unread = Object.entries(messages).filter(([, { read }]) => !read);
+    this.list.replaceChildren(...unread.map(([number, notice]) => this.item(Number(number), notice)));
+  }
+
+  /** A message with its buttons. */
+  item(/** @type {number} */ number, /** @type {Notice} */ { time, text, offer }) {
+    const said = text ? `The teacher: ${text}` : `The teacher offers a source${offer?.title ? `: ${offer.title}` : "."}`;
+    const close = button("Close", `Close: ${said}`, () => this.connection.ask({ ask: "read", number }));
+    const open = button("Open", `Open; your source is kept as a version: ${said}`, () => this.connection.ask({ ask: "open", number }));
+    return make("li", "", make("small", "", timeText(time)), make("span", "", said), ...(offer ? [open] : []), close);
   }
 }

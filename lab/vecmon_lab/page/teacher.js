@@ -209,12 +209,13 @@ export class Teacher {
   /** Shows in how many editors a source was replaced by the one given last, while that can be taken back. */
   showGiven(/** @type {TeacherView["given"]} */ given) {
     part(this.root, "take-back").hidden = !given;
-    if (given) put(part(this.root, "gave"), `Given to ${given.seat || "all seats"}: ${editors(given.replaced)} replaced.`);
+    if (given) put(part(this.root, "gave"), `Given to ${given.seats.join(", ") || "all seats"}: ${editors(given.replaced)} replaced.`);
   }
 
   /** Takes back what was given last, where no student has changed it since. */
   async takeBack() {
-    const answer = await this.request({ ask: "take-back", seat: this.view.given?.seat ?? "" });
+    const seats = this.view.given?.seats ?? [];
+    const answer = await this.request({ ask: "take-back", ...(seats.length ? { seats } : { seat: "" }) });
     if (!answer || answer.error) return;
     put(part(this.root, "gave"), `Taken back: ${editors(answer.replaced ?? 0)} restored. A source that a student has changed since stays.`);
   }

@@ -160,7 +160,7 @@ class Desk:
         return {
             "title": "Playground",
             "name": "",
-            "notices": [],
+            "messages": {},
             "images": self.names_of_images(),
             "clock": True,
             "own_slices": self.own_slices,
