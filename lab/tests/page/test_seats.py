@@ -90,12 +90,12 @@ OFFER = """((code, request) => {
 def test_offered_source_is_opened(tabs: "Chrome", served: Served) -> None:
     """It has its title in the banner, replaces the source at a press of *Open*, and is gone from the banner then."""
     tab = Tab(tabs, served, "C4")
-    before = tab.run("id('source').value")
+    before = tab.run("text()")
     words = {"title": "A <i>start</i>", "text": "addi x6, x6, 2"}
     tab.run(OFFER, served.codes["teacher"], {"id": 1, "ask": "give", "seats": ["C4"], "how": "offer", **words})
     tab.wait("all('#notices button').length === 2")
     assert "The teacher offers a source: A <i>start</i>" in tab.text("#notices")
-    assert tab.run("id('source').value") == before
+    assert tab.run("text()") == before
     tab.click("#notices button")
-    tab.wait("id('source').value === 'addi x6, x6, 2' && !one('#notices li')")
+    tab.wait("text() === 'addi x6, x6, 2' && !one('#notices li')")
     assert "You opened the teacher's source." in tab.text("#log")
