@@ -1,7 +1,8 @@
 -- `Steps`: the step on a fetched word. `Lookups` and `Accesses`: loads and stores by the cells of a memory. `ListLaws`: functions of the
--- kit by index. `StepLaws`: steps of vector instructions by their legality.
+-- kit by index. `SliceBounds`: the instructions and ticks of slices and lines. `StepLaws`: steps of vector instructions by their legality.
 pub mod Accesses
 pub mod ListLaws
 pub mod Lookups
+pub mod SliceBounds
 pub mod StepLaws
 pub mod Steps
