@@ -7,6 +7,8 @@ import pytest
 
 from support.class_tabs import LOOP, Message, Tab, served
 from vecmon_lab.classes import room as class_room
+from vecmon_lab.classes.seat_status import status_of
+from vecmon_lab.page.state import State
 
 pytestmark = pytest.mark.asyncio
 
@@ -30,30 +32,30 @@ async def test_seat_status_follows_program(tmp_path: pathlib.Path) -> None:
     async with served(tmp_path / "class") as room:
         tab, teacher = await room.sit("A1"), await room.sit("teacher")
 
-        async def until(condition: str, is_stuck: bool) -> None:
-            expected = (condition, is_stuck)
-            await teacher.until(lambda view: (seat(teacher, "1")["stands"], seat(teacher, "1")["stuck"]) == expected)
+        async def until(kind: str, text: str, is_stuck: bool, **parts: object) -> None:
+            expected = (dict(kind=kind, text=text, **parts), is_stuck)
+            await teacher.until(lambda view: (seat(teacher, "1")["status"], seat(teacher, "1")["stuck"]) == expected)
 
-        assert (seat(teacher, "2")["stands"], seat(teacher, "2")["stuck"]) == ("", False)
+        assert (seat(teacher, "2")["status"], seat(teacher, "2")["stuck"]) == ({"kind": "none", "text": ""}, False)
         assert started <= seat(teacher, "2")["since"] <= time.time()
         await tab.ask("source", text="frob x1, x2\nadd x1, x2")
-        await until("2 mistakes in the source", True)
+        await until("problems", "2 mistakes in the source", True, count=2)
         await tab.ask("source", text=FAULT)
-        await until("at vsetivli x0, 8, e32, m1, ta, ma", False)
+        await until("paused", "at vsetivli x0, 8, e32, m1, ta, ma", False, instruction="vsetivli")
         await tab.do("step 9")
-        await until("fault at element 5 of vle32.v", True)
+        await until("fault", "fault at element 5 of vle32.v", True, instruction="vle32.v", element=5)
         assert tab.view["state"]["vstart"] == 5
         since = seat(teacher, "1")["since"]
         await tab.do("set x11 1")
-        await until("fault at element 5 of vle32.v", True)
+        await until("fault", "fault at element 5 of vle32.v", True, instruction="vle32.v", element=5)
         assert seat(teacher, "1")["since"] == since
         await tab.do("leave", *LOOP)
-        await until("at addi x5, x5, 1", False)
+        await until("paused", "at addi x5, x5, 1", False, instruction="addi")
         await tab.do("break 10004", "go", slices=1)
-        await until("at a breakpoint", False)
+        await until("breakpoint", "at a breakpoint", False, instruction="jal")
         await tab.do("go")
         await teacher.until(lambda view: seat(teacher, "1")["run"] == "running")
-        await until("", False)
+        await until("running", "", False)
 
 
 async def test_long_run_without_stop_is_shown(tmp_path: pathlib.Path, monkeypatch: pytest.MonkeyPatch) -> None:
@@ -63,4 +65,51 @@ async def test_long_run_without_stop_is_shown(tmp_path: pathlib.Path, monkeypatc
         await teacher.ask("clock", machine="A", on=True, slices=100, ms=10, limit=200_000)
         await tab.do(*LOOP, "go")
         await teacher.until(lambda view: seat(teacher, "1")["stuck"])
-        assert seat(teacher, "1")["stands"] == "stopped, since it ran for 200,000 ticks without a stop"
+        text = "stopped, since it ran for 200,000 ticks without a stop"
+        assert seat(teacher, "1")["status"] == {"kind": "limit", "text": text}
+
+
+@pytest.mark.parametrize(
+    "last, expected",
+    [
+        ("", {"kind": "paused", "text": "at vse32.v v8, (x10)", "instruction": "vse32.v"}),
+        ("break pc=0000000000010008", {"kind": "paused", "text": "at vse32.v v8, (x10)", "instruction": "vse32.v"}),
+        ("ebreak pc=0000000000010004", {"kind": "ebreak", "text": "at an ebreak", "instruction": "vse32.v"}),
+        (
+            "outfull pc=0000000000010004",
+            {"kind": "output", "text": "waits, since its output is full", "instruction": "vse32.v"},
+        ),
+        (
+            "exit 3 pc=0000000000010004",
+            {"kind": "ended", "text": "ended with status 3", "exit": 3, "instruction": "vse32.v"},
+        ),
+        (
+            "fault cause=7 pc=0000000000010004 value=0000000000030000",
+            {"kind": "fault", "text": "fault at element 6 of vse32.v", "instruction": "vse32.v", "element": 6},
+        ),
+        (
+            "fault cause=2 pc=0000000000010004 value=000000000205640a",
+            {"kind": "fault", "text": "illegal instruction vse32.v v8, (x10)", "instruction": "vse32.v"},
+        ),
+    ],
+)
+async def test_status_of_stops(last: str, expected: Message) -> None:
+    """Stop lines as docs/COMMANDS.md has them; the instruction is at the program counter."""
+    state: State = {
+        "run": "stopped",
+        "pc": "10004",
+        "vtype": "d0",
+        "vstart": 6,
+        "code": {"10004": "02056427 vse32.v v8, (x10)"},
+    }
+    assert status_of(state, last) == expected
+
+
+async def test_unknown_instruction_has_no_name() -> None:
+    state: State = {"run": "stopped", "pc": "10004", "vtype": "d0", "vstart": 0, "code": {}}
+    assert status_of(state, "") == {"kind": "paused", "text": "at 10004"}
+    assert status_of(state, "fault cause=1 pc=0000000000010004 value=0000000000010004") == {
+        "kind": "fault",
+        "text": "no instruction at 0x10004",
+    }
+    assert status_of({"run": "absent"}, "") == {"kind": "none", "text": ""}

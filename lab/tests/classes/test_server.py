@@ -268,7 +268,7 @@ async def test_stop_is_sent_without_request(room: Served) -> None:
     assert tab.view["stop"] == "break pc=0000000000010004" and tab.view["clock"]
     assert tab.logs["A2"][-1] == "<2 break pc=0000000000010004"
     assert tab.view["state"]["stop"] == "Stopped at the breakpoint at 0x10004; its instruction is the next one."
-    await teacher.until(lambda view: view["machines"]["A"]["seats"]["2"]["stands"] == "at a breakpoint")
+    await teacher.until(lambda view: view["machines"]["A"]["seats"]["2"]["status"]["kind"] == "breakpoint")
     assert teacher.view["machines"]["A"]["seats"]["3"]["run"] == "running"
     assert not [entry for entry in teacher.logs.get("A", []) if "slices" in entry]
     assert await other.do("stop") and other.view["state"]["run"] == "stopped"
@@ -391,12 +391,8 @@ async def test_reload_preserves_seat(room: Served) -> None:
     teacher = await room.sit("teacher")
     await teacher.until(lambda view: view["machines"]["A"]["seats"]["7"]["tabs"] == 1)
     seat = teacher.view["machines"]["A"]["seats"]["7"]
-    assert (seat["line"], seat["answer"], seat["run"], seat["stands"]) == (
-        "setpc 10000",
-        "ok",
-        "stopped",
-        "at jal x0, 0",
-    )
+    assert (seat["line"], seat["answer"], seat["run"]) == ("setpc 10000", "ok", "stopped")
+    assert seat["status"] == {"kind": "paused", "text": "at jal x0, 0", "instruction": "jal"}
 
 
 async def test_two_tabs_show_same_seat(room: Served) -> None:

@@ -10,13 +10,13 @@ from ..assembler.commands import log_entries
 from ..assembler.source import Program
 from ..compilers.compiled import CompiledProgram, variable_rows
 from ..guest.guest import Guest
-from ..instructions.reasons import brief_stop
 from ..lessons.frames import MAX_NAMED
-from ..machine.answers import ControlRegisters, Granted, Stop, answers_by_user, is_refusal, is_stop, read
+from ..machine.answers import Granted, answers_by_user, is_refusal, is_stop, read
 from ..machine.lines import DIGITS, is_look, words_of
 from ..machine.session import Session
 from .languages import SourceText
 from .live import is_servers
+from .seat_status import NO_STATUS, STUCK_KINDS, SeatStatus, status_of
 from ..page.state import ABSENT, SourceNames, State, VisibleRows, WatchSet, add_last_instruction, look_at, with_rows
 from ..page.variables import shown_variables
 
@@ -40,8 +40,7 @@ class Seat:
         instructions of its lines begin, the addresses of their breakpoints, and its variables
     stop, line, answer: the last stop, command and line of an answer, without the digit
     output: the last output of the program, in hexadecimal digits, in blocks by number
-    condition, is_stuck, since: its program's condition, in words besides the state's `run`; whether its student may need
-        somebody; and since when both are so, in seconds since 1970
+    status, since: that of its program, and since when it is so, in seconds since 1970
     stepped: the state before the last line, if that stepped one instruction
     used: the bytes of the script that are the seat's
     slices, seen: how many were granted to the program, about, since it stopped last or its student let it go; and when
@@ -63,8 +62,7 @@ class Seat:
     stop: str = ""
     line: str = ""
     answer: str = ""
-    condition: str = ""
-    is_stuck: bool = False
+    status: SeatStatus = field(default_factory=NO_STATUS.copy)
     since: float = field(default_factory=time.time)
     stepped: State | None = None
     used: int = 0
@@ -79,16 +77,21 @@ class Seat:
         self.number += 1
 
     def follow(self, state: State, shown: State) -> None:
-        """Set a state, and the program's condition in it."""
+        """Set a state, and the program's status in it."""
         before, self.state, self.shown = self.state, state, shown
-        condition, is_stuck = _condition(state, self.stop)
+        status = status_of(state, self.stop)
         has_moved = state["run"] == "stopped" and before.get("pc") != state["pc"]
-        if has_moved or (before["run"], self.condition) != (state["run"], condition):
-            self.set_condition(condition, is_stuck)
+        if has_moved or (before["run"], self.status) != (state["run"], status):
+            self.set_status(status)
 
-    def set_condition(self, condition: str, is_stuck: bool) -> None:
-        """Set its condition from now on."""
-        self.condition, self.is_stuck, self.since = condition, is_stuck, time.time()
+    def set_status(self, status: SeatStatus) -> None:
+        """Set its status from now on."""
+        self.status, self.since = status, time.time()
+
+    @property
+    def is_stuck(self) -> bool:
+        """Whether its student may need somebody, by the status of the program."""
+        return self.status["kind"] in STUCK_KINDS
 
     def take(self, source: SourceText, program: Program) -> None:
         """Set the source that is in the machine now."""
@@ -231,18 +234,6 @@ def _ends_executing(done: Sequence[Done], digit: str) -> bool:
 def _is_repeatable(entry: str) -> bool:
     """Whether an entry is about a full buffer, or about the server that empties it."""
     return entry[0] == "=" or entry[2:10] == " outfull"
-
-
-def _condition(state: State, last: str) -> tuple[str, bool]:
-    """The condition of a program in this state, in a few words, and whether it has a fault; last is its last stop."""
-    if state["run"] != "stopped":
-        return "", False
-    line = state["code"].get(state["pc"], "")
-    stop = read([f"1 {last}"]) if last else None
-    if not isinstance(stop, Stop) or f"{stop.pc:x}" != state["pc"]:
-        return f"at {line[9:] or state['pc']}", False
-    view = ControlRegisters(vtype=int(state["vtype"], 16), vstart=state["vstart"])
-    return brief_stop(stop, int(line[:8], 16) if line else None, view, line[9:]), stop.kind == "fault"
 
 
 def _restarts(line: str, answer: Sequence[str]) -> bool:

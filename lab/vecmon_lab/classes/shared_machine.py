@@ -24,6 +24,7 @@ from .languages import SourceText
 from .live import server_line, with_output
 from .moved_breakpoints import moved_breakpoints
 from .requests import BadRequest, Lines
+from .seat_status import limit_status
 from .seats import Done, Seat, Seats
 
 SEAT_BYTES = 1_500_000  # of a seat's lines in the script: eight leave 3,000,000 to the operator and the clock
@@ -200,7 +201,7 @@ class SharedMachine:
         """
         yield Turn(partial(self._show, seat, not why))
         if why and seat.state["run"] == "stopped":
-            seat.set_condition(f"stopped, since {why}", True)
+            seat.set_status(limit_status(why))
             seat.add_log_entry(f"!The {stopped_by} stopped the program, since {why}. go lets it run on.")
 
     def has_run_long(self, seat: Seat, limit: int) -> str:

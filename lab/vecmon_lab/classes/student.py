@@ -26,6 +26,7 @@ from .requests import (
     TryCase,
     Why,
 )
+from .seat_status import problems_status
 from .seats import Seat
 from .shared_machine import SEAT_BYTES, MakeProgram, Mistakes, SharedMachine, Steps
 from .sources import SeatSource, kept_program
@@ -179,7 +180,7 @@ class Student:
             self.source.write(source, number)
         mistakes, warnings = yield from self.machine.write(self.seat, source, is_answer, keeps_breakpoints)
         if mistakes:
-            self.seat.set_condition(f"{len(mistakes)} mistake{'s' * (len(mistakes) > 1)} in the source", True)
+            self.seat.set_status(problems_status(len(mistakes)))
         return problems_json(source or self.seat.written, mistakes, warnings)
 
     def view(self, others: ClassView) -> StudentView:

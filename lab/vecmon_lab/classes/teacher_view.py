@@ -10,6 +10,7 @@ from .languages import LANGUAGES
 from .progress import CheckFailure
 from .messages import Hand, SentNotice, SourceView, shown, source_view
 from .room import Room
+from .seat_status import SeatStatus
 from .seats import Seat
 from .shared_machine import SEAT_BYTES
 from .view import Class, Given, Tab
@@ -27,14 +28,14 @@ class WallView(TypedDict):
 class SeatView(TypedDict):
     """The teacher's view of a seat.
 
-    tabs: the number of open ones; stands: the program's state in a few words; stuck, since: whether its student may need
-    somebody, and since when both are so, in seconds since 1970; used: bytes of the script; hand: while it is up
+    tabs: the number of open ones; status: of its program; stuck, since: whether its student may need somebody, and since when
+    both are so, in seconds since 1970; used: bytes of the script; hand: while it is up
     """
 
     name: str
     tabs: int
     run: Run
-    stands: str
+    status: SeatStatus
     stuck: bool
     since: int
     line: str
@@ -155,7 +156,7 @@ def _seat_view(members: Class, seat: Seat) -> SeatView:
         "name": members.names.get(seat.name, ""),
         "tabs": sum(tab.who == seat.name for tab in members.tabs),
         "run": seat.state["run"],
-        "stands": seat.condition,
+        "status": seat.status,
         "stuck": seat.is_stuck,
         "since": int(seat.since),
         "line": seat.line,

@@ -229,11 +229,11 @@ class Class:
         self.tell([name])
 
     def table(self) -> bytes:
-        """The names and the conditions of all seats, as CSV."""
+        """The names and the statuses of all seats, as CSV."""
         rows: list[Sequence[object]] = [("seat", "name", "state", "details", "since", "bytes of the script")]
         for seat in self.seats():
             name, since = self.names.get(seat.name, ""), local_time(seat.since)
-            rows.append((seat.name, name, seat.state["run"], seat.condition, since, seat.used))
+            rows.append((seat.name, name, seat.state["run"], seat.status["text"], since, seat.used))
         return as_csv(rows)
 
     def exercise_table(self) -> bytes:

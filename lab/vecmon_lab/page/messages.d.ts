@@ -518,16 +518,36 @@ export interface SeatResult {
 }
 
 /**
+ * The status of a seat's program.
+ *
+ * kind: `none` without a program; `problems`: of the last source, which isn't in the machine; `paused` before an instruction;
+ *     `breakpoint`, `ebreak`, `ended`, `fault`: its last stop; `output`: it waits, since its output is full; `limit`: the server
+ *     stopped it, since it ran too long, or nobody looked at it
+ * text: the same in a few words; "" for `none` and `running`
+ * count: of problems; exit: the status with which the program ended
+ * instruction: the mnemonic of the instruction at the program counter, if it is known
+ * element: at which a vector access has its fault
+ */
+export interface SeatStatus {
+  kind: "none" | "problems" | "running" | "paused" | "breakpoint" | "ebreak" | "ended" | "output" | "fault" | "limit";
+  text: string;
+  count?: number;
+  exit?: number;
+  instruction?: string;
+  element?: number;
+}
+
+/**
  * The teacher's view of a seat.
  *
- * tabs: the number of open ones; stands: the program's state in a few words; stuck, since: whether its student may need
- * somebody, and since when both are so, in seconds since 1970; used: bytes of the script; hand: while it is up
+ * tabs: the number of open ones; status: of its program; stuck, since: whether its student may need somebody, and since when
+ * both are so, in seconds since 1970; used: bytes of the script; hand: while it is up
  */
 export interface SeatView {
   name: string;
   tabs: number;
   run: "absent" | "stopped" | "running";
-  stands: string;
+  status: SeatStatus;
   stuck: boolean;
   since: number;
   line: string;

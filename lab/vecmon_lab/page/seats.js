@@ -58,10 +58,10 @@ class SeatRow {
 
   /** Shows its condition, and for how long; now is the server's time in seconds. */
   age(/** @type {number} */ now) {
-    const { run, stands, since, hand } = this.told;
-    const isThere = run !== "absent" || stands;
+    const { run, status, since, hand } = this.told;
+    const isThere = run !== "absent" || status.text;
     const raised = hand ? ["hand raised", hand.text, forHow(now - hand.since)] : [];
-    put(this.stands, [...raised, ...(isThere ? [stands, forHow(now - since)] : [])].filter(Boolean).join(", "));
+    put(this.stands, [...raised, ...(isThere ? [status.text, forHow(now - since)] : [])].filter(Boolean).join(", "));
   }
 
   /** Since when its student waits for help, in seconds since 1970; Infinity without need of any. */
