@@ -35,6 +35,8 @@ MAX_STEPS, MAX_ROUNDS = 256, 1000  # of one line; and how many such lines are se
 PACES = ((MAX_STEPS, OUTPUT_BYTES - 1), (SAFE_STEPS, OUTPUT_BYTES))
 """Steps at once, and with how many bytes of output all calls have found room behind them; the last ones always find it."""
 
+VECTOR_LOOKS = [f"vreg v{number} 64" for number in range(32)]
+
 STACK_POINTER, STACK_END, STACK_BYTES = 0x7FFF_EFC0, 0x7FFF_F000, 0x4000  # as `load` leaves them
 
 AnswerType = TypeVar("AnswerType", bound=Answer)
@@ -89,7 +91,7 @@ class Guest:
 
     def vectors(self) -> list[bytes]:
         """The bytes of each vector register."""
-        answers = self.ask(*(f"vreg v{number} 64" for number in range(32)))
+        answers = self.ask(*VECTOR_LOOKS)
         return [answer.data for answer in answers if isinstance(answer, VectorRegister)]
 
     def words(self, addresses: Iterable[int]) -> list[Word]:

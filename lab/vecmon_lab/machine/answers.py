@@ -261,9 +261,8 @@ def read(answer: Sequence[str]) -> Answer:
         vl, vtype, vstart, vxrm, vxsat = (word.partition("=")[2] for word in words)
         return ControlRegisters(int(vl), int(vtype, 16), int(vstart), int(vxrm), int(vxsat))
     if first[:1] == "v":
-        width = 256 // len(others)
-        data = b"".join(int(element, 16).to_bytes(width // 8, "little") for element in others)
-        return VectorRegister(int(first[1:]), width, data)
+        data = bytes.fromhex("".join(reversed(others)))[::-1]  # elements, and bytes of each, from the last to the first
+        return VectorRegister(int(first[1:]), 256 // len(others), data)
     listed = [Word(int(line[2:18], 16), int(line[19:27], 16), line[28:]) for line in answer]
     return Listing(listed) if listed[0].text else listed[0]
 

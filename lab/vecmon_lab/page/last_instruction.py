@@ -3,11 +3,13 @@
 The registers before it are known if the machine was looked at then. Otherwise those are known that it can't have changed.
 """
 
-from collections.abc import Iterable, Sequence
+import functools
+from collections.abc import Collection, Iterable, Mapping, Sequence
 from typing import Literal, NotRequired, TypedDict
 
 from ..guest.changes import CONTROLLING, Registers
-from ..instructions.accesses import REGISTER_BYTES, Span, active_spans, vector_instruction
+from ..instructions.accesses import Span, active_spans, vector_instruction
+from ..instructions.calls import ECALL
 from ..instructions.scalar_registers import scalar_written, scalars_read
 from ..instructions.words import LOAD, LOAD_FP, OP_V, STORE, STORE_FP, VECTOR_ACCESSES
 from ..machine.answers import ControlRegisters
@@ -40,39 +42,43 @@ class Access(TypedDict):
     kind: Literal["read", "write"]
 
 
-def read_registers(word: int, before: Registers) -> ReadRegisters:
-    """Return the registers that an instruction read. before: all registers before it"""
-    control = before.control
+Digits = Mapping[str, str]
+"""Registers by number, in hexadecimal digits; of a vector register two for each byte."""
+
+
+def read_registers(word: int, x: Digits, v: Digits, control: ControlRegisters) -> ReadRegisters:
+    """Return the registers that an instruction read. x, v, control: all registers before it"""
     return {
-        "x": _scalars(before, _numbers_read(word, before)),
-        "v": _vectors(before, {number for operand in _operands(word, control) for number in operand}),
-        "v0": _vector(before, 0),
+        "x": _some(x, _scalars_read(word, _call(word, x))),
+        "v": _some(v, _of_operands(word, control.vtype)),
+        "v0": v["0"],
         "vl": control.vl,
         "vtype": f"{control.vtype:x}",
         "vstart": control.vstart,
     }
 
 
-def registers_kept(word: int, after: Registers) -> ReadRegisters:
-    """Return the registers that an instruction read and can't have changed. after: all registers after it"""
+def registers_kept(word: int, x: Digits, v: Digits, control: ControlRegisters) -> ReadRegisters:
+    """Return the registers that an instruction read and can't have changed. x, v, control: all registers after it"""
     is_vset = word & 0x7F == OP_V and word >> 12 & 7 == _OP_VSET
-    instruction = None if is_vset else vector_instruction(word, after.control.vtype)
-    operands = instruction.operands if instruction else []
-    written = {number for each in operands if each.noun == "destination" for number in each.registers}
-    numbers = {number for each in operands for number in each.registers}
-    kept: ReadRegisters = {
-        "x": _scalars(after, _numbers_read(word, after) - {scalar_written(word)}),
-        "v": _vectors(after, numbers - written),
-    }
-    if 0 not in written:
-        kept["v0"] = _vector(after, 0)
+    written = _of_destination(word, control.vtype)
+    scalars = [number for number in _scalars_read(word, _call(word, x)) if number != f"{scalar_written(word)}"]
+    vectors = [number for number in _of_operands(word, control.vtype) if number not in written]
+    kept: ReadRegisters = {"x": _some(x, scalars), "v": _some(v, vectors)}
+    if "0" not in written:
+        kept["v0"] = v["0"]
     if not is_vset:
-        kept["vtype"] = f"{after.control.vtype:x}"
+        kept["vtype"] = f"{control.vtype:x}"
     if not is_vset and not _may_shorten(word):
-        kept["vl"] = after.control.vl
+        kept["vl"] = control.vl
     if word & 0x7F not in CONTROLLING:
-        kept["vstart"] = after.control.vstart
+        kept["vstart"] = control.vstart
     return kept
+
+
+def may_access(word: int) -> bool:
+    """Whether an instruction is a load or store."""
+    return word & 0x7F in (LOAD, STORE, LOAD_FP, STORE_FP)
 
 
 def accesses(word: int, before: Registers, after: ControlRegisters, is_faulting: bool) -> list[Access]:
@@ -105,27 +111,35 @@ def _may_shorten(word: int) -> bool:
     return word & 0x7F == LOAD_FP and word >> 26 & 3 == 0 and word >> 20 & 31 == _FAULT_ONLY_FIRST
 
 
-def _numbers_read(word: int, registers: Registers) -> set[int]:
-    """The numbers of scalar registers that an instruction reads, with the one that it stores."""
+def _call(word: int, x: Digits) -> int:
+    """The number of the call that an instruction makes; 0 for another instruction."""
+    return int(x["17"], 16) if word == ECALL else 0
+
+
+@functools.lru_cache(maxsize=4096)
+def _scalars_read(word: int, call: int) -> Sequence[str]:
+    """The numbers of the scalar registers that an instruction reads, with the one that it stores, without x0."""
     stored = [word >> 20 & 31] if word & 0x7F == STORE else []
-    return {*scalars_read(word, registers.x[17]), *stored} - {0}
+    return [f"{number}" for number in sorted({*scalars_read(word, call), *stored} - {0})]
 
 
-def _operands(word: int, control: ControlRegisters) -> Iterable[range]:
-    instruction = vector_instruction(word, control.vtype)
-    return [operand.registers for operand in instruction.operands] if instruction else []
+@functools.lru_cache(maxsize=4096)
+def _of_operands(word: int, vtype: int) -> Sequence[str]:
+    """The numbers of the vector registers of an instruction's operands."""
+    instruction = vector_instruction(word, vtype)
+    numbers = {number for operand in instruction.operands for number in operand.registers} if instruction else set()
+    return [f"{number}" for number in sorted(numbers) if number < 32]
 
 
-def _scalars(registers: Registers, numbers: Iterable[int]) -> dict[str, str]:
-    return {f"{number}": f"{registers.x[number]:x}" for number in sorted(numbers)}
+def _of_destination(word: int, vtype: int) -> Collection[str]:
+    """The numbers of the vector registers that an instruction writes; none of a vset."""
+    instruction = vector_instruction(word, vtype)
+    operands = instruction.operands if instruction else []
+    return {f"{number}" for each in operands if each.noun == "destination" for number in each.registers}
 
 
-def _vectors(registers: Registers, numbers: Iterable[int]) -> dict[str, str]:
-    return {f"{number}": _vector(registers, number) for number in sorted(numbers) if number < 32}
-
-
-def _vector(registers: Registers, number: int) -> str:
-    return registers.v[number * REGISTER_BYTES : (number + 1) * REGISTER_BYTES].hex()
+def _some(registers: Digits, numbers: Iterable[str]) -> dict[str, str]:
+    return {number: registers[number] for number in numbers}
 
 
 def _joined(spans: Sequence[Span]) -> list[Span]:

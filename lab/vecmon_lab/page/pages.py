@@ -74,7 +74,7 @@ def merge_patch(old: Mapping[str, object], new: Mapping[str, object]) -> dict[st
     patch: dict[str, object] = {key: None for key in old if key not in new}
     for key, value in new.items():
         before = old.get(key)
-        if value != before:
+        if value is not before and value != before:
             patch[key] = merge_patch(before, value) if isinstance(value, dict) and isinstance(before, dict) else value
     return patch
 

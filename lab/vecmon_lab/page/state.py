@@ -7,7 +7,7 @@ from typing import NotRequired, TypedDict
 from ..assembler.data_runs import DataType
 from ..guest.calls import shown_calls
 from ..guest.changes import Registers
-from ..guest.guest import Guest
+from ..guest.guest import VECTOR_LOOKS, Guest
 from ..instructions.accesses import PAGE_BYTES, ROW_BYTES, base_address
 from ..instructions.calls import ECALL, unsupported_call
 from ..instructions.reasons import describe_stop
@@ -22,9 +22,18 @@ from ..machine.answers import (
     Run,
     ScalarRegisters,
     Stop,
+    VectorRegister,
 )
 from ..machine.lines import words_of
-from .last_instruction import Access, ReadRegisters, accesses, read_registers, registers_kept, scalar_accesses
+from .last_instruction import (
+    Access,
+    ReadRegisters,
+    accesses,
+    may_access,
+    read_registers,
+    registers_kept,
+    scalar_accesses,
+)
 from .meanings import ShownMeaning, shown_meaning
 from .operands import ShownOperand, shown_operands
 from .variables import ShownVariable
@@ -112,6 +121,8 @@ MAX_ROWS = 64
 MAPPED_PAGES, MAX_PAGES = 8, 32  # how many pages are looked at since they were mapped, and in all
 MAX_WORDS = 512
 WORDS_AHEAD = 8
+_ECALL_DIGITS = f"{ECALL:08x}"
+_LOOKS = ("state", "regs", "vcsr", "breaks", "trace")
 
 
 class WatchSet:
@@ -124,6 +135,9 @@ class WatchSet:
         self.breaks: set[int] = set()  # where the program stops, which a look at a running program doesn't show
         self.is_compiled = False  # whether a compiler made the program in memory
         self.trace: Sequence[int] = []  # as it was when it was looked at last
+        self.followed: set[
+            int
+        ] = set()  # addresses from which on words were listed, in memory that hasn't changed since
 
     def follow(self, line: str) -> None:
         """Takes up the places that a user's line names, which was accepted."""
@@ -158,9 +172,9 @@ class WatchSet:
         pages = range(address // PAGE_BYTES * PAGE_BYTES, address + length, PAGE_BYTES)
         self.pages.update(pages[: max(0, limit - len(self.pages))])
 
-    def add_accessed(self, word: int, registers: dict[str, str]) -> None:
+    def add_accessed(self, word: int, x: Sequence[int]) -> None:
         """Takes up the page in which a load or store starts its access."""
-        address = base_address(word, [int(registers[f"{number}"], 16) for number in range(32)])
+        address = base_address(word, x)
         if address is not None:
             self._add_pages(address % (1 << 48), 1)
 
@@ -179,7 +193,9 @@ def look_at(
     is_done: whether a line did more than look
     While the program runs the machine shows nothing else, so that all but `run` and `pc` stays as it was.
     """
-    (place,) = guest.ask("state")
+    opcode = int(executed[:8], 16) & 0x7F if executed else None
+    has_vectors = opcode in (None, OP_V, LOAD_FP)
+    place, scalar, control, breaks, traced, *vectors = guest.ask(*_LOOKS, *(VECTOR_LOOKS if has_vectors else ()))
     if not isinstance(place, Position):
         return ABSENT.copy()
     state = before.copy()
@@ -189,25 +205,28 @@ def look_at(
         state.pop("accessed", None)
         state.pop("faulted", None)
         state.pop("stop", None)
-    state.update({"run": place.run, "pc": f"{place.pc:x}"})
+    state["run"], state["pc"] = place.run, f"{place.pc:x}"
     for answer in answers:
         if isinstance(answer, Output) and answer.data:
             state["output"] = state.get("output", "") + answer.data.hex()
     if place.run == "running":
         return state
-    control = _take_registers(guest, state)
+    assert isinstance(scalar, ScalarRegisters) and isinstance(control, ControlRegisters)
+    assert isinstance(breaks, Addresses) and isinstance(traced, Addresses)
+    _set_registers(state, scalar, control)
+    state["breaks"] = [f"{address:x}" for address in breaks.addresses]
     state["policy"] = guest.session.policy[guest.user]
-    opcode = int(executed[:8], 16) & 0x7F if executed else None
-    if opcode in (None, OP_V, LOAD_FP):
-        state["v"] = {f"{number}": data.hex() for number, data in enumerate(guest.vectors())}
-    trace = guest.query("trace", Addresses).addresses
+    if has_vectors:
+        state["v"] = {
+            f"{number}": each.data.hex() for number, each in enumerate(vectors) if isinstance(each, VectorRegister)
+        }
+    trace, may_store = traced.addresses, opcode in (None, STORE, STORE_FP)
     stepped = any(isinstance(answer, Position) and answer.kind == "stepped" for answer in answers)
-    may_store = opcode in (None, STORE, STORE_FP)
     _set_code(state, _code(guest, watch_set, place.pc, trace, {} if may_store else state["code"]))
-    text, pages = state["code"].get(state["pc"], ""), len(watch_set.pages)
     _take_calls(state)
+    text, pages = state["code"].get(state["pc"], ""), len(watch_set.pages)
     if text:
-        watch_set.add_accessed(int(text[:8], 16), state["x"])
+        watch_set.add_accessed(int(text[:8], 16), scalar.x)
     if may_store or len(watch_set.pages) > pages:
         state["memory"] = _memory(guest, watch_set)
     if trace and (stepped or trace != watch_set.trace):
@@ -243,23 +262,27 @@ def add_last_instruction(state: State, before: State | None) -> None:
     line = state["code"].get(state.get("instruction", ""), "")
     if not line:
         return
-    word, after = int(line[:8], 16), registers_of(state)
+    word, is_faulting = int(line[:8], 16), state.get("faulted", False)
     if before and before.get("pc") == state["instruction"]:
-        known = registers_of(before)
-        state["read"] = read_registers(word, known)
-        state["accessed"] = accesses(word, known, after.control, state.get("faulted", False))
+        state["read"] = read_registers(word, before["x"], before["v"], control_of(before))
+        known = registers_of(before) if may_access(word) else None
+        state["accessed"] = accesses(word, known, control_of(state), is_faulting) if known else []
         return
-    state["read"] = registers_kept(word, after)
-    accessed = None if state.get("faulted") else scalar_accesses(word, after)
+    state["read"] = registers_kept(word, state["x"], state["v"], control_of(state))
+    accessed = None if is_faulting else scalar_accesses(word, registers_of(state))
     if accessed is not None:
         state["accessed"] = accessed
+
+
+def control_of(state: State) -> ControlRegisters:
+    """The vector control registers of a state that has them."""
+    return ControlRegisters(state["vl"], int(state["vtype"], 16), state["vstart"], state["vxrm"], state["vxsat"])
 
 
 def registers_of(state: State) -> Registers:
     """The registers of a state that has them."""
     x, v = ([given[f"{number}"] for number in range(32)] for given in (state["x"], state["v"]))
-    control = (state["vl"], int(state["vtype"], 16), state["vstart"], state["vxrm"], state["vxsat"])
-    return Registers([int(digits, 16) for digits in x], ControlRegisters(*control), bytearray.fromhex("".join(v)))
+    return Registers([int(digits, 16) for digits in x], control_of(state), bytearray.fromhex("".join(v)))
 
 
 class VisibleRows:
@@ -298,24 +321,19 @@ def with_rows(state: State, rows: set[str]) -> State:
     return shown
 
 
-def _take_registers(guest: Guest, state: State) -> ControlRegisters:
-    """Takes scalar registers, vector control registers and breakpoints into a state."""
-    scalar, control, breaks = guest.ask("regs", "vcsr", "breaks")
-    assert isinstance(scalar, ScalarRegisters) and isinstance(control, ControlRegisters)
-    assert isinstance(breaks, Addresses)
-    state["x"] = {str(number): f"{value:x}" for number, value in enumerate(scalar.x)}
-    state["vtype"] = f"{control.vtype:x}"
-    state.update({"vl": control.vl, "vstart": control.vstart, "vxrm": control.vxrm, "vxsat": control.vxsat})
-    state["breaks"] = [f"{address:x}" for address in breaks.addresses]
-    return control
+def _set_registers(state: State, scalar: ScalarRegisters, control: ControlRegisters) -> None:
+    """Set the scalar registers and vector control registers of a state."""
+    state["x"] = {f"{number}": f"{value:x}" for number, value in enumerate(scalar.x)}
+    state["vtype"], state["vl"], state["vstart"] = f"{control.vtype:x}", control.vl, control.vstart
+    state["vxrm"], state["vxsat"] = control.vxrm, control.vxsat
 
 
 def _take_calls(state: State) -> None:
     """Takes calls that the machine doesn't support into a state, and forgets those whose ECALL isn't there any more."""
-    words = {int(address, 16): int(line[:8], 16) for address, line in state["code"].items()}
-    if ECALL not in words.values():
+    if not any(line.startswith(_ECALL_DIGITS) for line in state["code"].values()):
         state.pop("calls", None)
         return
+    words = {int(address, 16): int(line[:8], 16) for address, line in state["code"].items()}
     before, shown = state.get("calls", {}), shown_calls(words)
     calls = {int(address, 16): text for address, text in before.items() if words.get(int(address, 16)) == ECALL} | shown
     pc = int(state["pc"], 16)
@@ -329,11 +347,17 @@ def _take_calls(state: State) -> None:
 def _code(guest: Guest, watch_set: WatchSet, pc: int, trace: Sequence[int], known: dict[str, str]) -> dict[str, str]:
     """The listing: words that lines wrote, executed words, and some from the program counter on.
 
-    What is known of it is as it was.
+    known: the listing before, if memory hasn't changed since; its addresses are in the watch set
     """
+    if not known:
+        watch_set.followed.clear()
     if len(watch_set.code) < MAX_WORDS:
         watch_set.code.update(trace)
-        watch_set.code.update(_ahead(guest, pc))
+        if pc not in watch_set.followed:
+            watch_set.code.update(_ahead(guest, pc))
+            watch_set.followed.add(pc)
+    if len(known) == len(watch_set.code):
+        return known
     new = {address for address in watch_set.code if f"{address:x}" not in known}
     return known | {f"{it.address:x}": f"{it.word:08x} {it.text}" for it in guest.words(new)}
 
