@@ -6,12 +6,16 @@ import time
 import pytest
 
 from support.class_tabs import LOOP, Message, Tab, served
+from vecmon_lab.__main__ import arguments_of
+from vecmon_lab.classes import progress
 from vecmon_lab.classes import room as class_room
 from vecmon_lab.classes.seat_status import status_of
+from vecmon_lab.exercises.exercise import OURS
 from vecmon_lab.page.state import State
 
 pytestmark = pytest.mark.asyncio
 
+DOUBLES = (OURS / "doubles" / "good.s").read_text()
 FAULT = """
         vsetivli x0, 8, e32, m1, ta, ma
         li x10, 0x11fec
@@ -113,3 +117,51 @@ async def test_unknown_instruction_has_no_name() -> None:
         "text": "no instruction at 0x10004",
     }
     assert status_of({"run": "absent"}, "") == {"kind": "none", "text": ""}
+
+
+async def test_requests_and_open_exercise_have_times(tmp_path: pathlib.Path) -> None:
+    started = int(time.time())
+    async with served(tmp_path / "a class", exercises=[pathlib.Path("doubles"), pathlib.Path("filter")]) as room:
+        tab, teacher = await room.sit("A1"), await room.sit("teacher")
+        assert (teacher.view["class_title"], tab.view["class_title"], tab.view["title"]) == ("a class", "a class", "")
+        assert (seat(teacher, "1")["active"], seat(teacher, "1")["exercise"]) == (0, "doubles")
+        assert started <= seat(teacher, "1")["exercise_since"] <= time.time()
+        assert room.members
+        room.members.students["A1"].source.opened = 1.0
+        await tab.ask("open", exercise="filter")
+        await teacher.until(lambda view: seat(teacher, "1")["exercise"] == "filter")
+        assert started <= seat(teacher, "1")["exercise_since"] <= time.time()
+        assert started <= seat(teacher, "1")["active"] <= time.time()
+        assert seat(teacher, "2")["active"] == 0
+
+
+async def test_long_work_with_failed_tries_is_stuck(tmp_path: pathlib.Path, monkeypatch: pytest.MonkeyPatch) -> None:
+    """Three tries at an exercise that has been open for ten minutes; a try that passes ends it."""
+    async with served(tmp_path / "class", exercises=[pathlib.Path("doubles")]) as room:
+        tab, teacher = await room.sit("A1"), await room.sit("teacher")
+        assert room.members
+        source = room.members.students["A1"].source
+        source.opened = opened = time.time() - 599
+
+        async def check(text: str, tries: int) -> None:
+            await tab.ask("check", exercise="doubles", text=text)
+            await tab.until(lambda view: view["exercises"]["doubles"]["tries"] == tries)
+
+        for number in (1, 2, 3):
+            await check("ret", number)
+        assert not seat(teacher, "1")["stuck"]
+        monkeypatch.setattr(progress, "STUCK_SECONDS", 10)  # as if the time had passed
+        await teacher.until(lambda view: seat(teacher, "1")["stuck"])  # without a request
+        third = teacher.view["exercises"]["doubles"]["seats"]["A1"]["time"]
+        assert seat(teacher, "1")["stuck_since"] == third > opened + 10
+        await check(DOUBLES, 4)
+        await teacher.until(lambda view: not seat(teacher, "1")["stuck"])
+        assert "stuck_since" not in seat(teacher, "1")
+
+
+async def test_class_title_is_one_line() -> None:
+    assert arguments_of(["class", "monday"]).title is None
+    assert arguments_of(["class", "monday", "--title", "Vectors, Monday"]).title == "Vectors, Monday"
+    for other in ("", "a\nb", 81 * "a"):
+        with pytest.raises(SystemExit, match="2"):
+            arguments_of(["class", "monday", "--title", other])

@@ -18,6 +18,8 @@ from .names import NAMES
 from .store import Store, forget, renew_teacher
 from .view import Class
 
+MAX_TITLE = 80
+
 
 def add_arguments(parser: argparse.ArgumentParser) -> None:
     """Add the arguments and options of `vecmon-lab class`."""
@@ -25,6 +27,9 @@ def add_arguments(parser: argparse.ArgumentParser) -> None:
         "folder", metavar="DIR", type=pathlib.Path, help="the folder of the class, created if necessary"
     )
     parser.add_argument("images", metavar="NAME=PATH", nargs="*", default=[], help="images that students load by name")
+    parser.add_argument(
+        "--title", metavar="TEXT", type=_title, help="the title of the class; by default the name of DIR"
+    )
     _add_addresses(parser)
     _add_exercises(parser)
     _add_machines(parser)
@@ -134,6 +139,7 @@ def _serve(arguments: argparse.Namespace) -> None:
     for sentence in store.lost:
         print(f"vecmon-lab: warning: {sentence}", file=sys.stderr)
     members.address = arguments.address or ""
+    members.class_title = members.class_title if arguments.title is None else arguments.title
     hosts = {*arguments.name, urlsplit(members.address).hostname or host}
     asyncio.run(serve(members, host, listeners, hosts, tls=tls))
 
@@ -146,6 +152,13 @@ def _address(text: str) -> str:
     if scheme not in ("http", "https") or not HOST.fullmatch(host):
         raise argparse.ArgumentTypeError(f"{text} isn't http:// or https://, a host, and a port or none")
     return f"{scheme}://{host}/"
+
+
+def _title(text: str) -> str:
+    """The title of a class. Raises ArgumentTypeError."""
+    if not 0 < len(text) <= MAX_TITLE or not text.isprintable():
+        raise argparse.ArgumentTypeError(f"a title has 1 to {MAX_TITLE} printable characters")
+    return text
 
 
 def _tell(sentence: str) -> None:

@@ -1,5 +1,6 @@
 """The exercises of a class, and the progress of each seat in them: its tries, their results, and what its page shows."""
 
+import time
 from collections.abc import Callable, Mapping, Sequence
 from dataclasses import dataclass, field
 from typing import NotRequired, TypedDict
@@ -14,6 +15,7 @@ from .requests import BadRequest
 
 MAX_TRIES = 200  # of a seat at an exercise
 MAX_FAILURES = 50  # of checks, which the teacher is shown
+STUCK_SECONDS, STUCK_TRIES = 600, 3  # at an open exercise, and failed tries, after which a student may need somebody
 
 Try = TypedDict("Try", {"time": int, "text": str, "suffix": NotRequired[str], "told": CheckResult})
 """An answer: when, in seconds since 1970; the source, and that of its language, else `s`; and the result of its check."""
@@ -88,6 +90,16 @@ class Progress:
         """The most cases that passed in one try."""
         return max((passed for _, passed in self.tries), default=0)
 
+    def stuck_since(self, opened: float) -> float | None:
+        """When its student was stuck at the exercise, in seconds since 1970; None if that isn't so.
+
+        opened: when the exercise was opened
+        """
+        if self.first or len(self.tries) < STUCK_TRIES:
+            return None
+        since = max(opened + STUCK_SECONDS, self.tries[STUCK_TRIES - 1][0])
+        return since if since <= time.time() else None
+
     def result(self) -> SeatResult:
         """The row of a teacher's table."""
         which = self.first or len(self.tries)
@@ -121,6 +133,11 @@ class Exercises:
     def of(self, name: str) -> dict[str, Progress]:
         """The progress of each seat that has tried an exercise."""
         return {seat: it for (seat, exercise), it in self._progress.items() if exercise == name and it.tries}
+
+    def stuck_since(self, seat: str, name: str, opened: float) -> float | None:
+        """As `Progress.stuck_since`, of a seat at an exercise; None without one."""
+        progress = self._progress.get((seat, name)) if name in self.by_name else None
+        return progress.stuck_since(opened) if progress else None
 
     def check_may_start(self, seat: str, name: str) -> None:
         """Raises BadRequest where no answer of the seat to this exercise may be checked now."""

@@ -41,6 +41,7 @@ class Seat:
     stop, line, answer: the last stop, command and line of an answer, without the digit
     output: the last output of the program, in hexadecimal digits, in blocks by number
     status, since: that of its program, and since when it is so, in seconds since 1970
+    active: when a tab of it made its last request, in seconds since 1970; 0 without one
     stepped: the state before the last line, if that stepped one instruction
     used: the bytes of the script that are the seat's
     slices, seen: how many were granted to the program, about, since it stopped last or its student let it go; and when
@@ -64,6 +65,7 @@ class Seat:
     answer: str = ""
     status: SeatStatus = field(default_factory=NO_STATUS.copy)
     since: float = field(default_factory=time.time)
+    active: float = 0.0
     stepped: State | None = None
     used: int = 0
     slices: float = 0.0
@@ -89,7 +91,7 @@ class Seat:
         self.status, self.since = status, time.time()
 
     @property
-    def is_stuck(self) -> bool:
+    def has_failed(self) -> bool:
         """Whether its student may need somebody, by the status of the program."""
         return self.status["kind"] in STUCK_KINDS
 

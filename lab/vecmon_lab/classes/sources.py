@@ -36,6 +36,7 @@ class SeatSource:
 
     own, number: as it is, and how often it has changed since the server began; versions: the last ones, in order
     exercise: the one that is open, whose source is `own`; "" for none. Each exercise has a source.
+    opened: when it was opened, or the server started, in seconds since 1970
     """
 
     def __init__(self, name: str, store: TextStore) -> None:
@@ -43,7 +44,7 @@ class SeatSource:
         self._unsaved: dict[int, SourceText] = {}  # versions by number
         self._left: dict[str, SourceText] = {}  # sources of exercises that aren't open, unless they are saved
         self.versions = self._found()
-        self.exercise = kept_exercise(store, name)
+        self.exercise, self.opened = kept_exercise(store, name), time.time()
         self.own = kept_source(store, self._place(self.exercise))
         self._saved = (self.exercise, self.own)
         self.written = self._saved_written = kept_source(store, f"{name}.written")
@@ -69,7 +70,7 @@ class SeatSource:
         self._left[self.exercise] = self.own
         left = self._left.pop(exercise, None) or kept_source(self._store, self._place(exercise))
         self.own = left if left.text else SourceText("", self.own.language)
-        self.exercise, self.number, self._gift = exercise, self.number + 1, None
+        self.exercise, self.opened, self.number, self._gift = exercise, time.time(), self.number + 1, None
         self._newest, self._since = self._newest_of(exercise), time.time()
 
     def draft(self, source: SourceText, number: int, exercise: str = "", is_kept: bool = False) -> None:

@@ -68,6 +68,7 @@ class ClassView(TypedDict):
     """The other fields of a student's view.
 
     title: of a page without a class, such as its file's name; "" in a class
+    class_title: the class's; "" without one
     name: the student's, or ""; messages: the teacher's last ones by number, oldest first; images: names for `load`
     clock: whether it is on; own_slices: whether the student may grant slices
     hand: the student's, while it is up
@@ -76,6 +77,7 @@ class ClassView(TypedDict):
     """
 
     title: str
+    class_title: str
     name: str
     messages: dict[str, Notice]
     hand: NotRequired[Hand]

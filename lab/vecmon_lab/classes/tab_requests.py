@@ -47,6 +47,8 @@ class TabRequests:
                 raise BadRequest(refusal)
             if tab.who == WALL:
                 raise BadRequest("the wall only looks")
+            if tab.who != TEACHER:
+                self._members.seat(tab.who).active = time.time()
             result = await self._execute(tab, read_request(message, tab.who == TEACHER), done)
         except (LabError, ValueError, RecursionError) as error:
             result = {"error": str(error), "done": done}

@@ -28,16 +28,24 @@ class WallView(TypedDict):
 class SeatView(TypedDict):
     """The teacher's view of a seat.
 
-    tabs: the number of open ones; status: of its program; stuck, since: whether its student may need somebody, and since when
-    both are so, in seconds since 1970; used: bytes of the script; hand: while it is up
+    tabs: the number of open ones; active: when one of them made its last request; 0 without one
+    status, since: of its program, and since when it is so
+    exercise, exercise_since: the open one, or "", and since when it is open, or the server runs
+    stuck, stuck_since: whether its student may need somebody, and since when, which is missing otherwise: the program has problems, a
+        fault, or ran too long, or the exercise has been open for 10 minutes, with 3 tries that failed
+    used: bytes of the script; hand: while it is up. Times are in seconds since 1970.
     """
 
     name: str
     tabs: int
+    active: int
     run: Run
     status: SeatStatus
-    stuck: bool
     since: int
+    exercise: str
+    exercise_since: int
+    stuck: bool
+    stuck_since: NotRequired[int]
     line: str
     answer: str
     used: int
@@ -76,11 +84,13 @@ class MachineView(TypedDict):
 class TeacherView(TypedDict):
     """The teacher's view.
 
-    machines: by letter; share: a seat's bytes of the script; shoulder: the observed seat, or "", with its state and source
+    class_title: the title of the class; machines: by letter; share: a seat's bytes of the script; shoulder: the observed seat, or "", with its state and source
     wall: the seat on the wall, or ""; address: where students reach the class, or ""
-    sent: the last messages by number, oldest first; given: the last given source, while it can be taken back; unencrypted: whether codes travel unencrypted to other computers
+    sent: the last messages by number, oldest first; given: the last given source, while it can be taken back
+    unencrypted: whether codes travel unencrypted to other computers
     """
 
+    class_title: str
     machines: dict[str, MachineView]
     share: int
     shoulder: str
@@ -111,6 +121,7 @@ def wall_view(members: Class) -> WallView:
 def teacher_view(members: Class, tab: Tab) -> TeacherView:
     """The teacher's view in a tab."""
     view: TeacherView = {
+        "class_title": members.class_title,
         "machines": {letter: _machine_view(members, room) for letter, room in members.rooms.items()},
         "share": SEAT_BYTES,
         "images": list(members.store.images),
@@ -152,17 +163,23 @@ def _machine_view(members: Class, room: Room) -> MachineView:
 
 
 def _seat_view(members: Class, seat: Seat) -> SeatView:
+    source, stuck_since = members.students[seat.name].source, members.stuck_since(seat)
     view: SeatView = {
         "name": members.names.get(seat.name, ""),
         "tabs": sum(tab.who == seat.name for tab in members.tabs),
+        "active": int(seat.active),
         "run": seat.state["run"],
         "status": seat.status,
-        "stuck": seat.is_stuck,
         "since": int(seat.since),
+        "exercise": source.exercise,
+        "exercise_since": int(source.opened),
+        "stuck": stuck_since is not None,
         "line": seat.line,
         "answer": seat.answer,
         "used": seat.used,
     }
+    if stuck_since is not None:
+        view["stuck_since"] = int(stuck_since)
     if hand := members.hands.of(seat.name):
         view["hand"] = hand
     return view

@@ -73,6 +73,7 @@ class Class:
         self.notices = Notices(store)
         self.hands = Hands(store)
         self.title = ""  # of a page without a class
+        self.class_title = store.folder.resolve().name
         self.address = ""  # where students reach the class, with a slash at its end
         self.is_unencrypted = False  # on the way to other computers
         self.wall: Seat | None = None  # the seat that it shows
@@ -81,6 +82,7 @@ class Class:
         self.rooms: dict[str, Room] = {}
         self.students: dict[str, Student] = {}
         self._kept: dict[str, tuple[Notes, float]] = {}  # and when they were kept
+        self._stuck: Sequence[str] = ()  # seats whose students were stuck at the last save
         self.warning = ""  # why something isn't saved, as pages have it
         makers, self._packers, self._packing = WorkerPool(1), WorkerPool(2), set[str]()
         try:
@@ -131,6 +133,9 @@ class Class:
                 self.store.write(f"{room.letter}.json", asdict(notes))
                 self._kept[room.letter] = notes, time.monotonic()
         self.checks.save()
+        if self._stuck != (stuck := [seat.name for seat in self.seats() if self.stuck_since(seat)]):
+            self._stuck = stuck
+            self.tell([])
         if self.store.warning != self.warning:
             self.warning = self.store.warning
             self.tell([])
@@ -162,11 +167,19 @@ class Class:
         """The seats of these names, or all for none. Raises BadRequest."""
         return [self.seat(name) for name in names or self.students]
 
+    def stuck_since(self, seat: Seat) -> float | None:
+        """Since when a seat's student may need somebody, in seconds since 1970; None if that isn't so."""
+        source = self.students[seat.name].source
+        by_exercise = self.checks.exercises.stuck_since(seat.name, source.exercise, source.opened)
+        times = [since for since in (seat.since if seat.has_failed else None, by_exercise) if since is not None]
+        return min(times, default=None)
+
     def student_view(self, student: Student) -> StudentView:
         """The student's view."""
         room = self.rooms[student.seat.name[0]]
         others: ClassView = {
             "title": self.title,
+            "class_title": "" if self.title else self.class_title,
             "name": self.names.get(student.seat.name, ""),
             "messages": self.notices.of(student.seat.name),
             "images": list(self.store.images),

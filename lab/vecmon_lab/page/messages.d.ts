@@ -540,16 +540,24 @@ export interface SeatStatus {
 /**
  * The teacher's view of a seat.
  *
- * tabs: the number of open ones; status: of its program; stuck, since: whether its student may need somebody, and since when
- * both are so, in seconds since 1970; used: bytes of the script; hand: while it is up
+ * tabs: the number of open ones; active: when one of them made its last request; 0 without one
+ * status, since: of its program, and since when it is so
+ * exercise, exercise_since: the open one, or "", and since when it is open, or the server runs
+ * stuck, stuck_since: whether its student may need somebody, and since when, which is missing otherwise: the program has problems, a
+ *     fault, or ran too long, or the exercise has been open for 10 minutes, with 3 tries that failed
+ * used: bytes of the script; hand: while it is up. Times are in seconds since 1970.
  */
 export interface SeatView {
   name: string;
   tabs: number;
+  active: number;
   run: "absent" | "stopped" | "running";
   status: SeatStatus;
-  stuck: boolean;
   since: number;
+  exercise: string;
+  exercise_since: number;
+  stuck: boolean;
+  stuck_since?: number;
   line: string;
   answer: string;
   used: number;
@@ -780,6 +788,7 @@ export interface StudentView {
   exercises: { [name: string]: ExerciseView };
   again: boolean;
   title: string;
+  class_title: string;
   name: string;
   messages: { [name: string]: Notice };
   hand?: Hand;
@@ -803,11 +812,13 @@ export interface TakeBackRequest {
 /**
  * The teacher's view.
  *
- * machines: by letter; share: a seat's bytes of the script; shoulder: the observed seat, or "", with its state and source
+ * class_title: the title of the class; machines: by letter; share: a seat's bytes of the script; shoulder: the observed seat, or "", with its state and source
  * wall: the seat on the wall, or ""; address: where students reach the class, or ""
- * sent: the last messages by number, oldest first; given: the last given source, while it can be taken back; unencrypted: whether codes travel unencrypted to other computers
+ * sent: the last messages by number, oldest first; given: the last given source, while it can be taken back
+ * unencrypted: whether codes travel unencrypted to other computers
  */
 export interface TeacherView {
+  class_title: string;
   machines: { [name: string]: MachineView };
   share: number;
   shoulder: string;

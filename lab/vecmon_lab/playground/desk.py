@@ -159,6 +159,7 @@ class Desk:
         """The parts of the page's view that belong to no seat."""
         return {
             "title": "Playground",
+            "class_title": "",
             "name": "",
             "messages": {},
             "images": self.names_of_images(),
