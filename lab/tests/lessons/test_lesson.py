@@ -274,6 +274,46 @@ def test_missing_program_is_refused(tmp_path: pathlib.Path) -> None:
 
 
 @pytest.mark.by_command("lesson")
+def data_of(page: str) -> dict[str, Any]:
+    """The data of a lesson's page."""
+    data: dict[str, Any] = json.loads(page.partition('id="lesson">')[2].partition("</script>")[0])
+    return data
+
+
+INTRODUCED = """## Halves
+# Halve four numbers.
+        .data
+ages:   .byte 200, 8, 6, 4
+        .balign 8
+word:   .dword -5
+name:   .asciz "Ada"
+zeros:  .half 9, 9, 9
+        .text
+# A type. It sets `vl`.
+        vsetivli zero, 4, e8, m1, ta, ma
+        la a0, ages
+# A load?
+        vle8.v v1, (a0)
+# Shift by one: 200 becomes 100. And so on.
+        vsrl.vi v1, v1, 1
+# A fourth comment.
+        ebreak
+"""
+
+
+def test_first_frame_introduces_lesson(program: pathlib.Path) -> None:
+    """Three comments, each up to its first full stop, and the data of the source with its labels."""
+    script = read_assembled(INTRODUCED, "x.s")
+    frames = make_frames(script, program)
+    data = data_of(lesson_page("Halves", frames, script))
+    assert data["about"]["points"] == ["A type.", "A load?", "Shift by one: 200 becomes 100."]
+    numbers = ["`ages`: 4 numbers of 8 bits: 200, 8, 6, 4", "`word`: −5, a number of 64 bits"]
+    assert data["about"]["memory"] == [*numbers, '`name`: the text "Ada"', "`zeros`: 3 numbers of 16 bits, each 9"]
+    assert data["data"]["11000"] == {"type": "u8", "count": 4}
+    assert "about" not in data_of(lesson_page("Halves", frames, script, is_introduced=False))
+    assert "about" not in data_of(lesson_page("Empty", make_frames(read_script("1 enter\n"), program)))
+
+
 def test_lesson_page_is_written(tmp_path: pathlib.Path) -> None:
     (tmp_path / "script").write_text("# <first>\n1 enter\n1 load sum\n")
     completed = lab("lesson", str(tmp_path / "script"), f"sum={SUM}", "-o", str(tmp_path / "page.html"))
@@ -299,12 +339,11 @@ def test_lesson_page_is_written(tmp_path: pathlib.Path) -> None:
         ("0f", "active"),
     ]
     assert [tuple(cell) for cell in masked["cells"]] == elements + 10 * [("ee", "tail")]
-    named = [
-        path.stem
-        for path in (tmp_path / "new" / "tour").glob("*.html")
-        if '"links":[{"kind":"prev"' in path.read_text("utf-8")
-    ]
-    assert {*named} == {*list(tours())[1:]} and '"links":[]' in page
+    lessons = [{"name": name, "title": title} for name, title in zip(tours(), titles)]
+    for place, name in enumerate(tours()):
+        data = data_of((tmp_path / "new" / "tour" / f"{name}.html").read_text("utf-8"))
+        assert data["series"] == {"name": "tour", "lessons": lessons, "place": place}
+    assert "series" not in data_of(page)
 
 
 def test_tour_is_complete_without_reader(tmp_path: pathlib.Path) -> None:

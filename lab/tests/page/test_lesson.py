@@ -11,7 +11,7 @@ from support.browser import CONTRAST, media, press
 from support.lesson_follower import PICTURE, Follower
 from support.places import EXAMPLES
 from vecmon_lab.lessons.frames import make_frames
-from vecmon_lab.lessons.page import Link, lesson_page
+from vecmon_lab.lessons.page import Series, lesson_page
 from vecmon_lab.lessons.script import read_assembled, read_script
 from vecmon_lab.lessons.tour import tours
 from vecmon_lab.machine.session import Session
@@ -257,6 +257,7 @@ def test_focus_is_visible_on_all_controls(opened: Callable[[str], "Chrome"], pro
     from selenium.webdriver.common.keys import Keys
 
     browser = opened(lesson_page("x", make_frames(tours()["class_of_three"], program)))
+    press(browser, Keys.ARROW_RIGHT)  # to a frame with elements
     look = """const e = document.activeElement;
         return [e === document.body ? "" : e.id || (e.getAttribute("role") ?? e.textContent), getComputedStyle(e).outlineStyle]"""
     seen = dict[str, str]()
@@ -296,6 +297,13 @@ def test_tour_starts_with_introduction(opened: Callable[[str], "Chrome"], tmp_pa
     assert browser.title == "here"
 
 
+SERIES: Series = {
+    "name": "tour",
+    "lessons": [{"name": name, "title": name.title()} for name in ("one", "page", "two")],
+    "place": 1,
+}
+
+
 def test_lesson_links_to_other_lessons(
     opened: Callable[[str], "Chrome"], program: pathlib.Path, tmp_path: pathlib.Path
 ) -> None:
@@ -305,17 +313,59 @@ def test_lesson_links_to_other_lessons(
     frames = make_frames(read_script("1 enter\n"), program)
     browser = opened(lesson_page("x", frames))
     assert not browser.find_element("css selector", "#links").is_displayed()
-    ways: list[Link] = [
-        {"kind": "prev", "address": "one.html", "title": "Before"},
-        {"kind": "index", "address": "index.html", "title": "All lessons"},
-        {"kind": "next", "address": "two.html", "title": "After"},
-    ]
-    browser = opened(lesson_page("x", frames, links=ways))
-    links = browser.find_elements("css selector", "#links a")
-    assert [link.text for link in links] == ["Previous lesson", "All lessons", "Next lesson"]
-    assert [link.get_dom_attribute("title") for link in links] == ["Before", "All lessons", "After"]
+    browser = opened(lesson_page("x", frames, series=SERIES))
+    assert text_of(browser, "#series-place") == "lesson 2 of 3"
+    links = browser.find_elements("css selector", "#links > a")
+    assert [link.text for link in links] == ["All lessons", "Previous lesson", "Next lesson"]
+    assert [link.get_dom_attribute("title") for link in links] == [None, "One", "Two"]
     (tmp_path / "two.html").write_text("<title>two</title>")
     browser.execute_script("arguments[0].focus()", links[1])
     press(browser, Keys.TAB)
     press(browser, Keys.ENTER)
     assert browser.title == "two" and not browser.get_log("browser")
+
+
+def test_first_frame_introduces_lesson(opened: Callable[[str], "Chrome"], program: pathlib.Path) -> None:
+    """It shows points and data in place of elements, and Start leads to the next frame; a lesson without them has elements."""
+    script = read_assembled((EXAMPLES / "strip_mined.s").read_text("utf-8"), "x")
+    browser = opened(lesson_page("x", make_frames(script, program), script))
+    shown = """return ["introduction", "vectors"].map((id) =>
+        document.getElementById(id).checkVisibility({ visibilityProperty: true }))"""
+    assert browser.execute_script(shown) == [True, False]
+    assert text_of(browser, "#points").startswith("How many elements of 32 bits are worked on in this round")
+    assert text_of(browser, "#in-memory").startswith("x: 13 numbers of 32 bits: 9, 2, 7, 1, 8, 3, 6, 4, 5, 1, 12, 3, …")
+    browser.find_element("id", "begin").click()
+    assert browser.execute_script(shown) == [False, True] and text_of(browser, "#count").startswith("2 of ")
+    browser.find_element("id", "first").click()
+    assert browser.execute_script(shown) == [True, False]
+    browser = opened(lesson_page("x", make_frames(read_script("1 enter\n"), program)))
+    assert browser.execute_script(shown) == [False, True]
+
+
+def test_lessons_read_to_end_are_marked(
+    opened: Callable[[str], "Chrome"], program: pathlib.Path, tmp_path: pathlib.Path
+) -> None:
+    """At the last frame the browser keeps that a lesson was read; its mark and the index show it later."""
+    from selenium.webdriver.common.keys import Keys
+
+    strip = {"name": "v1", "text": "", "cells": [("0a", "active")]}
+    entries = [each | {"sentence": "It is short.", "strip": strip} for each in SERIES["lessons"]]
+    lesson = lesson_page("x", make_frames(read_script("1 enter\n1 map 0 1 rw\n"), program), series=SERIES)
+    marks = "return [...document.querySelectorAll('#progress a')].map((mark) => mark.textContent)"
+    browser = opened(lesson)
+    browser.execute_script("localStorage.clear()")
+    for is_read in ("", ", read"):
+        browser = opened(lesson)
+        assert browser.execute_script(marks) == ["Lesson 1: One", f"Lesson 2: Page{is_read}", "Lesson 3: Two"]
+        current = browser.find_element("css selector", "#progress [aria-current=page]")
+        assert current.get_dom_attribute("title") == "Page" and "2: Page" in text_of(
+            browser, "#progress [aria-current]"
+        )
+        press(browser, Keys.ARROW_RIGHT)
+    (tmp_path / "index.html").write_text(lone_page("tour", "A tour", entries), "utf-8")
+    browser.find_element("link text", "All lessons").click()
+    items = [item.text.split("\n")[0] for item in browser.find_elements("css selector", "#lessons li")]
+    assert items == ["One", "Page ✓ read", "Two"]
+    browser.execute_script("localStorage.setItem('vecmon-lessons-read', '{')")
+    assert "read" not in opened(lesson).find_element("id", "progress").text and not browser.get_log("browser")
+    browser.execute_script("localStorage.clear()")

@@ -17,12 +17,12 @@ PAGES = sorted(
 )
 FILE = {
     "main.js": 'import { half } from "./numbers.js";\nimport { say, Loud } from "./words.js";\n\nsay(half(4));\n',
-    "numbers.js": "// Numbers.\n\nexport const half = (number) => number / 2;\nconst own = 1;\n",
+    "numbers.js": "// Numbers.\n// Some copyright\n\nexport const half = (number) => number / 2;\nconst own = 1;\n",
     "words.js": 'import { half } from "./numbers.js";\n\nexport function say() {}\nexport class Loud {}\n',
 }
 JOINED = """\
 const $numbers = (() => {
-// Numbers.
+// Some copyright
 
 const half = (number) => number / 2;
 const own = 1;

@@ -84,7 +84,7 @@ def _played(store: Store, seat: str, lines: Sequence[str], own: SourceText) -> d
     frames = make_frames(script, store.program, store.images, store.quantum)
     frames = [replace(frame, log=frame.log[-MAX_ENTRIES:]) for frame in frames]
     files: dict[str, str | bytes] = {f"{seat}.script": "".join(f"{line}\n" for line in lines)}
-    files |= {f"{seat}.html": lesson_page(script.title, frames, script)}
+    files |= {f"{seat}.html": lesson_page(script.title, frames, script, is_introduced=False)}
     loaded = {words_of(line)[1] for line in lines if words_of(line)[:1] == ["load"] and words_of(line)[1:]}
     return files | {f"{name}.elf": path.read_bytes() for name, path in store.images.items() if name in loaded}
 

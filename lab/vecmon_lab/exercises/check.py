@@ -152,7 +152,7 @@ def lesson(program: Vecmon, exercise: Exercise, number: int, text: str, compiled
     source = answer.source.program
     brought = [f"1 {line}" for line in ["enter", *answer.commands, *inputs(exercise, case, source.entry)]]
     steps = [Step(brought, f"The case is given. The answer fails: {reason}"), Step(["1 step 256"])]
-    return _page(title, replace(answer.source, steps=steps, said=source.source_lines(text)), program)
+    return _page(title, replace(answer.source, steps=steps, said=source.source_lines(text)), program, False)
 
 
 def script_before(exercise: Exercise) -> Script:
@@ -167,12 +167,12 @@ def lesson_before(program: Vecmon, exercise: Exercise) -> str:
     return _page(script.title, script, program)
 
 
-def _page(title: str, script: Script, program: Vecmon) -> str:
+def _page(title: str, script: Script, program: Vecmon, is_introduced: bool = True) -> str:
     """The page in HTML of a script."""
     from ..lessons.frames import make_frames  # which a check does without
     from ..lessons.page import lesson_page
 
-    return lesson_page(title, make_frames(script, program), script)
+    return lesson_page(title, make_frames(script, program), script, is_introduced=is_introduced)
 
 
 def case_rows(exercise: Exercise, case: Case) -> CaseRows:

@@ -25,7 +25,7 @@ def run(arguments: argparse.Namespace) -> int:
     folder.mkdir(parents=True, exist_ok=True)
     exercises = {name: read_exercise(OURS / name) for name in minutes}
     scripts = {name: script_before(exercise) for name, exercise in exercises.items()}
-    pages, lessons = make_series(program, {name: (it, it.steps[0].note) for name, it in scripts.items()})
+    pages, lessons = make_series("course", program, {name: (it, it.steps[0].note) for name, it in scripts.items()})
     entries = [
         {
             "title": it.title,

@@ -1,11 +1,11 @@
 """A series of lessons: pages with links to one another, and what their index shows of each."""
 
 import pathlib
-from collections.abc import Mapping, Sequence
+from collections.abc import Mapping
 from typing import TypedDict
 
 from .frames import make_frames
-from .page import Link, lesson_page
+from .page import SeriesLesson, lesson_page
 from .script import Script
 from .strip import Strip, strip_of
 
@@ -14,25 +14,17 @@ Entry = TypedDict("Entry", {"name": str, "title": str, "sentence": str, "strip":
 
 
 def make_series(
-    program: pathlib.Path, scripts: Mapping[str, tuple[Script, str]]
+    series: str, program: pathlib.Path, scripts: Mapping[str, tuple[Script, str]]
 ) -> tuple[list[tuple[str, str, str]], list[Entry]]:
     """The pages of lessons, each a name, a title and its HTML, and the entries of their index.
 
-    scripts: by name, in their order, each a script and its sentence. Raises LabError as `make_frames` does.
+    series: `tour` or `course`; scripts: by name, in their order, each a script and its sentence. Raises LabError as `make_frames` does.
     """
-    titles = [(name, script.title) for name, (script, _) in scripts.items()]
+    lessons = [SeriesLesson(name=name, title=script.title) for name, (script, _) in scripts.items()]
     pages, entries = list[tuple[str, str, str]](), list[Entry]()
     for place, (name, (script, sentence)) in enumerate(scripts.items()):
         frames = make_frames(script, program)
-        page = lesson_page(script.title, frames, script, _links(titles, place))
+        page = lesson_page(script.title, frames, script, {"name": series, "lessons": lessons, "place": place})
         pages.append((name, script.title, page))
         entries.append({"name": name, "title": script.title, "sentence": sentence, "strip": strip_of(frames)})
     return pages, entries
-
-
-def _links(titles: Sequence[tuple[str, str]], place: int) -> list[Link]:
-    """The links of a lesson to the one before it, the index, and the one after it."""
-    before, after = titles[max(0, place - 1) : place], titles[place + 1 : place + 2]
-    links: list[Link] = [{"kind": "prev", "address": f"{name}.html", "title": title} for name, title in before]
-    links.append({"kind": "index", "address": "index.html", "title": "All lessons"})
-    return [*links, *(Link(kind="next", address=f"{name}.html", title=title) for name, title in after)]

@@ -29,7 +29,7 @@ def run(arguments: argparse.Namespace) -> int:
     program, folder, scripts = find_program(), arguments.folder, tours()
     folder.mkdir(parents=True, exist_ok=True)
     sentences = {name: sentence for name, _, sentence in read_table("tours")}
-    pages, entries = make_series(program, {name: (script, sentences[name]) for name, script in scripts.items()})
+    pages, entries = make_series("tour", program, {name: (script, sentences[name]) for name, script in scripts.items()})
     write_pages(folder, [("index", "A tour", lone_page("tour", "A tour", entries)), *pages])
     return 0
 

@@ -1,8 +1,9 @@
 // A lesson: frames made beforehand, stepped back and forth. Each has what changed of the states.
 
-import { byId, make, part, prose, put } from "./elements.js";
+import { byId, elementsIn, make, part, prose, put, unseen } from "./elements.js";
 import { Panes } from "./panes.js";
 import { patched } from "./patches.js";
+import { keepRead, lessonsRead } from "./progress.js";
 import { lineBegins } from "./source_lines.js";
 import { STOP_LINE, entryParts, logEntry } from "./transcript.js";
 import { MachineView, usedIn } from "./view.js";
@@ -11,9 +12,8 @@ import { MachineView, usedIn } from "./view.js";
 /** @typedef {Record<string, State>} States by user */
 /** @typedef {import("./messages").FrameData} Frame */
 
-const LINKS = { prev: "Previous lesson", index: "All lessons", next: "Next lesson" };
-/** @type {("first" | "back" | "next" | "last")[]} */
-const MOVES = ["first", "back", "next", "last"];
+/** @type {("first" | "begin" | "back" | "next" | "last")[]} */
+const MOVES = ["first", "begin", "back", "next", "last"];
 /** @type {Record<string, number>} */
 const LINE_KEYS = { ArrowDown: 1, ArrowUp: -1 };
 /** @type {Record<string, number>} */
@@ -28,10 +28,12 @@ class Lesson {
   address = 0; // a timer
 
   /** @param {HTMLElement} root @param {import("./messages").LessonData} data */
-  constructor(root, { frames, links, ...source }) {
+  constructor(root, { frames, about, series, ...source }) {
     this.root = root;
     this.frames = frames;
     this.source = source;
+    this.name = series && `${series.name}/${series.lessons[series.place].name}`; // of what is read
+    this.isIntroduced = Boolean(about);
     this.view = new MachineView(root);
     this.log = part(root, "log");
     new Panes(root, "lesson");
@@ -48,15 +50,39 @@ class Lesson {
     this.listen();
     this.begins = lineBegins(source.starts ?? {}, this.states.map((states) => states[1]?.pc));
     this.listenToLines();
-    const link = (/** @type {import("./messages").Link} */ { kind, address, title }) =>
-      Object.assign(make("a", "", LINKS[kind]), { rel: kind, href: address, title });
-    part(root, "links").append(...links.map(link)); // to other lessons of a tour or a course
-    part(root, "links").hidden = !links.length;
+    put(elementsIn(part(root, "vectors"), ".missing")[0], "This frame has no machine yet.");
+    if (about) this.introduce(about);
+    if (series) this.showSeries(series);
     this.show(Number(location.hash.slice(1) || 1) - 1);
   }
 
+  /** Puts what the lesson shows, and what is in memory, into the first frame. */
+  introduce(/** @type {import("./messages").About} */ { points, memory }) {
+    const fill = (/** @type {"points" | "in-memory"} */ id, /** @type {string[]} */ texts) => {
+      part(this.root, id).append(...texts.map((text) => make("li", "", ...prose(text))));
+      if (!texts.length) part(this.root, id).previousElementSibling?.remove();
+    };
+    fill("points", points);
+    fill("in-memory", memory);
+  }
+
+  /** Shows the lesson's place in a tour or a course, and links to the others, with marks at those that were read. */
+  showSeries(/** @type {import("./messages").Series} */ { name, lessons, place }) {
+    const link = (/** @type {number} */ to, /** @type {import("./elements.js").Content} */ content) =>
+      Object.assign(make("a", "", content), { href: `${lessons[to].name}.html`, title: lessons[to].title });
+    const read = lessons.map((each) => lessonsRead().has(`${name}/${each.name}`));
+    const marks = lessons.map(({ title }, to) => link(to, unseen(`Lesson ${to + 1}: ${title}${read[to] ? ", read" : ""}`)));
+    marks.forEach((mark, to) => mark.classList.toggle("read", read[to]));
+    marks[place].ariaCurrent = "page";
+    put(part(this.root, "series-place"), `lesson ${place + 1} of ${lessons.length}`);
+    part(this.root, "progress").append(...marks.map((mark) => make("li", "", mark)));
+    if (place > 0) part(this.root, "links").append(" ", link(place - 1, "Previous lesson"));
+    if (place + 1 < lessons.length) part(this.root, "links").append(" ", link(place + 1, "Next lesson"));
+    part(this.root, "links").hidden = false;
+  }
+
   listen() {
-    const places = { first: () => 0, back: () => this.place - 1, next: () => this.place + 1, last: () => Infinity };
+    const places = { first: () => 0, begin: () => 1, back: () => this.place - 1, next: () => this.place + 1, last: () => Infinity };
     for (const id of MOVES) part(this.root, id).addEventListener("click", () => this.show(places[id]()));
     const slider = part(this.root, "place");
     slider.max = `${this.frames.length - 1}`;
@@ -125,6 +151,8 @@ class Lesson {
     this.showPlace(user, states);
     this.showStage(frame, state, user, states);
     this.showLog(frame.log.length);
+    part(this.root, "introduction").hidden = !this.isIntroduced || this.place > 0;
+    if (this.name && this.place === this.frames.length - 1) keepRead(this.name);
     const earlier = this.states.slice(0, this.place).map((each) => each[user]);
     const step = earlier.findLast((each) => each !== state); // before what was done last, which frames that only look leave
     this.view.paint({ ...state, ...this.source }, earlier.at(-1), this.used[user], step);

@@ -1,5 +1,15 @@
 // The types of messages. `.venv/bin/python -m support.message_types` writes this file from the lab's Python types.
 
+/**
+ * Sentences of a lesson's first frame, with backquotes around code.
+ *
+ * points: what the lesson shows; memory: the data of its source, or the variables that all functions know
+ */
+export interface About {
+  points: string[];
+  memory: string[];
+}
+
 /** Bytes of memory that an instruction read or wrote: the address in hexadecimal digits, and the number of bytes. */
 export interface Access {
   address: string;
@@ -247,7 +257,11 @@ export interface Hello {
   time: number;
 }
 
-/** The data of a lesson's page: the names of its source, its frames, and links to other lessons. */
+/**
+ * The data of a lesson's page: the names of its source, its frames, and its place in a series.
+ *
+ * about: the content of the first frame, if that introduces the lesson
+ */
 export interface LessonData {
   labels: { [name: string]: string[] };
   lines: { [name: string]: string };
@@ -257,7 +271,8 @@ export interface LessonData {
   variables?: ShownVariable[];
   data?: { [name: string]: ShownData };
   frames: FrameData[];
-  links: Link[];
+  about?: About;
+  series?: Series;
 }
 
 /** The answer to lines. */
@@ -278,13 +293,6 @@ export interface LinesRequest {
   slices?: number;
   look?: string[];
   ask: "lines";
-}
-
-/** A link to another lesson of a tour or course: `prev`, `index` or `next`, its address and its title. */
-export interface Link {
-  kind: "prev" | "index" | "next";
-  address: string;
-  title: string;
 }
 
 /** The answer to `listings`. */
@@ -576,6 +584,24 @@ export interface SentNotice {
   to: string[];
   read: string[];
   opened: string[];
+}
+
+/**
+ * The place of a lesson in a series.
+ *
+ * name: `tour` or `course`, below which the browser stores which lessons were read
+ * lessons: in their order; place: the index of this one
+ */
+export interface Series {
+  name: string;
+  lessons: SeriesLesson[];
+  place: number;
+}
+
+/** A lesson of a series: the name of its page without the suffix, and its title. */
+export interface SeriesLesson {
+  name: string;
+  title: string;
 }
 
 /** Bytes of the script: those that the seat has used, and its share. */

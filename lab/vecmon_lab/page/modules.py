@@ -4,16 +4,16 @@ import re
 from collections.abc import Callable, Sequence
 
 _IMPORT = re.compile(r'^import \{ (.+) \} from "\./(\w+)\.js";\n', re.MULTILINE)
-_DOCUMENTATION = re.compile(
-    r"^ */\*\*(?:(?!\*/).)*\*/\n", re.MULTILINE | re.DOTALL
-)  # lines of a comment alone, not a cast in code
+_COMMENTS = re.compile(
+    r"^ *(?:/\*\*(?:(?!\*/).)*\*/|//(?![^\n]*(?:copyright|license))[^\n]*)\n", re.MULTILINE | re.DOTALL
+)  # lines of a comment alone, not a cast in code, and no notices
 _EXPORT = re.compile(r"^export (?=(?:class|const|function) (\w+))", re.MULTILINE)
 
 
 def join_modules(entry: str, read: Callable[[str], str]) -> str:
     """One script of a module and of all that it imports, in the order of imports.
 
-    Each is a function of its own, and what it exports is `$NAME`. Comments of documentation are left out.
+    Each is a function of its own, and what it exports is `$NAME`. Lines of comments are left out but for notices.
     entry: the name of the module, whose file is NAME.js; read: the text of a file
     Raises ValueError where modules import each other, or what isn't exported.
     """
@@ -25,7 +25,7 @@ def join_modules(entry: str, read: Callable[[str], str]) -> str:
             raise ValueError(f"modules import each other: {', '.join([*importers, name])}")
         if name in exported:
             return
-        text = _DOCUMENTATION.sub("", read(f"{name}.js"))
+        text = _COMMENTS.sub("", read(f"{name}.js"))
         for names, other in _IMPORT.findall(text):
             add(other, [*importers, name])
             if missing := set(names.split(", ")) - set(exported[other]):

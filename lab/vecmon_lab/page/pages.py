@@ -6,6 +6,7 @@ import hashlib
 import html
 import json
 import pathlib
+import re
 import string
 from collections.abc import Iterable, Mapping
 
@@ -13,6 +14,7 @@ from . import codemirror
 from .modules import join_modules
 
 FILES = pathlib.Path(__file__).parent
+_COMMENTS = re.compile(r" */\*.*?\*/\n*", re.DOTALL)  # of styles
 PIECES = ("bench", "vectors")  # files of HTML that are parts of pages
 
 
@@ -34,10 +36,11 @@ class Page:
         bench = ["bench.css", "lanes.css"] if 'class="bench"' in text else []
         has_editor = f"const ${pathlib.Path(codemirror.MODULE).stem} = " in self._script
         library, editor = (codemirror.style(), ["editor.css"]) if has_editor else ("", [])
-        self._style = library + "".join(map(read, ("tokens.css", "parts.css", *bench, *editor, *sorted(styles))))
+        own = "".join(map(read, ("tokens.css", "parts.css", *bench, *editor, *sorted(styles))))
+        self._style = library + _COMMENTS.sub("", own)
         self.style_source, self.script_source = _digest(self._style), _digest(self._script)
-        own = f"style-src {self.style_source}; script-src {self.script_source}"
-        self.policy = f"default-src 'none'; img-src data:; {own}; base-uri 'none'; form-action 'none'"
+        sources = f"style-src {self.style_source}; script-src {self.script_source}"
+        self.policy = f"default-src 'none'; img-src data:; {sources}; base-uri 'none'; form-action 'none'"
 
     def text(self, title: str, data: str = "", policy: str = "") -> str:
         """The page in HTML, with what its script shows, and with its policy where no server sends it."""

@@ -5,7 +5,7 @@ type Ids<Kind, Names extends string> = { [Name in Names]: Kind };
 export type Parts =
   Ids<
     HTMLButtonElement,
-    | "again" | "break-here" | "next-pane" | "next-problem" | "previous-pane" | "previous-problem" | "step-out" | "step-over" | "until-go" | "assemble" | "back" | "backward" | "by-address" | "by-ticks" | "close-sheet" | "edit-close" | "first" | "fold-dock"
+    | "again" | "begin" | "break-here" | "next-pane" | "next-problem" | "previous-pane" | "previous-problem" | "step-out" | "step-over" | "until-go" | "assemble" | "back" | "backward" | "by-address" | "by-ticks" | "close-sheet" | "edit-close" | "first" | "fold-dock"
     | "fold-exercise" | "fold-state" | "forget" | "forth" | "give" | "go" | "halt" | "hand" | "home" | "last" | "line-back" | "line-go"
     | "line-next" | "link" | "many" | "new" | "next" | "no" | "now" | "one" | "open-file" | "open-sheet" | "print" | "read" | "save"
     | "save-table" | "show-codes" | "show-console" | "show-listing" | "show-memory" | "show-output" | "show-problems" | "show-reference"
@@ -18,7 +18,7 @@ export type Parts =
   Ids<HTMLFormElement, "change" | "clocks" | "join" | "operate" | "steps" | "tell" | "until"> &
   Ids<HTMLInputElement, "called" | "code" | "find" | "moment" | "name" | "number" | "open" | "place" | "until-line" | "value" | "words"> &
   Ids<HTMLLabelElement, "edit-name" | "operator-machine"> &
-  Ids<HTMLOListElement, "lessons" | "log" | "mistakes" | "operator-log" | "slips"> &
+  Ids<HTMLOListElement, "lessons" | "log" | "mistakes" | "operator-log" | "progress" | "slips"> &
   Ids<HTMLOutputElement, "count" | "moment-count"> &
   Ids<HTMLPreElement, "output"> &
   Ids<HTMLScriptElement, "data" | "lesson" | "reference-data"> &
@@ -30,17 +30,17 @@ export type Parts =
   Ids<HTMLTableElement, "lengths" | "rows"> &
   Ids<HTMLTableSectionElement, "seats"> &
   Ids<HTMLTextAreaElement, "given" | "operator-line" | "source"> &
-  Ids<HTMLUListElement, "notices"> &
+  Ids<HTMLUListElement, "in-memory" | "notices" | "points"> &
   Ids<HTMLFormElement | HTMLPreElement, "command"> &
   Ids<HTMLSelectElement | HTMLTextAreaElement, "line"> &
   Ids<
     HTMLElement,
     | "about" | "at" | "banner" | "bytes" | "calls" | "checked" | "codes" | "console" | "course" | "desk" | "dock" | "editor"
     | "elements" | "entries" | "entry" | "exercise" | "exercise-title" | "flame" | "gave" | "giving-title" | "gone" | "head"
-    | "hint" | "join-says" | "key-says" | "left" | "left-column" | "line-ways" | "links" | "listing" | "machine" | "machines" | "memory" | "menu"
+    | "hint" | "introduction" | "introduction-title" | "join-says" | "key-says" | "left" | "left-column" | "line-ways" | "links" | "listing" | "machine" | "machines" | "memory" | "menu"
     | "middle" | "no-c" | "no-output" | "no-problems" | "operator-title" | "output-box" | "output-new" | "past" | "problems"
     | "problems-count" | "program" | "program-title" | "question" | "reference" | "registers" | "right" | "run" | "says-past" | "scalars"
-    | "scalars-title" | "seats-title" | "sentence" | "sheet" | "sheet-says" | "shoulder" | "sides" | "split-dock" | "split-exercise"
+    | "scalars-title" | "seats-title" | "series-place" | "sentence" | "sheet" | "sheet-says" | "shoulder" | "sides" | "split-dock" | "split-exercise"
     | "split-left" | "split-middle" | "split-state" | "start" | "state" | "step" | "stop" | "summary" | "tables" | "teacher" | "trouble"
     | "unencrypted" | "users" | "variables" | "vectors" | "vectors-title" | "wall-code" | "who"
   >;

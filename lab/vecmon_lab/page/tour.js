@@ -1,11 +1,13 @@
 // The index of the tour: of each lesson a link, a sentence and a picture.
 
 import { byId, make, prose } from "./elements.js";
+import { lessonsRead } from "./progress.js";
 import { stripOf } from "./strip.js";
 
 /** @type {{ name: string, title: string, sentence: string, strip: import("./strip.js").Strip }[]} */
 const lessons = JSON.parse(byId("data").text);
 for (const { name, title, sentence, strip } of lessons) {
   const link = Object.assign(make("a", "", title), { href: `${name}.html` });
-  byId("lessons").append(make("li", "", link, make("p", "", ...prose(sentence)), stripOf(strip)));
+  const mark = lessonsRead().has(`tour/${name}`) ? " ✓ read" : "";
+  byId("lessons").append(make("li", "", link, mark, make("p", "", ...prose(sentence)), stripOf(strip)));
 }

@@ -1,0 +1,73 @@
+"""The content of a lesson's first frame: what the lesson shows, and what is in memory before it."""
+
+import json
+import re
+from collections.abc import Sequence
+from typing import TypedDict
+
+from ..assembler.data_runs import DataRun
+from ..assembler.source import Program
+from .frames import Frame
+from .script import Script
+
+MAX_POINTS, MAX_NUMBERS, MAX_LETTERS, MAX_PLACES = 3, 12, 40, 8
+
+
+class About(TypedDict):
+    """Sentences of a lesson's first frame, with backquotes around code.
+
+    points: what the lesson shows; memory: the data of its source, or the variables that all functions know
+    """
+
+    points: list[str]
+    memory: list[str]
+
+
+def about(frames: Sequence[Frame], script: Script) -> About:
+    """The content of the first frame: the first sentence of each of the first comments after it, and the data of the source."""
+    notes = dict.fromkeys(frame.note for frame in frames[1:] if frame.note and frame.note != frames[0].note)
+    memory = [f"`{variable.declaration}`" for variable in script.variables if not variable.function]
+    if script.program:
+        memory += _data(script.program)
+    return {"points": [_first_sentence(note) for note in notes][:MAX_POINTS], "memory": memory[:MAX_PLACES]}
+
+
+def _first_sentence(note: str) -> str:
+    """The text up to the first full stop, question mark or exclamation mark before a space."""
+    return re.split(r"(?<=[.!?]) ", note, maxsplit=1)[0]
+
+
+def _data(program: Program) -> list[str]:
+    """The numbers and texts of the source's directives, with their labels."""
+    contents, names = dict[int, int](), program.names()
+    for _, start, digits in (line.split() for line in program.lines if line.startswith("poke ")):
+        contents |= {int(start, 16) + place: byte for place, byte in enumerate(bytes.fromhex(digits))}
+    described = []
+    for address, run in program.data.items():
+        size = run.count if run.type == "text" else run.count * int(run.type[1:]) // 8
+        content = bytes(contents.get(address + place, 0) for place in range(size))
+        label = names.get(f"{address:x}", [f"0x{address:x}"])[0]
+        described.append(f"`{label}`: {_described(run, content)}")
+    return described
+
+
+def _described(run: DataRun, content: bytes) -> str:
+    """The numbers or the text of a run in words: how many there are, and the first ones."""
+    if run.type == "text":
+        text = content.rstrip(b"\0").decode("ascii", "replace")
+        return f"the text {json.dumps(text[:MAX_LETTERS])}{' …' * (len(text) > MAX_LETTERS)}"
+    bits = int(run.type[1:])
+    places = range(0, len(content), bits // 8)
+    signed = run.type[0] == "i"
+    numbers = [int.from_bytes(content[at : at + bits // 8], "little", signed=signed) for at in places]
+    if len(numbers) == 1:
+        return f"{_number(numbers[0])}, a number of {bits} bits"
+    if len(set(numbers)) == 1:
+        return f"{len(numbers)} numbers of {bits} bits, each {_number(numbers[0])}"
+    shown = ", ".join(_number(number) for number in numbers[:MAX_NUMBERS]) + ", …" * (len(numbers) > MAX_NUMBERS)
+    return f"{len(numbers)} numbers of {bits} bits: {shown}"
+
+
+def _number(number: int) -> str:
+    """A number with a minus sign as pages show it."""
+    return f"{number}".replace("-", "−")
