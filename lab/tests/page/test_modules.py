@@ -144,7 +144,6 @@ def named(text: str) -> str:
 
 
 def test_documentation_is_left_out() -> None:
-    """Comments on lines of their own aren't in the script; types within code stay, which have the code after them."""
-    code = "const twice = (one) => /** @type {number} */ (2 * one);\nclass Some {\n"
-    code += "  /** @type {Set<number>} */ used = new Set();\n}\n"
+    """Comments on lines of their own and types aren't in the script; the code after a type is."""
+    code = "const twice = (one) => (2 * one);\nclass Some {\n  used = new Set();\n}\n"
     assert join_modules("main", lambda name: DOCUMENTED) == f"const $main = (() => {{\n{code}return {{  }};\n}})();\n"

@@ -7,13 +7,14 @@ _IMPORT = re.compile(r'^import \{ (.+) \} from "\./(\w+)\.js";\n', re.MULTILINE)
 _COMMENTS = re.compile(
     r"^ *(?:/\*\*(?:(?!\*/).)*\*/|//(?![^\n]*(?:copyright|license))[^\n]*)\n", re.MULTILINE | re.DOTALL
 )  # lines of a comment alone, not a cast in code, and no notices
+_TYPE = re.compile(r"/\*\* @(?:type|param) (?:(?!\*/).)*\*/ ?")  # within a line of code
 _EXPORT = re.compile(r"^export (?=(?:class|const|function) (\w+))", re.MULTILINE)
 
 
 def join_modules(entry: str, read: Callable[[str], str]) -> str:
     """One script of a module and of all that it imports, in the order of imports.
 
-    Each is a function of its own, and what it exports is `$NAME`. Lines of comments are left out but for notices.
+    Each is a function of its own, and what it exports is `$NAME`. Lines of comments and types are left out but for notices.
     entry: the name of the module, whose file is NAME.js; read: the text of a file
     Raises ValueError where modules import each other, or what isn't exported.
     """
@@ -25,7 +26,7 @@ def join_modules(entry: str, read: Callable[[str], str]) -> str:
             raise ValueError(f"modules import each other: {', '.join([*importers, name])}")
         if name in exported:
             return
-        text = _COMMENTS.sub("", read(f"{name}.js"))
+        text = _TYPE.sub("", _COMMENTS.sub("", read(f"{name}.js")))
         for names, other in _IMPORT.findall(text):
             add(other, [*importers, name])
             if missing := set(names.split(", ")) - set(exported[other]):
