@@ -138,7 +138,7 @@ def test_pasted_text_is_taken_or_refused(sit: Sit, served: Served) -> None:
     refused = {
         "regs\nset x5 \u00e9": "Character 8 of line 2, \u00e9, isn't printable ASCII: nothing was sent.",
         "set x5 1\n" * 4097: "These are 4097 lines, and at most 4096 go at once: nothing was sent.",
-        "asm 10000 " + "x" * 1013: "1023 characters are in the line, and at most 1022 may be: nothing was sent.",
+        "asm 10000 " + "x" * 1013: "1023 characters are in line 1, and at most 1022 may be: nothing was sent.",
     }
     for text, expected in refused.items():
         tab.run(put, "line", text)
@@ -292,7 +292,7 @@ def test_values_are_edited_by_clicks_and_keys(sit: Sit) -> None:
     assert "no decimal number of 64 bits" in tab.text("#stop") and not tab.run("id('edit').open")
     tab.click("[data-edit='vset v1 32 3 hexadecimal']")
     tab.keys("#value", Keys.CONTROL, "a", Keys.NULL, "1ffffffff", Keys.ENTER)
-    assert "1ffffffff is no hexadecimal number of 32 bits" in tab.text("#stop")
+    assert "1ffffffff isn't a hexadecimal number of 32 bits" in tab.text("#stop")
     assert "1ffffffff" not in tab.text("#log")
 
 

@@ -5,6 +5,7 @@ import pathlib
 
 from ..machine.program import find_program
 from ..page.pages import lone_page, write_pages
+from ..page.texts import page_text
 from ..tables.table import read_table
 from ..lessons.series import make_series
 from .check import script_before
@@ -36,5 +37,6 @@ def run(arguments: argparse.Namespace) -> int:
         }
         for it, lesson in zip(exercises.values(), lessons)
     ]
-    write_pages(folder, [*pages, ("index", "A course", lone_page("course", "A course", entries))])
+    title = page_text("course.index")
+    write_pages(folder, [*pages, ("index", title, lone_page("course", title, entries))])
     return 0

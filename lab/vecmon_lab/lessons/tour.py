@@ -9,6 +9,7 @@ from ..compilers.variables import read_variables
 from ..machine.lines import is_look, words_of
 from ..machine.program import find_program
 from ..page.pages import lone_page, write_pages
+from ..page.texts import page_text
 from ..tables.table import read_table
 from .script import Script, Step, add_line
 from .series import make_series
@@ -26,11 +27,11 @@ def add_arguments(parser: argparse.ArgumentParser) -> None:
 
 def run(arguments: argparse.Namespace) -> int:
     """Writes the pages, and prints their paths in the order of the tour. Raises LabError and OSError for bad input."""
-    program, folder, scripts = find_program(), arguments.folder, tours()
+    program, folder, scripts, title = find_program(), arguments.folder, tours(), page_text("tour.index")
     folder.mkdir(parents=True, exist_ok=True)
     sentences = {name: sentence for name, _, sentence in read_table("tours")}
     pages, entries = make_series("tour", program, {name: (script, sentences[name]) for name, script in scripts.items()})
-    write_pages(folder, [("index", "A tour", lone_page("tour", "A tour", entries)), *pages])
+    write_pages(folder, [("index", title, lone_page("tour", title, entries)), *pages])
     return 0
 
 

@@ -1,10 +1,11 @@
 // Bars of parts, which are shares of a whole.
 
 import { make } from "./elements.js";
+import { textOf } from "./texts.js";
 
 /** @typedef {[kind: string, share: number]} Piece */
 
-const KINDS = { active: "active", masked: "masked off", tail: "in the tail" };
+const KINDS = { active: textOf("outcome.active"), masked: textOf("outcome.masked"), tail: textOf("outcome.tail") };
 
 /** A cell with a bar of parts, which are shares of the whole cell, each of a class. */
 export function bar(/** @type {string} */ kind, /** @type {Piece[]} */ parts) {

@@ -10,6 +10,8 @@
  * @typedef {Exclude<Edit, { of: "breakpoint" }>} ValueEdit
  */
 
+import { textOf } from "./texts.js";
+
 /** @type {WeakMap<Element, Edit>} */
 const edits = new WeakMap(); // by the element that is pressed
 
@@ -32,7 +34,7 @@ export function nameOf(edit) {
 
 /** The title of an edit's dialog. */
 export const titleOf = (/** @type {Edit} */ edit) =>
-  edit.of === "element" ? `vset v${edit.register} element ${edit.index}` : nameOf(edit);
+  edit.of === "element" ? textOf("edit.element", { register: `v${edit.register}`, index: edit.index }) : nameOf(edit);
 
 /** Gives an element its edit, whose name is in `data-edit`; returns the element. */
 /** @type {<Kind extends HTMLElement>(element: Kind, edit: Edit) => Kind} */
@@ -67,11 +69,11 @@ export function lineOf(edit, text, isDecimal, v) {
   if (edit.of === "pc" || edit.of === "bytes") return { line: `${nameOf(edit)} ${text}` };
   const isElement = edit.of === "element";
   const decimal = isElement ? edit.form !== "hexadecimal" : isDecimal;
-  const [bits, kind] = [isElement ? edit.bits : 64, decimal ? "decimal" : "hexadecimal"];
+  const bits = isElement ? edit.bits : 64;
   const isNumber = (decimal ? /^-?\d{1,20}$/ : /^[0-9a-f]{1,16}$/i).test(text);
   const value = isNumber ? BigInt(decimal ? text : "0x" + text) : 1n << 64n; // which fits nowhere
   const fits = [BigInt.asUintN(bits, value), BigInt.asIntN(bits, value)].includes(value);
-  if (!fits) return { error: `\`${text}\` is no ${kind} number of ${bits} bits: nothing was sent.` };
+  if (!fits) return { error: decimal ? textOf("edit.no-decimal", { text, bits }) : textOf("edit.no-hexadecimal", { text, bits }) };
   if (!isElement) return { line: `${nameOf(edit)} ${BigInt.asUintN(64, value).toString(16)}` };
   return { line: `vset v${edit.register} ${withElement(v[edit.register], bits, edit.index, value)}` };
 }

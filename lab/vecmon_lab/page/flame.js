@@ -1,11 +1,13 @@
 // A flame graph: each function a bar as long as its share of all ticks, with those that it calls below it.
 
 import { make } from "./elements.js";
+import { textOf } from "./texts.js";
 
 /** @typedef {{ name: string, own: number, total: number, callees: Frame[] }} Frame ticks of a function, and of those that it calls */
 /** @typedef {{ total: number, item: HTMLElement }} Drawn */
 
 const percent = (/** @type {Frame} */ frame, /** @type {number} */ whole) => `${Math.round((1000 * frame.total) / whole) / 10} %`;
+const number = (/** @type {number} */ value) => value.toLocaleString(textOf("language"));
 
 /** A list of frames, each as wide as its share of the one above. */
 const list = (/** @type {Drawn[]} */ frames, /** @type {number} */ above) => {
@@ -17,14 +19,14 @@ const list = (/** @type {Drawn[]} */ frames, /** @type {number} */ above) => {
 /** @type {(frame: Frame, callees: Drawn[], whole: number, choose: () => void) => Drawn} */
 function drawn(frame, callees, whole, choose) {
   const text = `${frame.name} ${percent(frame, whole)}`;
-  const ticks = `${frame.total.toLocaleString("en")} ticks, ${frame.own.toLocaleString("en")} of them its own`;
-  const button = Object.assign(make("button", "", text), { title: `${text}: ${ticks}`, onclick: choose });
+  const title = textOf("flame.bar.title", { name: text, total: number(frame.total), own: number(frame.own) });
+  const button = Object.assign(make("button", "", text), { title, onclick: choose });
   return { total: frame.total, item: make("li", "", button, ...(callees.length ? [list(callees, frame.total)] : [])) };
 }
 
 /** A flame graph of frames. A click on a bar makes it as wide as all, below those that called it. */
 export function flameGraph(/** @type {Frame[]} */ frames) {
-  const all = { name: "all", own: 0, total: frames.reduce((sum, frame) => sum + frame.total, 0), callees: frames };
+  const all = { name: textOf("flame.all"), own: 0, total: frames.reduce((sum, frame) => sum + frame.total, 0), callees: frames };
   const graph = make("div", "flame");
   const choose = (/** @type {Frame[]} */ path) => () => {
     show(path);

@@ -1,5 +1,6 @@
 // A field for lines of the monitor: Enter executes all lines in it, and arrow keys bring back earlier ones.
 
+import { textOf } from "./texts.js";
 
 const MOST_LINES = 4096; // at once
 const MOST_TOGETHER = 64; // in a request
@@ -9,14 +10,11 @@ const STEPS = { ArrowUp: -1, ArrowDown: 1 };
 
 /** Why lines aren't sent, in a sentence; "" where they are. */
 export function unfitLines(/** @type {string[]} */ lines) {
-  const told = (/** @type {string} */ words) => `${words}: nothing was sent.`;
-  if (lines.length > MOST_LINES) return told(`These are ${lines.length} lines, and at most ${MOST_LINES} go at once`);
-  for (const [place, line] of lines.entries()) {
-    const which = lines.length > 1 ? `line ${place + 1}` : "the line";
-    const odd = /[^ -~]/u.exec(line);
-    if (odd) return told(`Character ${odd.index + 1} of ${which}, \`${odd[0]}\`, isn't printable ASCII`);
-    const much = `${line.length} characters are in ${which}, and at most ${MOST_CHARACTERS} may be`;
-    if (line.length > MOST_CHARACTERS) return told(much);
+  if (lines.length > MOST_LINES) return textOf("lines.too-many", { lines: lines.length, most: MOST_LINES });
+  for (const [place, text] of lines.entries()) {
+    const odd = /[^ -~]/u.exec(text);
+    if (odd) return textOf("lines.not-ascii", { line: place + 1, place: odd.index + 1, character: odd[0] });
+    if (text.length > MOST_CHARACTERS) return textOf("lines.too-long", { line: place + 1, characters: text.length, most: MOST_CHARACTERS });
   }
   return "";
 }

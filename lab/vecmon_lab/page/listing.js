@@ -4,6 +4,7 @@ import { editable } from "./edits.js";
 import { header, make, part, unseen } from "./elements.js";
 import { RowTable, placesOf } from "./rows.js";
 import { startOf } from "./source_lines.js";
+import { textOf } from "./texts.js";
 import { saysMore, target, withNames } from "./words.js";
 
 /** @typedef {import("./types").MachineState} MachineState */
@@ -21,7 +22,7 @@ export class ListingPanel {
 
   constructor(/** @type {ParentNode} */ root) {
     this.names = part(root, "names");
-    this.rows = new RowTable(part(root, "listing"), "Program", NAMES, "No program in memory yet.");
+    this.rows = new RowTable(part(root, "listing"), textOf("listing.label"), NAMES, textOf("listing.none"));
   }
 
   paint(/** @type {MachineState} */ state, /** @type {MachineState} */ before) {
@@ -43,9 +44,9 @@ function listingRow(state, before, address, abi) {
   const marks = make("td", "marks");
   const isOfLine = address === startOf(state.starts ?? {}, state.pc);
   const kinds = [address === state.pc ? "next" : "", address === state.instruction ? "told" : "", isOfLine ? "here" : ""];
-  if (state.breaks.includes(address)) marks.append(make("span", "breakpoint", "●"), unseen("breakpoint"));
-  if (kinds[0]) marks.append(make("span", "arrow", "▶"), unseen("next instruction"));
-  if (kinds[1]) marks.append(unseen(state.faulted ? "stopped here" : "executed"));
+  if (state.breaks.includes(address)) marks.append(make("span", "breakpoint", "●"), unseen(textOf("listing.breakpoint")));
+  if (kinds[0]) marks.append(make("span", "arrow", "▶"), unseen(textOf("listing.next")));
+  if (kinds[1]) marks.append(unseen(state.faulted ? textOf("listing.stopped") : textOf("listing.executed")));
   const text = make("td", "text", withNames(line.slice(9), abi));
   const goal = target(address, line.slice(9));
   if (goal) text.append(make("span", "goal", ` → ${state.labels?.[goal]?.[0] ?? goal}`));

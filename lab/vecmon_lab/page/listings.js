@@ -2,6 +2,7 @@
 
 import { elementsBar, legend } from "./bars.js";
 import { byId, header, make, table } from "./elements.js";
+import { textOf } from "./texts.js";
 
 /**
  * @typedef {[address: string, line: number, inlined: string, text: string, times: number, ...elements: number[]]} Row
@@ -15,11 +16,11 @@ function listingOf(/** @type {Row[]} */ rows, /** @type {number} */ line) {
     const isApart = end && end !== address;
     end = (parseInt(address, 16) + 4).toString(16);
     const name = inlined ? make("small", "", ` ${inlined}`) : "";
-    const row = make("tr", times ? "" : "unused", make("td", "number", times.toLocaleString("en")), make("th", "", address),
+    const row = make("tr", times ? "" : "unused", make("td", "number", times.toLocaleString(textOf("language"))), make("th", "", address),
       make("td", "text", text, name), elementsBar(elements));
     return isApart ? [make("tr", "", make("td", "gap", "⋯")), row] : [row];
   });
-  return make("td", "", own.length ? table("Instructions", make("tbody", "", ...own)) : "");
+  return make("td", "", own.length ? table(textOf("listings.instructions"), make("tbody", "", ...own)) : "");
 }
 
 /** @type {{ lines: string[], listings: Listing[] }} */

@@ -1,6 +1,7 @@
 // How each element takes part in an instruction, and how the result has it.
 
 import { bitOf } from "./numbers.js";
+import { textOf } from "./texts.js";
 
 /** @typedef {import("./executed.js").Executed} Executed */
 /**
@@ -11,14 +12,14 @@ import { bitOf } from "./numbers.js";
 
 /** @type {Record<Outcome, string>} */
 export const OUTCOMES = {
-  active: "active",
-  masked: "masked off",
-  tail: "tail",
-  prestart: "before vstart",
-  fault: "fault",
-  pending: "not reached",
-  kept: "kept",
-  idle: "not read",
+  active: textOf("outcome.active"),
+  masked: textOf("outcome.masked"),
+  tail: textOf("outcome.tail"),
+  prestart: textOf("outcome.prestart"),
+  fault: textOf("outcome.fault"),
+  pending: textOf("outcome.pending"),
+  kept: textOf("outcome.kept"),
+  idle: textOf("outcome.idle"),
 };
 
 /**

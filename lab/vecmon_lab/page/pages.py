@@ -12,6 +12,7 @@ from collections.abc import Iterable, Mapping
 
 from . import codemirror
 from .modules import join_modules
+from .texts import fill
 
 FILES = pathlib.Path(__file__).parent
 _COMMENTS = re.compile(r" */\*.*?\*/\n*", re.DOTALL)  # of styles
@@ -88,8 +89,10 @@ def _digest(text: str) -> str:
 
 
 def page_file(name: str, folder: pathlib.Path = FILES) -> str:
-    """The text of a file of a folder, or of this one if that has no such file; the module of CodeMirror is made from its files."""
+    """The text of a file of a folder, or of this one if that has no such file, with texts in place of keys.
+
+    The module of CodeMirror is made from its files. Raises ValueError where a text isn't found."""
     if name == codemirror.MODULE:
         return codemirror.module()
     path = folder / name
-    return (path if path.exists() else FILES / name).read_text("utf-8")
+    return fill(name, (path if path.exists() else FILES / name).read_text("utf-8"))

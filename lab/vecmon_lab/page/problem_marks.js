@@ -1,6 +1,7 @@
 // Problems of a source in its editor: underlined, in the gutter, and the caret line's ones below it, with their fixes.
 
 import { button, make } from "./elements.js";
+import { textOf } from "./texts.js";
 
 /** @typedef {import("./messages").Mistake} Mistake */
 /** @typedef {import("./codemirror.js").Position} Position */
@@ -76,9 +77,10 @@ export class ProblemMarks {
 
   item(/** @type {Mistake} */ problem) {
     const [first = "", ...others] = this.canFix ? (problem.fix ?? []) : [];
-    const fixButton = (/** @type {string} */ text, /** @type {string} */ key) =>
-      Object.assign(button(text, `Replace by ${text}`, () => this.replace(problem, text)), { title: `Replaces the word${key}` });
-    const buttons = first ? [fixButton(first, " (Ctrl .)"), ...others.map((each) => fixButton(each, ""))] : [];
+    const fixButton = (/** @type {string} */ text, /** @type {string} */ title) =>
+      Object.assign(button(text, textOf("problems.replace", { text }), () => this.replace(problem, text)), { title });
+    const title = textOf("problems.replace.title");
+    const buttons = first ? [fixButton(first, `${title} (Ctrl .)`), ...others.map((each) => fixButton(each, title))] : [];
     return make("p", problem.severity, problem.message, " ", ...buttons);
   }
 

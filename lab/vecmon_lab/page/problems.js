@@ -1,12 +1,13 @@
 // The problems of a source: a list whose entries lead to their places, with texts that may replace a word.
 
 import { button, make, part, put } from "./elements.js";
+import { textOf } from "./texts.js";
 
 /** @typedef {import("./messages").Mistake} Problem */
 
 /** A problem in one line; a linker's has no place. */
-const textOf = (/** @type {Problem} */ { line, column, severity, message }) =>
-  `${line ? `${line}:${column}: ` : ""}${severity === "warning" ? "warning: " : ""}${message}`;
+const problemText = (/** @type {Problem} */ { line, column, severity, message }) =>
+  `${line ? `${line}:${column}: ` : ""}${severity === "warning" ? textOf("problems.warning", { message }) : message}`;
 
 export class Problems {
   /** @type {Problem[]} */ all = [];
@@ -35,12 +36,12 @@ export class Problems {
     this.none.hidden = problems.length > 0;
     put(this.count, problems.length ? `${problems.length}` : "");
     for (const each of this.buttons) each.disabled = !problems.length;
-    this.editor.tell(problems.map((problem) => ({ ...problem, message: textOf({ ...problem, line: 0 }) })));
+    this.editor.tell(problems.map((problem) => ({ ...problem, message: problemText({ ...problem, line: 0 }) })));
   }
 
   item(/** @type {Problem} */ problem, /** @type {number} */ place) {
-    const fixes = (problem.fix ?? []).map((text) => button(`Replace with ${text}`, "", () => this.replace(problem, text)));
-    return make("li", problem.severity, button(textOf(problem), textOf(problem), () => this.go(place)), ...fixes);
+    const fixes = (problem.fix ?? []).map((text) => button(textOf("problems.replace", { text }), "", () => this.replace(problem, text)));
+    return make("li", problem.severity, button(problemText(problem), problemText(problem), () => this.go(place)), ...fixes);
   }
 
   /** Goes to the next problem, or with -1 to the one before; after the last one to the first. */

@@ -3,6 +3,7 @@
 import { bar, elementsBar, legend } from "./bars.js";
 import { byId, make } from "./elements.js";
 import { flameGraph } from "./flame.js";
+import { textOf } from "./texts.js";
 
 /**
  * @typedef {{ address: string, place: string, source: string, text: string, times: number, ticks: number, active: number, masked: number,
@@ -15,7 +16,12 @@ import { flameGraph } from "./flame.js";
 
 /** @type {Record<Order, (one: Row, other: Row) => number>} */
 const ORDERS = { "by-address": () => 0, "by-ticks": (one, other) => other.ticks - one.ticks };
-const number = (/** @type {string | number} */ value, kind = "number") => make("td", kind, value.toLocaleString("en"));
+const number = (/** @type {string | number} */ value, kind = "number") => make("td", kind, value.toLocaleString(textOf("language")));
+
+const HEADS = [
+  ...[textOf("profile.address"), textOf("profile.instruction"), textOf("profile.source"), textOf("profile.times")],
+  ...[textOf("profile.ticks"), "", textOf("outcome.active"), textOf("outcome.masked"), textOf("outcome.tail"), textOf("profile.work"), ""],
+];
 
 /** A row of the table of instructions. */
 function instructionRow(/** @type {Row} */ row, /** @type {number} */ most) {
@@ -34,14 +40,13 @@ function show(/** @type {Row[]} */ rows, /** @type {Order} */ id) {
   for (const row of [...rows].sort(ORDERS[id])) {
     const name = row.place.replace(/\+0x[0-9a-f]+$/, "");
     if (id === "by-address" && name !== symbol) {
-      const label = Object.assign(make("th", "", name || "no symbol"), { colSpan: 11 });
+      const label = Object.assign(make("th", "", name || textOf("profile.no-symbol")), { colSpan: 11 });
       body.append(make("tr", "label", label));
     }
     symbol = name;
     body.append(instructionRow(row, most));
   }
-  const heads = ["address", "instruction", "source", "times", "ticks", "", "active", "masked off", "tail", "work", ""];
-  const head = heads.map((text, place) => make("th", place > 2 ? "number" : "", text));
+  const head = HEADS.map((text, place) => make("th", place > 2 ? "number" : "", text));
   byId("rows").replaceChildren(make("thead", "", make("tr", "", ...head)), body);
   for (const order of CHOICES) byId(order).ariaPressed = `${order === id}`;
 }

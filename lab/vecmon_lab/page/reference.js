@@ -1,6 +1,7 @@
 // Commands, instructions and refusals: the server's tables, and the entry of a name.
 
 import { byId, make, prose, put } from "./elements.js";
+import { textOf } from "./texts.js";
 
 /** @typedef {[name: string, form: string, does: string]} Entry */
 
@@ -42,7 +43,7 @@ export function showReference(/** @type {HTMLElement} */ box, /** @type {string}
     const exactFirst = [...found.filter(([name]) => name === wanted), ...found.filter(([name]) => name !== wanted)];
     return found.length ? [make("h3", "", section), make("ul", "", ...exactFirst.map(entryItem))] : [];
   });
-  box.replaceChildren(...(parts.length ? parts : [make("p", "empty", "Nothing is called so.")]));
+  box.replaceChildren(...(parts.length ? parts : [make("p", "empty", textOf("reference.none"))]));
 }
 
 /** Shows in an element the entry of the name at a place of a text. */

@@ -1,9 +1,11 @@
 // Names and words that the page shows next to the machine's numbers.
 
+import { textOf } from "./texts.js";
+
 export const ABI_NAMES =
   "zero ra sp gp tp t0 t1 t2 s0 s1 a0 a1 a2 a3 a4 a5 a6 a7 s2 s3 s4 s5 s6 s7 s8 s9 s10 s11 t3 t4 t5 t6".split(" ");
 
-export const ROUNDING = ["to nearest, ties up (rnu)", "to nearest, ties to even (rne)", "down (rdn)", "to odd (rod)"];
+export const ROUNDING = [textOf("rounding.rnu"), textOf("rounding.rne"), textOf("rounding.rdn"), textOf("rounding.rod")];
 
 /** @typedef {{ vill: boolean, sew: number, lmul: number, most: number, tail: bigint, mask: bigint }} VectorType */
 
@@ -26,13 +28,12 @@ export function typeText(/** @type {VectorType} */ type) {
 
 /** A vector type in a sentence. */
 export function typeWords(/** @type {VectorType} */ type) {
-  if (type.vill) return "No vector type is set (vill): vector arithmetic is illegal.";
+  if (type.vill) return textOf("vtype.vill");
   /** @type {Record<number, string>} */
-  const parts = { 0.5: "half of a register", 0.25: "a quarter of a register", 0.125: "an eighth of a register" };
-  const group = parts[type.lmul] ?? (type.lmul === 1 ? "one register" : `a group of ${type.lmul} registers`);
-  const rest = (/** @type {bigint} */ agnostic) => (agnostic ? "agnostic" : "undisturbed");
-  const most = `up to ${type.most} element${type.most === 1 ? "" : "s"} of ${type.sew} bits in ${group}`;
-  return `${most}; tail ${rest(type.tail)}, masked off ${rest(type.mask)}`;
+  const parts = { 0.5: textOf("vtype.half"), 0.25: textOf("vtype.quarter"), 0.125: textOf("vtype.eighth") };
+  const group = parts[type.lmul] ?? textOf("vtype.group", { count: type.lmul });
+  const rest = (/** @type {bigint} */ agnostic) => (agnostic ? textOf("vtype.agnostic") : textOf("vtype.undisturbed"));
+  return textOf("vtype.elements", { count: type.most, bits: type.sew, group, tail: rest(type.tail), mask: rest(type.mask) });
 }
 
 /** A 64-bit number, in hexadecimal without leading zeros, as a signed decimal one. */

@@ -11,6 +11,7 @@ from .. import LabError
 from ..arguments import add_image, check_output, image_path
 from ..guest.symbols import Symbols
 from ..page.pages import lone_page
+from ..page.texts import page_text
 from ..tables.table import table_lines
 from .counts import Counts
 from .tick_profile import ELEMENTS, TickProfile, Table, TableRow, compared, elements_row, share
@@ -53,7 +54,7 @@ def run(arguments: argparse.Namespace) -> int:
         data = {"summary": summary, "tables": [vars(table) for table in tables], "rows": rows}
         lengths = [(kind, vl, times) for (kind, vl), times in sorted(counts.lengths.items())]
         data |= {"lengths": lengths, "frames": [asdict(frame) for frame in ticks_spent.callers.frames()]}
-        page.write_text(lone_page("profile", f"Profile of {image.name}", data), "utf-8")
+        page.write_text(lone_page("profile", page_text("profile.page", image=image.name), data), "utf-8")
     return status_of(counts.stop)
 
 

@@ -13,7 +13,7 @@ _FORMULAS = ("=", "+", "-", "@", "\t", "\r")  # how cells begin that a spreadshe
 
 def read_table(name: str) -> list[list[str]]:
     """The rows of a table, each with its cells."""
-    lines = pathlib.Path(__file__).with_name(f"{name}.txt").read_text("ascii").splitlines()
+    lines = pathlib.Path(__file__).with_name(f"{name}.txt").read_text("utf-8").splitlines()
     return [re.split(" {2,}", line) for line in lines if line and not line.startswith("#")]
 
 

@@ -63,7 +63,7 @@ test("lost requests have names, and those that are repeated have none", () => {
 test("lines that the monitor can't read are refused before they are sent", () => {
   const tooLong = "x".repeat(1023);
   assert.equal(unfitLines(["regs", "x".repeat(1022)]), "");
-  assert.equal(unfitLines(["café"]), "Character 4 of the line, `é`, isn't printable ASCII: nothing was sent.");
+  assert.equal(unfitLines(["café"]), "Character 4 of line 1, `é`, isn't printable ASCII: nothing was sent.");
   assert.match(unfitLines(["regs", tooLong]), /^1023 characters are in line 2,/);
   assert.match(unfitLines(Array(4097).fill("regs")), /^These are 4097 lines,/);
 });

@@ -72,7 +72,7 @@ test("a value that doesn't fit is refused", () => {
   for (const [edit, text] of [[element(1, 8, 0, "unsigned"), "256"], [element(1, 8, 0, "signed"), "-129"], [element(1, 1, 0, "mask"), "2"],
     [element(1, 16, 0, "hexadecimal"), "12345"], [{ of: "scalar", register: 5 }, "0x5"], [{ of: "scalar", register: 5 }, ""]]) {
     assert.equal(lineOf(edit, text, false, V).line, undefined);
-    assert.match(lineOf(edit, text, false, V).error, new RegExp(`^\`${text}\` is no .* number of \\d+ bits: nothing was sent.$`));
+    assert.match(lineOf(edit, text, false, V).error, new RegExp(`^\`${text}\` isn't a .* number of \\d+ bits: nothing was sent.$`));
   }
 });
 

@@ -15,8 +15,8 @@ const REPLACED = "The work in this file replaces the sources, versions, tries an
 const MOST_IMAGE_BYTES = 1 << 20;
 const HIDDEN = [byId("name"), byId("forget")]; // elements of a class
 /** What is in an element of the page: its data, or the text of the worker. */
-const dataOf = (/** @type {"parts" | "worker"} */ id) => JSON.parse(textOf(id));
-const textOf = (/** @type {string} */ id) => document.getElementById(id)?.textContent ?? "";
+const dataOf = (/** @type {"parts" | "worker"} */ id) => JSON.parse(elementText(id));
+const elementText = (/** @type {string} */ id) => document.getElementById(id)?.textContent ?? "";
 /** @type {() => PageData} */
 const pageData = () => dataOf("parts");
 
@@ -117,7 +117,7 @@ export class Connection {
     const parts = pageData().files;
     for (const part of Object.values(parts)) {
       if (part.url) part.url = new URL(part.url, location.href).href;
-      else part.base64 = textOf(part.id ?? "");
+      else part.base64 = elementText(part.id ?? "");
     }
     this.worker = new Worker(URL.createObjectURL(new Blob([dataOf("worker")], { type: "text/javascript" })));
     this.worker.onmessage = ({ data }) => this.hear(data);

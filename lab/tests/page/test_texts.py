@@ -1,0 +1,120 @@
+"""The texts of pages: the table, the keys that files name, and texts in place of keys, worked out by hand."""
+
+import pathlib
+import re
+import subprocess
+from collections.abc import Iterator
+
+import pytest
+
+from support.text_keys import DECLARATIONS
+from vecmon_lab.page import texts
+from vecmon_lab.page.modules import join_modules
+from vecmon_lab.page.pages import FILES, Page, page_file
+from vecmon_lab.tables.table import read_table
+
+LAB = FILES.parent
+TABLES = sorted(path.stem for path in (LAB / "tables").glob("texts.*.txt"))
+SOURCES = {
+    path: path.read_text("utf-8") for path in sorted([*LAB.rglob("*.html"), *LAB.rglob("*.js"), *LAB.rglob("*.py")])
+}
+SHOWN_ATTRIBUTES = {"title", "aria-label", "placeholder", "alt", "label"}
+TABLE = {
+    "texts.en": [["language", "en"], ["stop", "Stopped & <em>ended</em> at `{line}`."], ["step.one", "{count} step"]]
+    + [["step.other", "{count} steps"], ["late", "late"]],
+    "texts.pl": [
+        ["language", "pl"],
+        ["step.one", "{count} krok"],
+        ["step.few", "{count} kroki"],
+        ["step.many", "{count} kroków"],
+    ],
+}
+SCRIPT = """import { contentOf, textOf } from "./texts.js";
+const counts = [1, 3, 5].map((count) => textOf("step", { count }));
+const pieces = contentOf(
+  "stop", { line: /** @type {any} */ ({ node: 7 }) });
+console.log(JSON.stringify([counts, textOf("stop", { line: 7 }), pieces, textOf("late")]));
+"""
+
+
+def keys_in(path: pathlib.Path, text: str) -> list[str]:
+    """The keys that a file names, with those of plural forms."""
+    if path.suffix == ".py":
+        return re.findall(r'\bpage_text\(\s*"([\w.-]+)"', text)
+    found = (
+        texts.IN_HTML.findall(text) if path.suffix == ".html" else [key for _, key, _ in texts.IN_SCRIPT.findall(text)]
+    )
+    forms = {key: texts.forms_of(key, "en") for key in found}
+    return [
+        name
+        for key, it in forms.items()
+        for name in ([key] if isinstance(it, str) else [f"{key}.{each}" for each in it])
+    ]
+
+
+def test_keys_of_files_are_those_of_table() -> None:
+    used = {key for path, text in SOURCES.items() for key in keys_in(path, text)}
+    assert used == set(texts.read_texts("en"))
+
+
+@pytest.mark.parametrize("name", TABLES)
+def test_each_key_has_one_text_with_its_places(name: str) -> None:
+    rows, english = read_table(name), texts.read_texts("en")
+    assert len({key for key, _ in rows}) == len(rows)
+    for key, text in rows:
+        form = re.sub(rf"\.({'|'.join(texts.NUMBERS)})$", ".other", key)
+        places = set(texts.PLACE.findall(text))
+        assert (key, places - {"count"}) == (key, set(texts.PLACE.findall(english.get(key, english[form]))) - {"count"})
+
+
+def test_scripts_name_keys_literally() -> None:
+    for path, text in SOURCES.items():
+        if path.suffix == ".js" and path.name != "texts.js":
+            code = re.sub(r"^import .*$|/\*\*.*?\*/|//.*$", "", text, flags=re.MULTILINE)
+            assert len(re.findall(r"\b(?:textOf|contentOf)\b", code)) == len(texts.IN_SCRIPT.findall(code)), path
+
+
+def test_declaration_has_keys_of_table() -> None:
+    assert DECLARATIONS.read_text("utf-8") == texts.declarations(), "run python3 -m support.text_keys, in lab"
+
+
+@pytest.fixture
+def language(monkeypatch: pytest.MonkeyPatch, request: pytest.FixtureRequest) -> Iterator[str]:
+    """A language of small tables."""
+    texts.read_texts.cache_clear()
+    monkeypatch.setattr(texts, "read_table", TABLE.__getitem__)
+    monkeypatch.setattr(texts, "LANGUAGE", request.param)
+    yield request.param
+    texts.read_texts.cache_clear()
+
+
+@pytest.mark.parametrize("language", ["en"], indirect=True)
+def test_markup_of_html(language: str) -> None:
+    assert texts.fill("a.html", "<b title='{{late}}'>{{stop}}</b> {late}") == (
+        "<b title='late'>Stopped &amp; <em>ended</em> at <code>{line}</code>.</b> {late}"
+    )
+    assert texts.page_text("stop", line=7) == "Stopped & <em>ended</em> at `7`."
+    with pytest.raises(ValueError, match="'{count} steps' depends on a number: let a script show it"):
+        texts.fill("a.html", "{{step}}")
+    for name, text in (("a.html", "{{nowhere}}"), ("a.js", 'textOf("nowhere")')):
+        with pytest.raises(ValueError, match="text 'nowhere' not found: add a row to tables/texts.en.txt"):
+            texts.fill(name, text)
+
+
+@pytest.mark.parametrize(
+    "language, steps",
+    [("en", ["1 step", "3 steps", "5 steps"]), ("pl", ["1 krok", "3 kroki", "5 kroków"])],
+    indirect=["language"],
+)
+def test_texts_of_scripts(language: str, steps: list[str]) -> None:
+    """Plural forms of English and Polish; a text that the table of a language lacks is English."""
+    script = join_modules("main", lambda name: texts.fill(name, SCRIPT) if name == "main.js" else page_file(name))
+    done = subprocess.run(["node", "-e", script], stdout=subprocess.PIPE, text=True, check=True)
+    stop = '"Stopped & <em>ended</em> at `7`.",["Stopped & <em>ended</em> at `",{"node":7},"`."],"late"]'
+    assert done.stdout == f"[{str(steps).replace(chr(39), chr(34)).replace(', ', ',')},{stop}\n"
+
+
+def test_page_has_texts_of_its_script_alone() -> None:
+    lesson = Page("tour").text("x")
+    assert '<html lang="en">' in lesson and texts.read_texts("en")["page.noscript"] in lesson
+    assert "Flame graph" in Page("profile").text("x") and "Flame graph" not in lesson
