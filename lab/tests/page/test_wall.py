@@ -83,6 +83,7 @@ def _check_layout(wall: Tab) -> None:
                 assert 0 <= where["top"] < where["bottom"] <= height and 0 <= where["left"] < where["right"] <= width
                 assert float(wall.run("getComputedStyle(one(`${arguments[0]} table`)).fontSize", box)[:-2]) >= letters
             assert wall.run("id('elements').scrollWidth <= id('elements').clientWidth")
+            assert not wall.run("all('.status, .detail, .state, .dock').some((each) => each.checkVisibility())")
         for scheme in ("light", "dark"):
             media(wall.browser, prefers_color_scheme=scheme, prefers_reduced_motion="reduce")
             assert wall.browser.execute_script(CONTRAST) == []
