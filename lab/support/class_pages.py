@@ -192,6 +192,7 @@ class Tab:
     def open_menu(self, selector: str) -> None:
         """Opens the menu that an element is in, if any."""
         self.run("one(arguments[0])?.closest('.menu')?.setAttribute('open', '')", selector)
+        self.run("one(arguments[0])?.closest('[popover]')?.togglePopover(true)", selector)
 
     def click(self, selector: str) -> None:
         """Clicks an element, and opens its menu before."""
@@ -219,6 +220,7 @@ class Tab:
         from selenium.webdriver.common.by import By
         from selenium.webdriver.support.select import Select
 
+        self.open_menu(selector)
         Select(self.activate().find_element(By.CSS_SELECTOR, selector)).select_by_visible_text(text)
 
     def save(self, selector: str, path: pathlib.Path, is_whole: Callable[[bytes], bool] = bool) -> bytes:

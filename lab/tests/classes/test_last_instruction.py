@@ -57,6 +57,19 @@ def test_destination_is_shown_as_it_was(desk: Desk) -> None:
     assert desk.seat.state["accessed"] == []
 
 
+def test_last_instruction_stays_until_machine_changes(desk: Desk) -> None:
+    """Lines that look or set breakpoints, and refused ones, leave it and its explanation; a written register doesn't."""
+    step(desk, DOUBLED)
+    shown = ("instruction", "read", "accessed")
+    known = {key: desk.seat.state[key] for key in shown}  # type: ignore[literal-required]
+    for line in ("regs", "break 10010", "unbreak 10010", "set a0 1", "step 0"):
+        ask(desk, ask="lines", do=[line])
+        assert {key: desk.seat.state.get(key) for key in shown} == known
+    assert "= 2" in ask(desk, ask="why", name="v8[0]")["why"]
+    ask(desk, ask="lines", do=["set x5 1"])
+    assert not set(shown) & set(desk.seat.state)
+
+
 def test_masked_store_writes_active_elements(desk: Desk) -> None:
     step(desk, STORED)
     assert desk.seat.state["read"]["x"] == {"10": "11000"} and desk.seat.state["read"]["v0"].startswith("05000000")

@@ -32,6 +32,6 @@ def test_why_explains_element(program: pathlib.Path) -> None:
     asked(desk, ask="lines", do=["step 1"])
     shown = "v9[2] kept its value 0: the access of element 0 faults, so it isn't reached"
     assert asked(desk, ask="why", name="v9[2]")["why"] == shown
-    asked(desk, ask="lines", do=["set a0 1"])
+    asked(desk, ask="lines", do=["set x10 1"])
     assert "step first" in asked(desk, ask="why", name="v8[1]")["error"]
     desk.close()

@@ -80,6 +80,7 @@ def test_line_step_shows_next_line(tabs: "Chrome", with_c: Served) -> None:
     first = tab.wait(here)
     text = tab.run("one('#editor .next').parentElement.querySelector('.CodeMirror-line').textContent")
     assert text == SAXPY.splitlines()[int(first.strip("▶")) - 1] and int(first.strip("▶")) > 22
+    assert_lines_are_tinted(tab, int(first.strip("▶")))
     tab.click("#step-over")
     tab.wait(f"{here} !== arguments[0]", first)
     line = SAXPY[: SAXPY.index("sum = __riscv_vmacc")].count("\n") + 1
@@ -91,6 +92,23 @@ def test_line_step_shows_next_line(tabs: "Chrome", with_c: Served) -> None:
     tab.wait(f"{here} === arguments[0]", f"●▶{line}")
     tab.type(" ")  # another source than that in the machine
     assert not tab.run(here)
+
+
+def assert_lines_are_tinted(tab: Tab, line: int) -> None:
+    """Lines and their instructions have the same of three grounds; the pointer at an instruction marks its line, and all of it."""
+    from selenium.webdriver import ActionChains
+
+    tab.wait("one('#editor .lines').checkVisibility() && id('listing').checkVisibility()")
+    tints = tab.run(
+        """Object.fromEntries(all('#listing tr[data-line]').map(({ dataset, className }) =>
+        [dataset.line, [className.match(/tint-\\d/)[0], code().lineInfo(dataset.line - 1).bgClass.match(/tint-\\d/)[0]]]))"""
+    )
+    assert all(own == other for own, other in tints.values()) and len({own for own, _ in tints.values()}) == 3
+    row = tab.run("one('#listing .next')")
+    assert row.get_attribute("data-line") == f"{line}"
+    ActionChains(tab.browser).move_to_element(row).perform()
+    marked = "all('#listing .linked').map(({ dataset }) => Number(dataset.line))"
+    tab.wait(f"{marked}.length && {marked}.every((each) => each === {line}) && one('#editor .linked')")
 
 
 def click_number(tab: Tab, line: int) -> None:
@@ -127,7 +145,8 @@ def test_inlined_line_breakpoint_stops(tabs: "Chrome", with_c: Served) -> None:
     tab.command(*(f"break {4 * place:x}" for place in range(10)))
     click_number(tab, 9)
     tab.wait(
-        "id('stop').textContent === arguments[0]", "Line 9 needs 5 breakpoints, and 4 of 16 are left: none was set."
+        "id('stop').textContent.startsWith(arguments[0])",
+        "Line 9 needs 5 breakpoints, and 4 of 16 are left: none was set.",
     )
 
 

@@ -495,7 +495,7 @@ def test_focus_is_visible_and_controls_have_names(sit: Sit) -> None:
     for page, expected in (
         (
             tab,
-            {"one", "go", "More steps", "Menu", "images", "line", "show-listing", "listing", "form", "view", "log"},
+            {"one", "go", "More steps", "Menu", "line", "show-listing", "listing", "form", "view", "log"},
         ),
         (teacher, {"Look at seat A1", "New code for seat A8", "Script", "operator-line", "operator-log"}),
     ):

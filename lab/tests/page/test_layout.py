@@ -111,8 +111,8 @@ def test_splitters_move_are_kept_and_reset(tabs: "Chrome", served: Served) -> No
         tab.run("localStorage.clear()")
 
 
-def test_type_follows_font_size_of_reader(tabs: "Chrome", served: Served) -> None:
-    """At 20 px in place of 16 px letters are larger by a quarter; a larger window alone changes none."""
+def test_type_has_size_that_reader_chooses(tabs: "Chrome", served: Served) -> None:
+    """At 125 % letters are larger by a quarter, also after a reload; a larger window alone changes none."""
     tab = Tab(tabs, served, "A2")
     size = "parseFloat(getComputedStyle(one('#registers, #vectors h2')).fontSize)"
     try:
@@ -120,7 +120,28 @@ def test_type_follows_font_size_of_reader(tabs: "Chrome", served: Served) -> Non
         for name in ("laptop", "screen"):
             resize(tab.activate(), SIZES[name])
             sizes.append(tab.run(size))
-        tab.run("(document.documentElement.style.fontSize = '125%')")
-        assert [*sizes, tab.run(size)] == [14, 14, pytest.approx(17.5)]
+        tab.choose("#text-size", "125%")
+        sizes.append(tab.run(size))
+        tabs.refresh()
+        tab.wait("id('text-size')?.value === '125%'")
+        assert [*sizes, tab.run(size)] == [14, 14, pytest.approx(17.5), pytest.approx(17.5)]
+    finally:
+        reset(tabs)
+        tab.run("localStorage.clear()")
+
+
+def test_bar_of_phone_is_one_row(tabs: "Chrome", served: Served) -> None:
+    """Its buttons have signs, and their names for readers; the past is in the pane of elements, and back in the bar."""
+    tab = Tab(tabs, served, "A3")
+    try:
+        resize(tab.activate(), SIZES["phone"])
+        tab.wait("one('#vectors #past')")
+        assert tab.run("id('head').getBoundingClientRect().height") < 60
+        shown = tab.run("all('#controls > button').filter((each) => each.checkVisibility())")
+        assert [(button.accessible_name, button.size["width"] >= 38) for button in shown] == [
+            (name, True) for name in ("Run", "Step", "Step over", "Stop", "Reset")
+        ]
+        resize(tab.activate(), SIZES["laptop"])
+        tab.wait("one('#head #past')")
     finally:
         reset(tabs)

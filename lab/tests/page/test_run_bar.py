@@ -1,9 +1,13 @@
 """The run bar and its keys: a changed source is built first, steps go over calls and out of functions, and what is off says why."""
 
-import pytest
+import pathlib
+from typing import TYPE_CHECKING
 
 from page.conftest import Sit
-from support.class_pages import Tab
+from support.class_pages import Served, Tab
+
+if TYPE_CHECKING:
+    from selenium.webdriver import Chrome
 
 DOUBLES = "vsetivli zero, 8, e32, m1, ta, ma\nvid.v v1\nvadd.vv v2, v1, v1\nebreak\n"
 CALL = "li a0, 1\njal ra, twice\nebreak\ntwice: add a0, a0, a0\nret\n"  # at 10000, 10004, 10008, 1000c, 10010
@@ -28,6 +32,8 @@ KEYS = {
     "Shift+F8": "previous-problem",
     "Control+Shift+B": "assemble",
     "Control+Enter": "assemble",
+    "Control+Shift+Enter": "Check",
+    "Control+B": "fold-exercise",
     "Control+J": "fold-dock",
     "F6": "next-pane",
     "Shift+F6": "previous-pane",
@@ -109,25 +115,28 @@ def test_loading_a_program_is_one_entry_of_the_console(sit: Sit) -> None:
     assert tab.run("all('#log > .asked').map((item) => item.textContent)") == ["> set x5 1"]
 
 
-def test_each_key_has_a_button(sit: Sit) -> None:
-    tab = sit("A4")
-    for key, button in KEYS.items():
-        assert tab.run("all(`button[aria-keyshortcuts~='${arguments[0]}']`).map((each) => each.id)", key) == [button]
-    assert tab.run("all('button[aria-keyshortcuts]:enabled').every(({ title }) => title.endsWith(')'))")
-
-
-@pytest.mark.parametrize("key", KEYS)
-def test_key_presses_its_button(key: str, sit: Sit) -> None:
-    """The button is pressed, or what is off says in the status line why; the browser leaves the key to the page."""
-    tab = sit("A5")
-    tab.run("(window.pressed = [], document.addEventListener('click', ({ target }) => pressed.push(target.id), true))")
-    tab.run("all('button:disabled').forEach((each) => (each.disabled = false))")
-    tab.run(
-        "document.addEventListener('keydown', (event) => setTimeout(() => (window.isHeld = event.defaultPrevented)))"
-    )
-    press_key(tab, key)
-    tab.wait("window.isHeld")
-    assert tab.run("pressed") == [KEYS[key]]
+def test_each_key_presses_its_button(tabs: "Chrome", program: pathlib.Path, tmp_path: pathlib.Path) -> None:
+    """Each has one button, which it presses; the browser leaves the key to the page. Buttons name their keys."""
+    served = Served(tmp_path / "class", program, "--course")
+    try:
+        tab = Tab(tabs, served, "A1")
+        tab.wait("!id('exercise').hidden && text()")
+        names = "all(`button[aria-keyshortcuts~='${arguments[0]}']`).map((each) => each.id || each.textContent)"
+        for key, button in KEYS.items():
+            assert tab.run(names, key) == [button]
+        assert tab.run("all('button[aria-keyshortcuts]:enabled').every(({ title }) => title.endsWith(')'))")
+        listen = """document.addEventListener('click', (event) => { event.stopImmediatePropagation(); event.preventDefault();
+            window.pressed = event.target.id || event.target.textContent; }, true)"""
+        held = "window.addEventListener('keydown', (event) => (window.isHeld = event.defaultPrevented))"
+        tab.run(f"({listen}, {held})")
+        for key, button in KEYS.items():
+            tab.run("all('button:disabled').forEach((each) => (each.disabled = false))")
+            tab.run("(window.pressed = window.isHeld = null)")
+            press_key(tab, key)
+            tab.wait("window.isHeld !== null")
+            assert (key, tab.run("[pressed, isHeld]")) == (key, [button, True])
+    finally:
+        served.end()
 
 
 def test_earlier_keys_name_the_new_ones(sit: Sit) -> None:

@@ -23,6 +23,7 @@ from ..page.variables import shown_variables
 LOG_ENTRIES = 500
 UNNAMED: SourceNames = {"labels": {}, "lines": {}}
 _EXECUTING = ("step", "go", "stop", "slices", "run")  # commands after which registers are as the program left them
+_BREAKPOINTS = (["break"], ["unbreak"])
 BLOCK_DIGITS, BLOCKS = 2048, 64  # of output; a page has the last 64 KB of it
 
 Done = tuple[str, Sequence[str]]
@@ -165,7 +166,7 @@ class Seats:
             own = [each for whom, each in answers if whom == digit]
             single = lines == [f"{digit} step 1"] and before["run"] == "stopped"
             executed = before["code"].get(before["pc"], "") if single else ""
-            is_done = not all(map(is_look, lines))
+            is_done = any(_may_change(line, answer) for line, answer in done)
             state = look_at(Guest(session, int(digit)), seat.watch_set, before, own, executed, is_done)
             state.pop("output", None)  # which the seat has
             if is_done and state["run"] == "stopped" and _ends_executing(done, digit):
@@ -176,7 +177,7 @@ class Seats:
 
     def take(self, states: dict[str, tuple[State, State]], done: Sequence[Done] = ()) -> None:
         """Takes up states that `look` made after these lines."""
-        has_changes = any(not is_look(line) and not is_servers(line) for line, _ in done)
+        has_changes = any(_may_change(line, answer) and not is_servers(line) for line, answer in done)
         for digit, pair in states.items():
             seat = self.users[digit]
             if has_changes:
@@ -224,6 +225,11 @@ class Seats:
 def _is_single_step(done: Iterable[Done], digit: str) -> bool:
     """Whether a single step of a user is all that lines did, except those of the server."""
     return [line for line, _ in done if not is_look(line) and not is_servers(line)] == [f"{digit} step 1"]
+
+
+def _may_change(line: str, answer: Sequence[str]) -> bool:
+    """Whether a line may have changed registers or memory: it was accepted, and does more than look or set breakpoints."""
+    return not (is_look(line) or words_of(line)[:1] in _BREAKPOINTS or is_refusal(answer))
 
 
 def _ends_executing(done: Sequence[Done], digit: str) -> bool:

@@ -5,8 +5,9 @@ import { Desk } from "./desk.js";
 import { EditDialog } from "./edit_dialog.js";
 import { editOf, lineOf } from "./edits.js";
 import { Editor } from "./editor.js";
-import { ask, make, part } from "./elements.js";
+import { ask, make, part, put } from "./elements.js";
 import { goToPane } from "./keys.js";
+import { LineLinks } from "./line_links.js";
 import { offerLanguages } from "./languages.js";
 import { LineField, requestsOf, unfitLines } from "./lines.js";
 import { linkOf, sourceOf } from "./links.js";
@@ -55,6 +56,7 @@ export class Bench {
     this.desk = new Desk(root);
     this.bar = new RunBar(root, () => this.standing());
     this.desk.past.told = () => this.bar.paint();
+    this.desk.painted = (state) => this.mark(state);
     this.line = /** @type {HTMLTextAreaElement} */ (part(root, "line"));
     this.images = part(root, "images");
     this.against = part(root, "against");
@@ -62,6 +64,7 @@ export class Bench {
     this.panes = new Panes(root, root.matches(".alone") ? "author" : "student");
     this.editor = new Editor(part(root, "source"), () => this.typed(), part(root, "language"));
     this.source = new Source(root, this.editor, connection);
+    this.links = new LineLinks(root, this.editor);
     this.problems = new Problems(root, this.editor, (panel) => this.panes.show(panel));
     this.dialog = new EditDialog(root, (edit, text) => this.change(edit, text));
     this.listen();
@@ -122,7 +125,10 @@ export class Bench {
     this.desk.view.machine.addEventListener("click", ({ target }) => this.edit(/** @type {Element} */ (target)));
     this.desk.view.machine.addEventListener("explain", (event) => this.explain(/** @type {CustomEvent} */ (event).detail));
     this.editor.toggleBreakpoint = (line) => this.breakAt(line);
-    this.editor.caretMoved = (line, place) => tellName(part(this.root, "entry"), line, place);
+    this.editor.caretMoved = (line, place) => {
+      tellName(part(this.root, "entry"), line, place);
+      this.links.mark(this.editor.caretLine);
+    };
     document.addEventListener("selectionchange", () => this.tellName());
   }
 
@@ -301,12 +307,20 @@ export class Bench {
     const isOther = this.source.told && this.source.told.versions !== source.versions;
     const isGiven = isOther && source.versions[source.versions.length - 1]?.why === "given";
     this.source.show(seat, source, exercises);
-    this.source.mark(state);
+    this.mark(this.desk.past.moment?.state ?? state);
     this.source.showLanguage(share);
     this.takeLinked();
     if (!isGiven || source.text !== this.editor.source.text) return;
     this.panes.show("editor");
     this.editor.scrollToTop();
+  }
+
+  /** Marks a state's lines in the source, and names them in the status line. */
+  mark(/** @type {State} */ state) {
+    const { last, next } = this.source.mark(state);
+    this.links.show(this.source.stands ? state.starts : undefined);
+    const texts = [last && `${state.faulted ? "at" : "after"} line ${last}`, next && state.run === "stopped" && `next line ${next}`];
+    put(part(this.root, "run-place"), texts.filter(Boolean).join(" · "));
   }
 
   /** Puts the source into the page's address. */

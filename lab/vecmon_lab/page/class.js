@@ -4,6 +4,7 @@ import { Connection } from "./connection.js";
 import { ask, byId, put, say } from "./elements.js";
 import { isLink } from "./links.js";
 import { patched } from "./patches.js";
+import { offerTextSizes } from "./preferences.js";
 import { Student } from "./student.js";
 import { Teacher } from "./teacher.js";
 import { Wall } from "./wall.js";
@@ -67,6 +68,7 @@ class ClassTab {
     byId("head").hidden = byId("desk").hidden = false;
     document.body.classList.add({ teacher: "teaching", wall: "watching" }[role] ?? "studying");
     document.body.classList.toggle("alone", Boolean(this.view.title));
+    if (role !== "wall") offerTextSizes(byId("text-size"));
     const Page = { teacher: Teacher, wall: Wall }[role] ?? Student;
     return new Page(document.body, this.connection);
   }

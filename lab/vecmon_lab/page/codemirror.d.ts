@@ -59,6 +59,7 @@ export interface Clearable {
 }
 
 export interface Editor {
+  lineAtHeight(height: number, mode: "window" | "page" | "local"): number;
   addLineClass(line: number, where: "text" | "background" | "wrap" | "gutter", kind: string): LineHandle;
   addLineWidget(line: number, node: HTMLElement, options?: object): Clearable;
   changeGeneration(ends?: boolean): number; // ends: whether the next change is undone apart

@@ -1,7 +1,7 @@
 // A seat's machine, live: paints the parts of its state that changed.
 
 import { make, part } from "./elements.js";
-import { Past } from "./past.js";
+import { Past, isAlike } from "./past.js";
 import { Log } from "./transcript.js";
 import { MachineView, machineOf, usedIn } from "./view.js";
 
@@ -36,7 +36,7 @@ export class Desk {
     this.entries.add(entries);
     if (entries.some((entry) => /^>. go$/.test(entry))) this.past.hasRun = true;
     if (state === this.state) return;
-    this.before = isAnew ? state : this.state;
+    if (isAnew || !isAlike(state, this.state)) this.before = isAnew ? state : this.state;
     this.state = state;
     if (isAnew || !state.v) this.used = new Set();
     usedIn(state).forEach((number) => this.used.add(number));
@@ -44,12 +44,16 @@ export class Desk {
     this.frame ||= requestAnimationFrame(() => this.paint()); // once, for all messages before it
   }
 
+  /** Called with each state that is painted. */
+  painted = (/** @type {State} */ _) => {};
+
   /** Paints it, or the moment of the past that is shown. A machine that runs may never have been looked at. */
   paint() {
     cancelAnimationFrame(this.frame);
     this.frame = 0;
     const { state, before, used } = this.past.moment ?? this;
     this.view.paint(machineOf(state) ?? ABSENT, before, used);
+    this.painted(state);
     this.log.querySelector(".until")?.classList.remove("until");
     this.past.moment?.entry?.classList.add("until");
     this.showStage();

@@ -5,6 +5,7 @@ import { CodeMirror } from "./codemirror.js";
 import { make } from "./elements.js";
 import { namesAt } from "./hints.js";
 import { ProblemMarks } from "./problem_marks.js";
+import { TINTS } from "./source_lines.js";
 
 const [INDENT, INDENT_OF_C] = [8, 4]; // columns
 const TOGETHER = 1000; // ms: what is typed without a longer pause is undone at once
@@ -16,13 +17,15 @@ const MARGIN = 60; // px around a line that is scrolled into sight
 /** @typedef {{ last: number, next: number, stops: number[] }} LineMarks lines by number: executed last, and next; 0 for none */
 
 /** @type {LineMarks} */
-const NO_MARKS = { last: 0, next: 0, stops: [] };
+export const NO_MARKS = { last: 0, next: 0, stops: [] };
 
 export class Editor {
   /** @type {(line: number) => void} */ toggleBreakpoint = () => {};
   /** @type {(line: string, place: number) => void} */ caretMoved = () => {};
   marks = NO_MARKS;
   /** @type {(() => unknown)[]} */ removers = []; // of the marks
+  /** @type {(() => unknown)[]} */ tints = []; // removers of them
+  /** @type {(() => unknown)[]} */ links = [];
   unseen = 0; // a line that comes into sight when the editor does
   isLetter = false; // whether the last change was a typed letter
   isLeaving = false; // whether Tab leaves the editor
@@ -36,16 +39,16 @@ export class Editor {
   constructor(field, changed = () => {}, language = make("select", "")) {
     this.changed = changed;
     this.language = language;
-    const box = make("div", "lines");
-    field.replaceWith(box);
-    box.append(field);
+    this.box = make("div", "lines");
+    field.replaceWith(this.box);
+    this.box.append(field);
     this.code = CodeMirror.fromTextArea(field, this.options(field));
     const input = this.code.getInputField();
     for (const [name, value] of [["role", "textbox"], ["aria-multiline", "true"]]) input.setAttribute(name, value);
     if (field.readOnly) input.setAttribute("aria-readonly", "true");
     this.problems = new ProblemMarks(this.code, !field.readOnly);
     this.languages.set(this.code.changeGeneration(), this.source.language);
-    this.listen(box);
+    this.listen();
   }
 
   options(/** @type {HTMLTextAreaElement} */ { readOnly, ariaLabel }) {
@@ -68,8 +71,8 @@ export class Editor {
     };
   }
 
-  listen(/** @type {HTMLElement} */ box) {
-    const { code } = this;
+  listen() {
+    const { code, box } = this;
     this.language.addEventListener("change", () => this.chooseLanguage());
     code.on("change", (_, { origin, text }) => (this.isLetter = origin === "+input" && text.length === 1 && text[0].length === 1));
     code.on("changes", (_, changes) => this.took(changes.some(({ origin }) => origin === "undo" || origin === "redo")));
@@ -126,7 +129,7 @@ export class Editor {
     return this.code.getCursor().line + 1;
   }
 
-  /** Replaces the word of a problem, which undo takes back. */
+  /** Replaces the text of a problem, which undo takes back. */
   replace(/** @type {import("./messages").Mistake} */ problem, /** @type {string} */ text) {
     this.problems.replace(problem, text);
   }
@@ -203,7 +206,7 @@ export class Editor {
     this.problems.show(problems);
   }
 
-  /** Selects the word of a problem, in sight. */
+  /** Selects the text of a problem, in sight. */
   select(/** @type {import("./messages").Mistake} */ problem) {
     const { from, to } = this.problems.rangeOf(problem);
     this.code.focus();
@@ -230,11 +233,30 @@ export class Editor {
     this.bringIntoSight();
   }
 
+  /** Gives lines grounds in turn, in place of those before. */
+  tint(/** @type {number[]} */ lines) {
+    this.code.operation(() => {
+      this.tints.splice(0).forEach((remove) => remove());
+      for (const line of lines) this.markLine(line, `tint-${line % TINTS}`, this.tints);
+    });
+  }
+
+  /** Marks the line whose instructions are marked; 0 for none. */
+  link(/** @type {number} */ line) {
+    this.links.splice(0).forEach((remove) => remove());
+    if (line) this.markLine(line, "linked", this.links);
+  }
+
+  /** The number of the line at a height of the window, in pixels. */
+  lineAt(/** @type {number} */ height) {
+    return this.code.lineAtHeight(height, "window") + 1;
+  }
+
   /** Gives a line a ground. */
-  markLine(/** @type {number} */ line, /** @type {string} */ kind) {
+  markLine(/** @type {number} */ line, /** @type {string} */ kind, removers = this.removers) {
     if (line > this.code.lineCount()) return;
     const handle = this.code.addLineClass(line - 1, "background", kind);
-    this.removers.push(() => this.code.removeLineClass(handle, "background", kind));
+    removers.push(() => this.code.removeLineClass(handle, "background", kind));
   }
 
   /** Shows in the gutter of a line whether it has a breakpoint, and whether it is the next one. */

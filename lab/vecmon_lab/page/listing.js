@@ -3,7 +3,7 @@
 import { editable } from "./edits.js";
 import { header, make, part, unseen } from "./elements.js";
 import { RowTable, placesOf } from "./rows.js";
-import { startOf } from "./source_lines.js";
+import { TINTS, lineOf, startOf } from "./source_lines.js";
 import { textOf } from "./texts.js";
 import { saysMore, target, withNames } from "./words.js";
 
@@ -60,5 +60,8 @@ function listingRow(state, before, address, abi) {
   const source = Object.assign(make("td", "source", beside), { title: said });
   const row = make("tr", kinds.join(" "), marks, header("row", address), word, text, source);
   row.dataset.address = address;
+  const number = state.starts ? lineOf(state, address) : 0;
+  if (number) row.classList.add(`tint-${number % TINTS}`);
+  if (number) row.dataset.line = `${number}`;
   return editable(row, { of: "breakpoint", address });
 }

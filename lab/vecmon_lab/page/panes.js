@@ -2,6 +2,7 @@
 // sizes for each kind of page.
 
 import { elementsIn, part } from "./elements.js";
+import { store, stored } from "./preferences.js";
 
 /** @typedef {import("./parts").Parts} Parts */
 /** @typedef {{ sizes: Record<string, number>, folded: Record<string, boolean> }} Arrangement sizes in rem, by the pane's id */
@@ -20,10 +21,10 @@ const fitting = (it, isFit) => Object.fromEntries(Object.entries(it ?? {}).filte
 /** @type {(key: string) => Arrangement} */
 export function keptArrangement(key) {
   try {
-    const { version, sizes, folded } = JSON.parse(localStorage.getItem(key) ?? "{}");
+    const { version, sizes, folded } = JSON.parse(stored(key) ?? "{}");
     if (version === VERSION)
       return { sizes: fitting(sizes, Number.isFinite), folded: fitting(folded, (value) => typeof value === "boolean") };
-  } catch {} // damaged, or storage is refused
+  } catch {} // damaged
   return { sizes: {}, folded: {} };
 }
 
@@ -56,9 +57,7 @@ export class Panes {
   }
 
   keep() {
-    try {
-      localStorage.setItem(this.key, JSON.stringify({ version: VERSION, ...this.kept }));
-    } catch {} // they hold for this tab then
+    store(this.key, JSON.stringify({ version: VERSION, ...this.kept }));
   }
 
   /** Brings a pane or a panel into sight: selects its tab, and unfolds its pane. */

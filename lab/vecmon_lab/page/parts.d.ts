@@ -8,7 +8,7 @@ export type Parts =
     | "again" | "begin" | "break-here" | "next-pane" | "next-problem" | "previous-pane" | "previous-problem" | "step-out" | "step-over" | "until-go" | "assemble" | "back" | "backward" | "by-address" | "by-ticks" | "close-sheet" | "edit-close" | "first" | "fold-dock"
     | "fold-exercise" | "fold-state" | "forget" | "forth" | "give" | "go" | "halt" | "hand" | "home" | "last" | "line-back" | "line-go"
     | "line-next" | "link" | "many" | "new" | "next" | "no" | "now" | "one" | "open-file" | "open-sheet" | "print" | "read" | "save"
-    | "save-table" | "show-codes" | "show-console" | "show-listing" | "show-memory" | "show-output" | "show-problems" | "show-reference"
+    | "save-table" | "show-codes" | "show-console" | "show-file" | "show-listing" | "show-memory" | "show-output" | "show-problems" | "show-reference"
     | "show-registers" | "show-source" | "show-variables" | "slice" | "tab-dock" | "tab-exercise" | "tab-program"
     | "tab-state" | "tab-vectors" | "take" | "take-back" | "unfold-exercise" | "yes"
   > &
@@ -25,7 +25,7 @@ export type Parts =
   Ids<
     HTMLSelectElement,
     | "against" | "by" | "form" | "given-language" | "images" | "language" | "names" | "numbers" | "on-wall" | "operated" | "receiver"
-    | "versions" | "view" | "width"
+    | "text-size" | "versions" | "view" | "width"
   > &
   Ids<HTMLTableElement, "lengths" | "rows"> &
   Ids<HTMLTableSectionElement, "seats"> &
@@ -36,10 +36,10 @@ export type Parts =
   Ids<
     HTMLElement,
     | "about" | "at" | "banner" | "bytes" | "calls" | "checked" | "codes" | "console" | "course" | "desk" | "dock" | "editor"
-    | "elements" | "entries" | "entry" | "exercise" | "exercise-title" | "flame" | "gave" | "giving-title" | "gone" | "head"
+    | "elements" | "entries" | "entry" | "exercise" | "exercise-title" | "file" | "flame" | "gave" | "giving-title" | "gone" | "head"
     | "hint" | "introduction" | "introduction-title" | "join-says" | "key-says" | "left" | "left-column" | "line-ways" | "links" | "listing" | "machine" | "machines" | "memory" | "menu"
     | "middle" | "no-c" | "no-output" | "no-problems" | "operator-title" | "output-box" | "output-new" | "past" | "problems"
-    | "problems-count" | "program" | "program-title" | "question" | "reference" | "registers" | "right" | "run" | "says-past" | "scalars"
+    | "problems-count" | "program" | "program-title" | "question" | "reference" | "registers" | "right" | "run" | "run-place" | "says-past" | "scalars"
     | "scalars-title" | "seats-title" | "series-place" | "sentence" | "sheet" | "sheet-says" | "shoulder" | "sides" | "split-dock" | "split-exercise"
     | "split-left" | "split-middle" | "split-state" | "start" | "state" | "step" | "stop" | "summary" | "tables" | "teacher" | "trouble"
     | "unencrypted" | "users" | "variables" | "vectors" | "vectors-title" | "wall-code" | "who"

@@ -6,13 +6,22 @@ import { part, put } from "./elements.js";
 /** @typedef {{ state: State, before: State, used: Set<number>, entry: Element | null, hasRun?: boolean }} Moment hasRun: up to it */
 
 const MOST_MOMENTS = 240; // so that the transcript still has the entries of most
-const BESIDES = ["labels", "lines", "outputs"]; // parts of a state that change without a line
+const BESIDES = ["breaks", "labels", "lines", "outputs"]; // parts of a state that change while the machine's values don't
 
+/** Whether two states have the same values. */
 /** @type {(one: State, other: State) => boolean} */
-const isAlike = (one, other) => {
+export const isAlike = (one, other) => {
   const keys = /** @type {(keyof State)[]} */ (Object.keys({ ...one, ...other }));
   return keys.every((key) => BESIDES.includes(key) || one[key] === other[key]);
 };
+
+/** Places the controls of a student's page: in the bar, and on a phone in the pane of elements. */
+export function placePast(/** @type {HTMLElement} */ root) {
+  const phone = matchMedia("(max-width: 43.74em)");
+  const place = () => (phone.matches ? part(root, "vectors-title").after(part(root, "past")) : part(root, "menu").before(part(root, "past")));
+  phone.addEventListener("change", place);
+  place();
+}
 
 export class Past {
   /** @type {Moment[]} */ moments = [];

@@ -1,4 +1,4 @@
-// The scalar registers, in as many columns as fit: each with its name, its other name, and its value.
+// The scalar registers, in as many columns as fit: each with its name, its other name, its value, and the label at that address.
 
 import { editable } from "./edits.js";
 import { make, part } from "./elements.js";
@@ -17,25 +17,28 @@ export class RegisterPanel {
   }
 
   paint(/** @type {MachineState} */ state, /** @type {MachineState} */ before) {
-    const text = (/** @type {string} */ value) => (this.numbers.value === "signed" ? signedText(value) : value);
-    const values = Array.from({ length: 32 }, (_, number) => text(state.x[number]));
-    const rows = values.map((value, number) => this.register(number, value, state.x[number], before.x[number]));
-    const pc = editable(make("dd", "", state.pc), { of: "pc" });
-    const label = state.labels?.[state.pc]?.[0];
-    if (label) pc.append(make("small", "label", ` ${label}`));
-    const list = make("dl", "registers", make("div", "", make("dt", "", "pc"), pc), ...rows);
-    const longest = Math.max(...[...values, state.pc].map((value) => value.length));
+    const labelOf = (/** @type {string} */ value) => state.labels?.[value]?.slice(0, 1) ?? [];
+    const pc = make("dd", "", state.pc, ...labelOf(state.pc).map(labelText));
+    const rows = Array.from({ length: 32 }, (_, number) =>
+      this.register(number, state.x[number], before.x[number], labelOf(state.x[number])));
+    const list = make("dl", "registers", make("div", "", make("dt", "", "pc"), editable(pc, { of: "pc" })), ...rows);
+    const longest = Math.max(...[...list.querySelectorAll("dd")].map(({ textContent }) => `${textContent}`.length));
     list.style.setProperty("--register-width", `${longest + COLUMN}ch`);
     this.box.replaceChildren(list);
   }
 
-  /** @type {(number: number, text: string, value: string, before: string) => HTMLElement} */
-  register(number, text, value, before) {
+  /** @type {(number: number, value: string, before: string, label: string[]) => HTMLElement} */
+  register(number, value, before, label) {
     const [abi, numbered] = [ABI_NAMES[number], `x${number}`];
     const [name, other] = this.names.value === "abi" ? [abi, numbered] : [numbered, abi];
-    const cell = make("dd", before === value ? "" : "changed", text);
+    const text = this.numbers.value !== "signed" ? value : label.length ? `0x${value}` : signedText(value);
+    const cell = make("dd", before === value ? "" : "changed", text, ...label.map(labelText));
     cell.title = `${numbered}, ${abi}: ${value} = ${signedText(value)}`;
+    cell.dataset.value = this.numbers.value === "signed" ? signedText(value) : value;
     if (number) editable(cell, { of: "scalar", register: number });
     return make("div", value === "0" ? "zero" : "", make("dt", "", name, " ", make("small", "", other)), cell);
   }
 }
+
+/** The label of an address, behind it. */
+const labelText = (/** @type {string} */ label) => make("small", "label", ` ${label}`);

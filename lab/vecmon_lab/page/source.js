@@ -1,5 +1,6 @@
 // The source of a seat: what is typed goes to the server, and what others write there comes; versions; a file to save.
 
+import { NO_MARKS } from "./editor.js";
 import { make, offerFile, part, put, timeText } from "./elements.js";
 import { languageOf, suffixOf } from "./links.js";
 import { lineOf, stoppedLines, stopsOf } from "./source_lines.js";
@@ -171,12 +172,13 @@ export class Source {
     return lineOf(state, state.pc);
   }
 
-  /** Marks the lines that the machine executed last and executes next, and those with breakpoints. */
+  /** Marks the lines that the machine executed last and executes next, and those with breakpoints; returns them. */
   mark(/** @type {import("./messages").State} */ state) {
-    if (!this.stands) return this.editor.mark({ last: 0, next: 0, stops: [] });
     const { breaks = [], pc, instruction } = state;
     const stops = breaks.length ? stoppedLines(stopsOf(state), breaks) : [];
-    return this.editor.mark({ last: lineOf(state, instruction), next: lineOf(state, pc), stops });
+    const marks = this.stands ? { last: lineOf(state, instruction), next: lineOf(state, pc), stops } : NO_MARKS;
+    this.editor.mark(marks);
+    return marks;
   }
 
   listVersions(/** @type {Version[]} */ versions, /** @type {Exercises} */ exercises) {

@@ -4,6 +4,8 @@
 import { inOrder } from "./rows.js";
 
 /** @typedef {Record<string, number>} Starts */
+
+export const TINTS = 3; // grounds of lines and their instructions, in turn
 /** @typedef {import("./messages").State} State */
 
 /** @type {WeakMap<Starts, string[]>} */

@@ -4,6 +4,7 @@ import { Bench } from "./bench.js";
 import { button, make, part, put, say, timeText } from "./elements.js";
 import { Exercises } from "./exercises.js";
 import { Keys } from "./keys.js";
+import { placePast } from "./past.js";
 
 /** @typedef {import("./messages").Notice} Notice */
 
@@ -23,7 +24,7 @@ export class Student {
     this.hand = part(root, "hand");
     this.list = part(root, "notices");
     this.root = root;
-    part(root, "menu").before(part(root, "past")); // which is below the bar at the teacher's
+    placePast(root);
     this.name.addEventListener("change", () => this.bench.request({ ask: "name", name: this.name.value }));
     this.home.addEventListener("click", () => this.takeHome());
     this.hand.addEventListener("click", () => this.bench.request({ ask: "hand", up: this.hand.ariaPressed !== "true" }));

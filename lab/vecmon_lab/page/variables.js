@@ -1,6 +1,7 @@
 // Variables of a source in C, if its compiler lists them: their values, and their places while the program is here.
 
 import { header, make, part, table } from "./elements.js";
+import { withNames } from "./words.js";
 
 /** @typedef {import("./types").MachineState} MachineState */
 
@@ -53,6 +54,7 @@ export class VariablePanel {
   constructor(/** @type {ParentNode} */ root) {
     this.tab = part(root, "show-variables");
     this.list = part(root, "variables");
+    this.names = part(root, "names");
   }
 
   paint(/** @type {MachineState} */ state, /** @type {MachineState} */ before) {
@@ -61,7 +63,7 @@ export class VariablePanel {
     const texts = new Map(known.map(({ declaration, text }) => [declaration, text]));
     const rows = knownVariables(state).map(({ declaration, text, where }) => {
       const kind = text !== (texts.get(declaration) ?? text) ? "changed" : "";
-      return make("tr", "", header("row", declaration), make("td", kind, text), make("td", "where", where));
+      return make("tr", "", header("row", declaration), make("td", kind, text), make("td", "where", withNames(where, this.names.value === "abi")));
     });
     this.list.replaceChildren(table("Variables", make("tbody", "", ...rows)));
   }

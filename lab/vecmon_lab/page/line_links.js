@@ -1,0 +1,45 @@
+// A source in C above its instructions. Lines have three tints in turn, which their instructions share; the line at the pointer or
+// the caret is marked with its instructions.
+
+import { elementsIn, part } from "./elements.js";
+
+/** @typedef {import("./source_lines.js").Starts} Starts */
+
+export class LineLinks {
+  /** @type {Starts | undefined} */ starts; // of the source that is in the editor and in the machine
+  line = 0; // that is marked
+
+  /** @param {HTMLElement} root of a machine @param {import("./editor.js").Editor} editor */
+  constructor(root, editor) {
+    this.program = part(root, "program");
+    this.listing = part(root, "listing");
+    this.editor = editor;
+    const rowOf = (/** @type {Event} */ { target }) => /** @type {HTMLElement | null} */ (/** @type {Element} */ (target).closest("tr"));
+    this.listing.addEventListener("mouseover", (event) => this.mark(Number(rowOf(event)?.dataset.line)));
+    editor.box.addEventListener("mousemove", ({ clientY }) => this.mark(editor.lineAt(clientY)));
+    for (const box of [this.listing, editor.box]) box.addEventListener("mouseleave", () => this.mark(editor.caretLine));
+  }
+
+  /** Shows a state's rows, which are made anew; starts: undefined unless a compiled program is that of the editor's source. */
+  show(/** @type {Starts | undefined} */ starts) {
+    if (starts !== this.starts) {
+      this.starts = starts;
+      this.program.classList.toggle("both", starts !== undefined);
+      this.editor.tint([...new Set(Object.values(starts ?? {}))].filter(Boolean));
+      this.line = 0;
+    }
+    if (starts) this.paint();
+  }
+
+  /** Marks a line and its instructions in place of those before. */
+  mark(/** @type {number} */ line) {
+    if (!this.starts || line === this.line) return;
+    this.line = line;
+    this.paint();
+  }
+
+  paint() {
+    for (const row of elementsIn(this.listing, "tr")) row.classList.toggle("linked", Number(row.dataset.line) === this.line);
+    this.editor.link(Object.values(this.starts ?? {}).includes(this.line) ? this.line : 0);
+  }
+}
