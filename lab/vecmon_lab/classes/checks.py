@@ -1,6 +1,7 @@
 """The exercises of a class: seats' answers are checked in separate processes, and saved.
 
-exercises.json: the folder of each exercise by its name
+exercises.json: the folder of each exercise that students have, by its name
+offered.json: the folders of exercises that the teacher may turn on, besides the course's
 answers/A3.doubles.2.json: the second answer of seat A3 to `doubles`: its time, its text and the suffix of its language, and
 the result of its check
 """
@@ -22,7 +23,7 @@ from ..compilers.compiled import CompiledProgram
 from ..compilers.failures import ToolError
 from ..exercises.answer import settled
 from ..exercises.check import CheckResult, failed_check, passes_all
-from ..exercises.exercise import Exercise, read_exercise
+from ..exercises.exercise import OURS, Exercise, read_exercise, with_course
 from ..exercises.answer_cost import AnswerCost
 from .worker_pool import WorkerPool
 from .builds import Builds
@@ -32,14 +33,25 @@ from .names import local_time
 from .requests import BadRequest
 from .store import BadFolder, Store
 from .progress import MAX_TRIES, Exercises, SeatResult, Try, source_of, starts_of
+from ..tables.table import read_table
 
-EXERCISES, ANSWERS = "exercises.json", "answers"
+EXERCISES, OFFERED, ANSWERS = "exercises.json", "offered.json", "answers"
 LOST = "this answer is lost, and counts as a try in which nothing passes"
 WITHOUT = "the class has no exercises but those that --exercise and --course name"
+_COURSE = dict(read_table("course"))
 PLACES, SECONDS = 16, 12.0  # checks at once, and how long one may take from when it has its place
 RUNS = 2  # of a check that fails on the server's side
 
 ExerciseTable = TypedDict("ExerciseTable", {"title": str, "of": int, "seats": dict[str, SeatResult]})
+
+
+class OfferedExercise(TypedDict):
+    """An exercise that the teacher may turn on. minutes: that it takes, about; 0 if that is unknown; on: whether students have it"""
+
+    name: str
+    title: str
+    minutes: int
+    on: bool
 
 
 class Checks:
@@ -54,21 +66,24 @@ class Checks:
         """
         self._store, self._tell, self._workers, self._builds = store, tell, WorkerPool(PLACES, SECONDS), builds
         stored = [pathlib.Path(path) for path in store.read(EXERCISES, texts, WITHOUT).values()]
-        found: dict[str, Exercise] = {}
+        self._offered: dict[str, Exercise] = {}
+        self._settled: dict[str, Exercise] = {}  # with what they expect; those that students have had
         for folder in list(folders) or stored:
-            exercise = settled(store.program, read_exercise(folder))  # so that a mistake is reported now
+            exercise = read_exercise(folder)
             name = exercise.folder.name
-            if not re.fullmatch(r"[\w-]{1,40}", name, re.ASCII) or name in found:
+            if not re.fullmatch(r"[\w-]{1,40}", name, re.ASCII) or name in self._offered:
                 raise BadFolder(f"{folder}: an exercise has a name of its own: 1 to 40 letters, digits, _ and -")
-            found[name] = exercise
+            self._offered[name] = exercise
+        found = self._settle([*self._offered])  # so that a mistake is reported now
+        self._offer_others()
         self.exercises = Exercises(found, {name: starts_of(exercise) for name, exercise in found.items()})
         if found:
-            store.write(EXERCISES, {name: str(each.folder) for name, each in found.items()})
+            self._save_choice()
         self._tasks: set[asyncio.Task[None]] = set()
         self._unsaved: dict[str, Try] = {}
         self._lessons: dict[str, bytes] = {}  # before exercises, by name
         self._good: dict[str, AnswerCost] = {}  # the instructions and work of good answers, if known
-        self._making = asyncio.Lock()
+        self._making, self._choosing = asyncio.Lock(), asyncio.Lock()
         for seat, name, number, done in sorted(found_answers(store), key=itemgetter(0, 1, 2)):
             progress = self.exercises.progress(seat, name)
             while len(progress.tries) < number - 1:
@@ -86,6 +101,26 @@ class Checks:
         self._tasks.add(task)
         task.add_done_callback(self._tasks.discard)
         self._tell([seat])
+
+    async def choose(self, names: Sequence[str]) -> None:
+        """Set the exercises that students have, in this order. Raises BadRequest for one that the class doesn't offer, or a bad one."""
+        if unknown := [name for name in names if name not in self._offered]:
+            raise BadRequest(f"this class offers no exercise '{unknown[0]}'")
+        async with self._choosing:
+            try:
+                found = await asyncio.to_thread(self._settle, names)
+                self.exercises.choose(found, {name: starts_of(exercise) for name, exercise in found.items()})
+            except (LabError, OSError) as error:
+                raise BadRequest(f"{error}") from error
+        self._save_choice()
+
+    def offered(self) -> list[OfferedExercise]:
+        """The exercises that the teacher may turn on: those that students have, in their order, then the others."""
+        on = self.exercises.by_name
+        return [
+            {"name": name, "title": self._offered[name].title, "minutes": self._minutes(name), "on": name in on}
+            for name in dict.fromkeys([*on, *self._offered])
+        ]
 
     async def lesson(self, ticket: str) -> bytes:
         """The lesson that a ticket opens, or the one before the exercise of this name, as a page in HTML. Raises LabError."""
@@ -120,11 +155,13 @@ class Checks:
             del self._unsaved[file]
 
     def table(self) -> dict[str, ExerciseTable]:
-        """The teacher's view: for each exercise the seats that have tried it."""
+        """The teacher's view: for each exercise the seats that have tried it. Of those that are off, the tried ones."""
         tables = {}
-        for name, exercise in self.exercises.by_name.items():
+        for name in dict.fromkeys([*self.exercises.by_name, *self._offered]):
+            exercise = self._offered[name]
             results = {seat: progress.result() for seat, progress in self.exercises.of(name).items()}
-            tables[name] = ExerciseTable(title=exercise.title, of=len(exercise.cases), seats=results)
+            if results or name in self.exercises.by_name:
+                tables[name] = ExerciseTable(title=exercise.title, of=len(exercise.cases), seats=results)
         return tables
 
     def rows(self, names: Mapping[str, str]) -> Iterator[Sequence[object]]:
@@ -134,6 +171,32 @@ class Checks:
             for seat, it in sorted(exercise["seats"].items()):
                 passed, when = it["passed"] or "", local_time(it["time"])
                 yield seat, names.get(seat, ""), name, it["tries"], passed, it["best"], exercise["of"], when
+
+    def _settle(self, names: Sequence[str]) -> dict[str, Exercise]:
+        """The exercises of these names with what they expect. Raises LabError."""
+        for name in names:
+            if name not in self._settled:
+                self._settled[name] = settled(self._store.program, self._offered[name])
+        return {name: self._settled[name] for name in names}
+
+    def _minutes(self, name: str) -> int:
+        """The minutes that an exercise of the course takes; 0 for another one."""
+        return int(_COURSE.get(name, 0)) if self._offered[name].folder.parent == OURS else 0
+
+    def _offer_others(self) -> None:
+        """Take up the exercises that were offered before, and those of the course. What can't be read is reported as lost."""
+        stored = self._store.read(OFFERED, texts, "exercises that were off aren't offered any more")
+        for folder in [*map(pathlib.Path, stored.values()), *with_course([])]:
+            try:
+                self._offered.setdefault(folder.name, read_exercise(folder))
+            except (LabError, OSError) as error:
+                self._store.lose(f"the exercise {folder.name} isn't offered any more: {error}")
+
+    def _save_choice(self) -> None:
+        """Save which exercises students have, and which others are offered."""
+        self._store.write(EXERCISES, {name: str(each.folder) for name, each in self.exercises.by_name.items()})
+        own = {name: each.folder for name, each in self._offered.items() if each.folder.parent != OURS}
+        self._store.write(OFFERED, {name: str(folder) for name, folder in own.items()})
 
     async def _check(self, seat: str, name: str, source: SourceText) -> None:
         """Checks an answer, saves it if it counts as a try, and wakes the tabs."""
@@ -176,7 +239,7 @@ class Checks:
 
     async def _run(self, name: str, what: str, text: str = "", compiled: CompiledProgram | None = None) -> bytes:
         """The output of the process that checks a text, or makes a lesson. Raises LabError."""
-        given = pickle.dumps((self.exercises.by_name[name], text, compiled, self._good.get(name)))
+        given = pickle.dumps((self._settled[name], text, compiled, self._good.get(name)))
         return await self._workers.run("exercises.check", str(self._store.program), what, script=given)
 
 

@@ -109,21 +109,30 @@ class Progress:
 class Exercises:
     """Exercises by name, the sources that each may start with, and the progress of each seat.
 
+    by_name: those that students have, in their order; known: the names of these, and of those that they have had
     busy: the exercise by seat whose answer is checked, or made a lesson of
     failures: the last checks that failed on the server's side, in order; for the teacher alone
     """
 
     def __init__(self, exercises: Mapping[str, Exercise], starts: Mapping[str, list[Start]]) -> None:
-        self.by_name, self._starts, self.busy = exercises, starts, dict[str, str]()
-        self._numbers = {name: number for number, name in enumerate(exercises, 1)}
-        self._cases = {name: [_case_view(each, case) for case in each.cases] for name, each in exercises.items()}
+        self.known, self.busy = set[str](), dict[str, str]()
+        self.choose(exercises, starts)
         self._progress: dict[tuple[str, str], Progress] = {}
         self.failures: list[CheckFailure] = []
+
+    def choose(self, exercises: Mapping[str, Exercise], starts: Mapping[str, list[Start]]) -> None:
+        """Set the exercises that students have, and their starts. The progress in others is preserved."""
+        self.by_name, self._starts = exercises, starts
+        self._numbers = {name: number for number, name in enumerate(exercises, 1)}
+        self._cases = {name: [_case_view(each, case) for case in each.cases] for name, each in exercises.items()}
+        self.known |= exercises.keys()
 
     def exercise(self, name: str) -> Exercise:
         """The exercise of a name. Raises BadRequest."""
         if name not in self.by_name:
-            raise BadRequest("there is no such exercise")
+            raise BadRequest(
+                "the teacher has turned this exercise off" if name in self.known else "there is no such exercise"
+            )
         return self.by_name[name]
 
     def progress(self, seat: str, name: str) -> Progress:

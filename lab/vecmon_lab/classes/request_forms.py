@@ -232,6 +232,13 @@ class UnsendRequest(NumberedRequest):
     number: int
 
 
+class ExercisesRequest(NumberedRequest):
+    """The exercises that students have from now on, in this order; others are off."""
+
+    ask: Literal["exercises"]
+    on: list[str]
+
+
 class ResetRequest(NumberedRequest, SeatFields):
     """A seat whose machine ends."""
 
@@ -312,6 +319,7 @@ TeacherRequestForm = (
     | TakeBackRequest
     | WriteRequest
     | UnsendRequest
+    | ExercisesRequest
     | LowerHandRequest
     | ResetRequest
     | ClockRequest

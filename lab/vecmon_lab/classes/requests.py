@@ -227,6 +227,13 @@ class OpenOffer:
 
 
 @dataclass(frozen=True)
+class ChooseExercises:
+    """The exercises that students have, by their names, in order."""
+
+    names: Sequence[str]
+
+
+@dataclass(frozen=True)
 class Unsend:
     """A message that is taken back from the seats that haven't read it."""
 
@@ -298,6 +305,7 @@ TeacherRequest = (
     | TakeBack
     | Write
     | Unsend
+    | ChooseExercises
     | LowerHand
     | Reset
     | SetClock
@@ -347,6 +355,7 @@ _OF_TEACHERS: Mapping[str, Reader] = {
     "take-back": lambda it: TakeBack(_seats(it)),
     "write": lambda it: Write(_seats(it), _sentence(it)),
     "unsend": lambda it: Unsend(_number(it)),
+    "exercises": lambda it: ChooseExercises(_exercises(it)),
     "hand": lambda it: LowerHand(_name(it, "seat")),
     "reset": lambda it: Reset(_name(it, "seat")),
     "clock": lambda it: SetClock(_name(it, "machine"), _settings(it)),
@@ -443,6 +452,14 @@ def _seats(message: JsonObject) -> Sequence[str]:
     names = message["seats"]
     if "seat" in message or not isinstance(names, list) or not names or not all(type(it) is str and it for it in names):
         raise BadRequest("seats is a list of one or more names of seats, in place of seat")
+    return [*dict.fromkeys(names)]
+
+
+def _exercises(message: JsonObject) -> Sequence[str]:
+    """The names of exercises in a message, each once."""
+    names = message.get("on")
+    if not isinstance(names, list) or not all(type(name) is str for name in names):
+        raise BadRequest("on is a list of names of exercises")
     return [*dict.fromkeys(names)]
 
 

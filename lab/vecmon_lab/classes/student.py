@@ -12,6 +12,7 @@ from .languages import LANGUAGES, SourceText
 from .messages import Hand, Notice, Result, SourceResult, SourceView, TextResult, shown, source_view
 from .progress import Exercises, ExerciseView
 from .requests import (
+    BadRequest,
     Check,
     Draft,
     FindProblems,
@@ -106,6 +107,12 @@ class Student:
         self._texts, self._check = texts, check
         self.source.settle([*exercises.by_name])
 
+    def open_first(self) -> None:
+        """Open the first exercise, if the open one isn't among those that students have; none without any."""
+        names = [*self.exercises.by_name]
+        if self.source.exercise not in names:
+            self.source.open(names[0] if names else "")
+
     def restore(self) -> str:
         """Brings back which source is in the seat's machine, where its text is kept; why that fails, else an empty text."""
         try:
@@ -149,8 +156,8 @@ class Student:
             case Why(name):
                 return {"why": (yield from self.machine.why(self.seat, name))}
             case Draft(source, number, name, is_kept):
-                if name:
-                    self.exercises.exercise(name)
+                if name and name not in self.exercises.known:
+                    raise BadRequest("there is no such exercise")
                 self.source.draft(source, number, name, is_kept)
             case OpenExercise(name):
                 self.exercises.exercise(name)

@@ -6,6 +6,7 @@ from .codes import WALL
 from .messages import CodesResult, Result
 from .requests import (
     BadRequest,
+    ChooseExercises,
     Give,
     LookOver,
     LowerHand,
@@ -38,6 +39,8 @@ async def execute_teachers(members: Class, tab: Tab, request: TeacherRequest) ->
             read = members.notices.unsend(number)
             members.tell(members.students)
             return {"read": read}
+        case ChooseExercises(names):
+            await members.choose_exercises(names)
         case LowerHand(name):
             members.set_hand(members.seat(name).name, up=False)
         case Reset(name):

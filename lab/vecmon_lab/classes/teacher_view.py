@@ -5,7 +5,7 @@ from typing import NotRequired, TypedDict
 from ..machine.session import SCRIPT_BYTES
 from ..machine.answers import Run
 from ..page.state import State
-from .checks import ExerciseTable
+from .checks import ExerciseTable, OfferedExercise
 from .languages import LANGUAGES
 from .progress import CheckFailure
 from .messages import Hand, SentNotice, SourceView, shown, source_view
@@ -86,6 +86,7 @@ class TeacherView(TypedDict):
 
     class_title: the title of the class; machines: by letter; share: a seat's bytes of the script; shoulder: the observed seat, or "", with its state and source
     wall: the seat on the wall, or ""; address: where students reach the class, or ""
+    course: the exercises that may be turned on; exercises: the results by name
     sent: the last messages by number, oldest first; given: the last given source, while it can be taken back
     unencrypted: whether codes travel unencrypted to other computers
     """
@@ -96,6 +97,7 @@ class TeacherView(TypedDict):
     shoulder: str
     wall: str
     address: str
+    course: list[OfferedExercise]
     exercises: dict[str, ExerciseTable]
     failures: list[CheckFailure]
     state: NotRequired[State]
@@ -133,6 +135,7 @@ def teacher_view(members: Class, tab: Tab) -> TeacherView:
         "languages": [language.name for language in LANGUAGES],
         "no_c": members.builds.no_c,
         "unencrypted": members.is_unencrypted,
+        "course": members.checks.offered(),
         "exercises": members.checks.table(),
         "failures": members.checks.exercises.failures,
         "sent": members.notices.sent,

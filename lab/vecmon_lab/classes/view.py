@@ -226,6 +226,13 @@ class Class:
             self.hands.down(seat)
         self.tell([seat])
 
+    async def choose_exercises(self, names: Sequence[str]) -> None:
+        """Set the exercises that students have, in this order. Raises BadRequest."""
+        await self.checks.choose(names)
+        for student in self.students.values():
+            student.open_first()
+        self.tell(self.students)
+
     def set_name(self, seat: str, name: str) -> None:
         """Save the name of the student at a seat, or "" for nobody."""
         self.names = {each: stored for each, stored in (self.names | {seat: name}).items() if stored}

@@ -202,6 +202,13 @@ export interface ExerciseView {
   lesson: string;
 }
 
+/** The exercises that students have from now on, in this order; others are off. */
+export interface ExercisesRequest {
+  id: number;
+  ask: "exercises";
+  on: string[];
+}
+
 /** A frame of a lesson (`Frame` in lessons/frames.py). states: a merge patch of the states of the frame before, by user */
 export interface FrameData {
   user: string;
@@ -404,6 +411,14 @@ export interface Offer {
   title: string;
   text: string;
   language: number;
+}
+
+/** An exercise that the teacher may turn on. minutes: that it takes, about; 0 if that is unknown; on: whether students have it */
+export interface OfferedExercise {
+  name: string;
+  title: string;
+  minutes: number;
+  on: boolean;
 }
 
 /** A message of the teacher's whose source replaces that of the seat. */
@@ -840,6 +855,7 @@ export interface TakeBackRequest {
  *
  * class_title: the title of the class; machines: by letter; share: a seat's bytes of the script; shoulder: the observed seat, or "", with its state and source
  * wall: the seat on the wall, or ""; address: where students reach the class, or ""
+ * course: the exercises that may be turned on; exercises: the results by name
  * sent: the last messages by number, oldest first; given: the last given source, while it can be taken back
  * unencrypted: whether codes travel unencrypted to other computers
  */
@@ -850,6 +866,7 @@ export interface TeacherView {
   shoulder: string;
   wall: string;
   address: string;
+  course: OfferedExercise[];
   exercises: { [name: string]: ExerciseTable };
   failures: CheckFailure[];
   state?: State;
@@ -975,6 +992,7 @@ export type TeacherRequestForm =
   | TakeBackRequest
   | WriteRequest
   | UnsendRequest
+  | ExercisesRequest
   | LowerHandRequest
   | ResetRequest
   | ClockRequest
