@@ -289,7 +289,7 @@ def test_values_are_edited_by_clicks_and_keys(sit: Sit) -> None:
     tab.click("#show-registers")
     tab.click("[data-edit='set x10']")
     tab.keys("#value", Keys.CONTROL, "a", Keys.NULL, "-g", Keys.ENTER)
-    assert "no decimal number of 64 bits" in tab.text("#stop") and not tab.run("id('edit').open")
+    assert "-g isn't a decimal number of 64 bits" in tab.text("#stop") and not tab.run("id('edit').open")
     tab.click("[data-edit='vset v1 32 3 hexadecimal']")
     tab.keys("#value", Keys.CONTROL, "a", Keys.NULL, "1ffffffff", Keys.ENTER)
     assert "1ffffffff isn't a hexadecimal number of 32 bits" in tab.text("#stop")
@@ -313,7 +313,7 @@ def test_earlier_lines_and_refusals_are_shown(sit: Sit) -> None:
     tab.command("asm 10000 vle32.v v1, (x1)", "setpc 10000", "step 1")
     assert "vill" in tab.text("#stop") and tab.text("#run") == "Fault"
     tab.keys("#line", "é\n")
-    tab.wait("id('stop').textContent.includes(\"Character 1 of the line, é, isn't printable ASCII\")")
+    tab.wait("id('stop').textContent.includes(\"Character 1 of line 1, é, isn't printable ASCII\")")
     teacher = sit("teacher")
     teacher.click("tr[data-seat='A4'] td:nth-child(2) button")
     teacher.wait("id('log').textContent.includes(arguments[0])", tag)
