@@ -58,7 +58,7 @@ class Desk(PageDesk):
 
     def _more(self) -> ClassView:
         view = super()._more()
-        view["title"], view["name"], view["clock"] = "", self._name, self.has_clock
+        view["title"], view["class_title"], view["name"], view["clock"] = "", "class", self._name, self.has_clock
         return view
 
 

@@ -249,7 +249,8 @@ async def test_teacher_gets_table_and_answers(room: Served) -> None:
     result = reply["seats"]["A3"]
     assert (result["tries"], result["passed"], result["best"]) == (3, 2, 2) and abs(result["time"] - time.time()) < 60
     for number, text in enumerate((WRONG, RIGHT, WRONG), 1):
-        assert (await teacher.ask("answer", seat="A3", exercise="square", number=number))["text"] == text
+        answer = await teacher.ask("answer", seat="A3", exercise="square", number=number)
+        assert (answer["text"], passed(answer["told"])) == (text, [True, text == RIGHT])
     for seat, name, which in (("A9", "square", 1), ("A3", "nosuch", 1), ("A3", "square", 4), ("A3", "square", "1")):
         assert "error" in await teacher.ask("answer", seat=seat, exercise=name, number=which)
     status, table = await room.get("exercises.csv")

@@ -142,12 +142,13 @@ class Checks:
         finally:
             del busy[seat]
 
-    def answer(self, seat: str, name: str, number: int) -> SourceText:
-        """The source of a seat's attempt; the first is 1. Raises BadRequest."""
+    def answer(self, seat: str, name: str, number: int) -> Try:
+        """A seat's try; the first is 1. Raises BadRequest."""
         if not 1 <= number <= len(self.exercises.progress(seat, name).tries):
             raise BadRequest("there is no such answer")
         file = _file(seat, name, number)
-        return source_of(self._unsaved.get(file) or self._store.read(file, attempt, LOST))
+        done = self._unsaved.get(file) or self._store.read(file, attempt, LOST)
+        return self.exercises.with_case_names(name, done)
 
     def save(self) -> None:
         """Brings the folder up to date, as far as the disk takes it."""

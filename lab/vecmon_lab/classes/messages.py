@@ -6,6 +6,7 @@ from typing import Literal, NotRequired, TypedDict, TypeVar, cast
 
 from ..assembler.commands import refusal_on_pages
 from ..assembler.mistakes import Mistake
+from ..exercises.check import CheckResult
 from ..page.pages import merge_patch
 from ..page.state import State
 from .requests import BadRequest, JsonObject
@@ -116,6 +117,12 @@ class TextResult(TypedDict):
     language: int
 
 
+class TryResult(TextResult):
+    """The source of a try at an exercise, and the result of its check."""
+
+    told: CheckResult
+
+
 class ListingsResult(TypedDict):
     """The ticket of side-by-side listings."""
 
@@ -141,7 +148,7 @@ class WhyResult(TypedDict):
 
 
 class CodesResult(TypedDict):
-    """Codes by seat; pictures: of a sheet to print, by seat"""
+    """Codes by seat; pictures: of a sheet to print, by seat, and by "" of the address alone"""
 
     codes: dict[str, str]
     pictures: NotRequired[dict[str, str]]
@@ -160,6 +167,7 @@ Result = (
     | LinesResult
     | SourceResult
     | TextResult
+    | TryResult
     | ListingsResult
     | ReplacedResult
     | UnsentResult
@@ -189,7 +197,11 @@ class SourceAnswer(AnswerHead, SourceResult):
 
 
 class TextAnswer(AnswerHead, TextResult):
-    """The answer to `version` and `answer`."""
+    """The answer to `version`."""
+
+
+class TryAnswer(AnswerHead, TryResult):
+    """The answer to `answer`."""
 
 
 class ListingsAnswer(AnswerHead, ListingsResult):
@@ -221,6 +233,7 @@ Answer = (
     | LinesAnswer
     | SourceAnswer
     | TextAnswer
+    | TryAnswer
     | ListingsAnswer
     | ReplacedAnswer
     | UnsentAnswer

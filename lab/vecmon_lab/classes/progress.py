@@ -164,11 +164,15 @@ class Exercises:
         return self.progress(seat, name).add(done)
 
     def restore(self, seat: str, name: str, done: Try) -> None:
-        """Takes up a saved try. Where its cases have no names, as those of version 1.0, they get those of the exercise."""
+        """Takes up a saved try."""
+        self.progress(seat, name).add(self.with_case_names(name, done))
+
+    def with_case_names(self, name: str, done: Try) -> Try:
+        """A saved try. Where its cases have no names, as those of version 1.0, they get those of the exercise."""
         cases = self.by_name[name].cases if name in self.by_name else []
         for case, result in zip(cases, done["told"].get("cases", [])):
             result["name"] = result["name"] or case.name
-        self.progress(seat, name).add(done)
+        return done
 
     def case(self, seat: str, name: str, number: int | None, source: SourceText) -> Callable[[int], list[str]]:
         """Return a function from a program's entry address to the commands that set up a case.

@@ -111,13 +111,14 @@ class DraftRequest(NumberedRequest, SourceFields):
     """The source that a student types.
 
     number: that the seat's source had; exercise: for which it was typed, by default the open one
-    keep: whether it becomes a version
+    keep: whether it becomes a version; line: the number of the caret's line, by default unknown
     """
 
     ask: Literal["draft"]
     number: int
     exercise: NotRequired[str]
     keep: NotRequired[bool]
+    line: NotRequired[int]
 
 
 class OpenRequest(NumberedRequest):

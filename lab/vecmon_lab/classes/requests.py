@@ -159,12 +159,14 @@ class Draft:
     """The source that a student types, and the number that it had.
 
     exercise: the one that it was typed for; "" for the open one; is_kept: whether it becomes a version
+    line: the number of the caret's line, 0 if it is unknown
     """
 
     source: SourceText
     number: int
     exercise: str
     is_kept: bool
+    line: int
 
 
 @dataclass(frozen=True)
@@ -338,7 +340,7 @@ _OF_STUDENTS: Mapping[str, Reader] = {
     "step": lambda it: _step(it),
     "step-line": lambda it: StepLine(),
     "why": lambda it: Why(_name(it, "name")),
-    "draft": lambda it: Draft(_source(it), _number(it), _name(it, "exercise"), bool(it.get("keep"))),
+    "draft": lambda it: Draft(_source(it), _number(it), _name(it, "exercise"), bool(it.get("keep")), _line(it)),
     "open": lambda it: OpenOffer(_number(it)) if "number" in it else OpenExercise(_name(it, "exercise")),
     "answer": lambda it: ReadAnswer("", _name(it, "exercise"), _number(it)),
     "read": lambda it: ReadNotice(_number(it)),
@@ -477,6 +479,14 @@ def _number(message: JsonObject, name: str = "number") -> int:
     if not isinstance(number, int):
         raise BadRequest("sources, versions, answers, cases, messages and options have whole numbers")
     return number
+
+
+def _line(message: JsonObject) -> int:
+    """The number of the caret's line in a message; 0 without one."""
+    line = message.get("line", 0)
+    if type(line) is not int or not 0 <= line <= SOURCE_LETTERS + 1:
+        raise BadRequest("line is the number of a line of the source")
+    return line
 
 
 def _name(message: JsonObject, kind: str) -> str:

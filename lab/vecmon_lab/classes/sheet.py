@@ -6,5 +6,6 @@ import segno
 
 
 def pictures(address: str, codes: Mapping[str, str]) -> dict[str, str]:
-    """For each code the QR code of the address with it, as data of an image (SVG)."""
-    return {name: segno.make_qr(f"{address}#{code}").svg_data_uri(omitsize=True) for name, code in codes.items()}
+    """QR codes as data of images (SVG): for each code that of the address with it, and for "" that of the address alone."""
+    links = {"": address} | {name: f"{address}#{code}" for name, code in codes.items()}
+    return {name: segno.make_qr(link).svg_data_uri(omitsize=True) for name, link in links.items()}

@@ -37,10 +37,12 @@ class SeatSource:
     own, number: as it is, and how often it has changed since the server began; versions: the last ones, in order
     exercise: the one that is open, whose source is `own`; "" for none. Each exercise has a source.
     opened: when it was opened, or the server started, in seconds since 1970
+    caret: the number of the line in which the student typed last; 0 if it is unknown
     """
 
     def __init__(self, name: str, store: TextStore) -> None:
         self._name, self._store, self.number = name, store, 0
+        self.caret = 0
         self._unsaved: dict[int, SourceText] = {}  # versions by number
         self._left: dict[str, SourceText] = {}  # sources of exercises that aren't open, unless they are saved
         self.versions = self._found()
@@ -51,6 +53,11 @@ class SeatSource:
         self._gift: tuple[SourceText, SourceText] | None = None  # the teacher's last one, and the own before it
         self._newest = self._newest_of(self.exercise)
         self._since = time.time()  # when the text began to differ from the newest version
+
+    @property
+    def has_changed(self) -> bool:
+        """Whether the source differs from its newest version."""
+        return self.own.text not in ("", self._newest.text)
 
     def settle(self, exercises: Sequence[str]) -> None:
         """Opens the first of a class's exercises where none of them is open; a source without an exercise becomes its source."""
@@ -70,7 +77,7 @@ class SeatSource:
         self._left[self.exercise] = self.own
         left = self._left.pop(exercise, None) or kept_source(self._store, self._place(exercise))
         self.own = left if left.text else SourceText("", self.own.language)
-        self.exercise, self.opened, self.number, self._gift = exercise, time.time(), self.number + 1, None
+        self.exercise, self.opened, self.caret, self.number, self._gift = exercise, time.time(), 0, self.number + 1, None
         self._newest, self._since = self._newest_of(exercise), time.time()
 
     def draft(self, source: SourceText, number: int, exercise: str = "", is_kept: bool = False) -> None:

@@ -9,8 +9,8 @@ from ..assembler.source import Program
 from ..compilers.compiled import CompiledProgram
 from ..page.state import State
 from .languages import LANGUAGES, SourceText
-from .messages import Hand, Notice, Result, SourceResult, SourceView, TextResult, shown, source_view
-from .progress import Exercises, ExerciseView
+from .messages import Hand, Notice, Result, SourceResult, SourceView, TextResult, TryResult, shown, source_view
+from .progress import Exercises, ExerciseView, Try, source_of
 from .requests import (
     BadRequest,
     Check,
@@ -96,7 +96,10 @@ class StudentView(SeatPart, ClassView):
 
 
 class Student:
-    """A seat, its source, and the exercises."""
+    """A seat, its source, and the exercises.
+
+    problems: of the source that was assembled, or whose problems the page asked for, last
+    """
 
     def __init__(
         self, machine: SharedMachine, seat: Seat, texts: TextStore, exercises: Exercises, check: Checker
@@ -104,6 +107,7 @@ class Student:
         """texts: keeps the seat's source and its versions"""
         self.machine, self.seat, self.exercises = machine, seat, exercises
         self.source = SeatSource(seat.name, texts)
+        self.problems: SourceResult = {"mistakes": [], "warnings": []}
         self._texts, self._check = texts, check
         self.source.settle([*exercises.by_name])
 
@@ -140,7 +144,8 @@ class Student:
             case FindProblems(source):
                 program = yield MakeProgram(source, is_tried=True)
                 assert program is not None
-                return problems_of(program, source)
+                self.problems = problems_of(program, source)
+                return self.problems
             case RunProgram(source, number):
                 problems = yield from self._build(source, number)
                 if not problems["mistakes"]:
@@ -155,10 +160,11 @@ class Student:
                 yield from step_line(self.machine, self.seat)
             case Why(name):
                 return {"why": (yield from self.machine.why(self.seat, name))}
-            case Draft(source, number, name, is_kept):
+            case Draft(source, number, name, is_kept, line):
                 if name and name not in self.exercises.known:
                     raise BadRequest("there is no such exercise")
                 self.source.draft(source, number, name, is_kept)
+                self.source.caret = line
             case OpenExercise(name):
                 self.exercises.exercise(name)
                 self.source.open(name)
@@ -190,7 +196,8 @@ class Student:
         mistakes, warnings = yield from self.machine.write(self.seat, source, is_answer, keeps_breakpoints)
         if mistakes:
             self.seat.set_status(problems_status(len(mistakes)))
-        return problems_json(source or self.seat.written, mistakes, warnings)
+        self.problems = problems_json(source or self.seat.written, mistakes, warnings)
+        return self.problems
 
     def view(self, others: ClassView) -> StudentView:
         """The student's view, with the fields that aren't the seat's own."""
@@ -221,6 +228,12 @@ def problems_json(source: SourceText, mistakes: Mistakes, warnings: Mistakes) ->
         "mistakes": mistakes_json(mistakes, text, is_c),
         "warnings": mistakes_json(warnings, text, is_c, "warning"),
     }
+
+
+def try_result(done: Try) -> TryResult:
+    """A try as a message has it."""
+    source = source_of(done)
+    return {"text": source.text, "language": source.language, "told": done["told"]}
 
 
 def text_of(source: SourceText) -> TextResult:

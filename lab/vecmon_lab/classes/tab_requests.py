@@ -12,7 +12,7 @@ from .requests import ReadAnswer, ReadNotice, ReadVersion, Request, RunProgram, 
 from .requests import StepLine, StepProgram, TryCase, Why, read_request
 from .seats import Seat
 from .shared_machine import Answers
-from .student import text_of
+from .student import try_result
 from .teacher import execute_teachers
 from .teacher_view import teacher_view, wall_view
 from .view import Class, Tab
@@ -95,9 +95,8 @@ class TabRequests:
             case Compare(source, other):
                 return {"listings": members.comparisons.ask(tab.who, source, other)}
             case ReadAnswer(seat_name, name, number):
-                return text_of(
-                    members.checks.answer(members.seat(seat_name if is_teacher else tab.who).name, name, number)
-                )
+                seat = members.seat(seat_name if is_teacher else tab.who)
+                return try_result(members.checks.answer(seat.name, name, number))
             case Source() | FindProblems() | StepLine() | Why() | Draft() | OpenExercise() | ReadVersion():
                 return await self._execute_for_seat(tab, request)
             case Check() | TryCase() | StepProgram():

@@ -90,5 +90,6 @@ async def _shown_codes(members: Class, name: str, with_pictures: bool) -> CodesR
     """The codes of a seat, or of all for "". Raises BadRequest."""
     if not (codes := members.codes.shown(name)):
         raise BadRequest("there is no such seat")
-    shown = await asyncio.to_thread(pictures, members.address, codes) if with_pictures and members.address else {}
-    return {"codes": codes, "pictures": shown}
+    if not with_pictures or not members.address:
+        return {"codes": codes, "pictures": {}}
+    return {"codes": codes, "pictures": await asyncio.to_thread(pictures, members.address, codes)}

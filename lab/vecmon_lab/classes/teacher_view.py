@@ -5,14 +5,16 @@ from typing import NotRequired, TypedDict
 from ..machine.session import SCRIPT_BYTES
 from ..machine.answers import Run
 from ..page.state import State
+from ..exercises.check import CheckResult
 from .checks import ExerciseTable, OfferedExercise
 from .languages import LANGUAGES
 from .progress import CheckFailure
-from .messages import Hand, SentNotice, SourceView, shown, source_view
+from .messages import Hand, SentNotice, SourceResult, SourceView, shown, source_view
 from .room import Room
 from .seat_status import SeatStatus
 from .seats import Seat
 from .shared_machine import SEAT_BYTES
+from .student import Student
 from .view import Class, Given, Tab
 
 
@@ -33,6 +35,7 @@ class SeatView(TypedDict):
     exercise, exercise_since: the open one, or "", and since when it is open, or the server runs
     stuck, stuck_since: whether its student may need somebody, and since when, which is missing otherwise: the program has problems, a
         fault, or ran too long, or the exercise has been open for 10 minutes, with 3 tries that failed
+    changed: whether its source differs from the newest version
     used: bytes of the script; hand: while it is up. Times are in seconds since 1970.
     """
 
@@ -44,6 +47,7 @@ class SeatView(TypedDict):
     since: int
     exercise: str
     exercise_since: int
+    changed: bool
     stuck: bool
     stuck_since: NotRequired[int]
     line: str
@@ -81,10 +85,21 @@ class MachineView(TypedDict):
     trouble: str
 
 
+class Outcome(TypedDict):
+    """The work of a seat at its open exercise: the number of tries, whether one is checked now, and the result of the last check."""
+
+    exercise: str
+    tries: int
+    checking: bool
+    told: CheckResult
+
+
 class TeacherView(TypedDict):
     """The teacher's view.
 
-    class_title: the title of the class; machines: by letter; share: a seat's bytes of the script; shoulder: the observed seat, or "", with its state and source
+    class_title: the title of the class; machines: by letter; share: a seat's bytes of the script
+    shoulder: the observed seat, or "". Of that alone: its state and source; caret: the number of the line in which it typed last, or 0;
+        problems: those of its last assembly; outcome: if an exercise is open
     wall: the seat on the wall, or ""; address: where students reach the class, or ""
     course: the exercises that may be turned on; exercises: the results by name
     sent: the last messages by number, oldest first; given: the last given source, while it can be taken back
@@ -102,6 +117,9 @@ class TeacherView(TypedDict):
     failures: list[CheckFailure]
     state: NotRequired[State]
     source: NotRequired[SourceView]
+    caret: NotRequired[int]
+    problems: NotRequired[SourceResult]
+    outcome: NotRequired[Outcome]
     images: list[str]
     quantum: int
     languages: list[str]
@@ -141,11 +159,22 @@ def teacher_view(members: Class, tab: Tab) -> TeacherView:
         "sent": members.notices.sent,
     }
     if tab.shoulder:
-        view["state"] = shown(tab.shoulder)
-        view["source"] = source_view(members.students[tab.shoulder.name].source, tab.shoulder)
+        student = members.students[tab.shoulder.name]
+        view["state"], view["source"] = shown(tab.shoulder), source_view(student.source, tab.shoulder)
+        view["caret"], view["problems"] = student.source.caret, student.problems
+        if student.source.exercise in student.exercises.by_name:
+            view["outcome"] = _outcome(student)
     if members.given:
         view["given"] = members.given
     return view
+
+
+def _outcome(student: Student) -> Outcome:
+    """The work of a student at the open exercise."""
+    seat, exercise = student.seat.name, student.source.exercise
+    progress = student.exercises.progress(seat, exercise)
+    is_checked = student.exercises.busy.get(seat) == exercise
+    return {"exercise": exercise, "tries": len(progress.tries), "checking": is_checked, "told": progress.last_result}
 
 
 def _machine_view(members: Class, room: Room) -> MachineView:
@@ -176,6 +205,7 @@ def _seat_view(members: Class, seat: Seat) -> SeatView:
         "since": int(seat.since),
         "exercise": source.exercise,
         "exercise_since": int(source.opened),
+        "changed": source.has_changed,
         "stuck": stuck_since is not None,
         "line": seat.line,
         "answer": seat.answer,

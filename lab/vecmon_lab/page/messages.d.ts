@@ -150,7 +150,7 @@ export interface CodesRequest {
  * The source that a student types.
  *
  * number: that the seat's source had; exercise: for which it was typed, by default the open one
- * keep: whether it becomes a version
+ * keep: whether it becomes a version; line: the number of the caret's line, by default unknown
  */
 export interface DraftRequest {
   id: number;
@@ -160,6 +160,7 @@ export interface DraftRequest {
   number: number;
   exercise?: string;
   keep?: boolean;
+  line?: number;
 }
 
 /** The answer to a request that returns nothing. */
@@ -435,6 +436,14 @@ export interface OpenRequest {
   exercise: string;
 }
 
+/** The work of a seat at its open exercise: the number of tries, whether one is checked now, and the result of the last check. */
+export interface Outcome {
+  exercise: string;
+  tries: number;
+  checking: boolean;
+  told: CheckResult;
+}
+
 /** The first message to a page. lost: sentences on what couldn't be read of the saved texts */
 export interface PageHello {
   patch?: { [name: string]: unknown };
@@ -568,6 +577,7 @@ export interface SeatStatus {
  * exercise, exercise_since: the open one, or "", and since when it is open, or the server runs
  * stuck, stuck_since: whether its student may need somebody, and since when, which is missing otherwise: the program has problems, a
  *     fault, or ran too long, or the exercise has been open for 10 minutes, with 3 tries that failed
+ * changed: whether its source differs from the newest version
  * used: bytes of the script; hand: while it is up. Times are in seconds since 1970.
  */
 export interface SeatView {
@@ -579,6 +589,7 @@ export interface SeatView {
   since: number;
   exercise: string;
   exercise_since: number;
+  changed: boolean;
   stuck: boolean;
   stuck_since?: number;
   line: string;
@@ -723,6 +734,12 @@ export interface SourceRequest {
   number?: number;
 }
 
+/** The mistakes of a source that goes into a new machine, and a compiler's warnings. */
+export interface SourceResult {
+  mistakes: Mistake[];
+  warnings: Mistake[];
+}
+
 /**
  * The source of a seat.
  *
@@ -853,7 +870,9 @@ export interface TakeBackRequest {
 /**
  * The teacher's view.
  *
- * class_title: the title of the class; machines: by letter; share: a seat's bytes of the script; shoulder: the observed seat, or "", with its state and source
+ * class_title: the title of the class; machines: by letter; share: a seat's bytes of the script
+ * shoulder: the observed seat, or "". Of that alone: its state and source; caret: the number of the line in which it typed last, or 0;
+ *     problems: those of its last assembly; outcome: if an exercise is open
  * wall: the seat on the wall, or ""; address: where students reach the class, or ""
  * course: the exercises that may be turned on; exercises: the results by name
  * sent: the last messages by number, oldest first; given: the last given source, while it can be taken back
@@ -871,6 +890,9 @@ export interface TeacherView {
   failures: CheckFailure[];
   state?: State;
   source?: SourceView;
+  caret?: number;
+  problems?: SourceResult;
+  outcome?: Outcome;
   images: string[];
   quantum: number;
   languages: string[];
@@ -881,7 +903,7 @@ export interface TeacherView {
   trouble: string;
 }
 
-/** The answer to `version` and `answer`. */
+/** The answer to `version`. */
 export interface TextAnswer {
   patch?: { [name: string]: unknown };
   logs?: { [name: string]: string[] };
@@ -889,6 +911,17 @@ export interface TextAnswer {
   id: number;
   text: string;
   language: number;
+}
+
+/** The answer to `answer`. */
+export interface TryAnswer {
+  patch?: { [name: string]: unknown };
+  logs?: { [name: string]: string[] };
+  kind: "answer";
+  id: number;
+  text: string;
+  language: number;
+  told: CheckResult;
 }
 
 /** A message to take back from the seats that haven't read it. */
@@ -1007,6 +1040,7 @@ export type Answer =
   | LinesAnswer
   | SourceAnswer
   | TextAnswer
+  | TryAnswer
   | ListingsAnswer
   | ReplacedAnswer
   | UnsentAnswer
@@ -1021,6 +1055,7 @@ export type Message =
   | LinesAnswer
   | SourceAnswer
   | TextAnswer
+  | TryAnswer
   | ListingsAnswer
   | ReplacedAnswer
   | UnsentAnswer

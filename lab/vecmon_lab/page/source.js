@@ -84,7 +84,7 @@ export class Source {
     if (!this.isTyped || this.isTooLong || !this.connection.isReady) return;
     if (this.sent.size) return void this.sendLater();
     const { number, exercise } = this.told;
-    await this.bring(source, () => this.connection.ask({ ask: "draft", ...source, number, exercise }));
+    await this.bring(source, () => this.connection.ask({ ask: "draft", ...source, number, exercise, line: this.editor.caretLine }));
   }
 
   /** Does what brings a source to the server; the answer. */

@@ -17,7 +17,7 @@ from ..classes.requests import BadRequest, Check, Draft, FindProblems, JsonObjec
 from ..classes.requests import ReadVersion, Request, RunProgram, Settings, Source, StepLine, StepProgram, TryCase, Why
 from ..classes.requests import read_request
 from ..classes.shared_machine import Answers, MakeProgram, Returned, SharedMachine, Steps, Turn
-from ..classes.student import ClassView, Student, text_of
+from ..classes.student import ClassView, Student, try_result
 from ..classes.text_store import TextStore
 from ..exercises.check import check, lesson, lesson_before
 from ..exercises.exercise import Exercise
@@ -118,8 +118,8 @@ class Desk:
             self.program, self.exercises.by_name[name], progress.last_result["number"], progress.source.text, None
         )
 
-    def try_of(self, name: str, number: int) -> SourceText:
-        """The source of a try at an exercise; the first try has number 1. Raises BadRequest."""
+    def try_of(self, name: str, number: int) -> Try:
+        """A try at an exercise; the first one has number 1. Raises BadRequest."""
         raise BadRequest("there is no such answer")
 
     def add_try(self, name: str, done: Try) -> None:
@@ -178,7 +178,7 @@ class Desk:
                 return {"do": done, "look": self.lines(request, done)}
             case ReadAnswer(_, name, number):
                 self.exercises.exercise(name)
-                return text_of(self.try_of(name, number))
+                return try_result(self.try_of(name, number))
             case Source() | FindProblems() | StepLine() | Why() | Draft() | OpenExercise() | ReadVersion():
                 return self.run(self.student.execute(request))
             case Check() | TryCase() | RunProgram() | StepProgram():

@@ -14,7 +14,7 @@ from ..classes.stored_files import attempt
 from ..classes.languages import SourceText
 from ..classes.messages import Hello, News, with_changes
 from ..classes.history import History
-from ..classes.progress import MAX_TRIES, Start, Try, source_of
+from ..classes.progress import MAX_TRIES, Start, Try
 from ..classes.requests import BadRequest, Lines
 from ..classes.shared_machine import LEAVING, Answers
 from ..classes.text_store import TextStore
@@ -104,11 +104,11 @@ class PageDesk(Desk):
             self._take_image(words[-1][1])
         return looks
 
-    def try_of(self, name: str, number: int) -> SourceText:
-        """The source of a try. Raises BadRequest."""
+    def try_of(self, name: str, number: int) -> Try:
+        """A try. Raises BadRequest."""
         if not 1 <= number <= len(self.exercises.progress(self.seat.name, name).tries):
             raise BadRequest("there is no such answer")
-        return source_of(self._kept_try(name, number))
+        return self.exercises.with_case_names(name, self._kept_try(name, number))
 
     def add_try(self, name: str, done: Try) -> None:
         """Takes up the result of a check, and saves it if it counts as a try."""
