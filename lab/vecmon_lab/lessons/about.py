@@ -7,6 +7,7 @@ from typing import TypedDict
 
 from ..assembler.data_runs import DataRun
 from ..assembler.source import Program
+from ..page.texts import page_text
 from .frames import Frame
 from .script import Script
 
@@ -55,17 +56,17 @@ def _described(run: DataRun, content: bytes) -> str:
     """The numbers or the text of a run in words: how many there are, and the first ones."""
     if run.type == "text":
         text = content.rstrip(b"\0").decode("ascii", "replace")
-        return f"the text {json.dumps(text[:MAX_LETTERS])}{' …' * (len(text) > MAX_LETTERS)}"
+        return page_text("lesson.data.text", text=json.dumps(text[:MAX_LETTERS]) + " …" * (len(text) > MAX_LETTERS))
     bits = int(run.type[1:])
     places = range(0, len(content), bits // 8)
     signed = run.type[0] == "i"
     numbers = [int.from_bytes(content[at : at + bits // 8], "little", signed=signed) for at in places]
     if len(numbers) == 1:
-        return f"{_number(numbers[0])}, a number of {bits} bits"
+        return page_text("lesson.data.number", number=_number(numbers[0]), bits=bits)
     if len(set(numbers)) == 1:
-        return f"{len(numbers)} numbers of {bits} bits, each {_number(numbers[0])}"
+        return page_text("lesson.data.alike", number=_number(numbers[0]), length=len(numbers), bits=bits)
     shown = ", ".join(_number(number) for number in numbers[:MAX_NUMBERS]) + ", …" * (len(numbers) > MAX_NUMBERS)
-    return f"{len(numbers)} numbers of {bits} bits: {shown}"
+    return page_text("lesson.data.numbers", numbers=shown, length=len(numbers), bits=bits)
 
 
 def _number(number: int) -> str:

@@ -5,6 +5,7 @@ import { Panes } from "./panes.js";
 import { patched } from "./patches.js";
 import { keepRead, lessonsRead } from "./progress.js";
 import { lineBegins } from "./source_lines.js";
+import { textOf } from "./texts.js";
 import { STOP_LINE, entryParts, logEntry } from "./transcript.js";
 import { MachineView, usedIn } from "./view.js";
 
@@ -18,6 +19,7 @@ const MOVES = ["first", "begin", "back", "next", "last"];
 const LINE_KEYS = { ArrowDown: 1, ArrowUp: -1 };
 /** @type {Record<string, number>} */
 const FRAME_KEYS = { ArrowRight: 1, ArrowLeft: -1 };
+const RUNS = { absent: textOf("lesson.absent"), running: textOf("lesson.running"), stopped: textOf("lesson.stopped") };
 const ADDRESS_DELAY = 300; // ms: a browser limits the rate of new addresses
 
 /** A lesson below a root, which has all of its page. */
@@ -50,7 +52,7 @@ class Lesson {
     this.listen();
     this.begins = lineBegins(source.starts ?? {}, this.states.map((states) => states[1]?.pc));
     this.listenToLines();
-    put(elementsIn(part(root, "vectors"), ".missing")[0], "This frame has no machine yet.");
+    put(elementsIn(part(root, "vectors"), ".missing")[0], textOf("lesson.no-machine"));
     if (about) this.introduce(about);
     if (series) this.showSeries(series);
     this.show(Number(location.hash.slice(1) || 1) - 1);
@@ -71,13 +73,15 @@ class Lesson {
     const link = (/** @type {number} */ to, /** @type {import("./elements.js").Content} */ content) =>
       Object.assign(make("a", "", content), { href: `${lessons[to].name}.html`, title: lessons[to].title });
     const read = lessons.map((each) => lessonsRead().has(`${name}/${each.name}`));
-    const marks = lessons.map(({ title }, to) => link(to, unseen(`Lesson ${to + 1}: ${title}${read[to] ? ", read" : ""}`)));
+    const nameOf = (/** @type {{ number: number, title: string }} */ names, /** @type {boolean} */ isRead) =>
+      isRead ? textOf("lesson.mark-read", names) : textOf("lesson.mark", names);
+    const marks = lessons.map(({ title }, to) => link(to, unseen(nameOf({ number: to + 1, title }, read[to]))));
     marks.forEach((mark, to) => mark.classList.toggle("read", read[to]));
     marks[place].ariaCurrent = "page";
-    put(part(this.root, "series-place"), `lesson ${place + 1} of ${lessons.length}`);
+    put(part(this.root, "series-place"), textOf("lesson.series-place", { number: place + 1, all: lessons.length }));
     part(this.root, "progress").append(...marks.map((mark) => make("li", "", mark)));
-    if (place > 0) part(this.root, "links").append(" ", link(place - 1, "Previous lesson"));
-    if (place + 1 < lessons.length) part(this.root, "links").append(" ", link(place + 1, "Next lesson"));
+    if (place > 0) part(this.root, "links").append(" ", link(place - 1, textOf("lesson.previous")));
+    if (place + 1 < lessons.length) part(this.root, "links").append(" ", link(place + 1, textOf("lesson.following")));
     part(this.root, "links").hidden = false;
   }
 
@@ -93,7 +97,7 @@ class Lesson {
   }
 
   userButton(/** @type {string} */ user) {
-    const button = make("button", "", user ? `user ${user}` : "the line's user");
+    const button = make("button", "", user ? textOf("lesson.user", { user }) : textOf("lesson.line-user"));
     button.dataset.user = user;
     button.addEventListener("click", () => ((this.user = user), this.show(this.place)));
     return button;
@@ -162,16 +166,16 @@ class Lesson {
   }
 
   showPlace(/** @type {string} */ user, /** @type {States} */ states) {
-    const count = `${this.place + 1} of ${this.frames.length}`;
-    part(this.root, "count").textContent = count;
-    Object.assign(part(this.root, "place"), { value: this.place, ariaValueText: `frame ${count}` });
+    const numbers = { number: this.place + 1, all: this.frames.length };
+    part(this.root, "count").textContent = textOf("lesson.place", numbers);
+    Object.assign(part(this.root, "place"), { value: this.place, ariaValueText: textOf("lesson.place.value.label", numbers) });
     const [isFirst, isLast] = [this.place === 0, this.place === this.frames.length - 1];
     for (const id of MOVES) part(this.root, id).disabled = id === "first" || id === "back" ? isFirst : isLast;
     for (const button of this.buttons) {
       const own = button.dataset.user;
       button.ariaPressed = `${own === this.user}`;
       button.classList.toggle("shown", own === user);
-      if (own) button.textContent = `user ${own}: ${states[own]?.run ?? "absent"}`;
+      if (own) button.textContent = textOf("lesson.user-state", { user: own, state: RUNS[states[own]?.run ?? "absent"] });
     }
   }
 
@@ -181,11 +185,11 @@ class Lesson {
     const note = this.frames.slice(0, this.place + 1).findLast((each) => each.note)?.note ?? "";
     put(part(this.root, "sentence"), note, prose(note));
     this.view.showStop(frame.log.map((_, place) => this.entryWords(frame.log, place, states)).filter(Boolean).join(" "));
-    const more = frame.more ? `, and ${frame.more} line${frame.more > 1 ? "s" : ""} more` : "";
+    const more = frame.more ? textOf("lesson.more", { count: frame.more }) : "";
     const parts = frame.line ? [make("span", "", frame.line, make("small", "", more))] : [];
     const remark = (/** @type {string} */ text) => parts.push(make("small", "", text));
-    if (frame.line && user !== frame.line[0] && this.users.length > 1) remark(`shown: user ${user}`);
-    if (state.run === "absent") remark(`user ${user} isn't there`);
+    if (frame.line && user !== frame.line[0] && this.users.length > 1) remark(textOf("lesson.shown", { user }));
+    if (state.run === "absent") remark(textOf("lesson.no-user", { user }));
     this.view.showStep(state, ...parts);
   }
 
@@ -196,7 +200,7 @@ class Lesson {
     if (log[place][0] === "!") return text;
     if (log[place][0] === ">") return "";
     const stop = STOP_LINE.test(text) ? (states[text[0]]?.stop ?? "") : "";
-    if (stop) return this.users.length > 1 ? `User ${text[0]}: ${stop}` : stop;
+    if (stop) return this.users.length > 1 ? textOf("lesson.user-stop", { user: text[0], stop }) : stop;
     const isFirst = place < 2; // then its line is next to it
     return refusal && !isFirst ? `\`${log[place - 1].slice(1)}\`: ${refusal}` : refusal;
   }

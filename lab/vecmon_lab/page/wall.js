@@ -3,6 +3,7 @@
 import { Desk } from "./desk.js";
 import { part, put, say } from "./elements.js";
 import { Panes } from "./panes.js";
+import { textOf } from "./texts.js";
 
 export class Wall {
   seat = "";
@@ -11,14 +12,15 @@ export class Wall {
     this.root = root;
     this.desk = new Desk(root);
     new Panes(root, "wall").show("listing");
-    document.title = "Wall – vecmon";
+    document.title = textOf("page.named", { name: textOf("wall.name") });
   }
 
   /** @type {import("./types").RolePage["show"]} */
   show({ seat, state, trouble }, logs, isAnew) {
     const isOther = isAnew || seat !== this.seat;
     this.seat = seat;
-    put(part(this.root, "who"), seat ? `Seat ${seat}${state.run === "running" ? ", running" : ""}` : "The teacher shows no seat here yet.");
+    const seatText = () => (state.run === "running" ? textOf("wall.running", { seat }) : textOf("wall.seat", { seat }));
+    put(part(this.root, "who"), seat ? seatText() : textOf("wall.none"));
     say("trouble", trouble);
     part(this.root, "desk").hidden = !seat;
     if (seat) this.desk.show(seat, state, [], isOther);
