@@ -107,6 +107,94 @@ def test_run_shows_registers_that_the_instruction_left(desk: Desk) -> None:
     assert "accessed" not in desk.seat.state  # since vstart before the store isn't known
 
 
+def test_request_completes_what_a_run_left(desk: Desk) -> None:
+    """`vadd.vv v8, v8, v8` before a breakpoint, and a breakpoint that is set and removed then."""
+    ask(desk, ask="lines", do=["break 10014", "go"])
+    desk.settle()
+    ask(desk, ask="lines", do=["unbreak 10014", "regs"])
+    assert desk.seat.state["read"]["v"] == {}
+    script = desk.machine.session.script
+    assert "error" not in ask(desk, ask="last-instruction")
+    read = desk.seat.state["read"]
+    assert read["v"] == {"8": BEFORE + 32 * "0"} and read["v0"] == 64 * "0"
+    assert (read["vl"], read["vtype"], read["vstart"]) == (4, "d0", 0)
+    assert desk.seat.shown["read"] == read and desk.machine.session.script == script
+
+
+def test_request_completes_a_run_to_an_ebreak(desk: Desk) -> None:
+    """lw a0, 4(a0) has lost its base."""
+    ask(desk, ask="run")
+    desk.settle()
+    assert (desk.seat.state["instruction"], desk.seat.stop[:6]) == ("10028", "ebreak")
+    ask(desk, ask="last-instruction")
+    assert desk.seat.state["read"]["x"] == {"10": "11000"}
+    assert desk.seat.state["accessed"] == [{"address": "11004", "length": 4, "kind": "read"}]
+
+
+def test_request_completes_several_steps(desk: Desk) -> None:
+    ask(desk, ask="lines", do=[f"step {STORED}"])
+    assert "accessed" not in desk.seat.state
+    ask(desk, ask="last-instruction")
+    assert [each["address"] for each in desk.seat.state["accessed"]] == ["11000", "11008"]
+    before = desk.seat.state
+    ask(desk, ask="lines", do=["step 1"])
+    ask(desk, ask="last-instruction")  # after a single step, which has all
+    assert before is not desk.seat.state and desk.seat.state["read"]["x"] == {}
+
+
+def test_request_completes_a_run_to_a_fault(desk: Desk) -> None:
+    """A load from 11ff8 in a later run: its third word faults."""
+    step(desk, LOADED - 1)
+    ask(desk, ask="lines", do=["set x10 11ff8", "go"])
+    desk.settle()
+    assert desk.seat.state["faulted"]
+    ask(desk, ask="last-instruction")
+    assert desk.seat.state["read"]["vstart"] == 0
+    assert desk.seat.state["accessed"] == [{"address": "11ff8", "length": 8, "kind": "read"}]
+
+
+LOOP = """
+li t1, 300
+vsetivli t0, 4, e32, m1, ta, ma
+vid.v v1
+loop: vadd.vv v2, v2, v1
+addi t1, t1, -1
+bnez t1, loop
+vadd.vv v2, v2, v2
+ebreak
+"""
+
+
+def test_request_finds_the_last_of_many_rounds(desk: Desk) -> None:
+    """Nine slices of 100 ticks and a part: v2 is 300 times 0, 1, 2, 3 before it is doubled; another user runs beside it."""
+    for line in (
+        "2 enter",
+        "2 map 10000 1 rwx",
+        "2 asm 10000 addi x5, x5, 1",
+        "2 asm 10004 jal x0, -4",
+        "2 setpc 10000",
+        "2 go",
+    ):
+        desk.machine.session.do(line)
+    ask(desk, ask="source", text=LOOP)
+    ask(desk, ask="run")
+    desk.settle()
+    assert desk.seat.stop.startswith("ebreak")
+    assert desk.seat.state["read"]["v"] == {}
+    ask(desk, ask="last-instruction")
+    sums = [(300 * element).to_bytes(4, "little").hex() for element in range(4)]
+    assert desk.seat.state["read"]["v"] == {"2": "".join(sums) + 32 * "0"}
+
+
+def test_request_without_a_run_is_refused(desk: Desk) -> None:
+    refusal = "the state before the last instruction can't be found: step the program, or run it again"
+    assert ask(desk, ask="last-instruction")["error"] == refusal
+    ask(desk, ask="lines", do=["break 10014", "go"])
+    desk.settle()
+    ask(desk, ask="lines", do=["set x5 1"])
+    assert ask(desk, ask="last-instruction")["error"] == refusal
+
+
 def test_run_to_scalar_load_that_loses_its_base(desk: Desk) -> None:
     ask(desk, ask="lines", do=["break 1002c", "go"])
     desk.settle()

@@ -211,7 +211,7 @@ def test_lost_answer_preserves_other_numbers(tmp_path: pathlib.Path, program: pa
     members = Class(Store(tmp_path / "class", program), 5.0, exercises=[pathlib.Path("doubles")])
     progress = members.checks.exercises.progress("A1", "doubles")
     assert progress.tries == [(1, 0), (0, 0), (3, 5)] and progress.first == 3
-    assert [members.checks.answer("A1", "doubles", number).text for number in (1, 2, 3)] == ["# 1", "", "# 3"]
+    assert [members.checks.answer("A1", "doubles", number)["text"] for number in (1, 2, 3)] == ["# 1", "", "# 3"]
     members.end()
 
 

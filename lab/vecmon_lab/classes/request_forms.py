@@ -93,6 +93,12 @@ class StepLineRequest(NumberedRequest):
     ask: Literal["step-line"]
 
 
+class LastInstructionRequest(NumberedRequest):
+    """That `read` and `accessed` of the state are completed after a run."""
+
+    ask: Literal["last-instruction"]
+
+
 class WhyRequest(NumberedRequest):
     """The reason for the value of a register or an element, such as `v8[5]`."""
 
@@ -298,6 +304,7 @@ StudentRequestForm = (
     | RunRequest
     | StepRequest
     | StepLineRequest
+    | LastInstructionRequest
     | WhyRequest
     | ListingsRequest
     | DraftRequest

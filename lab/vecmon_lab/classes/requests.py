@@ -100,6 +100,11 @@ class StepLine:
 
 
 @dataclass(frozen=True)
+class FindLastRead:
+    """Completes what the last instruction of a run read and accessed."""
+
+
+@dataclass(frozen=True)
 class Why:
     """A register or an element, such as `v8[5]`, whose value after the last single step is to be explained."""
 
@@ -293,6 +298,7 @@ SeatsRequest = (
     | RunProgram
     | StepProgram
     | StepLine
+    | FindLastRead
     | Why
     | Draft
     | OpenExercise
@@ -339,6 +345,7 @@ _OF_STUDENTS: Mapping[str, Reader] = {
     "run": lambda it: RunProgram(*_source_to_build(it)),
     "step": lambda it: _step(it),
     "step-line": lambda it: StepLine(),
+    "last-instruction": lambda it: FindLastRead(),
     "why": lambda it: Why(_name(it, "name")),
     "draft": lambda it: Draft(_source(it), _number(it), _name(it, "exercise"), bool(it.get("keep")), _line(it)),
     "open": lambda it: OpenOffer(_number(it)) if "number" in it else OpenExercise(_name(it, "exercise")),

@@ -21,7 +21,7 @@ from .history import History
 from .requests import BadRequest, Lines
 from .scripts import Scripts
 from .seats import Seat
-from .shared_machine import Answers, MakeProgram, Mistakes, Returned, SharedMachine, Steps, Turn, own_lines
+from .shared_machine import Answers, MakeProgram, Mistakes, Returned, SharedMachine, Steps, Turn, WorkApart, own_lines
 from .stored_files import Notes
 from .store import ScriptFile
 
@@ -49,6 +49,7 @@ class Room:
         self.shorten, self.begin_script = self.scripts.shorten, self.scripts.start_next
         self.make_checkpoint = self.scripts.make_checkpoint
         self._turns = {digit: asyncio.Lock() for digit in f"{DIGITS}*"}  # given first come, first served
+        self._apart = asyncio.Semaphore(1)  # work that needs no turn
         self._assembler = concurrent.futures.ThreadPoolExecutor(1)  # which needs no machine
 
     @property
@@ -95,6 +96,9 @@ class Room:
                         await self.thread.execute(step)
                 elif isinstance(step, MakeProgram):
                     made = await self._make(seat, step)
+                elif isinstance(step, WorkApart):
+                    async with self._apart:
+                        await asyncio.to_thread(step.call)
                 elif not is_held:
                     is_held = await seat_turn.acquire()
         except StopIteration as end:

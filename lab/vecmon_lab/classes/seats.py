@@ -72,6 +72,13 @@ class Seat:
     slices: float = 0.0
     seen: float = 0.0
 
+    def complete_last_instruction(self, before: State) -> None:
+        """Add what the last instruction read and accessed. before: the registers before it"""
+        state, shown = self.state.copy(), self.shown.copy()
+        add_last_instruction(state, before)
+        shown["read"], shown["accessed"] = state["read"], state["accessed"]
+        self.state, self.shown = state, shown
+
     def add_log_entry(self, entry: str) -> None:
         """Adds an entry to the log, but of those that follow each other while a program prints without end each once."""
         if _is_repeatable(entry) and entry in takewhile(_is_repeatable, reversed(self.log)):
@@ -166,7 +173,7 @@ class Seats:
             own = [each for whom, each in answers if whom == digit]
             single = lines == [f"{digit} step 1"] and before["run"] == "stopped"
             executed = before["code"].get(before["pc"], "") if single else ""
-            is_done = any(_may_change(line, answer) for line, answer in done)
+            is_done = any(may_change(line, answer) for line, answer in done)
             state = look_at(Guest(session, int(digit)), seat.watch_set, before, own, executed, is_done)
             state.pop("output", None)  # which the seat has
             if is_done and state["run"] == "stopped" and _ends_executing(done, digit):
@@ -177,7 +184,7 @@ class Seats:
 
     def take(self, states: dict[str, tuple[State, State]], done: Sequence[Done] = ()) -> None:
         """Takes up states that `look` made after these lines."""
-        has_changes = any(_may_change(line, answer) and not is_servers(line) for line, answer in done)
+        has_changes = any(may_change(line, answer) and not is_servers(line) for line, answer in done)
         for digit, pair in states.items():
             seat = self.users[digit]
             if has_changes:
@@ -227,7 +234,7 @@ def _is_single_step(done: Iterable[Done], digit: str) -> bool:
     return [line for line, _ in done if not is_look(line) and not is_servers(line)] == [f"{digit} step 1"]
 
 
-def _may_change(line: str, answer: Sequence[str]) -> bool:
+def may_change(line: str, answer: Sequence[str]) -> bool:
     """Whether a line may have changed registers or memory: it was accepted, and does more than look or set breakpoints."""
     return not (is_look(line) or words_of(line)[:1] in _BREAKPOINTS or is_refusal(answer))
 

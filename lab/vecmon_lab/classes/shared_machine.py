@@ -14,21 +14,23 @@ from ..assembler.source import Program, SourceError, in_order, refusal
 from ..compilers.compiled import CompiledProgram
 from ..guest.changes import Retired
 from ..guest.guest import Guest
-from ..machine.answers import Granted, Position, Refused, Stop, read
-from ..machine.lines import is_look
+from ..machine.answers import Granted, Position, Refused, Stop, is_refusal, is_stop, read
+from ..machine.lines import is_look, words_of
 from ..machine.session import TOGETHER, ScriptFull, Session
 from ..meanings.stepped import explanation_of
 from ..meanings.why import NO_STEP, read_name
 from ..page.state import State, registers_of
 from .languages import SourceText
+from .last_run import Run, run_at, state_before
 from .live import server_line, with_output
 from .moved_breakpoints import moved_breakpoints
 from .requests import BadRequest, Lines
 from .seat_status import limit_status
-from .seats import Done, Seat, Seats
+from .seats import Done, Seat, Seats, may_change
 
 SEAT_BYTES = 1_500_000  # of a seat's lines in the script: eight leave 3,000,000 to the operator and the clock
 SOURCE_LINES = 4096
+NO_RUN = "the state before the last instruction can't be found: step the program, or run it again"
 LEAVING: Mapping[str, Sequence[str]] = {"absent": [], "running": ["stop", "leave"], "stopped": ["leave"]}
 
 Answers = list[list[str]]
@@ -78,12 +80,19 @@ class MakeProgram:
 
 
 @dataclass(frozen=True)
+class WorkApart:
+    """A step that may take seconds and needs no turn at the machine."""
+
+    call: Callable[[], object]
+
+
+@dataclass(frozen=True)
 class TakeSeat:
     """A step from which on no other request of the seat takes turns, until the steps end."""
 
 
 Returned = TypeVar("Returned")
-Steps = Generator[Turn | MakeProgram | TakeSeat, Program | None, Returned]
+Steps = Generator[Turn | MakeProgram | WorkApart | TakeSeat, Program | None, Returned]
 
 
 class SharedMachine:
@@ -92,6 +101,9 @@ class SharedMachine:
     def __init__(self, letter: str, session: Session, file: Recorder) -> None:
         self.letter, self.session, self.file, self.seats = letter, session, file, Seats(letter)
         self.has_run = False  # whether slices were granted since programs were looked at
+        self._runs: dict[
+            str, tuple[Session, int]
+        ] = {}  # by digit, the number of the script's line that ended the last run
 
     def lines(self, seat: Seat, request: Lines, done: Answers) -> Steps[Answers]:
         """Executes lines, which join `done` with their answers, and slices; the answers to lines that look.
@@ -185,6 +197,27 @@ class SharedMachine:
         except LabError as error:
             raise BadRequest(str(error)) from error
 
+    def find_last_read(self, seat: Seat) -> Steps[None]:
+        """Complete what a seat's last instruction read and accessed, after a run or several steps. Raises BadRequest."""
+        yield TakeSeat()
+        state, runs, before = seat.state, list[Run | None](), list[State | None]()
+        if seat.stepped is not None:
+            return
+        if "instruction" not in state or seat.digit not in self._runs:
+            raise BadRequest(NO_RUN)
+        yield Turn(lambda turn: runs.append(self._last_run(seat)))
+        if (run := runs[0]) is None:
+            raise BadRequest(NO_RUN)
+        find = partial(state_before, run, seat.digit, int(state["instruction"], 16))
+        yield WorkApart(lambda: before.append(find()))
+        if before[0] is None or seat.state is not state:
+            raise BadRequest(NO_RUN)
+        seat.complete_last_instruction(before[0])
+
+    def _last_run(self, seat: Seat) -> Run | None:
+        session, number = self._runs[seat.digit]
+        return run_at(session, number) if session is self.session else None
+
     def reset(self, seat: Seat) -> Steps[None]:
         """Takes a seat's machine away, however much of its share of the script is used up."""
         yield TakeSeat()
@@ -230,16 +263,29 @@ class SharedMachine:
         for line in lines:
             if not is_look(line):
                 self.file.append(line)
+        number = self.session.lines
         try:
             answers = self.session.do_all(lines)
         except BaseException:
             self.file.cut(self.session.size)
             raise
         for line, answer in zip(lines, answers):
+            number += not is_look(line)
+            self._follow_run(line, answer, number)
             self.has_run = self.has_run or line[0] == "*"
             self.seats.follow(line, answer)
             turn.done.append((line, answer))
         return answers
+
+    def _follow_run(self, line: str, answer: Sequence[str], number: int) -> None:
+        """Note the line that ended a run, or that stepped. number: that of the line in the script"""
+        digit, words = line[0], words_of(line)
+        if may_change(line, answer) and words != ["out"]:
+            self._runs.pop(digit, None)
+        if words[0] in ("slices", "run"):
+            self._runs.update({part[0]: (self.session, number) for part in answer if is_stop(part)})
+        elif words[0] == "step" and not is_refusal(answer):
+            self._runs[digit] = self.session, number
 
     def _lines(self, seat: Seat, request: Lines, done: Answers, turn: Turn) -> None:
         """Executes lines, then slices of the seat's own program, then lines that look."""

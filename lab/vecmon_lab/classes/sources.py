@@ -77,7 +77,13 @@ class SeatSource:
         self._left[self.exercise] = self.own
         left = self._left.pop(exercise, None) or kept_source(self._store, self._place(exercise))
         self.own = left if left.text else SourceText("", self.own.language)
-        self.exercise, self.opened, self.caret, self.number, self._gift = exercise, time.time(), 0, self.number + 1, None
+        self.exercise, self.opened, self.caret, self.number, self._gift = (
+            exercise,
+            time.time(),
+            0,
+            self.number + 1,
+            None,
+        )
         self._newest, self._since = self._newest_of(exercise), time.time()
 
     def draft(self, source: SourceText, number: int, exercise: str = "", is_kept: bool = False) -> None:

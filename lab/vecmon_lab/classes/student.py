@@ -15,6 +15,7 @@ from .requests import (
     BadRequest,
     Check,
     Draft,
+    FindLastRead,
     FindProblems,
     Lines,
     OpenExercise,
@@ -158,6 +159,8 @@ class Student:
                 return problems
             case StepLine():
                 yield from step_line(self.machine, self.seat)
+            case FindLastRead():
+                yield from self.machine.find_last_read(self.seat)
             case Why(name):
                 return {"why": (yield from self.machine.why(self.seat, name))}
             case Draft(source, number, name, is_kept, line):

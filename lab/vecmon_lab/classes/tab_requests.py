@@ -7,7 +7,18 @@ from .. import LabError
 from .codes import TEACHER, WALL
 from .messages import Answer, Changes, Hello, Result, answer_to, explain_refusals, request_of, with_changes
 from .names import checked_name
-from .requests import BadRequest, Check, Compare, Draft, FindProblems, JsonObject, Lines, OpenExercise, OpenOffer
+from .requests import (
+    BadRequest,
+    Check,
+    Compare,
+    Draft,
+    FindLastRead,
+    FindProblems,
+    JsonObject,
+    Lines,
+    OpenExercise,
+    OpenOffer,
+)
 from .requests import ReadAnswer, ReadNotice, ReadVersion, Request, RunProgram, SeatsRequest, SetHand, SetName, Source
 from .requests import StepLine, StepProgram, TryCase, Why, read_request
 from .seats import Seat
@@ -99,7 +110,7 @@ class TabRequests:
                 return try_result(members.checks.answer(seat.name, name, number))
             case Source() | FindProblems() | StepLine() | Why() | Draft() | OpenExercise() | ReadVersion():
                 return await self._execute_for_seat(tab, request)
-            case Check() | TryCase() | StepProgram():
+            case Check() | TryCase() | StepProgram() | FindLastRead():
                 return await self._execute_for_seat(tab, request)
             case RunProgram():
                 result = await self._execute_for_seat(tab, request)

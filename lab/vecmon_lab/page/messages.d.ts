@@ -265,6 +265,12 @@ export interface Hello {
   time: number;
 }
 
+/** That `read` and `accessed` of the state are completed after a run. */
+export interface LastInstructionRequest {
+  id: number;
+  ask: "last-instruction";
+}
+
 /**
  * The data of a lesson's page: the names of its source, its frames, and its place in a series.
  *
@@ -1003,6 +1009,7 @@ export type StudentRequestForm =
   | RunRequest
   | StepRequest
   | StepLineRequest
+  | LastInstructionRequest
   | WhyRequest
   | ListingsRequest
   | DraftRequest

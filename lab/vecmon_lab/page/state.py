@@ -213,13 +213,11 @@ def look_at(
         return state
     assert isinstance(scalar, ScalarRegisters) and isinstance(control, ControlRegisters)
     assert isinstance(breaks, Addresses) and isinstance(traced, Addresses)
-    _set_registers(state, scalar, control)
+    set_registers(state, scalar, control)
     state["breaks"] = [f"{address:x}" for address in breaks.addresses]
     state["policy"] = guest.session.policy[guest.user]
     if has_vectors:
-        state["v"] = {
-            f"{number}": each.data.hex() for number, each in enumerate(vectors) if isinstance(each, VectorRegister)
-        }
+        set_vectors(state, [each for each in vectors if isinstance(each, VectorRegister)])
     trace, may_store = traced.addresses, opcode in (None, STORE, STORE_FP)
     stepped = any(isinstance(answer, Position) and answer.kind == "stepped" for answer in answers)
     _set_code(state, _code(guest, watch_set, place.pc, trace, {} if may_store else state["code"]))
@@ -321,11 +319,16 @@ def with_rows(state: State, rows: set[str]) -> State:
     return shown
 
 
-def _set_registers(state: State, scalar: ScalarRegisters, control: ControlRegisters) -> None:
+def set_registers(state: State, scalar: ScalarRegisters, control: ControlRegisters) -> None:
     """Set the scalar registers and vector control registers of a state."""
     state["x"] = {f"{number}": f"{value:x}" for number, value in enumerate(scalar.x)}
     state["vtype"], state["vl"], state["vstart"] = f"{control.vtype:x}", control.vl, control.vstart
     state["vxrm"], state["vxsat"] = control.vxrm, control.vxsat
+
+
+def set_vectors(state: State, registers: Sequence[VectorRegister]) -> None:
+    """Set the 32 vector registers of a state, in their order."""
+    state["v"] = {f"{number}": register.data.hex() for number, register in enumerate(registers)}
 
 
 def _take_calls(state: State) -> None:

@@ -13,10 +13,20 @@ from ..classes.languages import SourceText
 from ..classes.messages import Answer, Changes, Hello, News, Result, Updates
 from ..classes.messages import answer_to, explain_refusals, request_of, with_changes
 from ..classes.progress import Exercises, Start, Try
-from ..classes.requests import BadRequest, Check, Draft, FindProblems, JsonObject, Lines, OpenExercise, ReadAnswer
+from ..classes.requests import (
+    BadRequest,
+    Check,
+    Draft,
+    FindLastRead,
+    FindProblems,
+    JsonObject,
+    Lines,
+    OpenExercise,
+    ReadAnswer,
+)
 from ..classes.requests import ReadVersion, Request, RunProgram, Settings, Source, StepLine, StepProgram, TryCase, Why
 from ..classes.requests import read_request
-from ..classes.shared_machine import Answers, MakeProgram, Returned, SharedMachine, Steps, Turn
+from ..classes.shared_machine import Answers, MakeProgram, Returned, SharedMachine, Steps, Turn, WorkApart
 from ..classes.student import ClassView, Student, try_result
 from ..classes.text_store import TextStore
 from ..exercises.check import check, lesson, lesson_before
@@ -143,6 +153,8 @@ class Desk:
                         self.machine.report(step)
                 elif isinstance(step, MakeProgram):
                     made = self._make(step)
+                elif isinstance(step, WorkApart):
+                    step.call()
         except StopIteration as end:
             returned: Returned = end.value
             return returned
@@ -181,7 +193,7 @@ class Desk:
                 return try_result(self.try_of(name, number))
             case Source() | FindProblems() | StepLine() | Why() | Draft() | OpenExercise() | ReadVersion():
                 return self.run(self.student.execute(request))
-            case Check() | TryCase() | RunProgram() | StepProgram():
+            case Check() | TryCase() | RunProgram() | StepProgram() | FindLastRead():
                 return self.run(self.student.execute(request))
         return self.execute(request, done)
 
