@@ -2,10 +2,9 @@
 
 import { Cursor } from "./cursor.js";
 import { Desk } from "./desk.js";
-import { EditDialog } from "./edit_dialog.js";
-import { editOf, lineOf } from "./edits.js";
+import { EditDialog, editOf, lineOf } from "./edits.js";
 import { Editor } from "./editor.js";
-import { ask, make, part, put } from "./elements.js";
+import { ask, part, put } from "./elements.js";
 import { goToPane } from "./keys.js";
 import { LineLinks } from "./line_links.js";
 import { offerLanguages } from "./languages.js";
@@ -114,7 +113,7 @@ export class Bench {
     new LineField(this.line, (lines) => this.enter(lines));
     new Cursor(this.root, (place) => this.edit(place));
     on("slice", "click", () => this.request({ ask: "lines", slices: 100 }));
-    on("again", "click", () => this.assemble({ ask: "again" }));
+    on("again", "click", () => this.restart());
     on("new", "click", () => this.beginAnew("Empty machine", NEW_MACHINE));
     on("images", "change", () => this.beginAnew("Load", [`load ${this.images.value}`]));
     on("assemble", "click", () => this.write());
@@ -143,15 +142,18 @@ export class Bench {
     if (entries.some((entry) => /^>. (enter|load)\b/.test(entry))) this.isEdited = false;
     this.bar.show(view, entries);
     if (instruction) this.panes.makeRoom();
-    const images = ["Load …", ...view.images].map((name) => make("option", "", name));
-    if (this.images.length < images.length) this.images.replaceChildren(...images);
-    Object.assign(this.images, { hidden: view.images.length === 0, selectedIndex: 0 });
     this.desk.show(view.seat, view.state, entries, isAnew);
     this.chooseSide(run !== "absent", view.source);
     offerLanguages(this.editor.language, view);
-    offerLanguages(this.against, { languages: ["Side by side …", ...view.against], no_c: "" });
-    Object.assign(this.against, { hidden: !view.against.length, selectedIndex: 0 });
+    this.offer(this.images, "Load …", view.images);
+    this.offer(this.against, "Side by side …", view.against);
     this.showSource(view);
+  }
+
+  /** Offers names in a list, if there are any. */
+  offer(/** @type {HTMLSelectElement} */ list, /** @type {string} */ title, /** @type {string[]} */ names) {
+    offerLanguages(list, { languages: [title, ...names], no_c: "" });
+    Object.assign(list, { hidden: !names.length, selectedIndex: 0 });
   }
 
   /** Shows the listing of a machine that has just begun without a source, and otherwise the editor, also once it has gone. */
@@ -159,11 +161,6 @@ export class Bench {
     if (hasMachine === this.hasMachine) return;
     this.hasMachine = hasMachine;
     this.panes.show(hasMachine && !(stands && text) ? "listing" : "editor");
-  }
-
-  /** Shows whether the machine can be reached. */
-  showConnection() {
-    this.bar.paint();
   }
 
   /** Whether the source has to be built before the program goes on: a machine without one is left as it is, until the source changes. */
@@ -175,8 +172,15 @@ export class Bench {
 
   /** Runs the program; one that has ended starts again. */
   async run() {
-    if (this.bar.condition === "Ended" && this.bar.view?.again && !this.hasChanged) await this.assemble({ ask: "again" });
+    if (this.bar.condition === "Ended" && this.bar.view?.again && !this.hasChanged) await this.restart();
     return this.execute({ ask: "run" });
+  }
+
+  /** Starts a new machine with the source that is in this one. */
+  async restart() {
+    const { mistakes, warnings } = (await this.bar.building(this.request({ ask: "again" }))) ?? {};
+    this.showMistakes(mistakes, warnings);
+    if (mistakes) this.panes.show("listing");
   }
 
   /** Steps the program: into calls, over them, or out of a function. */
@@ -202,12 +206,16 @@ export class Bench {
   /** Runs or steps the program; a source that has changed is built first. With problems it leads to the first one. */
   async execute(/** @type {import("./types").RunAction} */ request) {
     if (!this.hasChanged) return this.request(request);
-    if (this.isTooMuch()) return null;
-    const { source } = this.editor;
-    const whole = { ...request, ...source, number: this.source.told?.number };
-    const answer = await this.source.bring(source, () => this.bar.building(this.request(whole)));
-    this.showMistakes(answer?.mistakes, answer?.warnings);
+    const answer = await this.build({ ...request, ...this.editor.source, number: this.source.told?.number });
     if (answer?.mistakes?.length) this.problems.goOn(1);
+    return answer;
+  }
+
+  /** Sends a request with the source, and shows its problems. Returns the answer; null where the source is too long. */
+  async build(/** @type {Request} */ request) {
+    if (this.isTooMuch()) return null;
+    const answer = await this.source.bring(this.editor.source, () => this.bar.building(this.request(request)));
+    this.showMistakes(answer?.mistakes, answer?.warnings);
     return answer;
   }
 
@@ -312,7 +320,7 @@ export class Bench {
     this.takeLinked();
     if (!isGiven || source.text !== this.editor.source.text) return;
     this.panes.show("editor");
-    this.editor.scrollToTop();
+    this.editor.code.scrollTo(0, 0);
   }
 
   /** Marks a state's lines in the source, and names them in the status line. */
@@ -343,22 +351,12 @@ export class Bench {
     this.refuse("A link has brought this source; undo takes it back.");
   }
 
-  /** Begins a machine with the source, as the request says that is sent with it. */
+  /** Loads the source into a new machine, whose text becomes a version if it is another one; or does what another request says. */
   async write(/** @type {import("./types").SourceAction} */ request = { ask: "source" }) {
-    const { source } = this.editor;
-    if (this.isTooMuch()) return;
-    this.source.assemble.disabled = true; // one at a time
-    const number = this.source.told?.number; // what is there becomes a version if it has another one
-    const whole = request.ask === "source" ? { ...request, ...source, number } : { ...request, ...source };
-    await this.source.bring(source, () => this.assemble(whole));
-    this.source.assemble.disabled = false;
-  }
-
-  async assemble(/** @type {Request} */ request) {
-    const { mistakes, warnings, listings } = (await this.bar.building(this.request(request))) ?? {};
-    if (listings) open(`listings/${listings}`);
-    this.showMistakes(mistakes, warnings);
-    return mistakes && this.panes.show(mistakes.length ? "editor" : "listing");
+    const number = request.ask === "source" ? { number: this.source.told?.number } : {};
+    const answer = await this.build(/** @type {Request} */ ({ ...request, ...this.editor.source, ...number }));
+    if (answer?.listings) open(`listings/${answer.listings}`);
+    if (answer?.mistakes) this.panes.show(answer.mistakes.length ? "editor" : "listing");
   }
 
   /** Lists the problems of the source, and shows them at its lines, until it changes. */

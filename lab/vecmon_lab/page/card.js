@@ -1,9 +1,8 @@
 // The card of the instruction that was executed last: its text, meaning, formula and counts; and the vector control registers.
 
 import { formulaText, scalarTexts } from "./calculation.js";
-import { withAbiNames } from "./executed.js";
 import { make, prose } from "./elements.js";
-import { ROUNDING, typeText, typeWords, vectorType } from "./words.js";
+import { ROUNDING, typeText, typeWords, vectorType, withNames } from "./words.js";
 
 /** @typedef {import("./executed.js").View} View */
 /** @typedef {import("./columns.js").Columns} Columns */
@@ -14,6 +13,7 @@ import { ROUNDING, typeText, typeWords, vectorType } from "./words.js";
  */
 
 const COUNTS = ["active", "masked", "prestart", "fault", "pending", "tail"];
+const FOLDS = "Hide or show the sentence above";
 const NOTHING = { alias: "", formula: "", scalars: [], counts: [] };
 
 /**
@@ -26,7 +26,7 @@ export function cardOf(view, columns) {
   const { executed } = columns;
   const { state } = view;
   const line = state.code[state.instruction ?? ""];
-  if (!executed) return { ...NOTHING, text: withAbiNames(line?.slice(9) ?? ""), meaning: restOf(state, line) };
+  if (!executed) return { ...NOTHING, text: withNames(line?.slice(9) ?? "", true), meaning: restOf(state, line) };
   const guard = executed.isMasked && executed.meaning.layout !== "reduce" ? "if v0.mask[i]: " : "";
   return {
     ...aliasOf(state, executed.text),
@@ -118,7 +118,9 @@ function countsOf({ outcomes, changed, executed }, state) {
 export function paintCard(root, { text, alias, meaning, formula, scalars, counts }) {
   const names = [make("b", "", alias || text), ...(alias ? [make("code", "", text)] : [])];
   const legend = make("p", "legend", ...counts.map(([kind, words]) => make("span", kind, words)));
-  const shown = formula ? [make("code", "formula", formula), make("small", "", scalars.join(", "))] : [];
+  const onclick = () => root.classList.toggle("brief");
+  const fold = Object.assign(make("button", "formula", make("code", "", formula)), { onclick, title: FOLDS });
+  const shown = formula ? [fold, make("small", "", scalars.join(", "))] : [];
   root.replaceChildren(make("p", "what", ...names), make("p", "meaning", ...prose(meaning)), make("div", "terms", ...shown, legend));
 }
 

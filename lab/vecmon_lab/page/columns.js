@@ -1,10 +1,9 @@
 // The elements of the last vector instruction as columns, and their strips.
 
-import { executedOf } from "./executed.js";
+import { executedOf, operandOf } from "./executed.js";
 import { accessRows, cellOf, formOf, guardRows, headOf, makeRow, operandRows } from "./lane_rows.js";
-import { REGISTER_BITS, elementOf } from "./numbers.js";
+import { LETTER, REGISTER_BITS, elementOf } from "./numbers.js";
 import { outcomeOf } from "./outcomes.js";
-import { registerShapes } from "./shapes.js";
 import { pairsOf } from "./wires.js";
 import { vectorType } from "./words.js";
 
@@ -41,7 +40,7 @@ const NARROW = 480; // sixteenths of a rem
  * @returns {Columns}
  */
 export function columnsOf(view) {
-  const executed = executedOf(view);
+  const executed = view.width ? undefined : executedOf(view);
   if (!executed) return withSizes(registerRows(view), { executed, outcomes: [], pairs: [], vl: view.state.vl });
   const outcomes = Array.from({ length: executed.elements }, (_, element) => outcomeOf(view.state, executed, element));
   const pairs = pairsOf(view.state, executed, outcomes);
@@ -65,51 +64,69 @@ function withSizes(rows, others) {
 }
 
 /**
- * Returns a row for each register group in use, as the program's instructions take it.
+ * Returns a row for each register group in use, as the program's instructions take it; or all registers, if the view has their width.
  * @param {View} view
  * @returns {Row[]}
  */
 function registerRows(view) {
-  const { state, used = new Set() } = view;
+  const { state, used = new Set(), width } = view;
+  if (width) return Array.from({ length: 32 }, (_, register) => plainRow(view, { register, width, size: 1 }));
   const type = vectorType(state.vtype);
-  const shapes = registerShapes(state, [], type);
+  const shapes = registerShapes(state, type);
   const rows = [];
   for (let register = 0; register < 32; ) {
-    const shape = shapes.get(register) ?? { width: type.sew, group: Math.max(1, type.lmul), mask: false };
-    const group = register % shape.group ? 1 : shape.group;
-    const numbers = Array.from({ length: group }, (_, place) => register + place);
-    if (numbers.some((each) => used.has(each) || shapes.has(each))) rows.push(plainRow(view, { ...shape, register, group }));
-    register += group;
+    const shape = shapes.get(register) ?? { width: type.sew, size: Math.max(1, type.lmul) };
+    const size = register % shape.size ? 1 : shape.size;
+    const numbers = Array.from({ length: size }, (_, place) => register + place);
+    if (numbers.some((each) => used.has(each) || shapes.has(each))) rows.push(plainRow(view, { ...shape, register, size }));
+    register += size;
   }
   return rows;
 }
 
 /**
+ * Returns the width of elements and the number of registers of each group that a program's instructions name: those of the vector type
+ * where they don't agree.
+ * @param {import("./executed.js").State} state
+ * @param {import("./words.js").VectorType} type
+ */
+function registerShapes({ operands }, type) {
+  const plain = { width: type.sew, size: Math.max(1, type.lmul) };
+  /** @type {Map<number, { width: number, size: number }>} */
+  const shapes = new Map();
+  for (const { register, size, groups, width } of Object.values(operands).flat().map((each) => operandOf(each, type, false))) {
+    const shape = shapes.get(register)?.width === width || !shapes.has(register) ? { width, size } : plain;
+    Array.from({ length: groups }, (_, place) => shapes.set(register + place * size, shape));
+  }
+  return shapes;
+}
+
+/**
  * Returns the row of a register group that no instruction took just now.
  * @param {View} view
- * @param {{ register: number, group: number, width: number, mask: boolean }} shape
+ * @param {{ register: number, size: number, width: number }} group
  * @returns {Row}
  */
-function plainRow(view, { register, group, mask, ...shape }) {
+function plainRow(view, { register, size, width }) {
   const { state, before } = view;
   const { vill, most } = vectorType(state.vtype);
-  const width = mask ? 1 : shape.width;
-  const count = mask ? Math.max(1, Math.floor(most)) : (group * REGISTER_BITS) / width;
-  return makeRow("plain", mask ? "mask" : "", { register, width, count }, (element) => {
+  const isMask = width === 1 && !view.width;
+  const count = isMask ? Math.max(1, Math.floor(most)) : (size * REGISTER_BITS) / width;
+  return makeRow("plain", isMask ? "mask" : "", { register, width, count }, (element) => {
     const [now, was] = [state.v, before.v ?? state.v].map((registers) => elementOf(registers, register, width, element));
     const outcome = element >= state.vl ? "tail" : element < state.vstart ? "prestart" : "active";
-    return cellOf(now, vill ? "" : outcome, { width, form: formOf(view), was });
+    return cellOf(now, vill || view.width ? "" : outcome, { width, form: formOf(view), was });
   });
 }
 
 /**
  * Returns how many columns have room, and the size of their letters: the most of 16, 8, 4 and 2, then the largest letters.
- * room: the width of all columns and the head, a tenth of a rem and the advance of a letter that is so large, in px
+ * room: the width of all columns and the head, and a sixteenth of a rem, in px
  * @param {Pick<Columns, "longest" | "elements" | "vl">} columns
- * @param {{ width: number, unit: number, letter: number }} room
+ * @param {{ width: number, unit: number }} room
  * @returns {Fit}
  */
-export function fit({ longest, elements, vl }, { width, unit, letter }) {
+export function fit({ longest, elements, vl }, { width, unit }) {
   const enough = Math.max(8, 2 ** Math.ceil(Math.log2(Math.max(1, vl)))); // few elements need no wide strip
   const head = width >= NARROW * unit ? "wide" : longest > 8 ? "least" : "narrow";
   const rest = width - unit * HEADS[head];
@@ -117,7 +134,7 @@ export function fit({ longest, elements, vl }, { width, unit, letter }) {
   for (const columns of [16, 8, 4].filter((each) => each / 2 < most)) {
     const sizes = columns > 4 ? SIZES.slice(0, 3) : SIZES;
     const size = sizes.find(([, sixteenths]) =>
-      rest / columns >= longest * sixteenths * letter + (sixteenths > 13 ? 20 : 6) * unit);
+      rest / columns >= (longest * sixteenths * LETTER + (sixteenths > 13 ? 20 : 6)) * unit);
     if (size) return { columns, size: size[0], head };
   }
   return { columns: Math.min(2, Math.max(1, elements)), size: "tiny", head };

@@ -4,8 +4,8 @@ import { part, put } from "./elements.js";
 
 /** @type {Record<string, [down: number, right: number]>} */
 const STEPS = { ArrowUp: [-1, 0], ArrowDown: [1, 0], ArrowLeft: [0, -1], ArrowRight: [0, 1] };
-/** @type {("listing" | "elements" | "registers" | "bytes")[]} */
-const PANELS = ["listing", "elements", "registers", "bytes"];
+/** @type {("listing" | "registers" | "bytes")[]} */
+const PANELS = ["listing", "registers", "bytes"];
 
 /** The elements of a box that can be changed. */
 const placesIn = (/** @type {HTMLElement} */ box) => [.../** @type {NodeListOf<HTMLElement>} */ (box.querySelectorAll("[data-edit]"))];

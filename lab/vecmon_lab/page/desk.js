@@ -25,7 +25,7 @@ export class Desk {
     this.log = part(root, "log");
     this.entries = new Log(this.log, true);
     this.view.machine.addEventListener("change", () => this.paint());
-    this.past = new Past(root, () => (this.paint(), this.log.scrollTo(0, this.log.scrollHeight))); // with lines up to it
+    this.past = new Past(root, () => ((this.entries.isNew = true), this.paint())); // with lines up to it
   }
 
   /** @type {(seat: string, state: State, entries: string[], isAnew: boolean) => void} */
@@ -35,13 +35,14 @@ export class Desk {
     this.seat = seat;
     this.entries.add(entries);
     if (entries.some((entry) => /^>. go$/.test(entry))) this.past.hasRun = true;
+    if (entries.length) this.frame ||= requestAnimationFrame(() => this.paint()); // once, for all messages before it
     if (state === this.state) return;
     if (isAnew || !isAlike(state, this.state)) this.before = isAnew ? state : this.state;
     this.state = state;
     if (isAnew || !state.v) this.used = new Set();
     usedIn(state).forEach((number) => this.used.add(number));
     this.past.add({ state, before: this.before, used: this.used, entry: this.log.lastElementChild });
-    this.frame ||= requestAnimationFrame(() => this.paint()); // once, for all messages before it
+    this.frame ||= requestAnimationFrame(() => this.paint());
   }
 
   /** Called with each state that is painted. */
@@ -57,6 +58,7 @@ export class Desk {
     this.log.querySelector(".until")?.classList.remove("until");
     this.past.moment?.entry?.classList.add("until");
     this.showStage();
+    this.entries.showEnd();
   }
 
   showStage() {

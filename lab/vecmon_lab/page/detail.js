@@ -32,14 +32,20 @@ export function detailOf(view, columns, element, chosen) {
   if (register < 0) return { ...nothing, name, place: columns.outcomes[element] === "tail" ? "" : `0x${address}`, sentence };
   const own = register + (width > 1 ? Math.floor((element * width) / REGISTER_BITS) : 0);
   const place = width > 1 ? element % (REGISTER_BITS / width) : element;
-  const form = width === 1 ? "mask" : (view.form ?? "signed");
   const value = row.cells[element].text;
   const hexadecimal = width > 1 ? ` = 0x${numberText(elementOf(view.state.v, register, width, element), width, "hexadecimal")}` : "";
   return {
     ...{ name, place: `${placeText(own, width, place)}: ${value}${hexadecimal}`, sentence, value },
-    ...{ edit: { of: "element", register: own, bits: width, index: place, form }, explain: `v${register}[${element}]` },
+    ...{ edit: elementEdit(view, own, width, place), explain: `v${register}[${element}]` },
   };
 }
+
+/**
+ * Returns what changes an element of a register. width: in bits
+ * @type {(view: View, register: number, width: number, index: number) => import("./edits.js").Edit}
+ */
+export const elementEdit = ({ form = "signed" }, register, width, index) =>
+  ({ of: "element", register, bits: width, index, form: width === 1 ? "mask" : form });
 
 /** @type {(register: number, width: number, place: number) => string} */
 function placeText(register, width, place) {

@@ -4,28 +4,25 @@ import { ASSEMBLER } from "./asm_mode.js";
 import { CodeMirror } from "./codemirror.js";
 import { make } from "./elements.js";
 import { namesAt } from "./hints.js";
-import { ProblemMarks } from "./problem_marks.js";
+import { LineMarks } from "./line_marks.js";
+import { MARGIN, ProblemMarks } from "./problem_marks.js";
 import { TINTS } from "./source_lines.js";
 
 const [INDENT, INDENT_OF_C] = [8, 4]; // columns
 const TOGETHER = 1000; // ms: what is typed without a longer pause is undone at once
 const MOST_CHANGES = 300; // that undo goes back to
 const ALSO_PAINTED = 80; // lines above and below those in sight: a screen reader has only what is painted
-const MARGIN = 60; // px around a line that is scrolled into sight
 
 /** @typedef {import("./types").SourceText} SourceText */
-/** @typedef {{ last: number, next: number, stops: number[] }} LineMarks lines by number: executed last, and next; 0 for none */
+/** @typedef {{ last: number, next: number, stops: number[] }} MachineLines lines by number: executed last, and next; 0 for none */
 
-/** @type {LineMarks} */
+/** @type {MachineLines} */
 export const NO_MARKS = { last: 0, next: 0, stops: [] };
 
 export class Editor {
   /** @type {(line: number) => void} */ toggleBreakpoint = () => {};
   /** @type {(line: string, place: number) => void} */ caretMoved = () => {};
   marks = NO_MARKS;
-  /** @type {(() => unknown)[]} */ removers = []; // of the marks
-  /** @type {(() => unknown)[]} */ tints = []; // removers of them
-  /** @type {(() => unknown)[]} */ links = [];
   unseen = 0; // a line that comes into sight when the editor does
   isLetter = false; // whether the last change was a typed letter
   isLeaving = false; // whether Tab leaves the editor
@@ -37,6 +34,7 @@ export class Editor {
    * @param {HTMLSelectElement} language a list of languages, one of them chosen
    */
   constructor(field, changed = () => {}, language = make("select", "")) {
+    this.isReadOnly = field.readOnly;
     this.changed = changed;
     this.language = language;
     this.box = make("div", "lines");
@@ -47,6 +45,9 @@ export class Editor {
     for (const [name, value] of [["role", "textbox"], ["aria-multiline", "true"]]) input.setAttribute(name, value);
     if (field.readOnly) input.setAttribute("aria-readonly", "true");
     this.problems = new ProblemMarks(this.code, !field.readOnly);
+    this.machineMarks = new LineMarks(this.code);
+    this.tints = new LineMarks(this.code);
+    this.links = new LineMarks(this.code);
     this.languages.set(this.code.changeGeneration(), this.source.language);
     this.listen();
   }
@@ -61,13 +62,12 @@ export class Editor {
       "Ctrl-Space": () => this.suggest(true),
       "Ctrl-.": () => this.problems.fix(),
       "Cmd-.": () => this.problems.fix(),
-      F9: () => this.toggleBreakpoint(this.code.getCursor().line + 1),
     };
     return {
       mode: ASSEMBLER, lineNumbers: true, gutters: ["marks", "CodeMirror-linenumbers", "problems"], inputStyle: "contenteditable",
       readOnly, screenReaderLabel: ariaLabel, indentUnit: INDENT, tabSize: INDENT, historyEventDelay: TOGETHER, undoDepth: MOST_CHANGES,
       viewportMargin: ALSO_PAINTED, matchBrackets: true, autoCloseBrackets: true, styleActiveLine: true,
-      extraKeys: readOnly ? { F9: extraKeys.F9, Esc: false } : extraKeys,
+      extraKeys: readOnly ? { Esc: false } : extraKeys,
     };
   }
 
@@ -91,10 +91,6 @@ export class Editor {
 
   get isC() {
     return this.language.selectedOptions[0]?.text.startsWith("C") ?? false;
-  }
-
-  get isReadOnly() {
-    return Boolean(this.code.getOption("readOnly"));
   }
 
   /** Whether undo has something to take back. */
@@ -127,16 +123,6 @@ export class Editor {
   /** The number of the caret's line. */
   get caretLine() {
     return this.code.getCursor().line + 1;
-  }
-
-  /** Replaces the text of a problem, which undo takes back. */
-  replace(/** @type {import("./messages").Mistake} */ problem, /** @type {string} */ text) {
-    this.problems.replace(problem, text);
-  }
-
-  /** Forgets what undo would bring back. */
-  forget() {
-    this.code.clearHistory();
   }
 
   /** Takes up the text as it has become. isTurned: by undo or redo, which bring back the language of then */
@@ -201,73 +187,44 @@ export class Editor {
     this.code.showHint({ hint: () => hints, extraKeys, ...own });
   }
 
-  /** Shows problems at their places, until the text is another one. */
-  tell(/** @type {import("./messages").Mistake[]} */ problems) {
-    this.problems.show(problems);
-  }
-
-  /** Selects the text of a problem, in sight. */
-  select(/** @type {import("./messages").Mistake} */ problem) {
-    const { from, to } = this.problems.rangeOf(problem);
-    this.code.focus();
-    this.code.setSelection(problem.length ? from : to, to);
-    this.code.scrollIntoView(from, MARGIN);
-  }
-
-  scrollToTop() {
-    this.code.scrollTo(0, 0);
-  }
-
   /** Marks lines of the machine; the next one to be executed comes into sight. */
-  mark(/** @type {LineMarks} */ marks) {
+  mark(/** @type {MachineLines} */ marks) {
     if (JSON.stringify(marks) === JSON.stringify(this.marks)) return;
-    const isOther = marks.next !== this.marks.next;
+    this.unseen = marks.next === this.marks.next ? this.unseen : marks.next;
     this.marks = marks;
     this.code.operation(() => {
-      this.removers.splice(0).forEach((remove) => remove());
-      if (marks.last) this.markLine(marks.last, "executed");
-      if (marks.next) this.markLine(marks.next, "next");
+      this.machineMarks.clear();
+      this.machineMarks.style(marks.last, "executed");
+      this.machineMarks.style(marks.next, "next");
       for (const line of new Set([...marks.stops, ...(marks.next ? [marks.next] : [])])) this.signLine(line);
     });
-    this.unseen = isOther ? marks.next : this.unseen;
     this.bringIntoSight();
+  }
+
+  /** Shows in the gutter of a line whether it has a breakpoint, and whether it is the next one. */
+  signLine(/** @type {number} */ line) {
+    const breakpoint = this.marks.stops.includes(line) ? [make("span", "breakpoint", "●")] : [];
+    const arrow = line === this.marks.next ? [make("span", "arrow", "▶")] : [];
+    this.machineMarks.sign(line, "marks", make("span", "", ...breakpoint, ...arrow));
   }
 
   /** Gives lines grounds in turn, in place of those before. */
   tint(/** @type {number[]} */ lines) {
     this.code.operation(() => {
-      this.tints.splice(0).forEach((remove) => remove());
-      for (const line of lines) this.markLine(line, `tint-${line % TINTS}`, this.tints);
+      this.tints.clear();
+      for (const line of lines) this.tints.style(line, `tint-${line % TINTS}`);
     });
   }
 
   /** Marks the line whose instructions are marked; 0 for none. */
   link(/** @type {number} */ line) {
-    this.links.splice(0).forEach((remove) => remove());
-    if (line) this.markLine(line, "linked", this.links);
+    this.links.clear();
+    this.links.style(line, "linked");
   }
 
   /** The number of the line at a height of the window, in pixels. */
   lineAt(/** @type {number} */ height) {
     return this.code.lineAtHeight(height, "window") + 1;
-  }
-
-  /** Gives a line a ground. */
-  markLine(/** @type {number} */ line, /** @type {string} */ kind, removers = this.removers) {
-    if (line > this.code.lineCount()) return;
-    const handle = this.code.addLineClass(line - 1, "background", kind);
-    removers.push(() => this.code.removeLineClass(handle, "background", kind));
-  }
-
-  /** Shows in the gutter of a line whether it has a breakpoint, and whether it is the next one. */
-  signLine(/** @type {number} */ line) {
-    const { stops, next } = this.marks;
-    if (line > this.code.lineCount()) return;
-    const signs = make("span", "");
-    if (stops.includes(line)) signs.append(make("span", "breakpoint", "●"));
-    if (line === next) signs.append(make("span", "arrow", "▶"));
-    const handle = this.code.setGutterMarker(line - 1, "marks", signs);
-    this.removers.push(() => this.code.setGutterMarker(handle, "marks", null));
   }
 
   /** Lays the editor out again, where it has another size or is shown. */

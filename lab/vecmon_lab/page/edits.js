@@ -1,4 +1,7 @@
-// Edits: the change that a press on an element makes to a breakpoint, a register, bytes of memory, or an element of a vector register.
+// Edits: the change that a press on an element makes to a breakpoint, a register, bytes of memory, or an element of a vector register;
+// and the dialog that asks for a new value.
+
+import { part } from "./elements.js";
 
 /**
  * @typedef {{ of: "breakpoint", address: string }
@@ -19,16 +22,11 @@ const edits = new WeakMap(); // by the element that is pressed
 /** @type {(edit: Edit) => string} */
 export function nameOf(edit) {
   switch (edit.of) {
-    case "breakpoint":
-      return `break ${edit.address}`;
-    case "pc":
-      return "setpc";
-    case "scalar":
-      return `set x${edit.register}`;
-    case "bytes":
-      return `poke ${edit.address}`;
-    case "element":
-      return `vset v${edit.register} ${edit.bits} ${edit.index} ${edit.form}`;
+    case "breakpoint": return `break ${edit.address}`;
+    case "pc": return "setpc";
+    case "scalar": return `set x${edit.register}`;
+    case "bytes": return `poke ${edit.address}`;
+    case "element": return `vset v${edit.register} ${edit.bits} ${edit.index} ${edit.form}`;
   }
 }
 
@@ -76,4 +74,30 @@ export function lineOf(edit, text, isDecimal, v) {
   if (!fits) return { error: decimal ? textOf("edit.no-decimal", { text, bits }) : textOf("edit.no-hexadecimal", { text, bits }) };
   if (!isElement) return { line: `${nameOf(edit)} ${BigInt.asUintN(64, value).toString(16)}` };
   return { line: `vset v${edit.register} ${withElement(v[edit.register], bits, edit.index, value)}` };
+}
+
+/** The dialog that asks for a new value. */
+export class EditDialog {
+  /** @type {ValueEdit | null} */ edit = null; // the open one
+
+  /** @param {ParentNode} root @param {(edit: ValueEdit, text: string) => unknown} write receives what was typed */
+  constructor(root, write) {
+    this.dialog = part(root, "edit");
+    this.title = part(root, "edit-name");
+    this.value = part(root, "value");
+    part(root, "edit-close").addEventListener("click", () => this.dialog.close());
+    part(root, "change").addEventListener("submit", () => {
+      this.dialog.close();
+      if (this.edit) write(this.edit, this.value.value.trim());
+    });
+  }
+
+  /** Asks for a value, starting with the one that is shown. */
+  ask(/** @type {ValueEdit} */ edit, /** @type {string} */ value) {
+    this.edit = edit;
+    this.title.textContent = titleOf(edit);
+    this.value.value = value;
+    this.dialog.showModal();
+    this.value.select();
+  }
 }

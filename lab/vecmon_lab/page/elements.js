@@ -83,3 +83,6 @@ export function say(/** @type {"gone" | "trouble" | "says-past"} */ id, /** @typ
   put(byId(id), words);
   byId(id).hidden = words === "";
 }
+
+/** Pixels of a rem, which the reader's own font size sets. */
+export const remPixels = () => parseFloat(getComputedStyle(document.documentElement).fontSize);

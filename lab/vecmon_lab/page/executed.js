@@ -1,7 +1,7 @@
 // The vector instruction that a state executed last: its operands by their parts in it, and their values before it.
 
 import { REGISTER_BITS, elementOf } from "./numbers.js";
-import { ABI_NAMES, vectorType } from "./words.js";
+import { ABI_NAMES, vectorType, withNames } from "./words.js";
 
 /** @typedef {import("./numbers.js").Registers} Registers */
 /** @typedef {import("./messages").ShownMeaning} Meaning */
@@ -12,8 +12,9 @@ import { ABI_NAMES, vectorType } from "./words.js";
  */
 /** @typedef {import("./types").MachineState & { read?: Read }} State */
 /**
- * A state, the one before it, the registers that always have rows, and the form of numbers.
- * @typedef {{ state: State, before: State, used?: Set<number>, form?: import("./numbers.js").NumberForm }} View
+ * A state, the one before it, the registers that always have rows, and the form of numbers. width: of elements in bits, where all
+ * registers are shown in place of the last instruction.
+ * @typedef {{ state: State, before: State, used?: Set<number>, form?: import("./numbers.js").NumberForm, width?: number }} View
  */
 /**
  * A register operand. size: registers of a group; groups: how many there are, one behind another; width: of an element in bits,
@@ -53,7 +54,6 @@ import { ABI_NAMES, vectorType } from "./words.js";
  * @property {number} elements the most that it has under the vector type
  */
 
-const V0 = { register: 0, size: 1, groups: 1, width: 1, isWhole: true };
 const NO_MEANING = { does: "", formula: "", layout: "by element" };
 
 /**
@@ -76,7 +76,7 @@ export function executedOf({ state, before }) {
   const earlier = earlierOf(state, before, operands, destination, isMasked || hasChooser);
   const most = isWhole ? wholeElements(destination ?? operands[0]) : Math.max(1, Math.floor(type.most));
   return {
-    ...{ text: withAbiNames(machineText), name, word, isMasked, isWhole, destination, sources: operands, hasChooser, earlier },
+    ...{ text: withNames(machineText, true), name, word, isMasked, isWhole, destination, sources: operands, hasChooser, earlier },
     ...{ access: accessOf(state, machineText, destination, operands, earlier), elements: most },
     ...{ meaning: state.meanings?.[name] ?? NO_MEANING, offset: offsetOf(state, name, word) },
   };
@@ -95,12 +95,6 @@ function offsetOf(state, name, word) {
   return name.endsWith(".vi") ? BigInt(rs1) : BigInt("0x" + state.x[rs1]);
 }
 
-/** @param {string} text */
-export const withAbiNames = (text) => text.replace(/\bx(\d+)\b/g, (_, number) => ABI_NAMES[Number(number)]);
-
-/** The operand that a mask in v0 is. */
-export const maskOperand = () => V0;
-
 /** @param {Operand} operand */
 const wholeElements = ({ size, width }) => (size * REGISTER_BITS) / width;
 
@@ -110,8 +104,8 @@ const wholeElements = ({ size, width }) => (size * REGISTER_BITS) / width;
  * @param {boolean} isAll whether all its registers are one group
  * @returns {Operand}
  */
-function operandOf({ register, groups, bits, part, whole }, type, isAll) {
-  const width = bits || part * type.sew;
+export function operandOf({ register, groups, bits, part, whole }, type, isAll) {
+  const width = bits || Math.min(64, Math.max(8, part * type.sew));
   if (isAll) return { register, size: groups, groups: 1, width, isWhole: whole };
   const size = whole ? 1 : Math.max(1, (type.lmul * width) / type.sew);
   return { register, size, groups, width, isWhole: whole };

@@ -4,11 +4,9 @@
 import { calculationText } from "./calculation.js";
 import { cardOf, paintCard, paintFacts } from "./card.js";
 import { columnsOf, fit, stripsOf } from "./columns.js";
-import { detailOf } from "./detail.js";
+import { detailOf, elementEdit } from "./detail.js";
 import { editable } from "./edits.js";
-import { header, make, unseen } from "./elements.js";
-import { REGISTER_BITS } from "./numbers.js";
-import { longestElement, registerTable } from "./vectors.js";
+import { header, make, part, remPixels, unseen } from "./elements.js";
 import { markWires, wiresPicture } from "./wires.js";
 import { vectorType } from "./words.js";
 
@@ -21,39 +19,27 @@ import { vectorType } from "./words.js";
 /** @typedef {{ name: string, take: (text: string) => void }} Question the detail of an event `explain` */
 
 const WIRED = ["gather", "slide", "compress", "reduce"];
-const PROBE = { letters: 20, sixteenths: 13 }; // of the text that is measured: its letters, and their size in sixteenths of a rem
 
 /** Shows the elements of a machine's state in its root. */
 export class Lanes {
-  /** @param {Element} root has the classes facts, card, strips and detail, and the lists form, view and width */
-  constructor(root) {
-    const part = (/** @type {string} */ name) => /** @type {HTMLElement} */ (root.querySelector(name));
-    const list = (/** @type {string} */ name) => /** @type {HTMLSelectElement} */ (root.querySelector(`select[name="${name}"]`));
-    this.root = root;
-    this.facts = part(".facts");
-    this.card = part(".card");
-    this.box = part(".strips");
-    this.detail = part(".detail");
-    this.form = list("form");
-    this.layout = list("view");
-    this.width = list("width");
-    this.probe = make("span", "probe", "0".repeat(PROBE.letters));
-    this.box.before(this.probe);
-    this.chosen = 0;
-    this.register = -1; // the chosen row's, where there are several results
-    this.room = { width: 0, unit: 1, letter: 0.6 }; // px: as `fit` takes it
-    this.isOpen = false; // whether the tail is unfolded
-    /** @type {View | undefined} */
-    this.view = undefined;
-    /** @type {Columns | undefined} */
-    this.columns = undefined;
-    /** @type {Fit} */
-    this.fit = { columns: 8, size: "medium", head: "wide" };
-    this.listen();
-  }
+  chosen = 0;
+  register = -1; // the chosen row's, where there are several results
+  room = { width: 0, unit: 1 }; // px: as `fit` takes it
+  isOpen = false; // whether the tail is unfolded
+  /** @type {View | undefined} */ view;
+  /** @type {Columns | undefined} */ columns;
+  /** @type {Fit} */ fit = { columns: 8, size: "medium", head: "wide" };
 
-  listen() {
-    for (const each of [this.form, this.layout, this.width]) each.addEventListener("change", () => this.paint());
+  /** @param {Element} root */
+  constructor(root) {
+    this.root = root;
+    this.facts = part(root, "facts");
+    this.card = part(root, "card");
+    this.box = part(root, "elements");
+    this.detail = part(root, "detail");
+    this.form = part(root, "form");
+    this.layout = part(root, "view");
+    this.width = part(root, "width");
     this.box.addEventListener("click", ({ target }) => this.pressed(/** @type {Element} */ (target)));
     this.box.addEventListener("keydown", (event) => this.keyed(event));
     new ResizeObserver(([{ contentRect }]) => this.measured(contentRect.width)).observe(this.box);
@@ -77,36 +63,22 @@ export class Lanes {
 
   /** Takes the room of the strips, in px, and paints them again where it is another one. */
   measured(/** @type {number} */ width) {
-    const letter = this.probe.getBoundingClientRect().width / PROBE.letters / PROBE.sixteenths;
-    const unit = parseFloat(getComputedStyle(document.documentElement).fontSize) / 16;
-    const { room } = this;
-    if (!width || (room.width === width && room.unit === unit && room.letter === letter)) return;
-    this.room = { width, unit, letter };
+    const unit = remPixels() / 16;
+    if (!width || (this.room.width === width && this.room.unit === unit)) return;
+    this.room = { width, unit };
     this.paint();
   }
 
   paint() {
     if (!this.view) return;
     const form = /** @type {import("./numbers.js").NumberForm} */ (this.form.value || "signed");
-    this.view = { ...this.view, form };
+    const width = this.hasAll ? Number(this.width.value) || vectorType(this.view.state.vtype).sew : 0;
+    this.view = { ...this.view, form, width };
     this.columns = columnsOf(this.view);
     paintFacts(this.facts, this.view.state, this.view.before);
     paintCard(this.card, cardOf(this.view, this.columns));
     this.root.classList.toggle("all", this.hasAll);
-    if (this.hasAll) this.paintRegisters(this.view);
-    else this.paintStrips(this.columns);
-  }
-
-  /** @param {View} view */
-  paintRegisters(view) {
-    const width = Number(this.width.value) || vectorType(view.state.vtype).sew;
-    const how = { width, form: view.form ?? "signed" };
-    const most = REGISTER_BITS / width;
-    this.fit = fit({ longest: longestElement(view, how), elements: most, vl: most }, this.room);
-    const shown = registerTable(view, how, Math.min(most, this.fit.columns));
-    shown.classList.add("lanes", this.fit.size, this.fit.head);
-    this.box.tabIndex = 0;
-    this.box.replaceChildren(shown);
+    this.paintStrips(this.columns);
   }
 
   /** @param {Columns} columns */
@@ -115,12 +87,12 @@ export class Lanes {
     this.fit = fit(columns, this.room);
     const { strips, folded } = stripsOf(columns, this.fit.columns, this.isOpen);
     const tail = folded < columns.elements ? [this.foldedTail(folded, columns.elements)] : [];
+    const title = columns.executed ? ` of ${columns.executed.text}` : this.hasAll ? " of all registers" : " of the registers in use";
     const parts = [make("colgroup", "", make("col", "head")), ...strips.map((strip) => this.strip(columns, strip)), ...tail];
     const grid = make("table", `lanes ${this.fit.size} ${this.fit.head}`, ...parts);
     grid.setAttribute("role", "grid");
-    grid.setAttribute("aria-label", `Elements${columns.executed ? ` of ${columns.executed.text}` : " of the registers in use"}`);
+    grid.ariaLabel = `Elements${title}`;
     const empty = make("p", "empty", "No vector register is in use yet.");
-    this.box.tabIndex = -1;
     this.box.replaceChildren(columns.rows.length ? grid : empty);
     this.choose(Math.min(this.chosen, Math.max(0, columns.elements - 1)), hadFocus);
   }
@@ -150,7 +122,7 @@ export class Lanes {
    * @param {number} first
    * @param {(Cell | undefined)[]} cells
    */
-  row({ kind, register, words }, head, first, cells) {
+  row({ kind, register, width, words }, head, first, cells) {
     const what = make("small", words.startsWith("field") ? "field" : "", words);
     const name = header("row", make("b", "", head), ...(words ? [" ", what] : []));
     const made = cells.map((cell, place) => {
@@ -160,7 +132,7 @@ export class Lanes {
       shown.setAttribute("role", "gridcell");
       shown.title = `element ${first + place} of ${head}${words ? `, ${words}` : ""}${cell.words ? `: ${cell.words}` : ""}`;
       if (cell.words) shown.append(unseen(` ${cell.words}`));
-      return shown;
+      return this.view?.width ? editable(shown, elementEdit(this.view, register, width, first + place)) : shown;
     });
     const shown = make("tr", kind, name, ...made);
     if (register >= 0) shown.dataset.register = `${register}`;
@@ -189,7 +161,7 @@ export class Lanes {
 
   /** @param {KeyboardEvent} event */
   keyed(event) {
-    if (this.hasAll || !this.columns || event.ctrlKey || event.altKey || event.metaKey) return;
+    if (!this.columns || event.ctrlKey || event.altKey || event.metaKey) return;
     const [last, { columns }] = [this.columns.elements - 1, this.fit];
     const down = { ArrowDown: 1, ArrowUp: -1 }[event.key];
     if (down && !this.columns.executed) return this.chooseRow(event, down);

@@ -3,8 +3,9 @@
 
 import { editable } from "./edits.js";
 import { header, make, part } from "./elements.js";
+import { LETTER, littleEndian } from "./numbers.js";
 import { RowTable, placesOf } from "./rows.js";
-import { knownVariables, numberOf, numberText } from "./variables.js";
+import { knownVariables, numberText } from "./variables.js";
 
 /** @typedef {import("./types").MachineState} MachineState */
 /** @typedef {{ at: bigint, element: string, counts: number[] }} PlacedArray */
@@ -32,7 +33,7 @@ export class MemoryPanel {
   /** Paints the rows again where the box has another width. */
   measured(/** @type {number} */ width) {
     if (!width) return;
-    this.letters = width / (0.602 * parseFloat(getComputedStyle(this.box).fontSize)); // of the fonts of `--mono`
+    this.letters = width / (LETTER * parseFloat(getComputedStyle(this.box).fontSize));
     if (this.shown) this.paint(...this.shown);
   }
 
@@ -148,7 +149,7 @@ function memoryRow(address, digits, digitsBefore, arrays, accessed) {
     const own = digits.slice(2 * place, 2 * (place + size));
     const changed = digitsBefore !== undefined && digitsBefore.slice(2 * place, 2 * (place + size)) !== own;
     const kinds = [element && "number", changed ? "changed" : /[^0]/.test(own) ? "" : "zero", markOf(at, accessed)];
-    const span = make("span", kinds.filter(Boolean).join(" "), element ? numberText(element, numberOf(own)) : own);
+    const span = make("span", kinds.filter(Boolean).join(" "), element ? numberText(element, littleEndian(own)) : own);
     editable(span, { of: "bytes", address: at.toString(16) });
     if (element) span.title = own.replace(/..(?=.)/g, "$& ");
     const cell = cells[place >> 2];

@@ -1,6 +1,7 @@
 // Elements of registers and of memory, from bytes in hexadecimal, and their texts.
 
 export const REGISTER_BITS = 256;
+export const LETTER = 0.602; // width of a letter of the fonts of `--mono`, in their size
 
 /** @typedef {"signed" | "unsigned" | "hexadecimal"} NumberForm */
 /** @typedef {Record<string, string>} Registers the 32 bytes of each register by its number, byte 0 first */
@@ -9,7 +10,7 @@ export const REGISTER_BITS = 256;
  * Returns the little-endian number in bytes of hexadecimal digits, without a sign.
  * @param {string} bytes
  */
-const littleEndian = (bytes) => BigInt("0x" + (bytes.match(/../g) ?? ["0"]).reverse().join(""));
+export const littleEndian = (bytes) => BigInt("0x" + (bytes.match(/../g) ?? ["0"]).reverse().join(""));
 
 /**
  * Returns bit `index` of a register as 0n or 1n.

@@ -1,7 +1,7 @@
 // Panes of a machine's page: tabs, splitters, folding, and one or two panes at a time on a small screen. The browser keeps
 // sizes for each kind of page.
 
-import { elementsIn, part } from "./elements.js";
+import { elementsIn, part, remPixels } from "./elements.js";
 import { store, stored } from "./preferences.js";
 
 /** @typedef {import("./parts").Parts} Parts */
@@ -27,9 +27,6 @@ export function keptArrangement(key) {
   } catch {} // damaged
   return { sizes: {}, folded: {} };
 }
-
-/** Pixels of a rem, which the reader's own font size sets. */
-const remPixels = () => parseFloat(getComputedStyle(document.documentElement).fontSize);
 
 export class Panes {
   hasRoom = false; // for the elements
@@ -104,11 +101,8 @@ export class Panes {
 
   /** A splitter: dragged, moved by arrow keys, and back at its first size with Enter or a double click. */
   listenToSplitter(/** @type {HTMLElement} */ bar) {
-    const pane = this.find(bar.dataset.pane ?? "");
+    const pane = this.find(bar.getAttribute("aria-controls") ?? "");
     const isBelow = bar.matches(".rows"); // the pane is below the splitter, otherwise to the left of it
-    const ariaOrientation = isBelow ? "horizontal" : "vertical";
-    Object.assign(bar, { role: "separator", tabIndex: 0, ariaOrientation, ariaValueMin: "0" });
-    bar.setAttribute("aria-controls", pane.id);
     const pixels = () => pane.getBoundingClientRect()[isBelow ? "height" : "width"];
     const move = (/** @type {number} */ size) => {
       const [least, most] = [Number(bar.dataset.least), Number(bar.dataset.most)];
@@ -117,9 +111,8 @@ export class Panes {
       this.resize(pane.id, this.kept.sizes[pane.id]);
       this.keep();
     };
-    const reset = () => (delete this.kept.sizes[pane.id], this.resize(pane.id, null), this.keep());
-    const tell = () => (bar.ariaValueNow = `${Math.round(pixels())}`);
-    new ResizeObserver(tell).observe(pane);
+    const reset = () => (delete this.kept.sizes[pane.id], this.resize(pane.id), this.keep());
+    new ResizeObserver(() => (bar.ariaValueNow = `${Math.round(pixels())}`)).observe(pane);
     const sign = isBelow ? -1 : 1;
     bar.addEventListener("pointerdown", (event) => {
       const [size, start] = [pixels(), isBelow ? event.clientY : event.clientX];
@@ -137,9 +130,9 @@ export class Panes {
     });
   }
 
-  /** Gives a pane a size in rem, or its first one with null. */
-  resize(/** @type {string} */ id, /** @type {number | null} */ size) {
-    this.machine.style.setProperty(`--${id}`, size === null ? "" : `${size}rem`);
+  /** Gives a pane a size in rem, or without one its first. */
+  resize(/** @type {string} */ id, /** @type {number | undefined} */ size = undefined) {
+    this.machine.style.setProperty(`--${id}`, size === undefined ? "" : `${size}rem`);
   }
 
   /** Folds a pane to its head or its rail, or unfolds it. */

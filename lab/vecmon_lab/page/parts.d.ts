@@ -35,7 +35,7 @@ export type Parts =
   Ids<HTMLSelectElement | HTMLTextAreaElement, "line"> &
   Ids<
     HTMLElement,
-    | "about" | "at" | "banner" | "bytes" | "calls" | "checked" | "codes" | "console" | "course" | "desk" | "dock" | "editor"
+    | "about" | "at" | "banner" | "bytes" | "calls" | "card" | "checked" | "codes" | "console" | "course" | "desk" | "detail" | "dock" | "editor"
     | "elements" | "entries" | "entry" | "exercise" | "exercise-title" | "file" | "flame" | "gave" | "giving-title" | "gone" | "head"
     | "hint" | "introduction" | "introduction-title" | "join-says" | "key-says" | "left" | "left-column" | "line-ways" | "links" | "listing" | "machine" | "machines" | "memory" | "menu"
     | "middle" | "no-c" | "no-output" | "no-problems" | "operator-title" | "output-box" | "output-new" | "past" | "problems"

@@ -18,7 +18,8 @@ export const isAlike = (one, other) => {
 /** Places the controls of a student's page: in the bar, and on a phone in the pane of elements. */
 export function placePast(/** @type {HTMLElement} */ root) {
   const phone = matchMedia("(max-width: 43.74em)");
-  const place = () => (phone.matches ? part(root, "vectors-title").after(part(root, "past")) : part(root, "menu").before(part(root, "past")));
+  const [bar, pane] = [part(root, "menu"), part(root, "vectors-title")];
+  const place = () => (phone.matches ? pane.after(part(root, "past")) : bar.before(part(root, "past")));
   phone.addEventListener("change", place);
   place();
 }
@@ -42,8 +43,8 @@ export class Past {
     this.slider = part(root, "moment");
     this.says = part(root, "says-past");
     this.count = part(root, "moment-count");
-    this.backward.addEventListener("click", () => this.show((this.place ?? this.end) - 1));
-    this.forth.addEventListener("click", () => this.show((this.place ?? this.end) + 1));
+    this.backward.addEventListener("click", () => this.show(this.shownPlace - 1));
+    this.forth.addEventListener("click", () => this.show(this.shownPlace + 1));
     this.now.addEventListener("click", () => this.show(this.end));
     this.slider.addEventListener("input", () => this.show(Number(this.slider.value)));
   }
@@ -56,6 +57,11 @@ export class Past {
   /** How many moments lie before the present. */
   get end() {
     return this.moments.length - Number(this.isStill);
+  }
+
+  /** The number of the moment that is shown. */
+  get shownPlace() {
+    return this.place ?? this.end;
   }
 
   /** Called when another moment is shown, or their number has changed. */
@@ -90,7 +96,7 @@ export class Past {
   }
 
   tell() {
-    const place = this.place ?? this.end;
+    const place = this.shownPlace;
     const isPast = this.place !== null;
     this.backward.disabled = place === 0;
     this.forth.disabled = this.now.disabled = !isPast;

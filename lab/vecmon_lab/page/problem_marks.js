@@ -1,26 +1,28 @@
 // Problems of a source in its editor: underlined, in the gutter, and the caret line's ones below it, with their fixes.
 
 import { button, make } from "./elements.js";
+import { LineMarks } from "./line_marks.js";
 import { textOf } from "./texts.js";
 
 /** @typedef {import("./messages").Mistake} Mistake */
 /** @typedef {import("./codemirror.js").Position} Position */
 
-const GUTTER = "problems";
+export const MARGIN = 60; // px around a line that is scrolled into sight
 
 /** The place of a column, which counts characters from 1 on, in a line's text. */
 const placeOf = (/** @type {string} */ text, /** @type {number} */ column) => [...text].slice(0, column - 1).join("").length;
 
 export class ProblemMarks {
   /** @type {Mistake[]} */ problems = [];
-  /** @type {(() => unknown)[]} */ removers = []; // of what is shown
-  /** @type {(() => unknown)[]} */ belowRemovers = [];
+  /** @type {import("./codemirror.js").Clearable[]} */ ranges = []; // that are underlined
+  /** @type {import("./codemirror.js").Clearable | undefined} */ below;
   line = 0; // of the problems that are shown below
 
   /** @param {import("./codemirror.js").Editor} code @param {boolean} canFix whether the text can be edited */
   constructor(code, canFix) {
     this.code = code;
     this.canFix = canFix;
+    this.marks = new LineMarks(code);
   }
 
   /** The range of a problem's word; at the end of a line, that of the character before. */
@@ -35,7 +37,8 @@ export class ProblemMarks {
   show(/** @type {Mistake[]} */ problems) {
     if (!problems.length && !this.problems.length) return;
     this.code.operation(() => {
-      this.removers.splice(0).forEach((remove) => remove());
+      this.marks.clear();
+      this.ranges.splice(0).forEach((range) => range.clear());
       this.problems = problems.filter(({ line }) => line > 0 && line <= this.code.lineCount());
       for (const problem of [...this.problems].reverse()) this.mark(problem); // so that the first one of a line is in the gutter
       this.line = 0;
@@ -46,15 +49,10 @@ export class ProblemMarks {
   mark(/** @type {Mistake} */ problem) {
     const { severity, message, line } = problem;
     const { from, to } = this.rangeOf(problem);
-    const range = this.code.markText(from, to, { className: `problem ${severity}`, attributes: { title: message } });
+    this.ranges.push(this.code.markText(from, to, { className: `problem ${severity}`, attributes: { title: message } }));
     const sign = Object.assign(make("span", `problem-sign ${severity}`, severity === "error" ? "✖" : "▲"), { title: message });
-    this.code.setGutterMarker(line - 1, GUTTER, sign);
-    const handle = this.code.addLineClass(line - 1, "gutter", `problem-line-${severity}`);
-    this.removers.push(
-      () => range.clear(),
-      () => this.code.setGutterMarker(handle, GUTTER, null),
-      () => this.code.removeLineClass(handle, "gutter", `problem-line-${severity}`),
-    );
+    this.marks.sign(line, "problems", sign);
+    this.marks.style(line, `problem-line-${severity}`, "gutter");
   }
 
   /** The problems of the caret's line. */
@@ -68,20 +66,30 @@ export class ProblemMarks {
     const [{ line } = { line: 0 }] = this.here;
     if (line === this.line) return;
     this.line = line;
-    this.belowRemovers.splice(0).forEach((remove) => remove());
+    this.below?.clear();
     if (!line) return;
     const box = make("div", "problems-below", ...this.here.map((problem) => this.item(problem)));
-    const widget = this.code.addLineWidget(line - 1, box, { noHScroll: true });
-    this.belowRemovers.push(() => widget.clear());
+    this.below = this.code.addLineWidget(line - 1, box, { noHScroll: true });
   }
 
   item(/** @type {Mistake} */ problem) {
-    const [first = "", ...others] = this.canFix ? (problem.fix ?? []) : [];
-    const fixButton = (/** @type {string} */ text, /** @type {string} */ title) =>
-      Object.assign(button(text, textOf("problems.replace", { text }), () => this.replace(problem, text)), { title });
-    const title = textOf("problems.replace.title");
-    const buttons = first ? [fixButton(first, `${title} (Ctrl .)`), ...others.map((each) => fixButton(each, title))] : [];
-    return make("p", problem.severity, problem.message, " ", ...buttons);
+    return make("p", problem.severity, problem.message, " ", ...(this.canFix ? this.fixes(problem) : []));
+  }
+
+  /** Buttons that replace a problem's word. */
+  fixes(/** @type {Mistake} */ problem) {
+    return (problem.fix ?? []).map((text, place) => {
+      const title = `${textOf("problems.replace.title")}${place ? "" : " (Ctrl .)"}`;
+      return Object.assign(button(text, textOf("problems.replace", { text }), () => this.replace(problem, text)), { title });
+    });
+  }
+
+  /** Selects a problem's word, in sight. */
+  select(/** @type {Mistake} */ problem) {
+    const { from, to } = this.rangeOf(problem);
+    this.code.focus();
+    this.code.setSelection(problem.length ? from : to, to);
+    this.code.scrollIntoView(from, MARGIN);
   }
 
   /** Replaces a problem's word, which undo takes back. */

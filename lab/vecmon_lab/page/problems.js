@@ -36,12 +36,12 @@ export class Problems {
     this.none.hidden = problems.length > 0;
     put(this.count, problems.length ? `${problems.length}` : "");
     for (const each of this.buttons) each.disabled = !problems.length;
-    this.editor.tell(problems.map((problem) => ({ ...problem, message: problemText({ ...problem, line: 0 }) })));
+    this.editor.problems.show(problems.map((problem) => ({ ...problem, message: problemText({ ...problem, line: 0 }) })));
   }
 
   item(/** @type {Problem} */ problem, /** @type {number} */ place) {
-    const fixes = (problem.fix ?? []).map((text) => button(textOf("problems.replace", { text }), "", () => this.replace(problem, text)));
-    return make("li", problem.severity, button(problemText(problem), problemText(problem), () => this.go(place)), ...fixes);
+    const text = problemText(problem);
+    return make("li", problem.severity, button(text, text, () => this.go(place)), ...this.editor.problems.fixes(problem));
   }
 
   /** Goes to the next problem, or with -1 to the one before; after the last one to the first. */
@@ -56,12 +56,6 @@ export class Problems {
     const problem = this.all[place];
     if (!problem.line) return;
     this.showPanel("editor");
-    this.editor.select(problem);
-  }
-
-  /** Replaces the word of a problem, which undo takes back. */
-  replace(/** @type {Problem} */ problem, /** @type {string} */ text) {
-    this.showPanel("editor");
-    this.editor.replace(problem, text);
+    this.editor.problems.select(problem);
   }
 }

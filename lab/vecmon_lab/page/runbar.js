@@ -4,12 +4,15 @@ import { part, put } from "./elements.js";
 
 /** @typedef {import("./messages").StudentView} View */
 /** @typedef {"Not begun" | "Ready" | "Assembling" | "Running" | "Paused" | "Ended" | "Fault" | "No connection"} Condition */
-/** @typedef {"go" | "one" | "many" | "until-go" | "step-over" | "step-out" | "halt" | "slice" | "again" | "new" | "images"} Name */
+/**
+ * @typedef {"go" | "one" | "many" | "until-go" | "step-over" | "step-out" | "halt" | "slice" | "again" | "assemble" | "new"
+ *   | "images"} Name
+ */
 
 /** @type {Name[]} */
 const STARTING = ["go", "one", "many", "until-go", "step-over", "step-out"]; // buttons that let a stopped program go on
 /** @type {Name[]} */
-const NAMES = [...STARTING, "halt", "slice", "again", "new", "images"];
+const NAMES = [...STARTING, "halt", "slice", "again", "assemble", "new", "images"];
 const PAST = "This is the past: Now (Escape) returns to the machine.";
 
 /**
@@ -90,7 +93,7 @@ export class RunBar {
     if (this.condition === "No connection") return "There is no connection to the machine: the page connects again by itself.";
     if (this.condition === "Assembling") return "The source is being built.";
     if (!ready) return "The machine isn't ready yet.";
-    if (id === "new" || id === "images") return "";
+    if (["assemble", "new", "images"].includes(id)) return "";
     if (id === "halt" || id === "slice") return state.run === "running" ? "" : "No program runs.";
     if (id === "again") return again ? "" : "No source is loaded: Assemble or Run loads the one in the editor.";
     if (state.run === "running") return "The program runs: stop it first.";

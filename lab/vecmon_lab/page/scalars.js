@@ -22,7 +22,7 @@ export class RegisterPanel {
     const rows = Array.from({ length: 32 }, (_, number) =>
       this.register(number, state.x[number], before.x[number], labelOf(state.x[number])));
     const list = make("dl", "registers", make("div", "", make("dt", "", "pc"), editable(pc, { of: "pc" })), ...rows);
-    const longest = Math.max(...[...list.querySelectorAll("dd")].map(({ textContent }) => `${textContent}`.length));
+    const longest = Math.max(...[...list.querySelectorAll("div:not(.labelled) dd")].map(({ textContent }) => `${textContent}`.length));
     list.style.setProperty("--register-width", `${longest + COLUMN}ch`);
     this.box.replaceChildren(list);
   }
@@ -36,7 +36,8 @@ export class RegisterPanel {
     cell.title = `${numbered}, ${abi}: ${value} = ${signedText(value)}`;
     cell.dataset.value = this.numbers.value === "signed" ? signedText(value) : value;
     if (number) editable(cell, { of: "scalar", register: number });
-    return make("div", value === "0" ? "zero" : "", make("dt", "", name, " ", make("small", "", other)), cell);
+    const kind = value === "0" ? "zero" : label.length ? "labelled" : "";
+    return make("div", kind, make("dt", "", name, " ", make("small", "", other)), cell);
   }
 }
 

@@ -158,7 +158,7 @@ export class Source {
       const { number, exercise } = told;
       if (this.isTyped && !isOwn(editor.source)) this.connection.ask({ ask: "draft", ...editor.source, number, exercise }); // a version
       editor.put(source);
-      if (source.exercise !== exercise) editor.forget(); // what is undone is of one exercise
+      if (source.exercise !== exercise) editor.code.clearHistory(); // what is undone is of one exercise
     } else if (this.isTyped && keyOf(source) !== keyOf(editor.source)) this.sendLater();
   }
 

@@ -64,7 +64,7 @@ export class Student {
   }
 
   showConnection() {
-    this.bench.showConnection();
+    this.bench.bar.paint();
   }
 
   /** Shows messages of the teacher's that aren't read, each until it is closed or its source is opened. */

@@ -133,6 +133,7 @@ export class Teacher {
     if (isAnew) this.log.clear();
     const place = (/** @type {string} */ letter) => (letters.length > 1 ? `${letter} ` : "");
     for (const letter of letters) this.log.add(logs[letter] ?? [], place(letter));
+    this.log.showEnd();
     part(this.root, "operator-log").ariaLive = "polite";
     if (isAnew && this.seat) this.request({ ask: "shoulder", seat: this.seat }); // as before the connection broke
     if (isAnew && this.wall && !view.wall) this.request({ ask: "wall", seat: this.wall });

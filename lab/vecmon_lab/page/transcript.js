@@ -39,6 +39,7 @@ export function toldEntry(/** @type {string} */ entry, /** @type {boolean} */ is
 /** A log, whose groups are one item each: `+` and a text starts a group, and `-` ends it. */
 export class Log {
   /** @type {HTMLOListElement | null} */ group = null; // that new entries belong to
+  isNew = false; // whether the end has to come into sight
 
   /** @param {HTMLElement} box @param {boolean} isOnly whether all entries are of one user, whose digit is left out */
   constructor(box, isOnly) {
@@ -51,11 +52,17 @@ export class Log {
     this.box.replaceChildren();
   }
 
-  /** Adds entries in one batch, and shows the end. `place` comes before all. */
+  /** Adds entries in one batch. `place` comes before all. */
   add(/** @type {string[]} */ entries, place = "") {
     this.box.append(...entries.flatMap((entry) => this.items(entry, place)));
     while (this.box.childElementCount > LOG_LENGTH) this.box.firstChild?.remove();
-    if (entries.length) this.box.scrollTop = this.box.scrollHeight;
+    this.isNew ||= entries.length > 0;
+  }
+
+  /** Shows the end if it is new; that waits for a layout. */
+  showEnd() {
+    if (this.isNew) this.box.scrollTop = this.box.scrollHeight;
+    this.isNew = false;
   }
 
   /** The item that an entry adds to the log, if it isn't part of a group. A stop or a refusal unfolds its group. */

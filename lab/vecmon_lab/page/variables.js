@@ -1,22 +1,12 @@
 // Variables of a source in C, if its compiler lists them: their values, and their places while the program is here.
 
 import { header, make, part, table } from "./elements.js";
+import { memoryElement } from "./numbers.js";
 import { withNames } from "./words.js";
 
 /** @typedef {import("./types").MachineState} MachineState */
 
 const number = (/** @type {string} */ digits) => BigInt(`0x${digits}`);
-
-/** The number whose bytes these are, the lowest first. */
-export const numberOf = (/** @type {string} */ bytes) => number((bytes.match(/../g) ?? []).reverse().join(""));
-
-/** Bytes of the memory that is shown, as a number whose first byte is the lowest one; null where they aren't shown. */
-/** @type {(memory: Record<string, string>, at: bigint, bytes: number) => bigint | null} */
-function numberAt(memory, at, bytes) {
-  const place = 2 * Number(at % 16n);
-  const digits = memory[(at - (at % 16n)).toString(16)]?.slice(place, place + 2 * bytes);
-  return digits?.length === 2 * bytes ? numberOf(digits) : null;
-}
 
 /** A number of a kind as `i32`, `u8`, `c8` or `x64` in words. */
 export function numberText(/** @type {string} */ element, /** @type {bigint} */ value) {
@@ -39,7 +29,7 @@ export function knownVariables(/** @type {MachineState} */ { variables = [], pc,
     const at = kind === "memory" ? sum : null;
     const isNumber = element && !counts.length;
     /** @type {Record<string, bigint | null>} */
-    const values = { register: sum, value: sum, memory: isNumber ? numberAt(memory, sum, Number(element.slice(1)) / 8) : null };
+    const values = { register: sum, value: sum, memory: isNumber ? memoryElement(memory, sum, Number(element.slice(1))) : null };
     const value = values[kind];
     const text = isNumber && typeof value === "bigint" ? numberText(element, value) : "";
     /** @type {Record<string, string>} */
@@ -63,7 +53,8 @@ export class VariablePanel {
     const texts = new Map(known.map(({ declaration, text }) => [declaration, text]));
     const rows = knownVariables(state).map(({ declaration, text, where }) => {
       const kind = text !== (texts.get(declaration) ?? text) ? "changed" : "";
-      return make("tr", "", header("row", declaration), make("td", kind, text), make("td", "where", withNames(where, this.names.value === "abi")));
+      const place = withNames(where, this.names.value === "abi");
+      return make("tr", "", header("row", declaration), make("td", kind, text), make("td", "where", place));
     });
     this.list.replaceChildren(table("Variables", make("tbody", "", ...rows)));
   }

@@ -5,7 +5,8 @@ import { lineOf, nameOf, titleOf } from "../../../vecmon_lab/page/edits.js";
 import { isLink, languageOf, linkOf, sourceOf, suffixOf } from "../../../vecmon_lab/page/links.js";
 import { inOrder, placesOf } from "../../../vecmon_lab/page/rows.js";
 import { lineBegins, startOf, stoppedLines } from "../../../vecmon_lab/page/source_lines.js";
-import { numberOf, numberText } from "../../../vecmon_lab/page/variables.js";
+import { littleEndian } from "../../../vecmon_lab/page/numbers.js";
+import { numberText } from "../../../vecmon_lab/page/variables.js";
 import { saysMore, signedText, target, typeText, typeWords, vectorType, withNames } from "../../../vecmon_lab/page/words.js";
 
 test("vtype has vlmul in bits 2 to 0, vsew in bits 5 to 3, vta, vma, and vill in bit 63", () => {
@@ -19,7 +20,7 @@ test("vtype has vlmul in bits 2 to 0, vsew in bits 5 to 3, vta, vma, and vill in
 });
 
 test("numbers are signed or not by their kind, with the lowest byte first", () => {
-  assert.equal(numberOf("feff"), 0xfffen);
+  assert.equal(littleEndian("feff"), 0xfffen);
   assert.deepEqual(["i16", "u16", "x16"].map((kind) => numberText(kind, 0xfffen)), ["-2", "65534", "fffe"]);
   assert.deepEqual([signedText("ffffffffffffffff"), signedText("7fffffffffffffff")], ["-1", "9223372036854775807"]);
 });
