@@ -160,6 +160,21 @@ def test_earlier_keys_name_the_new_ones(sit: Sit) -> None:
     assert tab.run(selected) == "bar"
 
 
+def test_run_shows_what_its_last_instruction_read(sit: Sit) -> None:
+    """`vadd.vv v1, v1, v1` doubles 0 to 7; the sources that it has written over come from a second machine."""
+    tab = sit("A8")
+    write(tab, "vsetivli zero, 8, e32, m1, ta, ma\nvid.v v1\nvadd.vv v1, v1, v1\nebreak\n")
+    tab.click("#assemble")
+    tab.wait(f"{CONDITION} === 'Ready'")
+    tab.command("break 1000c")
+    tab.click("#go")
+    tab.wait("!id('slice').disabled")
+    tab.click("#slice")
+    cells = "all(`#elements .${arguments[0]} td[data-element]`).map((cell) => cell.firstChild.data).join(' ')"
+    tab.wait(f"{cells} === '0 1 2 3 4 5 6 7'", "before")
+    assert tab.run(cells, "after") == "0 2 4 6 8 10 12 14" and "Several instructions" not in tab.text(".card")
+
+
 def test_what_is_off_says_why(sit: Sit) -> None:
     tab = sit("A7")
     title = "id(arguments[0]).title"

@@ -47,6 +47,7 @@ export class Bench {
   timer = 0; // until problems are asked for
   hasMachine = false; // since the view before
   isEdited = false; // whether the source was changed since the machine began
+  /** @type {State["read"]} */ askedRead; // that lacked registers, which were asked for
 
   /** @param {HTMLElement} root @param {import("./types").Connection} connection */
   constructor(root, connection) {
@@ -143,11 +144,19 @@ export class Bench {
     this.bar.show(view, entries);
     if (instruction) this.panes.makeRoom();
     this.desk.show(view.seat, view.state, entries, isAnew);
+    this.askForRead(view.state);
     this.chooseSide(run !== "absent", view.source);
     offerLanguages(this.editor.language, view);
     this.offer(this.images, "Load …", view.images);
     this.offer(this.against, "Side by side …", view.against);
     this.showSource(view);
+  }
+
+  /** Asks once, after a run that ended with a vector instruction, for the registers before that. */
+  askForRead(/** @type {State} */ { run, instruction = "", operands, read }) {
+    if (run !== "stopped" || !operands?.[instruction]?.length || !read || read.vstart !== undefined || read === this.askedRead) return;
+    this.askedRead = read;
+    this.connection.ask({ ask: "last-instruction" });
   }
 
   /** Offers names in a list, if there are any. */

@@ -6,7 +6,8 @@ import { part, put } from "./elements.js";
 /** @typedef {{ state: State, before: State, used: Set<number>, entry: Element | null, hasRun?: boolean }} Moment hasRun: up to it */
 
 const MOST_MOMENTS = 240; // so that the transcript still has the entries of most
-const BESIDES = ["breaks", "labels", "lines", "outputs"]; // parts of a state that change while the machine's values don't
+// parts of a state that change while the machine's values don't
+const BESIDES = ["accessed", "breaks", "labels", "lines", "outputs", "read"];
 
 /** Whether two states have the same values. */
 /** @type {(one: State, other: State) => boolean} */
