@@ -23,6 +23,15 @@ def served(program: pathlib.Path, tmp_path_factory: pytest.TempPathFactory) -> I
     served.end()
 
 
+@pytest.fixture(scope="module")
+def course(program: pathlib.Path, tmp_path_factory: pytest.TempPathFactory) -> Iterator[Served]:
+    """A class of thirty-two with all exercises of the course."""
+    folder = tmp_path_factory.mktemp("course") / "class"
+    served = Served(folder, program, "--machines", "4", "--course", takes_c=True)
+    yield served
+    served.end()
+
+
 @pytest.fixture
 def own_class(program: pathlib.Path, tmp_path: pathlib.Path) -> Iterator[Served]:
     """A class for a test that ends its server."""

@@ -7,49 +7,51 @@ from typing import TYPE_CHECKING
 import pytest
 
 from support.class_pages import Explored, Served, Tab
-from support.layouts import SIZES, layout_faults, reset, resize
-from vecmon_lab.lessons.frames import make_frames
-from vecmon_lab.lessons.page import lesson_page
-from vecmon_lab.lessons.tour import tours
+from support.commands import Lab
+from support.layouts import SIZES, faults_now, layout_faults, reset, resize
+from support.page_states import SOURCE, STUDENT, step, write_pages
+from vecmon_lab.compilers.compiler import Compiler
 
 if TYPE_CHECKING:
     from selenium.webdriver import Chrome
 
-SOURCE = """# Half of the numbers below 0.
-        la      a1, numbers             # a comment that is so long that it is wider than the pane of the source is on any screen
-        vsetvli t0, zero, e32, m2, ta, mu
-        vle32.v v8, (a1)
-        vmslt.vx v0, v8, zero
-        vsra.vi v8, v8, 1, v0.t
-        vse32.v v8, (a1)
-        ebreak
-        .data
-numbers: .word 100, -100, 7, -7, 0, -1, 250, -64, 100000, -2147483648, 3, -3, 12, 14, -14, 1
-"""
-TYPE = "code().setValue(arguments[0])"
+FAULTY = """<!doctype html><body style="margin: 0; color: #777; background: #fff">
+<p id="twice" style="width: 40px; overflow: hidden; color: #000; white-space: nowrap">A text that is cut</p>
+<p id="twice">These letters are too pale.</p>
+<button style="width: 100px; color: #000">One</button><button style="margin-left: -30px; width: 20px; color: #000">2</button>
+<div style="width: 60px; height: 40px; overflow: hidden; color: #000"><button style="width: 90px; color: #000">Cut off</button></div>
+<button style="position: absolute; top: 200px; color: #000">Hidden</button><div style="position: absolute; top: 200px; width: 100px;
+  height: 40px; background: #fff"></div>
+<select style="width: 40px; color: #000"><option>A long option</option></select>
+<div class="pane" id="editor"><div class="lines" style="height: 159px"></div></div>"""
 WIDTH = "Math.round(id('middle').getBoundingClientRect().width)"
 
 
-def _step(tab: Tab, steps: int) -> None:
-    """Assemble the source, and execute instructions of it."""
-    tab.run("id('assemble').click()")
-    tab.wait("one('#listing .next')")
-    tab.run("(id('number').value = arguments[0], id('many').click())", steps)
-    tab.wait("one('#listing .told')")
+def test_page_of_student_fits(tabs: "Chrome", course: Served, sandboxed_clang: Compiler) -> None:
+    tab = Tab(tabs, course, "A1")
+    for name, begin in STUDENT.items():
+        begin(tab)
+        assert (name, layout_faults(tab.activate())) == (name, {})
+    assert "no vector operands" in tab.text(".card")  # of the state in C, the last one
 
 
-def test_pages_of_class_fit(tabs: "Chrome", program: pathlib.Path, tmp_path: pathlib.Path) -> None:
-    served = Served(tmp_path / "class", program, "--course")
-    try:
-        tab = Tab(tabs, served, "A1")
-        tab.wait("!id('exercise').hidden")
-        assert layout_faults(tab.activate()) == {}  # the exercise, before there is a machine
-        tab.run(TYPE, SOURCE)
-        _step(tab, 6)
-        assert layout_faults(tab.activate()) == {}
-        assert "changed" in tab.text(".card .legend")
-    finally:
-        served.end()
+def test_wall_fits(tabs: "Chrome", course: Served) -> None:
+    tab = Tab(tabs, course, "A2")
+    tab.wait("!id('exercise').hidden")
+    step(tab)
+    teacher = Tab(tabs, course, "teacher")
+    teacher.wait("one(\"tr[data-seat='A2']\")")
+    teacher.run("(id('on-wall').value = 'A2', id('on-wall').onchange())")
+    wall = Tab(tabs, course, "wall")
+    wall.wait("one('#listing .told')")
+    assert layout_faults(wall.activate()) == {}
+
+
+def test_page_to_join_fits(tabs: "Chrome", served: Served) -> None:
+    tabs.switch_to.new_window("tab")
+    tabs.get(f"http://127.0.0.1:{served.port}/")
+    assert tabs.find_element("id", "code").is_displayed()
+    assert layout_faults(tabs) == {}
 
 
 def test_page_of_explore_fits_and_has_no_words_of_classes(
@@ -59,7 +61,7 @@ def test_page_of_explore_fits_and_has_no_words_of_classes(
     served = Explored(tmp_path / "explore", program, tmp_path / "halves.s")
     try:
         tab = Tab(tabs, served, "A1")
-        _step(tab, 6)
+        step(tab)
         assert layout_faults(tab.activate()) == {}
         tab.click("#menu summary")
         titles = "all('[title]').filter((each) => each.checkVisibility()).map(({title}) => title).join(' ')"
@@ -70,11 +72,27 @@ def test_page_of_explore_fits_and_has_no_words_of_classes(
         served.end()
 
 
-def test_lesson_fits(browser: "Chrome", program: pathlib.Path, tmp_path: pathlib.Path) -> None:
-    path = tmp_path / "lesson.html"
-    path.write_text(lesson_page("Masks and tails", make_frames(tours()["masks_and_tails"], program)), "utf-8")
-    browser.get(f"{path.as_uri()}#9")
-    assert layout_faults(browser, panes=False) == {}
+def test_pages_that_are_files_fit(browser: "Chrome", lab: Lab, program: pathlib.Path, tmp_path: pathlib.Path) -> None:
+    for name, address in write_pages(lab, program, tmp_path).items():
+        browser.get("about:blank")
+        browser.get(address)
+        assert (name, layout_faults(browser)) == (name, {})
+
+
+def test_each_kind_of_fault_is_found(browser: "Chrome", tmp_path: pathlib.Path) -> None:
+    (tmp_path / "faulty.html").write_text(FAULTY)
+    browser.get((tmp_path / "faulty.html").as_uri())
+    assert [re.sub(r": \d+ >.*|,[\d.]+$", "", fault) for fault in faults_now(browser)] == [
+        "cut: twice A text that is cut",
+        "cut: DIV Cut off",
+        "cut: SELECT A long option: A long option",
+        "cut off: BUTTON Cut off",
+        "covered: BUTTON Hidden by DIV",
+        "overlap: BUTTON One, BUTTON 2",
+        "twice: twice",
+        "low contrast: ,These letters are too pale.",
+        "source: 159 px",
+    ]
 
 
 def test_splitters_move_are_kept_and_reset(tabs: "Chrome", served: Served) -> None:
