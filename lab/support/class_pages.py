@@ -30,15 +30,20 @@ PATIENCE = 60  # seconds: after so long a test that waits has failed
 FRAME = "requestAnimationFrame(() => setTimeout(arguments[0])), setTimeout(arguments[0], 100)"  # which none has out of sight
 
 
-def lab_command(takes_c: bool) -> list[str]:
-    """The command that runs the lab, with checked requests; root may compile others' C, if that is asked for."""
+def lab_command(takes_c: bool, before: str = "") -> list[str]:
+    """The command that runs the lab, with checked requests; root may compile others' C, if that is asked for.
+
+    before: statements of Python that end with `; `
+    """
     compiles = "from vecmon_lab.compilers import sandbox; sandbox.check_sandbox = lambda: None; " if takes_c else ""
     checks = "from support.checked_requests import check_requests; check_requests(); "
-    return [sys.executable, "-c", f"{compiles}{checks}import vecmon_lab.__main__ as lab; lab.main()"]
+    return [sys.executable, "-c", f"{compiles}{checks}{before}import vecmon_lab.__main__ as lab; lab.main()"]
 
 
 class Served:
     """A class's server in a process of its own, over a folder; it can be killed, and begun again at the same port."""
+
+    before = ""  # statements of Python before those of the lab
 
     def __init__(
         self, folder: pathlib.Path, program: pathlib.Path, *words: str, takes_c: bool = False, clock: bool = False
@@ -51,7 +56,7 @@ class Served:
 
     def begin(self) -> None:
         command = [
-            *lab_command(self.takes_c),
+            *lab_command(self.takes_c, self.before),
             "class",
             str(self.folder),
             f"sum={SUM}",
@@ -161,7 +166,7 @@ class Tab:
         self.handle = browser.current_window_handle
         browser.execute_cdp_cmd("Page.addScriptToEvaluateOnNewDocument", {"source": UNFOLDED + before})
         browser.get(served.address(role))
-        self.wait("document.title === arguments[0]", f"{served.title(role)} – vecmon")
+        self.wait("document.title.replace(/[⟦⟧]/g, '') === arguments[0]", f"{served.title(role)} – vecmon")
 
     def activate(self) -> "Chrome":
         """The browser, with this tab before all others."""

@@ -2,6 +2,8 @@
 
 import { formulaText, scalarTexts } from "./calculation.js";
 import { make, prose } from "./elements.js";
+import { OUTCOMES } from "./outcomes.js";
+import { textOf } from "./texts.js";
 import { ROUNDING, typeText, typeWords, vectorType, withNames } from "./words.js";
 
 /** @typedef {import("./executed.js").View} View */
@@ -43,8 +45,8 @@ export function cardOf(view, columns) {
  * @param {string | undefined} line
  */
 function restOf(state, line) {
-  if (!line) return "The vector registers in use are below. Step to a vector instruction to see how it makes each element.";
-  return `${state.faulted ? "It stopped there." : "It has no vector operands."} The vector registers in use are below.`;
+  if (!line) return textOf("card.nothing");
+  return state.faulted ? textOf("card.stopped") : textOf("card.no-operands");
 }
 
 /**
@@ -65,12 +67,11 @@ function aliasOf(state, text) {
  */
 function maskSentence(state, { isMasked, access, destination, meaning }) {
   if (!isMasked) return [];
-  if (access?.isStore) return ["Where the bit in `v0` is 0, memory stays as it is."];
-  if (!destination || meaning.layout === "reduce") return ["Elements whose bit in `v0` is 0 don't count."];
+  if (access?.isStore) return [textOf("card.mask.store")];
+  if (!destination || meaning.layout === "reduce") return [textOf("card.mask.not-counted")];
   const isKept = !vectorType(state.vtype).mask || destination.width === 1;
-  if (isKept) return ["Where the bit in `v0` is 0, the element keeps its value."];
-  const policy = state.policy === "ones" ? "becomes all ones" : "keeps its value";
-  return [`Where the bit in \`v0\` is 0, the element is agnostic (\`ma\`): here it ${policy}.`];
+  if (isKept) return [textOf("card.mask.undisturbed")];
+  return [state.policy === "ones" ? textOf("card.mask.ones") : textOf("card.mask.keep")];
 }
 
 /**
@@ -80,15 +81,14 @@ function maskSentence(state, { isMasked, access, destination, meaning }) {
  */
 function stopSentence({ state }, { access, earlier, name }) {
   const isUnknown = !earlier.isKnown || !earlier.hasOld;
-  const sources = earlier.isKnown ? "" : "the sources are shown as they are now, and ";
-  const unknown = `Several instructions ran: ${sources}\`before\` is before all of them.`;
+  const unknown = earlier.isKnown ? textOf("card.several") : textOf("card.several.unknown");
   if (!state.faulted) {
     const isCut = name.endsWith("ff.v") && state.vl < earlier.vl;
-    const cut = `Element ${state.vl} can't be read, so \`vl\` becomes ${state.vl}.`;
+    const cut = textOf("card.cut", { element: state.vl });
     return [...(isCut ? [cut] : []), ...(isUnknown ? [unknown] : [])];
   }
-  if (!access || /illegal/i.test(state.stop ?? "")) return ["It is illegal, so it changed nothing."];
-  return [`Element ${state.vstart} faulted: those before it are done, and \`vstart\` is ${state.vstart}.`];
+  if (!access || /illegal/i.test(state.stop ?? "")) return [textOf("card.illegal")];
+  return [textOf("card.fault", { element: state.vstart })];
 }
 
 /**
@@ -99,15 +99,15 @@ function stopSentence({ state }, { access, earlier, name }) {
  */
 function countsOf({ outcomes, changed, executed }, state) {
   /** @type {Record<string, string>} */
-  const words = { active: "active", masked: "masked off", prestart: "before vstart", fault: "fault", tail: "tail", pending: "not reached" };
-  if (state.faulted) words.prestart = "done before the fault";
-  if (state.faulted && !outcomes.includes("fault")) words.pending = "not executed";
-  if (executed?.name.endsWith("ff.v") && !state.faulted) words.pending = "not loaded";
+  const words = { ...OUTCOMES };
+  if (state.faulted) words.prestart = textOf("card.done");
+  if (state.faulted && !outcomes.includes("fault")) words.pending = textOf("card.not-executed");
+  if (executed?.name.endsWith("ff.v") && !state.faulted) words.pending = textOf("card.not-loaded");
   const counts = COUNTS.flatMap((kind) => {
-    const count = outcomes.filter((each) => each === kind).length;
-    return count ? [/** @type {[string, string]} */ ([kind, `${count} ${words[kind]}`])] : [];
+    const number = outcomes.filter((each) => each === kind).length;
+    return number ? [/** @type {[string, string]} */ ([kind, textOf("card.count", { number, outcome: words[kind] })])] : [];
   });
-  return [...counts, ["changed", `${changed.filter(Boolean).length} changed`]];
+  return [...counts, ["changed", textOf("card.count", { number: changed.filter(Boolean).length, outcome: textOf("outcome.changed") })]];
 }
 
 /**
@@ -132,7 +132,7 @@ export function paintCard(root, { text, alias, meaning, formula, scalars, counts
 export function factsOf(state) {
   const type = vectorType(state.vtype);
   return [
-    ["vl", type.vill ? `${state.vl}` : `${state.vl} of ${type.most}`],
+    ["vl", type.vill ? `${state.vl}` : textOf("card.vl", { vl: state.vl, most: type.most })],
     ["vtype", typeText(type)],
     ["vstart", `${state.vstart}`],
     ["vxrm", `${state.vxrm} ${ROUNDING[state.vxrm ?? 0]}`],
@@ -150,9 +150,10 @@ export function factsOf(state) {
 export function paintFacts(root, state, before) {
   const kind = (/** @type {keyof import("./executed.js").State} */ name) => (before[name] === state[name] ? "" : "changed");
   const type = vectorType(state.vtype);
-  const isInitial = (/** @type {string} */ text) => /^(0|keep)\b/.test(text) && !text.includes(" of ");
+  /** @type {(name: string, text: string) => boolean} */
+  const isInitial = (name, text) => /^(0|keep)\b/.test(text) && (name !== "vl" || type.vill);
   const pairs = factsOf(state).map(([name, text]) =>
-    make("div", isInitial(text) && !kind(name) ? "initial" : "", make("dt", "", name), make("dd", kind(name), text)));
+    make("div", isInitial(name, text) && !kind(name) ? "initial" : "", make("dt", "", name), make("dd", kind(name), text)));
   root.title = typeWords(type);
   root.replaceChildren(...pairs, ...(type.vill ? [make("p", "", typeWords(type))] : []));
 }

@@ -1,6 +1,7 @@
 // Keys of the pages. Each presses a button, whose `aria-keyshortcuts` names it, as `Control+Shift+F5`.
 
 import { elementsIn, make } from "./elements.js";
+import { textOf } from "./texts.js";
 
 /** @type {Record<string, string>} */
 const EARLIER = { F8: "F11", "Control+F9": "Control+Shift+F5" }; // keys of version 1.0, and those of today
@@ -15,7 +16,8 @@ export function keyOf(/** @type {KeyboardEvent} */ { key, code, ctrlKey, metaKey
 }
 
 /** A key as the page names it: `Ctrl Shift F5`. */
-export const keyText = (/** @type {string} */ key) => key.replace("Control", "Ctrl").replaceAll("+", " ");
+export const keyText = (/** @type {string} */ key) =>
+  key.replace("Control", textOf("keys.control")).replace("Shift", textOf("keys.shift")).replaceAll("+", " ");
 
 const keysOf = (/** @type {Element} */ button) => button.getAttribute("aria-keyshortcuts")?.split(" ") ?? [];
 
@@ -28,7 +30,7 @@ const isOffered = (/** @type {HTMLElement} */ button) =>
 
 /** The keys of a button, and what they do, as a row of a list. */
 function keyRow(/** @type {Element} */ button, /** @type {string} */ does) {
-  const keys = keysOf(button).flatMap((key, place) => [place ? " or " : "", make("kbd", "", keyText(key))]);
+  const keys = keysOf(button).flatMap((key, place) => [place ? ` ${textOf("keys.or")} ` : "", make("kbd", "", keyText(key))]);
   return [make("dt", "", ...keys), make("dd", "", does)];
 }
 
@@ -44,7 +46,7 @@ export class Keys {
     this.say = say;
     const buttons = elementsIn(root, "button[aria-keyshortcuts]");
     this.does = new Map(buttons.map((button) => [button, button.title])); // in words
-    for (const button of buttons) button.title = `${button.title} (${keysOf(button).map(keyText).join(" or ")})`;
+    for (const button of buttons) button.title = `${button.title} (${keysOf(button).map(keyText).join(` ${textOf("keys.or")} `)})`;
     document.addEventListener("keydown", (event) => this.pressed(event));
   }
 
@@ -69,7 +71,7 @@ export class Keys {
     if (!button || (key === "Escape" && button.disabled)) return;
     event.preventDefault();
     const name = /** @type {string} */ (button.textContent).trim();
-    this.say(isEarlier ? `${name} is ${keyText(later)} now.` : button.matches(":disabled") ? button.title : "");
+    this.say(isEarlier ? textOf("keys.now", { name, key: keyText(later) }) : button.matches(":disabled") ? button.title : "");
     if (this.mayPress()) button.click();
   }
 }

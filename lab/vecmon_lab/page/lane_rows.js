@@ -2,6 +2,7 @@
 
 import { REGISTER_BITS, elementOf, memoryElement, numberText, registersText } from "./numbers.js";
 import { OUTCOMES, resultOutcome } from "./outcomes.js";
+import { textOf } from "./texts.js";
 
 /** @typedef {import("./executed.js").Executed} Executed */
 /** @typedef {import("./executed.js").Operand} Operand */
@@ -22,6 +23,8 @@ import { OUTCOMES, resultOutcome } from "./outcomes.js";
  */
 /** @typedef {{ register: number, width: number, count: number }} Place where the elements of a row are, and their number */
 
+const KINDS = { memory: textOf("row.memory"), before: textOf("row.before"), after: textOf("row.after") };
+
 /**
  * Makes the cell of an element. was: its value before, where it is a result; an unknown value is null.
  * @param {bigint | null} value
@@ -33,7 +36,7 @@ export function cellOf(value, outcome, { width, form, was }) {
   const isChanged = was !== undefined && was !== value;
   const bit = width === 1 && value !== null ? [value ? "set" : "clear"] : [];
   const classes = [...bit, ...(outcome ? [outcome] : []), ...(isChanged ? ["changed"] : [])];
-  const words = [...(outcome && outcome !== "active" ? [OUTCOMES[outcome]] : []), ...(isChanged ? ["changed"] : [])];
+  const words = [...(outcome && outcome !== "active" ? [OUTCOMES[outcome]] : []), ...(isChanged ? [textOf("outcome.changed")] : [])];
   return { text: value === null ? "?" : numberText(value, width, form), classes, words: words.join(", ") };
 }
 
@@ -74,7 +77,7 @@ const isMoving = ({ meaning }) => ["gather", "slide", "compress"].includes(meani
 export function guardRows(view, { isMasked, hasChooser, earlier, elements }, outcomes) {
   if (!isMasked && !hasChooser) return [];
   return [
-    makeRow("mask", isMasked ? "mask" : "bits", { register: 0, width: 1, count: elements }, (element) => {
+    makeRow("mask", isMasked ? textOf("row.mask") : textOf("row.bits"), { register: 0, width: 1, count: elements }, (element) => {
       const outcome = outcomes[element] === "tail" ? "tail" : "active";
       return cellOf(elementOf(earlier.v, 0, 1, element), outcome, { width: 1, form: formOf(view) });
     }),
@@ -122,7 +125,7 @@ function sourceRow(view, executed, source, place, outcomes, pairs) {
   };
   const form = isMoving(executed) && place ? indexForm(view) : formOf(view);
   const count = Math.min(elements, countOf(source));
-  return makeRow("source", earlier.isKnown ? "from" : "now", { ...source, count }, (element) =>
+  return makeRow("source", earlier.isKnown ? textOf("row.from") : textOf("row.now"), { ...source, count }, (element) =>
     cellOf(elementOf(earlier.v, source.register, source.width, element), outcome(element), { width: source.width, form }),
   );
 }
@@ -147,8 +150,8 @@ function resultRows(view, executed, outcomes, hasBefore) {
     const now = (/** @type {number} */ element) => elementOf(view.state.v, first, width, element);
     const place = { register: first, width, count };
     const tail = (/** @type {number} */ element) => (outcome(element) === "tail" ? "tail" : "");
-    const before = makeRow("before", "before", place, (element) => cellOf(old(element), tail(element), how));
-    const after = makeRow("after", "after", place, (element) =>
+    const before = makeRow("before", KINDS.before, place, (element) => cellOf(old(element), tail(element), how));
+    const after = makeRow("after", KINDS.after, place, (element) =>
       cellOf(now(element), outcome(element), { ...how, was: old(element) }),
     );
     return hasBefore && groups === 1 ? [before, after] : [after];
@@ -170,8 +173,8 @@ export function accessRows(view, executed, outcomes) {
       cellOf(elementOf(earlier.v, each.register, each.width, element), outcomes[element], { width: each.width, form }),
     );
   const memory = (/** @type {"memory" | "before" | "after"} */ kind, /** @type {number} */ field) =>
-    memoryRow(view, executed, outcomes, kind, access.fields > 1 ? `field ${field}` : kind, field);
-  const offsets = access.index ? [source("offset", access.index, indexForm(view))] : [];
+    memoryRow(view, executed, outcomes, kind, access.fields > 1 ? textOf("row.field", { field }) : KINDS[kind], field);
+  const offsets = access.index ? [source(textOf("row.offset"), access.index, indexForm(view))] : [];
   const fields = Array.from({ length: access.fields }, (_, field) => field);
   if (!access.isStore) {
     const loaded = fields.map((field) => memory("memory", field));
@@ -179,7 +182,7 @@ export function accessRows(view, executed, outcomes) {
   }
   const [data] = sources;
   const stored = fields.map((field) => {
-    const words = access.fields > 1 ? `field ${field}` : "from";
+    const words = access.fields > 1 ? textOf("row.field", { field }) : textOf("row.from");
     return source(words, { ...data, register: data.register + field * data.size }, formOf(view));
   });
   const before = access.fields > 1 ? [] : [memory("before", 0)];

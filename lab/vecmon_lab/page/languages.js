@@ -1,6 +1,7 @@
 // The language of a source, chosen next to its editor: the first one is the assembler, all others take a compiler.
 
 import { make } from "./elements.js";
+import { textOf } from "./texts.js";
 
 /** Offers languages once; C can't be chosen in a class that takes none, and the choice says why. */
 /** @type {(select: HTMLSelectElement, view: { languages: string[], no_c: string }) => void} */
@@ -8,6 +9,6 @@ export function offerLanguages(select, { languages, no_c: why }) {
   if (select.length === languages.length) return;
   select.replaceChildren(...languages.map((name) => make("option", "", name)));
   [...select.options].forEach((option, number) => (option.disabled = number > 0 && why !== ""));
-  select.title = why ? `This class takes no C: ${why}` : "";
+  select.title = why ? textOf("languages.no-c", { why }) : "";
   select.selectedIndex = Number(sessionStorage.getItem(select.id)); // as before a reload
 }

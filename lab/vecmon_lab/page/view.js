@@ -5,6 +5,7 @@ import { Lanes } from "./lanes.js";
 import { ListingPanel } from "./listing.js";
 import { MemoryPanel, OutputPanel } from "./memory.js";
 import { RegisterPanel } from "./scalars.js";
+import { textOf } from "./texts.js";
 import { VariablePanel } from "./variables.js";
 import { saysMore, withNames } from "./words.js";
 
@@ -34,12 +35,13 @@ export class MachineView {
 
   /** The command, which its page knows, and the instruction that executed last, or that faulted. */
   showStep(/** @type {State} */ state, /** @type {Node[]} */ ...done) {
-    if (state.run === "running") done.push(make("small", "", "it runs: registers and memory are those from before"));
+    if (state.run === "running") done.push(make("small", "", textOf("step.running")));
     if (state.instruction) {
       const line = (state.code?.[state.instruction] ?? "").slice(9);
       const text = withNames(line, this.names.value === "abi") || `0x${state.instruction}`; // nothing is mapped there
       const said = saysMore(state.lines?.[state.instruction] ?? "", line); // which the listing may cut
-      done.push(make("span", "instruction", make("small", "", state.faulted ? "stopped at " : "executed "), text));
+      const label = state.faulted ? textOf("step.stopped") : textOf("step.executed");
+      done.push(make("span", "instruction", make("small", "", label), " ", text));
       done.push(make("small", "", ...prose(said)));
     }
     this.step.replaceChildren(...done);
