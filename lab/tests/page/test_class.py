@@ -395,7 +395,7 @@ def test_code_is_stored_for_tab_only(sit: Sit, served: Served) -> None:
 
 
 def test_tab_reconnects_after_server_restart(tabs: "Chrome", own_class: Served) -> None:
-    """Tabs go on without a reload; requests under way and unsent ones are reported and not sent again."""
+    """Tabs go on without a reload: a request under way is reported and not sent again, and those that wait are sent."""
     tab, teacher = Tab(tabs, own_class, "A1"), Tab(tabs, own_class, "teacher")
     tab.begin(*COUNT_UP)
     tab.click("#one")
@@ -409,16 +409,17 @@ def test_tab_reconnects_after_server_restart(tabs: "Chrome", own_class: Served) 
     own_class.kill()
     os.kill(machine, signal.SIGKILL)
     tab.wait("id('gone').textContent.includes('is gone')")
-    shown = tab.text("#gone")
-    assert "a step was under way" in shown and "set x7 1, set x8 2 weren't sent." in shown
+    assert tab.text("#gone").endswith("Waiting: a step, set x7 1, set x8 2.")
     tab.click("#one")
     assert tab.text("#run") == "No connection" and tab.run("id('one').disabled")
     own_class.begin()
     tab.wait("id('gone').textContent.startsWith('The server is there again.')")
+    assert "a step was under way" in tab.text("#gone")
+    tab.wait("one(\"[data-edit='set x8']\").textContent === '2'")
     steps = tab.run("all('#log .asked').filter((item) => item.textContent === '> step 1').length")
-    assert steps in (1, 2) and "was under way" in tab.text("#gone")
+    assert steps in (1, 2)
     tab.command("set x9 9")
-    assert tab.text("[data-edit='set x9']") == "9" and tab.text("[data-edit='set x7']") == "0"
+    assert tab.text("[data-edit='set x9']") == "9" and tab.text("[data-edit='set x7']") == "1"
     assert tab.run("window.marked === 1 && id('gone').hidden")
     tab.click("#backward")
     assert tab.text("[data-edit='set x9']") == "0" and "past: step" in tab.text("#says-past")
@@ -427,7 +428,7 @@ def test_tab_reconnects_after_server_restart(tabs: "Chrome", own_class: Served) 
     tab.click("#now")
     teacher.wait("id('gone').hidden && !id('desk').hidden && id('log').textContent.includes('set x9 9')")
     script = own_class.check_replay(digest_of(teacher)).decode().splitlines()
-    assert script.count("1 step 1") == steps and not any(line.startswith("1 set x7") for line in script)
+    assert script.count("1 step 1") == steps and script.count("1 set x7 1") == script.count("1 set x8 2") == 1
 
 
 def test_teacher_controls_two_machines(program: pathlib.Path, tmp_path: pathlib.Path, tabs: "Chrome") -> None:

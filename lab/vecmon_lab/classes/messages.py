@@ -78,11 +78,21 @@ class Changes(TypedDict):
 
 
 class Hello(Changes):
-    """The first message to a tab. who: the seat, `teacher` or `wall`; time: in seconds since 1970"""
+    """The first message to a tab. who: the seat, `teacher` or `wall`; time: in seconds since 1970
+
+    resumed: whether the server knows the page, so that requests that are sent again are executed once; missing if it doesn't
+    """
 
     kind: Literal["hello"]
     who: str
     time: float
+    resumed: NotRequired[bool]
+
+
+class Beat(TypedDict):
+    """The answer to `{"ask":"beat"}`."""
+
+    kind: Literal["beat"]
 
 
 class News(Changes):
@@ -241,7 +251,7 @@ Answer = (
     | CodesAnswer
     | RefusedAnswer
 )
-Message = Hello | News | Answer
+Message = Hello | News | Beat | Answer
 
 WithChanges = TypeVar("WithChanges", Hello, News)
 

@@ -24,6 +24,7 @@ from .. import LabError
 from ..page.pages import Page
 from ..page.reference import reference_text
 from .codes import TEACHER
+from .resumed_pages import OpenPages
 from .room import Room
 from .store import BadFolder, script_name
 from .tab_requests import TabRequests
@@ -53,7 +54,7 @@ class Server:
     def __init__(self, members: Class, names: set[str]) -> None:
         """names: hosts that the page may be opened under, besides all numeric addresses."""
         self.members, self.names = members, {"localhost", *names}
-        self._requests = TabRequests(members)
+        self._requests, self._pages = TabRequests(members), OpenPages()
         self._page, self._lesson, self._listings = Page("class"), Page("lesson"), Page("listings")
         self._spoke: set[web.RequestHandler] = set()  # connections that have made a whole request
         self._is_ending = False
@@ -180,26 +181,28 @@ class Server:
         async with self._nameless:
             await own.prepare(request)
             self._sockets.add(own)
-            role = await self._who(own)
+            role, name = await self._who(own)
         others = sum(tab.who == role for tab in self.members.tabs)
         if role is None:
             await own.close(code=CLOSED, message=b"no such code")
         elif others >= (2 * SOCKETS if role == TEACHER else SOCKETS):
             await own.close(code=CROWDED, message=b"too many tabs")
         else:
-            await TabSocket(self._requests, own, Tab(role), partial(_abort, request)).serve(lambda: self._is_ending)
+            page, abort = self._pages.open(role, name), partial(_abort, request)
+            await TabSocket(self._requests, own, Tab(role), page, abort).serve(lambda: self._is_ending)
         return own
 
-    async def _who(self, own: web.WebSocketResponse) -> str | None:
-        """The owner of the code in the first message; a wrong code is refused after a while."""
+    async def _who(self, own: web.WebSocketResponse) -> tuple[str | None, object]:
+        """The owner of the code in the first message, and the page's name there; a wrong code is refused after a while."""
         try:
-            first = json.loads(await own.receive_str(timeout=PATIENCE))
+            message = json.loads(await own.receive_str(timeout=PATIENCE))
         except (TypeError, ValueError, RecursionError, asyncio.TimeoutError):
-            return None
-        role = self.members.codes.owner(first.get("code") if isinstance(first, dict) else None)
+            return None, None
+        first = message if isinstance(message, dict) else {}
+        role = self.members.codes.owner(first.get("code"))
         if role is None:
             await asyncio.sleep(WRONG_CODE_SECONDS)
-        return role
+        return role, first.get("page")
 
 
 def listening(host: str, port: int) -> list[socket.socket]:

@@ -5,17 +5,20 @@ import contextlib
 import json
 from collections import deque
 from collections.abc import Callable
+from functools import partial
 
 from aiohttp import WSMsgType, web
 
 from .codes import TEACHER
-from .messages import Message, News, with_changes
+from .messages import Beat, Message, News, with_changes
+from .resumed_pages import OpenPage
 from .tab_requests import TabRequests
 from .view import Tab
 
 READ_SECONDS = 20.0  # in which a tab has to take a message
 MAX_WAITING, WAITING_BYTES = 64, 2_000_000  # requests of a tab that wait, besides the one that executes
 TOO_MANY_WAIT = f"{MAX_WAITING} requests of this tab wait already, or they are too long: nothing was done"
+BEAT = '{"ask":"beat"}'  # asks whether the connection works
 CLOSED = 4403  # why a socket is closed: its code is none, or none any more
 
 
@@ -26,9 +29,17 @@ class TabSocket:
     when the tab goes away are still executed, unless its code no longer opens the seat.
     """
 
-    def __init__(self, tabs: TabRequests, socket: web.WebSocketResponse, tab: Tab, abort: Callable[[], object]) -> None:
-        """abort: ends the connection without a word."""
+    def __init__(
+        self,
+        tabs: TabRequests,
+        socket: web.WebSocketResponse,
+        tab: Tab,
+        page: tuple[OpenPage, bool],
+        abort: Callable[[], object],
+    ) -> None:
+        """page: with whether it was open before; abort: ends the connection without a word."""
         self._tabs, self._socket, self._tab, self._abort = tabs, socket, tab, abort
+        self._page, self._is_resumed = page
         self._waiting: deque[str] = deque()
         self._has_come = asyncio.Event()  # set where there is one, or no more will come
         self._is_read = False
@@ -36,7 +47,10 @@ class TabSocket:
     async def serve(self, is_ending: Callable[[], bool]) -> None:
         """Greets the tab, and serves it until its socket is closed and nothing waits, or the server ends."""
         try:
-            await self._send(self._tabs.hello(self._tab))
+            hello = self._tabs.hello(self._tab)
+            if self._is_resumed:
+                hello["resumed"] = True
+            await self._send(hello)
             async with asyncio.TaskGroup() as tasks:
                 pusher, _ = tasks.create_task(self._push()), tasks.create_task(self._answer())
                 with contextlib.suppress(ConnectionError):
@@ -56,7 +70,9 @@ class TabSocket:
         async for message in self._socket:
             if message.type is not WSMsgType.TEXT or not self._tab.is_open:
                 return
-            if len(self._waiting) < MAX_WAITING and sum(map(len, self._waiting)) + len(message.data) <= WAITING_BYTES:
+            if message.data == BEAT:
+                await self._send(Beat(kind="beat"))
+            elif len(self._waiting) < MAX_WAITING and sum(map(len, self._waiting)) + len(message.data) <= WAITING_BYTES:
                 self._waiting.append(message.data)
                 self._has_come.set()
             else:
@@ -69,7 +85,7 @@ class TabSocket:
             while self._waiting:
                 text = self._waiting.popleft()
                 if self._tab.is_open:
-                    await self._send(await self._tabs.answer(self._tab, text))
+                    await self._send(await self._page.answer(text, partial(self._tabs.answer, self._tab, text)))
             self._has_come.clear()
 
     async def _push(self) -> None:

@@ -1,4 +1,4 @@
-// The way to the class: one WebSocket, one request after the other, growing pauses where it is gone.
+// The way to the class: one WebSocket, one request after the other, growing pauses where it is gone. Requests wait meanwhile.
 
 import { offerFile } from "./elements.js";
 import { Pending } from "./pending.js";
@@ -9,14 +9,18 @@ import { Pending } from "./pending.js";
 /** @typedef {import("./types").Request} Request */
 
 const [FIRST_PAUSE, LONGEST_PAUSE] = [500, 15000]; // ms
-const LONGEST_SILENCE = 60000; // until a request without an answer means a broken connection
-const QUIET = { shoulder: "", wall: "", draft: "", read: "" };
-const EXERCISES = { check: "the check", open: "the exercise", answer: "the earlier answer" };
-const SOURCE = { source: "the source", again: "the source", run: "a run", step: "a step" };
+const BEAT = 1500; // ms between questions whether the connection works
+const [MOST_UNANSWERED, MOST_OPENING] = [2, 7]; // beats until a connection counts as broken, and until one that opens does
 /** @type {Record<string, string>} */
-const NAMES = { lines: "slices", name: "the name", ...EXERCISES, ...SOURCE, ...QUIET };
+const NAMES = {
+  again: "the source", answer: "the earlier answer", check: "the check", lines: "slices", name: "the name", open: "the exercise",
+  run: "a run", source: "the source", step: "a step", draft: "", read: "", shoulder: "", wall: "",
+};
 /** @type {Record<number, string>} */
-const ENDINGS = { 4403: "This code isn't valid, or not any more.", 4429: "This seat is open in too many tabs." };
+const ENDINGS = {
+  4403: "This code isn't valid. Compare it with your slip, or ask your teacher for a new one.",
+  4429: "This seat is open in too many tabs. Close one of them.",
+};
 
 /** The name of a lost request in a message; "" if its sender repeats it. */
 export function nameOf(/** @type {Request} */ request) {
@@ -25,20 +29,26 @@ export function nameOf(/** @type {Request} */ request) {
   return some || (NAMES[request.ask] ?? request.ask);
 }
 
+/** A name for a page that no other page has: 32 hexadecimal digits. */
+const newName = () => [...crypto.getRandomValues(new Uint8Array(16))].map((byte) => byte.toString(16).padStart(2, "0")).join("");
+
 /** @implements {Channel} */
 export class Connection {
   isReady = false;
   ahead = 0;
   pause = FIRST_PAUSE;
-  lost = "";
-  silence = 0; // a timer
+  lost = ""; // what is said of a request that may not have been executed
+  unanswered = 0; // beats since the last message
+  page = newName();
   pending = new Pending(); // whose first request is under way
+  isUnderWay = false; // whether it was sent
   /** @type {WebSocket | null} */ socket = null;
 
   constructor(/** @type {string} */ code, /** @type {Listener} */ listener) {
     this.code = code;
     this.listener = listener;
     this.open();
+    setInterval(() => this.beat(), BEAT);
   }
 
   get waiting() {
@@ -47,35 +57,45 @@ export class Connection {
 
   open() {
     const socket = new WebSocket(`${location.protocol.replace("http", "ws")}//${location.host}/socket`);
-    this.socket = socket;
+    Object.assign(this, { socket, unanswered: 0 });
     const isOwn = () => this.socket === socket;
-    socket.addEventListener("open", () => isOwn() && socket.send(JSON.stringify({ code: this.code })));
+    socket.addEventListener("open", () => isOwn() && socket.send(JSON.stringify({ code: this.code, page: this.page })));
     socket.addEventListener("message", (event) => isOwn() && this.hear(JSON.parse(event.data)));
     socket.addEventListener("close", (event) => isOwn() && this.closed(event.code));
   }
 
+  /** Asks whether the connection works; one that doesn't answer is closed, since a browser may not see for minutes that it broke. */
+  beat() {
+    if (!this.socket) return;
+    if (this.unanswered >= (this.isReady ? MOST_UNANSWERED : MOST_OPENING)) return this.closed();
+    this.unanswered++;
+    if (this.isReady) this.socket.send('{"ask":"beat"}');
+  }
+
   hear(/** @type {Message} */ message) {
-    if (message.kind === "hello") {
-      this.isReady = true;
-      this.ahead = (message.time ?? 0) - Date.now() / 1000; // seconds that the server's clock is ahead of this one
-      this.pause = FIRST_PAUSE;
-      this.listener.gone(this.lost && `The server is there again. ${this.lost}`);
-    }
+    this.unanswered = 0;
+    if (message.kind === "beat") return;
+    if (message.kind === "hello") this.resume(message);
     this.listener.told(message);
-    if (message.kind === "answer" && this.pending.settle(message)) this.next();
+    if (message.kind === "answer" && this.pending.settle(message)) this.isUnderWay = false;
+    this.next();
+  }
+
+  /** Takes the connection up: a server that knows the page executes a request once, also if it is sent again. */
+  resume(/** @type {Message} */ { time = 0, resumed = false }) {
+    const words = this.isUnderWay && !resumed && nameOf(this.pending.drop(1)[0]);
+    this.lost = words ? `${words} was under way: the console shows whether it was executed.` : "";
+    Object.assign(this, { isReady: true, isUnderWay: false, pause: FIRST_PAUSE });
+    this.ahead = time - Date.now() / 1000; // seconds that the server's clock is ahead of this one
+    this.listener.gone(this.lost && `The server is there again. ${this.lost}`);
   }
 
   /** @type {Channel["ask"]} */
   async ask(request) {
-    const words = nameOf(request);
-    if (!this.isReady) {
-      this.lose([], [words]);
-      this.listener.gone(`The server can't be reached now. ${this.lost}`);
-      return null;
-    }
-    if (this.lost && words) this.listener.gone((this.lost = ""));
     const { answer } = this.pending.add(request);
-    if (this.pending.size === 1) this.next();
+    if (!this.isReady) this.tell();
+    else if (this.lost && nameOf(request)) this.listener.gone((this.lost = ""));
+    this.next();
     return answer;
   }
 
@@ -88,31 +108,27 @@ export class Connection {
     return true;
   }
 
+  /** Sends the first request that waits, unless one is under way. */
   next() {
-    clearTimeout(this.silence);
-    if (!this.pending.first) return;
-    this.socket?.send(JSON.stringify(this.pending.first));
-    this.silence = setTimeout(() => this.closed(), LONGEST_SILENCE);
+    const { first } = this.pending;
+    if (!this.isReady || this.isUnderWay || !first) return;
+    this.isUnderWay = true;
+    this.socket?.send(JSON.stringify(first));
   }
 
   closed(reason = 0) {
-    clearTimeout(this.silence);
     this.socket?.close();
-    this.socket = null;
-    this.isReady = false;
-    const [underWay, ...unsent] = this.pending.drop().map(nameOf);
-    this.lose([underWay], unsent);
+    Object.assign(this, { socket: null, isReady: false });
     if (ENDINGS[reason]) return this.listener.ended(ENDINGS[reason]);
     setTimeout(() => this.open(), this.pause * (0.75 + Math.random() / 2));
     this.pause = Math.min(LONGEST_PAUSE, this.pause * 2);
-    return this.listener.gone(`The server is gone. This page tries again by itself. ${this.lost}`);
+    return this.tell();
   }
 
-  /** Takes up what was under way, and what wasn't sent: no request is sent twice. */
-  lose(/** @type {(string | undefined)[][]} */ ...lost) {
-    const [underWay, unsent] = lost.map((names) => names.filter(Boolean));
-    const told = underWay.map((words) => `${words} was under way: the console shows whether it was executed.`);
-    if (unsent.length) told.push(`${unsent.join(", ")} ${unsent.length > 1 ? "weren't" : "wasn't"} sent.`);
-    this.lost = [this.lost, ...told].join(" ").trim();
+  /** Says that the server is gone, and what waits for it. */
+  tell() {
+    const names = this.pending.requests.map(nameOf).filter(Boolean);
+    const waiting = names.length ? ` Waiting: ${names.slice(0, 4).join(", ")}${names.length > 4 ? " …" : ""}.` : "";
+    this.listener.gone(`The server is gone. This page tries again by itself.${waiting}`);
   }
 }

@@ -37,6 +37,11 @@ export interface AnswerRequest {
   number: number;
 }
 
+/** The answer to `{"ask":"beat"}`. */
+export interface Beat {
+  kind: "beat";
+}
+
 /** A source for a new machine with the inputs of a case. case: its place in `cases`, from 0 on; by default the first failed one */
 export interface CaseRequest {
   id: number;
@@ -256,13 +261,18 @@ export interface HandRequest {
   text?: string;
 }
 
-/** The first message to a tab. who: the seat, `teacher` or `wall`; time: in seconds since 1970 */
+/**
+ * The first message to a tab. who: the seat, `teacher` or `wall`; time: in seconds since 1970
+ *
+ * resumed: whether the server knows the page, so that requests that are sent again are executed once; missing if it doesn't
+ */
 export interface Hello {
   patch?: { [name: string]: unknown };
   logs?: { [name: string]: string[] };
   kind: "hello";
   who: string;
   time: number;
+  resumed?: boolean;
 }
 
 /** That `read` and `accessed` of the state are completed after a run. */
@@ -457,6 +467,7 @@ export interface PageHello {
   kind: "hello";
   who: string;
   time: number;
+  resumed?: boolean;
   lost: string[];
 }
 
@@ -1058,6 +1069,7 @@ export type Answer =
 export type Message =
   | Hello
   | News
+  | Beat
   | EmptyAnswer
   | LinesAnswer
   | SourceAnswer

@@ -15,8 +15,12 @@ export class Pending {
 
   /** The oldest request. */
   get first() {
-    const [first] = this.waiting.values();
-    return first?.request;
+    return this.requests.at(0);
+  }
+
+  /** All requests, the oldest one first. */
+  get requests() {
+    return [...this.waiting.values()].map(({ request }) => request);
   }
 
   /** Numbers and adds a request; `answer` resolves to its answer, or to null if it is dropped. */
@@ -36,11 +40,10 @@ export class Pending {
     return true;
   }
 
-  /** Resolves all requests to null, and returns them. */
-  drop() {
-    const lost = [...this.waiting.values()];
-    this.waiting.clear();
-    for (const { done } of lost) done(null);
+  /** Resolves all requests, or the oldest ones, to null, and returns them. */
+  drop(most = Infinity) {
+    const lost = [...this.waiting.values()].slice(0, most);
+    for (const { request, done } of lost) this.waiting.delete(request.id), done(null);
     return lost.map(({ request }) => request);
   }
 }

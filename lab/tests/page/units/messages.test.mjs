@@ -45,12 +45,14 @@ test("answers reach their requests by number, in any order", async () => {
   assert.deepEqual([(await one.answer).text, (await two.answer).text, pending.size], ["first", "second", 0]);
 });
 
-test("dropped requests have no answer", async () => {
+test("dropped requests have no answer, and the others stay", async () => {
   const pending = new Pending();
-  const { answer } = pending.add({ ask: "check" });
-  assert.deepEqual([pending.drop(), pending.size], [[{ id: 1, ask: "check" }], 0]);
-  assert.equal(await answer, null);
-  assert.equal(pending.first, undefined);
+  const [one, two] = [{ ask: "check" }, { ask: "open" }].map((request) => pending.add(request));
+  assert.deepEqual(pending.drop(1), [one.request]);
+  assert.equal(await one.answer, null);
+  assert.deepEqual(pending.requests, [two.request]);
+  assert.deepEqual([pending.drop(), pending.size, pending.first], [[two.request], 0, undefined]);
+  assert.equal(await two.answer, null);
 });
 
 test("lost requests have names, and those that are repeated have none", () => {
