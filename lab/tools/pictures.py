@@ -123,13 +123,13 @@ def picture_exercise(browser: "Chrome", served: Served, folder: pathlib.Path) ->
     """The page of a student whose answer was checked and fails."""
     tab = Tab(browser, served, "A1")
     give_room(browser, EXERCISE_HEIGHT)  # so that what was found is in sight
-    tab.click("#show-source")
+    tab.click("#course-list button")
+    tab.wait("id('check').checkVisibility()")
     tab.run("(code().setValue(arguments[0]), id('assemble').click())", WRONG.read_text("utf-8"))
     tab.wait("id('listing').textContent.includes('vminu') && !id('listing').hidden")
     tab.click("#show-source")
-    tab.click("#exercise .main")
-    tab.wait("one('#exercise .wrong')")
-    tab.run("(one('.reading').scrollTop = one('.verdict').offsetTop)")
+    tab.click("#check")
+    tab.wait("one('#verdict .wrong')")
     save(browser, folder / "exercise.png", EXERCISE_HEIGHT)
 
 

@@ -19,8 +19,10 @@ if TYPE_CHECKING:
 COURSE = [name for name, _ in read_table("course")]
 VERDICT = "one('#exercise .verdict h3')?.textContent"
 TYPE = "code().setValue(arguments[0])"
-IN_SIGHT = """((panel, heading) => heading.top >= panel.top && heading.bottom <= panel.bottom)(
-    ...["#exercise .reading", "#exercise .verdict h3"].map((name) => one(name).getBoundingClientRect()))"""
+IN_SIGHT = """((panel, shown) => shown.every(({ top, bottom }) => top >= panel.top && bottom <= panel.bottom))(
+    id("reading").getBoundingClientRect(),
+    [one("#verdict h3"), ...all("#verdict .strip"), one("#verdict button")].slice(0, 5).map((each) => each.getBoundingClientRect()))"""
+BOXES = "[...one(arguments[0]).querySelectorAll('.strip span[title]')].map((box) => box.firstChild.data)"
 
 ANSWERS = "#scores button[aria-label^='Answers of seat A3 to']"
 
@@ -37,40 +39,89 @@ def course(program: pathlib.Path, tmp_path_factory: pytest.TempPathFactory) -> I
 def check(tab: Tab, source: str, verdict: str) -> None:
     """Check a source, and wait for the result."""
     tab.run(TYPE, source)
-    tries = tab.run("one('#exercise [role=status]').textContent")
-    tab.run("one('#exercise .main').click()")
-    tab.wait("!one('#exercise .main').disabled && one('#exercise [role=status]').textContent !== arguments[0]", tries)
+    tries = tab.text("#tries")
+    tab.click("#check")
+    tab.wait("!id('check').disabled && id('tries').textContent !== arguments[0]", tries)
     assert tab.run(VERDICT) == verdict, tab.text("#exercise")
 
 
 def choose(tab: Tab, name: str) -> None:
-    """Opens an exercise, and waits until it is."""
-    is_open = "(({ value, disabled }) => value === arguments[0] && !disabled)(one('#exercise select'))"
-    if not tab.run(is_open, name):
-        tab.run("((choice) => (choice.value = arguments[0], choice.onchange()))(one('#exercise select'))", name)
-        tab.wait(is_open, name)
+    """Open an exercise, and wait until it is."""
+    button = f"#course-list li:nth-child({COURSE.index(name) + 1}) button"
+    tab.wait("one(arguments[0])?.checkVisibility()", button)
+    if tab.run("one(arguments[0]).ariaCurrent", button) != "true":
+        tab.click(button)
+        tab.wait("one(arguments[0]).ariaCurrent === 'true' && !id('course-list').inert", button)
+
+
+def test_first_visit_starts_with_a_step(tabs: "Chrome", course: Served) -> None:
+    """The exercises are listed next to a sample; cards have the elements' place until the first step, and come back by Help."""
+    tab = Tab(tabs, course, "B1")
+    tab.wait("id('welcome').checkVisibility()")
+    assert tab.run("text()").startswith("# Doubles of the numbers 0 to 7.")
+    assert tab.run("all('#welcome li').length") == 4 and not tab.run("one('#vectors .missing').checkVisibility()")
+    titles = tab.run("all('#course-list button').map((each) => each.textContent)")
+    assert len(titles) == 12 and titles[0] == "1Doubles" and titles[11] == "12Prefix sums"
+    assert not tab.run("id('check').checkVisibility()") and tab.activate().execute_script(CONTRAST) == []
+    tab.click("#step-once")
+    tab.wait("id('step').textContent.includes('vsetivli zero, 8, e32') && !id('welcome').checkVisibility()")
+    assert tab.run("id('elements').checkVisibility() && !id('check').checkVisibility()")
+    tab.click("#show-reference")
+    tab.click("#show-welcome")
+    assert tab.run("id('welcome').checkVisibility() && !id('elements').checkVisibility()")
+    tab.click("#open-first")
+    tab.wait("text().includes('a0: where the doubles go')")
+    assert tab.text("#exercise-text h3") == "1 Doubles" and tab.run("id('check').checkVisibility()")
+    tab.click("#one")
+    tab.wait("!id('welcome').checkVisibility() && id('step').textContent.includes('ret')")
+
+
+def test_case_is_tried_before_first_check(tabs: "Chrome", course: Served) -> None:
+    """Each case has what it gives and expects, in the exercise's file, and starts the source with that; hidden ones have numbers."""
+    tab = Tab(tabs, course, "B2")
+    choose(tab, "clamped_magnitude")
+    rows = "all('#cases tbody tr').map((row) => row.cells[0].textContent)"
+    names = [
+        "eight",
+        "every other one, and the bytes after",
+        "the least number",
+        "case 4, hidden",
+        "more than a group",
+        "case 6, hidden",
+    ]
+    assert tab.run(rows) == names
+    cells = "all('#cases tr:nth-child(2) td').map((cell) => cell.innerText.replace(/\\s+/g, ' '))"
+    given, expected, _ = tab.run(cells)
+    assert given.startswith(
+        "a0 = 0x20000, a1 = 0x30000, a2 = 7, a3 = 50 i32 at 0x20000 -60 -60 -70 -70 80 80 -1 -33 … 1 more"
+    )
+    assert expected == "i32 at 0x20000 -60 50 -70 50 80 50 -1 -33 … 1 more"
+    assert tab.run("all('#cases tbody button').length") == 4
+    tab.click("#cases tr:nth-child(2) button")
+    tab.wait("id('log').textContent.includes('> set x13 32') && id('run').textContent === 'Paused'")
+    assert tab.text("[data-edit='set x12']") == "7" and tab.text("#tries") == ""
 
 
 def test_exercise_is_solved(tabs: "Chrome", course: Served) -> None:
     """As one would who sees its text alone: with its source to begin with, a mistake, hints, a lesson and an answer."""
     tab = Tab(tabs, course, "A1")
-    tab.wait("!id('exercise').hidden")
+    choose(tab, "doubles")
     assert "Double a2 numbers of 32 bits" in tab.text("#exercise .text")
     assert tab.run("all('#exercise .text li').length") == 3 and not tab.run("one('#exercise .hints h3')")
     tab.wait("text()")
     assert "a0: where the doubles go" in tab.run("text()")  # and not a sample of something else
     tab.run(TYPE, "")
-    tab.click("#exercise .reading button:not(.main)")
+    tab.click("#start-over")
     tab.wait("text()")
     assert "a0: where the doubles go" in tab.run("text()") and not tab.run("id('editor').hidden")
     tab.run(TYPE, "ret\nvsetvli t0, a2, e32")
-    tab.run("one('#exercise .main').click()")
+    tab.run("id('check').click()")
     tab.wait(
         "one('#mistakes button')?.textContent.startsWith('2:20: an operand is missing at the end; the form is vsetvli rd')"
     )
     tab.wait(f"{VERDICT} === 'Source has mistakes.'")
     assert not tab.run("id('editor').hidden")
-    assert tab.text("#exercise [role=status]") == "" and not tab.run("one('#exercise .hints h3')")
+    assert tab.text("#tries") == "" and not tab.run("one('#exercise .hints h3')")
     tab.click("#mistakes button")
     assert tab.run("code().indexFromPos(code().getCursor('from'))") == 23
     tab.run(TYPE, "ret")
@@ -78,12 +129,16 @@ def test_exercise_is_solved(tabs: "Chrome", course: Served) -> None:
     wrong = (OURS / "doubles" / "wrong" / "always_eight.s").read_text()
     check(tab, wrong, "It passes 2 of 5 cases.")
     assert tab.run("all('#exercise .hints li').length") == 1 and tab.run(IN_SIGHT)
-    assert tab.run("all('#exercise .cases li').map((item) => item.className)") == [
+    assert tab.run("all('#cases tbody tr').map((row) => row.className)") == [
         "passes", "fails", "fails", "passes", "fails"
     ]  # fmt: skip
     assert "element 3, i32 at 0x2010c: expected -1, found 80" in tab.text("#exercise .said")
     assert "All other registers hold anything." in tab.text("#exercise .verdict")
-    assert tab.run("all('#exercise .wrong').map((box) => box.firstChild.data)") == ["80", "100", "0"]
+    assert tab.run(BOXES, "#verdict .strip") == ["20", "-40", "60", "-1", "77", "88"]  # expected, and then found
+    assert tab.run(BOXES, "#verdict .strip + .strip") == ["20", "-40", "60", "80", "100", "0"]
+    assert tab.run("all('#verdict .wrong').map((box) => box.firstChild.data)") == ["80", "100", "0"]
+    assert tab.text("#tries") == "1 try, best 2 of 5" and tab.run("one('#course-list button').className") == "tried"
+    assert tab.run("one('#cases [aria-current=true]').rowIndex") == 2
     assert tab.activate().execute_script(CONTRAST) == []
     tab.click("#exercise .verdict a")
     tab.browser.switch_to.window(tab.browser.window_handles[-1])
@@ -99,7 +154,6 @@ def test_exercise_is_solved(tabs: "Chrome", course: Served) -> None:
 def test_exercise_is_solved_in_c(tabs: "Chrome", course: Served, sandboxed_clang: Compiler) -> None:
     """A choice of C gives another source to begin with; a mistake, a wrong answer at the desk, and a right one."""
     tab = Tab(tabs, course, "A6")
-    tab.wait("!id('exercise').hidden")
     choose(tab, "saturating_sum")
     tab.choose("#language", "C, O2")
     start = tab.run("text()")
@@ -109,10 +163,10 @@ def test_exercise_is_solved_in_c(tabs: "Chrome", course: Served, sandboxed_clang
     tab.choose("#language", "C, O2")
     good = (OURS / "saturating_sum" / "good.c").read_text()
     tab.run(TYPE, good.replace("(first, vl)", "(frist, vl)"))
-    tab.run("one('#exercise .main').click()")
+    tab.run("id('check').click()")
     tab.wait("one('#mistakes button')?.textContent.startsWith('7:48: use of undeclared identifier')")
     tab.wait(f"{VERDICT} === 'Source has mistakes.'")
-    assert tab.text("#exercise [role=status]") == "" and tab.text("#editor .problem") == "frist"
+    assert tab.text("#tries") == "" and tab.text("#editor .problem") == "frist"
     check(tab, good.replace("vsadd", "vadd"), "It passes 2 of 5 cases.")
     assert "no room: element 0, i16 at 0x20200: expected 32767, found -32768" in tab.text("#exercise .said")
     tab.click("#exercise .verdict button")
@@ -129,7 +183,7 @@ def test_exercise_is_solved_in_c(tabs: "Chrome", course: Served, sandboxed_clang
 def test_passed_cases_are_shown(tabs: "Chrome", course: Served) -> None:
     """At the seat, where each exercise has a source of its own, and to the teacher, with each try."""
     tab = Tab(tabs, course, "A3")
-    tab.wait("!id('exercise').hidden")
+    choose(tab, "doubles")
     wrong = (OURS / "doubles" / "wrong" / "always_eight.s").read_text()
     check(tab, wrong, "It passes 2 of 5 cases.")
     check(tab, (OURS / "doubles" / "good.s").read_text(), "It passes all cases.")
@@ -144,7 +198,7 @@ def test_passed_cases_are_shown(tabs: "Chrome", course: Served) -> None:
     tab.wait("text() === arguments[0]", wrong)
     choose(tab, "strip_mined_copy")
     assert "how many this round takes" in tab.run("text()")
-    assert "✓ Doubles" in tab.text("#exercise select")
+    assert tab.run("one('#course-list .passed').textContent") == "1Doubles✓"
     teacher = Tab(tabs, course, "teacher")
     teacher.wait("one(arguments[0])?.textContent.startsWith('✓ try 2')", ANSWERS)
     assert teacher.run(
@@ -159,11 +213,10 @@ def test_passed_cases_are_shown(tabs: "Chrome", course: Served) -> None:
 
 def test_all_exercises_are_solved(tabs: "Chrome", course: Served) -> None:
     tab = Tab(tabs, course, "A2")
-    tab.wait("!id('exercise').hidden")
     for name in COURSE:
         choose(tab, name)
         check(tab, (OURS / name / "good.s").read_text(), "It passes all cases.")
-    assert tab.text("#exercise select").count("✓") == 12
+    assert tab.run("all('#course-list .passed').length") == 12
 
 
 def test_endless_answer_blocks_no_other_seat(tabs: "Chrome", course: Served) -> None:
@@ -171,8 +224,9 @@ def test_endless_answer_blocks_no_other_seat(tabs: "Chrome", course: Served) -> 
     tab, other = Tab(tabs, course, "A4"), Tab(tabs, course, "A5")
     for each in (tab, other):
         each.begin("addi x5, x5, 1", "jal x0, -4")
+    choose(tab, "doubles")
     tab.run("code().setValue('next: j next')")
-    tab.run("one('#exercise .main').click()")
+    tab.run("id('check').click()")
     for each in (tab, other):
         each.command("step 1")  # the button would load the changed source
         each.wait("id('step').textContent.includes('addi t0, t0, 1')")

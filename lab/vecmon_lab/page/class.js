@@ -28,12 +28,16 @@ function takeHash() {
   return history.replaceState(null, "", location.pathname);
 }
 
-function askForCode(/** @type {string} */ words) {
+/** Asks for a code in place of one that opens nothing, which stays in the field for a correction. */
+function askForCode(words = "", wrong = "") {
   for (const id of PARTS) byId(id).hidden = true;
   byId("join").hidden = false;
   say("gone", "");
   put(byId("join-says"), words);
+  Object.assign(byId("code"), { value: wrong, ariaInvalid: `${words !== ""}` });
+  byId("called").value = sessionStorage.getItem("name") ?? "";
   byId("code").focus();
+  byId("code").select();
 }
 
 /** Makes a page from the server's first message: a student's, or the teacher's. */
@@ -60,7 +64,7 @@ class ClassTab {
 
   ended(/** @type {string} */ words) {
     sessionStorage.removeItem("code");
-    askForCode(words);
+    askForCode(words, this.connection.code);
   }
 
   /** Begins the page of a role, which is the name of a seat for a student. */
@@ -78,11 +82,11 @@ window.addEventListener("hashchange", () => (takeHash(), location.reload()));
 byId("forget").addEventListener("click", () => ask(LEAVING, "Leave", () => (sitDown(""), location.reload())));
 document.addEventListener("submit", (event) => event.preventDefault());
 byId("join").addEventListener("submit", () => {
-  sitDown(byId("code").value.trim());
+  sitDown(byId("code").value.toLowerCase().replace(/[\s-]/g, ""));
   if (byId("called").value) sessionStorage.setItem("name", byId("called").value);
   location.reload();
 });
 if (location.hash) takeHash();
 const code = sessionStorage.getItem("code");
 if (code) new ClassTab(code);
-else askForCode("");
+else askForCode();

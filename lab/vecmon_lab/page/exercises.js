@@ -1,15 +1,24 @@
-// The exercises of a class, at a seat: the text, hints that are due, and the result of the last check.
+// The exercises of a class, at a seat: their order with marks, a text, its cases, hints that are due, and the last result.
 
 import { blocks } from "./blocks.js";
-import { link, make, part, prose, put } from "./elements.js";
-import { verdict } from "./verdict.js";
+import { elementsIn, link, make, part, prose, put } from "./elements.js";
+import { caseTable, verdict } from "./verdict.js";
 
 /** @typedef {import("./messages").ExerciseView} ExerciseView */
-/** @typedef {import("./types").SourceText} SourceText */
+/** @typedef {import("./messages").SourceView} SourceView */
+/** @typedef {Record<string, ExerciseView>} All exercises by name */
+
+const MARKS = { passed: "✓", tried: "◐", open: "" };
+
+/** A paragraph with the lesson before an exercise, if it has one. */
+const lessonBefore = (/** @type {string} */ href) =>
+  href ? [make("p", "", link(href, "The lesson before it"), " solves another problem of the kind, step by step.")] : [];
 
 export class Exercises {
-  /** @type {Record<string, ExerciseView>} */ all = {};
-  name = ""; // of the exercise that is open
+  /** @type {All} */ all = {};
+  /** @type {string[]} */ names = []; // in the course's order
+  name = ""; // of the exercise whose source the seat has
+  isOpen = false; // whether one is open; at a first visit they are listed
   /** @type {Partial<ExerciseView>} */ shown = {};
   awaited = ""; // the exercise that is being checked
 
@@ -18,54 +27,58 @@ export class Exercises {
     this.root = root;
     this.bench = bench;
     this.editor = bench.editor;
-    this.choice = Object.assign(make("select", ""), { ariaLabel: "Exercise", onchange: () => this.choose(this.choice.value) });
-    this.tab = part(root, "tab-exercise");
-    this.check = Object.assign(make("button", "main", "Check"), { title: "Check the source in all cases" });
-    this.check.setAttribute("aria-keyshortcuts", "Control+Shift+Enter");
-    this.check.onclick = () => this.checkSource();
-    this.answers = Object.assign(make("select", ""), { ariaLabel: "Earlier answers", onchange: () => this.takeAnswer() });
-    const title = "Put the source to start with into the editor; undo takes it back";
-    this.begin = Object.assign(make("button", "", "Start over"), { title });
-    this.begin.onclick = () => this.takeStart();
-    this.state = Object.assign(make("span", ""), { role: "status" });
-    this.text = make("div", "text");
-    this.hints = make("div", "hints");
-    this.verdict = make("div", "verdict");
-    const controls = make("p", "", this.check, " ", this.begin, " ", this.answers, " ", this.state);
-    const parts = [this.text, controls, this.verdict, this.hints];
-    this.reading = Object.assign(make("div", "reading", ...parts), { tabIndex: 0, role: "region", ariaLabel: "Text of the exercise" });
+    this.sample = bench.editor.source.text;
     this.panel = part(root, "exercise");
-    part(root, "exercise-title").after(this.choice);
-    this.panel.append(this.reading);
+    this.list = part(root, "course-list");
+    this.answers = part(root, "answers");
+    this.check = part(root, "check");
+    this.check.addEventListener("click", () => this.checkSource());
+    this.answers.addEventListener("change", () => this.takeAnswer());
+    part(root, "start-over").addEventListener("click", () => (this.takeStart(), bench.panes.show("editor")));
     this.editor.language.addEventListener("change", () => this.changeStart());
   }
 
   /** Shows the server's data of all exercises, at a seat that has this source. */
-  /** @type {(all: Record<string, ExerciseView>, source: import("./messages").SourceView) => void} */
-  show(all, source) {
-    const names = Object.keys(all);
+  show(/** @type {All} */ all, /** @type {SourceView} */ source) {
+    const names = Object.keys(all).sort((one, other) => all[one].number - all[other].number);
     const name = names.includes(source.exercise) ? source.exercise : names[0];
-    const isOpened = this.name && name !== this.name;
-    if (all === this.all && !isOpened) return;
-    Object.assign(this, { all, name });
-    this.tab.hidden = this.panel.hidden = !names.length;
+    const isOther = Boolean(this.name) && name !== this.name;
+    const isOpen = this.isOpen || isOther || this.hasBegun(all, source);
+    if (all === this.all && !isOther && isOpen === this.isOpen) return;
+    const item = (/** @type {string} */ own) => make("li", "", Object.assign(make("button", ""), { onclick: () => this.choose(own) }));
+    if (`${names}` !== `${this.names}`) this.list.replaceChildren(...names.map(item));
+    Object.assign(this, { all, names, name, isOpen });
+    part(this.root, "tab-exercise").hidden = this.panel.hidden = !names.length;
     this.root.classList.toggle("exercising", names.length > 0);
-    const titles = names.map((value) => ({ value, title: `${all[value].passed ? "✓ " : ""}${all[value].title}` }));
-    this.choice.replaceChildren(...titles.map(({ value, title }) => Object.assign(make("option", "", title), { value })));
-    this.choice.value = this.name;
     if (!names.length) return;
-    if (isOpened) this.reading.scrollTop = 0;
+    if (isOther) part(this.root, "reading").scrollTop = 0;
     this.paint();
-    if (!source.text && this.all[name].starts.length && (isOpened || !this.editor.hasPast)) this.takeStart();
+    if (isOpen && !source.text && this.all[name].starts.length && (isOther || !this.editor.hasPast)) this.takeStart();
   }
 
-  /** Opens another exercise, in all tabs of the seat: each has a source, which is the one to begin with at first. */
+  /** Whether somebody has worked at the seat: there was a try, or its source isn't the sample of a first visit. */
+  hasBegun(/** @type {All} */ all, /** @type {SourceView} */ { text, exercise }) {
+    const isStart = all[exercise]?.starts.some((start) => start.text === text);
+    const isOwn = !this.name && ![this.sample, ""].includes(text);
+    return isStart || isOwn || Object.values(all).some(({ tries }) => tries > 0);
+  }
+
+  /** Opens an exercise, in all tabs of the seat: each has a source, which is the one to begin with at first. */
   async choose(/** @type {string} */ name) {
-    this.choice.disabled = true; // one at a time
+    const isListed = !this.isOpen && name === this.name; // the seat has it already
+    this.isOpen = true;
+    this.bench.panes.select(part(this.root, "show-source"));
+    if (isListed) return this.paint(), this.takeStart();
+    this.list.inert = true; // one at a time
     const isOpen = await this.bench.source.openExercise(name);
-    this.choice.disabled = false;
-    this.choice.value = this.name;
-    if (!isOpen) this.bench.refuse("The exercise isn't open: the source in the editor couldn't be saved before.");
+    this.list.inert = false;
+    return isOpen || this.bench.refuse("The exercise isn't open: the source in the editor couldn't be saved before.");
+  }
+
+  /** Opens the first exercise, and brings it into sight. */
+  openFirst() {
+    this.bench.panes.show("exercise");
+    return this.choose(this.names[0]);
   }
 
   /** Puts an earlier answer into the editor, where undo takes it back. */
@@ -85,35 +98,56 @@ export class Exercises {
     return own ? { ...own, language } : (starts[0] ?? { text: "", language: 0 });
   }
 
-  /** Paints what is another than before of the exercise that is chosen. */
+  /** Paints the list, and what is another than before of the exercise that is open. */
   paint() {
     const [it, before] = [this.all[this.name], this.shown];
+    this.panel.classList.toggle("choosing", !this.isOpen);
+    this.paintList();
     if (it === before) return;
     this.shown = it;
-    if (it.text !== before.text) this.text.replaceChildren(...this.lessonBefore(it.before), ...blocks(it.text));
-    this.begin.hidden = !it.starts.length;
-    this.answers.hidden = !it.tries;
-    const answers = Array.from({ length: it.tries }, (_, place) => make("option", "", `try ${place + 1}`));
-    if (this.answers.length !== it.tries + 1) this.answers.replaceChildren(make("option", "", "Answers …"), ...answers);
-    this.check.disabled = it.checking;
-    const isTold = this.awaited === this.name && !it.checking;
-    const tries = it.tries ? `${it.tries} ${it.tries > 1 ? "tries" : "try"}${it.passed ? ", passed" : ""}` : "";
-    put(this.state, it.checking ? "It is being checked …" : tries);
-    if (it.told !== before.told || it.lesson !== before.lesson) this.verdict.replaceChildren(...verdict(it, () => this.tryCase()));
+    const title = make("h3", "", `${it.number} ${it.title}`);
+    if (it.text !== before.text) part(this.root, "exercise-text").replaceChildren(title, ...lessonBefore(it.before), ...blocks(it.text));
+    part(this.root, "start-over").hidden = !it.starts.length;
+    this.paintTries(it);
+    const start = (/** @type {number | undefined} */ place) => this.tryCase(place);
+    if (it.told !== before.told || it.lesson !== before.lesson) part(this.root, "verdict").replaceChildren(...verdict(it, start));
+    if (it.told !== before.told || it.cases !== before.cases) part(this.root, "cases").replaceChildren(...caseTable(it, start));
     const hints = it.hints.map((hint) => make("li", "", ...prose(hint)));
-    this.hints.replaceChildren(...(hints.length ? [make("h3", "", "Hints"), make("ol", "", ...hints)] : []));
+    const count = `Hints, ${hints.length} of ${it.hint_count}`;
+    part(this.root, "hints").replaceChildren(...(hints.length ? [make("h3", "", count), make("ol", "", ...hints)] : []));
+    const isTold = this.awaited === this.name && !it.checking;
     if (it.checking) this.awaited = this.name;
     if (isTold) this.tell(it.told);
   }
 
-  lessonBefore(/** @type {string} */ href) {
-    return href ? [make("p", "", link(href, "The lesson before it"), " solves another problem of the kind, step by step.")] : [];
+  /** Paints the marks of the exercises: which are passed, tried, or not begun, and which one is open. */
+  paintList() {
+    elementsIn(this.list, "button").forEach((own, place) => {
+      const name = this.names[place];
+      const { number, title, tries, passed } = this.all[name];
+      const state = passed ? "passed" : tries ? "tried" : "open";
+      const [text, mark] = [`${number}`, MARKS[state]];
+      put(own, `${text}${title}${mark}`, [text, make("span", "title", title), make("span", "mark", mark)]);
+      Object.assign(own, { className: state, title, ariaLabel: `${number} ${title}${tries ? `, ${state}` : ""}` });
+      own.ariaCurrent = `${this.isOpen && name === this.name}`;
+    });
   }
 
-  /** Scrolls the last result into sight. */
+  /** Paints what there is of tries: earlier answers, and the best result. */
+  paintTries(/** @type {ExerciseView} */ { tries, best, cases, passed, checking }) {
+    const answers = Array.from({ length: tries }, (_, place) => make("option", "", `try ${place + 1}`));
+    if (this.answers.length !== tries + 1) this.answers.replaceChildren(make("option", "", "Answers …"), ...answers);
+    this.answers.hidden = !tries;
+    this.check.disabled = checking;
+    const words = `${tries} ${tries > 1 ? "tries" : "try"}, ${passed ? "passed" : `best ${best} of ${cases.length}`}`;
+    put(part(this.root, "tries"), checking ? "It is being checked …" : tries ? words : "");
+  }
+
+  /** Brings the last result into sight: the panel, and in it the result. */
   tell(/** @type {ExerciseView["told"]} */ { mistakes, warnings }) {
     this.awaited = "";
-    this.reading.scrollTop = this.state.parentElement?.offsetTop ?? 0;
+    this.bench.panes.show("exercise");
+    part(this.root, "reading").scrollTop = part(this.root, "verdict").offsetTop - 8;
     this.bench.showMistakes(mistakes, warnings);
     if (mistakes) this.bench.panes.show("editor");
   }
@@ -125,9 +159,10 @@ export class Exercises {
     this.check.disabled = this.all[this.name].checking;
   }
 
-  /** Begins a machine with the source in the editor, and with what is given in the case that failed. */
-  tryCase() {
-    return this.bench.write({ ask: "case", exercise: this.name });
+  /** Starts a machine with the source in the editor, and with what a case gives. */
+  tryCase(/** @type {number | undefined} */ place) {
+    this.bench.panes.makeRoom();
+    return this.bench.write({ ask: "case", exercise: this.name, case: place });
   }
 
   /** Another language was chosen: where nothing was written yet, one begins with its source. */
@@ -135,9 +170,8 @@ export class Exercises {
     if (this.all[this.name]?.starts.some(({ text }) => text === this.editor.source.text)) this.editor.put(this.start);
   }
 
-  /** Puts the source to begin with into the editor, and opens it. */
+  /** Puts the source to begin with into the editor. */
   takeStart() {
     this.bench.source.replace(this.start);
-    this.bench.panes.show("editor");
   }
 }

@@ -6,6 +6,7 @@ export type Parts =
   Ids<
     HTMLButtonElement,
     | "again" | "begin" | "break-here" | "next-pane" | "next-problem" | "previous-pane" | "previous-problem" | "step-out" | "step-over" | "until-go" | "assemble" | "back" | "backward" | "by-address" | "by-ticks" | "close-sheet" | "edit-close" | "first" | "fold-dock"
+    | "all-messages" | "check" | "open-first" | "show-welcome" | "step-once" | "start-over"
     | "fold-exercise" | "fold-state" | "forget" | "forth" | "give" | "go" | "halt" | "hand" | "home" | "last" | "line-back" | "line-go"
     | "line-next" | "link" | "many" | "new" | "next" | "no" | "now" | "one" | "open-file" | "open-sheet" | "print" | "read" | "save"
     | "save-table" | "show-codes" | "show-console" | "show-file" | "show-listing" | "show-memory" | "show-output" | "show-problems" | "show-reference"
@@ -18,7 +19,7 @@ export type Parts =
   Ids<HTMLFormElement, "change" | "clocks" | "join" | "operate" | "steps" | "tell" | "until"> &
   Ids<HTMLInputElement, "called" | "code" | "find" | "moment" | "name" | "number" | "open" | "place" | "until-line" | "value" | "words"> &
   Ids<HTMLLabelElement, "edit-name" | "operator-machine"> &
-  Ids<HTMLOListElement, "lessons" | "log" | "mistakes" | "operator-log" | "progress" | "slips"> &
+  Ids<HTMLOListElement, "lessons" | "log" | "mistakes" | "operator-log" | "progress" | "slips" | "course-list"> &
   Ids<HTMLOutputElement, "count" | "moment-count"> &
   Ids<HTMLPreElement, "output"> &
   Ids<HTMLScriptElement, "data" | "lesson" | "reference-data"> &
@@ -26,6 +27,7 @@ export type Parts =
     HTMLSelectElement,
     | "against" | "by" | "form" | "given-language" | "images" | "language" | "names" | "numbers" | "on-wall" | "operated" | "receiver"
     | "text-size" | "versions" | "view" | "width"
+    | "answers"
   > &
   Ids<HTMLTableElement, "lengths" | "rows"> &
   Ids<HTMLTableSectionElement, "seats"> &
@@ -43,4 +45,5 @@ export type Parts =
     | "scalars-title" | "seats-title" | "series-place" | "sentence" | "sheet" | "sheet-says" | "shoulder" | "sides" | "split-dock" | "split-exercise"
     | "split-left" | "split-middle" | "split-state" | "start" | "state" | "step" | "stop" | "summary" | "tables" | "teacher" | "trouble"
     | "unencrypted" | "users" | "variables" | "vectors" | "vectors-title" | "wall-code" | "who"
+    | "called-hint" | "cases" | "code-hint" | "exercise-text" | "hints" | "reading" | "tries" | "verdict" | "welcome" | "welcome-title"
   >;

@@ -12,7 +12,7 @@ const MOST_WAITING = 5; // requests: keys that repeat faster are left out
 
 export class Student {
   seat = "";
-  /** @type {{ [number: string]: Notice } | null} */ messages = null;
+  /** @type {{ [number: string]: Notice }} */ messages = {};
 
   /** @param {HTMLElement} root of all its parts @param {import("./types").Connection} connection */
   constructor(root, connection) {
@@ -23,8 +23,14 @@ export class Student {
     this.home = part(root, "home");
     this.hand = part(root, "hand");
     this.list = part(root, "notices");
+    this.all = part(root, "all-messages");
     this.root = root;
     placePast(root);
+    part(root, "vectors").append(part(root, "welcome"));
+    part(root, "step-once").addEventListener("click", () => this.bench.step("into"));
+    part(root, "open-first").addEventListener("click", () => this.exercises.openFirst());
+    part(root, "show-welcome").addEventListener("click", () => this.welcome(true));
+    this.all.addEventListener("click", () => ((this.all.ariaPressed = `${this.all.ariaPressed !== "true"}`), this.showMessages()));
     this.name.addEventListener("change", () => this.bench.request({ ask: "name", name: this.name.value }));
     this.home.addEventListener("click", () => this.takeHome());
     this.hand.addEventListener("click", () => this.bench.request({ ask: "hand", up: this.hand.ariaPressed !== "true" }));
@@ -45,12 +51,16 @@ export class Student {
 
   /** @type {import("./types").RolePage["show"]} */
   show(view, logs, isAnew) {
+    const isFirst = !this.seat && view.state.run === "absent" && !view.source.text;
     this.seat = view.seat;
     const title = view.title || `Seat ${view.seat}`;
     document.title = `${title} – vecmon`;
     put(part(this.root, "who"), title);
     if (view.title) this.home.title = "An archive: the source, the script, and a lesson of it";
-    this.showMessages(view.messages);
+    if (view.messages !== this.messages) this.showMessages(view.messages);
+    part(this.root, "welcome").hidden = Boolean(view.title);
+    if (logs[view.seat]) this.welcome(false);
+    if (isFirst && !view.title) this.bench.panes.show("vectors"); // which has what to do first
     this.hand.hidden = Boolean(view.title); // of a page without a teacher
     this.hand.ariaPressed = `${Boolean(view.hand)}`;
     put(this.hand, view.hand ? "Hand raised" : "Raise hand");
@@ -67,19 +77,26 @@ export class Student {
     this.bench.bar.paint();
   }
 
-  /** Shows messages of the teacher's that aren't read, each until it is closed or its source is opened. */
-  showMessages(/** @type {{ [number: string]: Notice }} */ messages) {
-    if (messages === this.messages) return;
+  /** Shows what to do first in place of the elements, or the elements again. */
+  welcome(/** @type {boolean} */ isShown) {
+    part(this.root, "machine").classList.toggle("welcoming", isShown);
+    if (isShown) this.bench.panes.show("vectors");
+  }
+
+  /** Shows messages of the teacher's that aren't read, each until it is closed or its source is opened; or all of them. */
+  showMessages(messages = this.messages) {
     this.messages = messages;
-    const unread = Object.entries(messages).filter(([, { read }]) => !read);
-    this.list.replaceChildren(...unread.map(([number, notice]) => this.item(Number(number), notice)));
+    this.all.hidden = !Object.keys(messages).length;
+    const shown = Object.entries(messages).filter(([, { read }]) => !read || this.all.ariaPressed === "true");
+    this.list.replaceChildren(...shown.map(([number, notice]) => this.item(Number(number), notice)));
   }
 
   /** A message with its buttons. */
-  item(/** @type {number} */ number, /** @type {Notice} */ { time, text, offer }) {
+  item(/** @type {number} */ number, /** @type {Notice} */ { time, text, offer, read }) {
     const said = text ? `The teacher: ${text}` : `The teacher offers a source${offer?.title ? `: ${offer.title}` : "."}`;
     const close = button("Close", `Close: ${said}`, () => this.connection.ask({ ask: "read", number }));
     const open = button("Open", `Open; your source is kept as a version: ${said}`, () => this.connection.ask({ ask: "open", number }));
-    return make("li", "", make("small", "", timeText(time)), make("span", "", said), ...(offer ? [open] : []), close);
+    const buttons = [...(offer ? [open] : []), ...(read ? [] : [close])];
+    return make("li", read ? "read" : "", make("small", "", timeText(time)), make("span", "", said), ...buttons);
   }
 }
