@@ -129,12 +129,9 @@ export class Bench {
       tellName(part(this.root, "entry"), line, place);
       this.links.mark(this.editor.caretLine);
     };
-    document.addEventListener("selectionchange", () => this.tellName());
-  }
-
-  /** Explains the name at the caret of the command line. */
-  tellName() {
-    if (document.activeElement === this.line) tellName(part(this.root, "hint"), this.line.value, this.line.selectionStart);
+    document.addEventListener("selectionchange", () => {
+      if (document.activeElement === this.line) tellName(part(this.root, "hint"), this.line.value, this.line.selectionStart);
+    });
   }
 
   /** @type {(view: View, entries: string[], isAnew: boolean) => void} */

@@ -28,7 +28,7 @@ export class Cursor {
 
   /** The place that keys have reached in a box, if any. */
   place(/** @type {HTMLElement} */ box) {
-    return placesIn(box).find(({ dataset }) => dataset.edit === this.at.get(box));
+    return this.at.has(box) ? placesIn(box).find(({ dataset }) => dataset.edit === this.at.get(box)) : undefined;
   }
 
   pressed(/** @type {HTMLElement} */ box, /** @type {KeyboardEvent} */ event) {

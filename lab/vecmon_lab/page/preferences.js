@@ -21,8 +21,7 @@ export function store(/** @type {string} */ key, /** @type {string} */ text) {
 /** Offers the sizes of text that a list has, and applies the stored one. */
 export function offerTextSizes(/** @type {HTMLSelectElement} */ list) {
   const apply = () => (document.documentElement.style.fontSize = list.value);
-  const own = stored(TEXT_SIZE);
-  if ([...list.options].some(({ value }) => value === own)) list.value = `${own}`;
+  list.value = stored(TEXT_SIZE) ?? list.value;
   list.addEventListener("change", () => (store(TEXT_SIZE, list.value), apply()));
   apply();
 }

@@ -8,14 +8,15 @@ import { inOrder } from "./rows.js";
 export const TINTS = 3; // grounds of lines and their instructions, in turn
 /** @typedef {import("./messages").State} State */
 
-/** @type {WeakMap<Starts, string[]>} */
-const addresses = new WeakMap(); // in rising order, by the starts that they are of
-
-function addressesOf(/** @type {Starts} */ starts) {
-  const found = addresses.get(starts) ?? inOrder(Object.keys(starts));
-  addresses.set(starts, found);
-  return found;
+/** A function that computes its value for an object once. */
+/** @type {<Key extends object, Value>(compute: (key: Key) => Value) => (key: Key) => Value} */
+function once(compute) {
+  const known = new WeakMap();
+  return (key) => (known.has(key) || known.set(key, compute(key)), known.get(key));
 }
+
+/** The addresses of starts in rising order. */
+const addressesOf = once((/** @type {Starts} */ starts) => inOrder(Object.keys(starts)));
 
 /** The address where the source line of an instruction starts. */
 /** @type {(starts: Starts, pc: string) => string | undefined} */
@@ -26,17 +27,11 @@ export const startOf = (starts, pc) => addressesOf(starts).findLast((address) =>
 export const stoppedLines = (stops, breaks) =>
   Object.keys(stops).filter((line) => stops[line].some((address) => breaks.includes(address))).map(Number);
 
-/** @type {WeakMap<Record<string, number>, Record<string, string[]>>} */
-const firstAddresses = new WeakMap(); // of each line's first instruction, by the numbers of lines that they are of
-
 /** The address of the first instruction of each line of an assembler source, by the line numbers of its instructions. */
-function firstsOf(/** @type {Record<string, number>} */ numbers) {
-  /** @type {Record<string, string[]>} */
-  const found = firstAddresses.get(numbers) ?? {};
-  if (!firstAddresses.has(numbers)) for (const address of inOrder(Object.keys(numbers))) found[numbers[address]] ??= [address];
-  firstAddresses.set(numbers, found);
-  return found;
-}
+const firstsOf = once((/** @type {Starts} */ numbers) => {
+  const lines = addressesOf(numbers).map((address) => [numbers[address], [address]]);
+  return /** @type {Record<string, string[]>} */ (Object.fromEntries(lines.reverse())); // of several addresses the first one stays
+});
 
 /** The addresses of each line's breakpoints, by its number. */
 /** @type {(state: State) => Record<string, string[]>} */
