@@ -1,5 +1,5 @@
 //! A writer and a reader whose first call fails. An adapter makes one call for each of its own, and reports the failure,
-//! whether the call was interrupted or failed for another reason.
+//! whether the call was interrupted or failed for another reason. Its next call succeeds.
 use devices::{ReaderSource, Sink, Source, WriterSink};
 use std::io;
 use std::io::{ErrorKind, Read, Write};
@@ -40,21 +40,27 @@ impl Read for FailingOnce {
     }
 }
 
-/// Whether a write fails that makes one failing call.
+/// Whether a write fails that makes one failing call, and the next one succeeds with its one call.
 fn is_write_single(kind: ErrorKind) -> bool {
     let mut writer = FailingOnce { calls: 0, kind };
-    let failed = WriterSink::new(&mut writer).write(b"reply").is_err();
-    failed && writer.calls == 1
+    let mut sink = WriterSink::new(&mut writer);
+    let failed = sink.write(b"reply").is_err();
+    let is_usable = matches!(sink.write(b"reply"), Ok(5));
+    drop(sink);
+    failed && is_usable && writer.calls == 2
 }
 
-/// Whether a read fails that makes one failing call.
+/// Whether a read fails that makes one failing call, and the next one succeeds with its one call.
 fn is_read_single(kind: ErrorKind) -> bool {
     let mut reader = FailingOnce { calls: 0, kind };
-    let failed = ReaderSource::new(&mut reader).read(&mut [0; 4]).is_err();
-    failed && reader.calls == 1
+    let mut source = ReaderSource::new(&mut reader);
+    let failed = source.read(&mut [0; 4]).is_err();
+    let is_usable = matches!(source.read(&mut [0; 4]), Ok(4));
+    drop(source);
+    failed && is_usable && reader.calls == 2
 }
 
-/// Return whether each adapter reports each failure after one call.
+/// Return whether each adapter reports each failure after one call, and is usable then.
 pub(crate) fn first_calls() -> [bool; 4] {
     [
         is_write_single(ErrorKind::Interrupted),

@@ -5,11 +5,12 @@ use devices::{DeviceFault, Sink};
 use std::alloc::{AllocError, Global};
 use vec_recorder::Outputs;
 
-/// A created file, with its path and its bytes.
+/// A created file, with its path and its bytes. A write accepts at most `piece` bytes, and at least one.
 #[derive(Drop)]
 pub(crate) struct MemoryFile {
     pub path: String,
     pub bytes: Vec<u8>,
+    piece: usize,
     failures: u64,
 }
 
@@ -21,8 +22,9 @@ impl Sink for MemoryFile {
     ghost failures = { λ file. file.failures };
 
     fn write(&mut self, bytes: &[u8]) -> Result<usize, DeviceFault> {
-        match self.bytes.extend_from_slice(bytes) {
-            Ok(()) => Ok(bytes.len()),
+        let count = self.piece.max(1).min(bytes.len());
+        match self.bytes.extend_from_slice(&bytes[..count]) {
+            Ok(()) => Ok(count),
             Err(_) => {
                 self.failures = self.failures.saturating_add(1);
                 Err(DeviceFault)
@@ -40,6 +42,7 @@ impl Sink for MemoryFile {
 #[derive(Drop)]
 pub(crate) struct MemoryFiles {
     alloc: Global,
+    piece: usize,
     pub created: u64,
     pub closed: Vec<MemoryFile>,
     /// Whether memory ran out when a file was closed.
@@ -48,10 +51,11 @@ pub(crate) struct MemoryFiles {
 }
 
 impl MemoryFiles {
-    /// Return no files.
-    pub(crate) fn new(alloc: Global) -> MemoryFiles {
+    /// Return no files. Files will accept at most `piece` bytes in a write.
+    pub(crate) fn new(alloc: Global, piece: usize) -> MemoryFiles {
         MemoryFiles {
             alloc,
+            piece,
             created: 0,
             closed: Vec::new(alloc),
             is_lost: false,
@@ -61,13 +65,14 @@ impl MemoryFiles {
 }
 
 /// Return an empty file with this path. It fails if memory runs out.
-fn empty_file(alloc: Global, path: &str) -> Result<MemoryFile, AllocError>
+fn empty_file(alloc: Global, path: &str, piece: usize) -> Result<MemoryFile, AllocError>
     ensures path { IfOk result (λ file. string_bytes file.path ≡ path.now) }
     ensures empty { IfOk result (λ file. file.bytes.items ≡ []) }
 {
     Ok(MemoryFile {
         path: String::from_str(alloc, path)?,
         bytes: Vec::new(alloc),
+        piece,
         failures: 0,
     })
 }
@@ -84,7 +89,7 @@ impl Outputs for MemoryFiles {
     ghost failures = { λ files. files.failures };
 
     fn create(&mut self, path: &str) -> Result<MemoryFile, DeviceFault> {
-        let Ok(file) = empty_file(self.alloc, path) else {
+        let Ok(file) = empty_file(self.alloc, path, self.piece) else {
             self.failures = self.failures.saturating_add(1);
             return Err(DeviceFault);
         };

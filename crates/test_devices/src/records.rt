@@ -59,11 +59,12 @@ fn are_files(files: &MemoryFiles) -> bool {
         && is_file(files, 2, "counts", COUNTS)
 }
 
-/// Record a run of the program. Return whether its files have the expected texts, and its output is empty.
-pub(crate) fn is_recorded(alloc: Global) -> bool {
+/// Record a run of the program into files that accept at most `piece` bytes in a write. Return whether they have the
+/// expected texts, and the output is empty.
+fn is_recorded(alloc: Global, piece: usize) -> bool {
     let inputs = MemoryInputs { bytes: &CODE };
     let mut output = Vec::new(alloc);
-    let mut files = MemoryFiles::new(alloc);
+    let mut files = MemoryFiles::new(alloc, piece);
     let status = record_into(
         &inputs,
         alloc,
@@ -72,4 +73,9 @@ pub(crate) fn is_recorded(alloc: Global) -> bool {
         &mut files,
     );
     status == 0 && output.is_empty() && are_files(&files)
+}
+
+/// Return whether a run is recorded in files that accept all bytes, and in files that accept one byte in a write.
+pub(crate) fn runs(alloc: Global) -> [bool; 2] {
+    [is_recorded(alloc, usize::MAX), is_recorded(alloc, 1)]
 }
