@@ -132,15 +132,15 @@ class Served:
 
 
 class Explored(Served):
-    """One's own page for a source, served so."""
+    """An author's page, served so."""
 
-    def __init__(self, folder: pathlib.Path, program: pathlib.Path, source: pathlib.Path, *words: str) -> None:
-        """folder: the folder of its log"""
+    def __init__(self, folder: pathlib.Path, program: pathlib.Path, source: pathlib.Path | None, *words: str) -> None:
+        """folder: the folder of its log; source: None for the start page"""
         self.source = source
         super().__init__(folder, program, *words, takes_c=True)
 
     def begin(self) -> None:
-        self._begin([*lab_command(True), "explore", str(self.source), *self.words])
+        self._begin([*lab_command(True), "explore", *([str(self.source)] if self.source else []), *self.words])
 
     def address(self, role: str) -> str:
         """That of the page, which is one seat's."""
@@ -148,7 +148,7 @@ class Explored(Served):
 
     def title(self, role: str) -> str:
         """The name of the source."""
-        return self.source.name
+        return self.source.name if self.source else "Explore"
 
     def end(self) -> None:
         self.server.terminate()  # so that its folder is removed

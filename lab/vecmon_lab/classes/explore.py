@@ -1,4 +1,4 @@
-"""Serves one person's page: a source is written, compiled and stepped there, at a machine that nobody else has."""
+"""Serves an author's page: a source is written, compiled and stepped there, at a private machine."""
 
 import argparse
 import asyncio
@@ -12,6 +12,7 @@ from ..compilers.compiler import choice_for, find_compilers
 from ..lessons.lesson import add_compiler
 from ..machine.program import find_program
 from .builds import builds_by
+from .example_sources import example_sources
 from .languages import LANGUAGES, SourceText
 from .store import Store
 from .view import Class
@@ -22,8 +23,8 @@ PATIENCE = 10.0  # seconds of silence
 
 def add_arguments(parser: argparse.ArgumentParser) -> None:
     """The words of `vecmon-lab explore`."""
-    help_text = "a source in C (.c) or assembler (.s)"
-    parser.add_argument("source", metavar="FILE", type=pathlib.Path, help=help_text)
+    help_text = "a source in C (.c) or assembler (.s); without it the page offers examples"
+    parser.add_argument("source", metavar="FILE", type=pathlib.Path, nargs="?", help=help_text)
     parser.add_argument(
         "--port", metavar="P", type=between(0, 65535), default=0, help="the port; by default a free one"
     )
@@ -36,14 +37,18 @@ def run(arguments: argparse.Namespace) -> int:
     from .server import listening, serve  # which needs aiohttp; --help doesn't
 
     os.umask(0o077)
-    source = read(arguments.source, arguments.options)
-    builds = builds_by(arguments.cc, is_needed=arguments.source.suffix == ".c")
+    path: pathlib.Path | None = arguments.source
+    source = read(path, arguments.options) if path else SourceText()
+    builds = builds_by(arguments.cc, is_needed=path is not None and path.suffix == ".c")
     builds.others = find_compilers()
     with tempfile.TemporaryDirectory(prefix="vecmon-") as folder:
         store = Store(pathlib.Path(folder) / "own", find_program(), quantum=arguments.quantum)
         members = Class(store, PATIENCE, builds=builds)
-        members.title = arguments.source.name
-        members.students[SEAT].source.give(source)
+        members.title = path.name if path else "Explore"
+        if path:
+            members.students[SEAT].source.give(source)
+        else:
+            members.examples = example_sources()
         asyncio.run(serve(members, HOST, listening(HOST, arguments.port), {HOST}, SEAT))
     return 0
 

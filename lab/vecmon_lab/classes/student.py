@@ -1,6 +1,6 @@
 """A student's requests at one seat, as steps at the machine, and what the student's page shows."""
 
-from collections.abc import Callable
+from collections.abc import Callable, Sequence
 from typing import NotRequired, TypedDict, cast
 
 from .. import LabError
@@ -8,6 +8,7 @@ from ..assembler.mistakes import mistakes_json
 from ..assembler.source import Program
 from ..compilers.compiled import CompiledProgram
 from ..page.state import State
+from .example_sources import ExampleSource
 from .languages import LANGUAGES, SourceText
 from .messages import Hand, Notice, Result, SourceResult, SourceView, TextResult, TryResult, shown, source_view
 from .progress import Exercises, ExerciseView, Try, source_of
@@ -74,6 +75,7 @@ class ClassView(TypedDict):
     name: the student's, or ""; messages: the teacher's last ones by number, oldest first; images: names for `load`
     clock: whether it is on; own_slices: whether the student may grant slices
     hand: the student's, while it is up
+    examples: of a page that starts without a source
     no_c: why C is missing, or ""; against: compilers with options for side-by-side listings, numbered alike; none in a class
     ready: whether the machine takes lines, otherwise requests wait; trouble: a text for a banner, or ""
     """
@@ -90,6 +92,7 @@ class ClassView(TypedDict):
     against: list[str]
     ready: bool
     trouble: str
+    examples: NotRequired[Sequence[ExampleSource]]
 
 
 class StudentView(SeatPart, ClassView):

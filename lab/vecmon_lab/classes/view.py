@@ -15,6 +15,7 @@ from .builds import Builds
 from .checks import Checks
 from .codes import TEACHER, WALL
 from .comparisons import Comparisons
+from .example_sources import ExampleSource
 from .messages import Updates
 from .hands import Hands
 from .names import NAMES, as_csv, local_time
@@ -74,6 +75,7 @@ class Class:
         self.hands = Hands(store)
         self.title = ""  # of a page without a class
         self.class_title = store.folder.resolve().name
+        self.examples: Sequence[ExampleSource] = ()  # of one that starts without a source
         self.address = ""  # where students reach the class, with a slash at its end
         self.is_unencrypted = False  # on the way to other computers
         self.wall: Seat | None = None  # the seat that it shows
@@ -192,6 +194,8 @@ class Class:
         }
         if hand := self.hands.of(student.seat.name):
             others["hand"] = hand
+        if self.examples:
+            others["examples"] = self.examples
         return student.view(others)
 
     def tell(self, names: Iterable[str]) -> None:

@@ -176,6 +176,21 @@ export interface EmptyAnswer {
   id: number;
 }
 
+/**
+ * A source to begin with.
+ *
+ * group: the heading that it is below; name: of its file; about: a sentence, with backquotes around code
+ * language: its number
+ */
+export interface ExampleSource {
+  group: string;
+  name: string;
+  title: string;
+  about: string;
+  text: string;
+  language: number;
+}
+
 export interface ExerciseTable {
   title: string;
   of: number;
@@ -874,6 +889,7 @@ export interface StudentView {
   against: string[];
   ready: boolean;
   trouble: string;
+  examples?: ExampleSource[];
 }
 
 /** The source before the last one given, at seats. */

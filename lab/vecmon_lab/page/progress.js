@@ -1,20 +1,12 @@
-// Lessons of the tour and the course that were read to their end, which the browser keeps where it stores anything for these pages.
+// Lessons of the tour and the course that were read to their end, which the browser keeps.
+
+import { keepList, keptList } from "./kept_lists.js";
 
 const KEY = "vecmon-lessons-read";
 
 /** The lessons that were read, each with its series as `tour/NAME`. */
 /** @type {() => Set<string>} */
-export function lessonsRead() {
-  try {
-    return new Set(JSON.parse(localStorage.getItem(KEY) ?? "[]"));
-  } catch {
-    return new Set(); // it is damaged, or storage is refused
-  }
-}
+export const lessonsRead = () => new Set(keptList(KEY));
 
 /** Keeps that a lesson was read. */
-export function keepRead(/** @type {string} */ lesson) {
-  try {
-    localStorage.setItem(KEY, JSON.stringify([...lessonsRead().add(lesson)]));
-  } catch {} // storage is refused
-}
+export const keepRead = (/** @type {string} */ lesson) => keepList(KEY, [...lessonsRead().add(lesson)]);

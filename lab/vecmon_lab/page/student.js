@@ -5,6 +5,7 @@ import { button, make, part, put, say, timeText } from "./elements.js";
 import { Exercises } from "./exercises.js";
 import { Keys } from "./keys.js";
 import { placePast } from "./past.js";
+import { StartPage } from "./start_page.js";
 
 /** @typedef {import("./messages").Notice} Notice */
 
@@ -13,6 +14,7 @@ const MOST_WAITING = 5; // requests: keys that repeat faster are left out
 export class Student {
   seat = "";
   /** @type {{ [number: string]: Notice }} */ messages = {};
+  /** @type {StartPage | undefined} */ start; // of an author
 
   /** @param {HTMLElement} root of all its parts @param {import("./types").Connection} connection */
   constructor(root, connection) {
@@ -68,6 +70,7 @@ export class Student {
     const share = Math.floor((100 * view.share.used) / view.share.of);
     const warning = share < 90 ? "" : `${share} % of the script's room is used up.`;
     say("trouble", [view.trouble, warning].join(" ").trim());
+    if (view.examples) (this.start ??= new StartPage(this.root, this.bench, view)).show(view);
     this.bench.show(view, logs[view.seat] ?? [], isAnew);
     this.exercises.show(view.exercises, view.source);
     part(this.root, "log").ariaLive = "polite";

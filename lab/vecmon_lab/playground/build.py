@@ -13,10 +13,16 @@ import json
 import pathlib
 import sys
 from collections.abc import Mapping
+from itertools import pairwise
 
 from .. import LabError
+from ..classes.example_sources import EXAMPLES, ExampleSource, example_sources
+from ..lessons.frames import make_frames
+from ..lessons.script import read_assembled
+from ..machine.process import Vecmon
+from ..machine.program import find_program
 from ..page.modules import join_modules
-from ..page.pages import Page, page_file
+from ..page.pages import Page, merge_patch, page_file
 from ..page.reference import reference_text
 
 WEB = pathlib.Path(__file__).with_name("web")
@@ -24,7 +30,7 @@ DIGEST_BYTES = 32
 DATA, DATA_COUNT = 11, 12  # sections of WebAssembly
 LATER = "later"  # the part that is loaded where it is needed
 LAB = pathlib.Path(__file__).parents[1]
-EXAMPLES = pathlib.Path(__file__).parents[2] / "examples"
+STEPPED = "strip_mined.s"  # the example of the start page
 PRACTICE = (
     "Checks on this page are practice and not marks: the expected values are in the file, for anyone to read. "
     "Nothing that you write here is sent anywhere."
@@ -69,10 +75,23 @@ def about(provenance: str) -> str:
     return f"The machine is {proof}, as WebAssembly. {PRACTICE}"
 
 
-def examples() -> dict[str, str]:
-    """The assembler sources of the examples, by name."""
-    paths = sorted([*EXAMPLES.glob("*.s"), *EXAMPLES.glob("unwritten/*.s")])
-    return {path.stem.replace("_", " "): path.read_text("utf-8") for path in paths}
+def examples() -> list[ExampleSource]:
+    """The examples in assembler: the page has no compiler."""
+    return [example for example in example_sources() if example["language"] == 0]
+
+
+def stepped_example(program: Vecmon) -> dict[str, object]:
+    """The frames of a loop from its first vector instruction on, for the start page: comments, states as merge patches, and the numbers
+    of the vector registers that it uses. Raises LabError."""
+    script = read_assembled((EXAMPLES / STEPPED).read_text("utf-8"), STEPPED)
+    frames = make_frames(script, program)
+    executed = [frame for frame in frames if "instruction" in frame.states["1"]]
+    names = [each.states["1"]["code"][each.states["1"]["instruction"]][9:] for each in executed]
+    shown = executed[next(place for place, name in enumerate(names) if name.startswith("v")) :]
+    states = [frame.states["1"] for frame in shown]
+    used = {number for state in states for number, data in state["v"].items() if data.strip("0")}
+    patches = [merge_patch(before, after) for before, after in pairwise([{}, *states])]
+    return {"notes": [frame.note for frame in shown], "states": patches, "used": sorted(map(int, used))}
 
 
 def playground(page: Page, entries: Mapping[str, object], words: str, connect: str) -> str:
@@ -114,9 +133,9 @@ def build(folder: pathlib.Path, out: pathlib.Path) -> None:
     )
     (out / "playground.html").write_text(playground(page, within, words, "'none'") + blocks, "utf-8")
     start = Page("start", WEB)
-    policy = f"{start.policy}; frame-src 'self' file:"
-    meta = f'<meta http-equiv="Content-Security-Policy" content="{html.escape(policy)}">'
-    (out / "index.html").write_text(start.text("vecmon", _as_json({"about": words}), meta), "utf-8")
+    meta = f'<meta http-equiv="Content-Security-Policy" content="{html.escape(start.policy)}">'
+    data = {"about": words} | stepped_example(find_program())
+    (out / "index.html").write_text(start.text("vecmon", _as_json(data), meta), "utf-8")
 
 
 def _as_json(it: object) -> str:

@@ -2,7 +2,6 @@
 
 import { ask, byId, button, make, offerFile, put } from "./elements.js";
 import { KeptWork, fileOf, textsOf } from "./kept_work.js";
-import { linkOf } from "./links.js";
 import { Pending } from "./pending.js";
 
 /** @typedef {import("./playground").FromWorker} FromWorker */
@@ -13,38 +12,19 @@ import { Pending } from "./pending.js";
 const WORK_FILE = "vecmon-work.json";
 const REPLACED = "The work in this file replaces the sources, versions, tries and machine of this page. Take home exports them before.";
 const MOST_IMAGE_BYTES = 1 << 20;
-const HIDDEN = [byId("name"), byId("forget")]; // elements of a class
-/** What is in an element of the page: its data, or the text of the worker. */
-const dataOf = (/** @type {"parts" | "worker"} */ id) => JSON.parse(elementText(id));
 const elementText = (/** @type {string} */ id) => document.getElementById(id)?.textContent ?? "";
 /** @type {() => PageData} */
-const pageData = () => dataOf("parts");
-
-/** Storage of this tab, where the browser refuses it, as in a frame without an origin. */
-class TabMemory {
-  /** @type {Map<string, string>} */ values = new Map();
-
-  getItem(/** @type {string} */ name) {
-    return this.values.get(name) ?? null;
-  }
-
-  setItem(/** @type {string} */ name, /** @type {unknown} */ value) {
-    this.values.set(name, `${value}`);
-  }
-
-  removeItem(/** @type {string} */ name) {
-    this.values.delete(name);
-  }
-
-  clear() {
-    this.values.clear();
-  }
-}
+const pageData = () => JSON.parse(elementText("parts"));
 
 try {
   sessionStorage.getItem("code");
 } catch {
-  Object.defineProperty(window, "sessionStorage", { value: new TabMemory() });
+  /** @type {Map<string, string>} of this tab, where the browser refuses storage, as in a frame without an origin */
+  const values = new Map();
+  const getItem = (/** @type {string} */ name) => values.get(name) ?? null;
+  const setItem = (/** @type {string} */ name, /** @type {unknown} */ value) => values.set(name, `${value}`);
+  const removeItem = (/** @type {string} */ name) => values.delete(name);
+  Object.defineProperty(window, "sessionStorage", { value: { getItem, setItem, removeItem, clear: () => values.clear() } });
 }
 sessionStorage.setItem("code", "A1"); // the only seat
 
@@ -66,7 +46,6 @@ export class Connection {
   /** @type {Worker | null} */ worker = null;
   /** @type {Window | null} */ tab = null; // for a lesson
   damaged = button("Damaged texts", "Save damaged texts as a file", () => this.saveRest());
-  examples = Object.assign(make("select", "student"), { ariaLabel: "Examples" });
   words = Object.assign(make("p", ""), { id: "stored", hidden: true });
 
   /** @param {string} code of the only seat @param {import("./types").Listener} listener */
@@ -93,15 +72,11 @@ export class Connection {
 
   /** Adds what a page without a server has: work from a file, a sentence on storage, and one on checks. */
   addElements() {
-    for (const element of HIDDEN) element.classList.add("unseen"), (element.inert = true);
     byId("home").title = "A file with all work of this page: sources, versions, tries, images and the machine";
     const choose = Object.assign(make("input", ""), { type: "file", accept: ".json", ariaLabel: "A file of exported work", hidden: true });
     choose.addEventListener("change", () => (this.bring(choose.files?.[0]), (choose.value = "")));
     this.damaged.hidden = true;
     byId("home").after(button("Bring work", "Open a file of exported work", () => choose.click()), choose, this.damaged);
-    this.examples.append(...["Examples …", ...Object.keys(pageData().examples)].map((name) => make("option", "", name)));
-    this.examples.addEventListener("change", () => this.takeExample());
-    byId("versions").before(this.examples, " ");
     byId("banner").append(this.words);
     byId("keys").after(make("p", "", pageData().about));
   }
@@ -119,7 +94,7 @@ export class Connection {
       if (part.url) part.url = new URL(part.url, location.href).href;
       else part.base64 = elementText(part.id ?? "");
     }
-    this.worker = new Worker(URL.createObjectURL(new Blob([dataOf("worker")], { type: "text/javascript" })));
+    this.worker = new Worker(URL.createObjectURL(new Blob([JSON.parse(elementText("worker"))], { type: "text/javascript" })));
     this.worker.onmessage = ({ data }) => this.hear(data);
     this.worker.onerror = ({ message }) => this.fail(message);
     this.send({ parts, begin: this.work.texts });
@@ -144,7 +119,7 @@ export class Connection {
   hear(/** @type {FromWorker} */ message) {
     switch (message.kind) {
       case "keep":
-        return this.keep(JSON.parse(message.entry));
+        return this.work.keep(.../** @type {[name: string, text: string | null, time: number]} */ (JSON.parse(message.entry)));
       case "times":
         Object.assign(this.times, message.times, { ready: performance.now() });
         return void (document.body.dataset.times = JSON.stringify(this.times)); // for lab/tools/other_browsers.py
@@ -154,17 +129,13 @@ export class Connection {
         return this.showLesson(message);
       case "hello":
         this.isReady = true;
+        Object.assign(message.patch ?? {}, { examples: pageData().examples });
         this.listener.gone("");
         this.openWanted();
         if (message.lost.length) this.say([this.work.trouble, ...message.lost.map((words) => `${words}.`)].join(" "));
     }
     this.listener.told(message);
     if (message.kind === "answer") this.pending.settle(message);
-  }
-
-  /** Saves a text, or removes it where it is null. */
-  keep(/** @type {[name: string, text: string | null, time: number]} */ entry) {
-    this.work.keep(...entry);
   }
 
   /** Opens the exercise that the address names, if it does. */
@@ -176,15 +147,9 @@ export class Connection {
     wanted = "";
   }
 
-  /** The lab's answer to a request; null if the lab isn't there. */
-  /** @type {Channel["ask"]} */
-  ask(request) {
-    return this.post(request);
-  }
-
-  /** Sends a request to the lab, and has it send all changes first if they are to be kept. */
+  /** The lab's answer to a request; null if the lab isn't there. With `keep` the lab sends all changes first. */
   /** @type {(request: import("./types").Request, kept?: { keep?: boolean }) => ReturnType<Channel["ask"]>} */
-  async post(request, kept = {}) {
+  async ask(request, kept = {}) {
     if (!this.isReady) return null;
     const { request: numbered, answer } = this.pending.add(request);
     this.send({ ...kept, request: JSON.stringify(numbered) });
@@ -193,14 +158,9 @@ export class Connection {
 
   /** Saves all work as a file; true. */
   async download() {
-    await this.settled();
+    await this.ask({ ask: "lines", do: [], look: [] }, { keep: true });
     offerFile(WORK_FILE, fileOf(this.work.texts));
     return true;
-  }
-
-  /** Have the worker send all changes, and wait for them. */
-  settled() {
-    return this.post({ ask: "lines", do: [], look: [] }, { keep: true });
   }
 
   /** Replace the work by that of a file, if the answer is yes. */
@@ -212,14 +172,6 @@ export class Connection {
     } catch (error) {
       this.say(/** @type {Error} */ (error).message);
     }
-  }
-
-  /** Puts an example into the editor, as a link with a source does. */
-  takeExample() {
-    const text = pageData().examples[this.examples.value];
-    this.examples.selectedIndex = 0;
-    sessionStorage.setItem("linked", linkOf({ text, language: 0 }, byId("language")) ?? "");
-    this.listener.told({ kind: "news" });
   }
 
   saveRest() {

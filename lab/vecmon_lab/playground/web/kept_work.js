@@ -39,12 +39,7 @@ export function fileOf(/** @type {Texts} */ texts) {
 /** The texts of a file, by name; raises an error with a sentence if it is none of these. */
 export const textsOf = async (/** @type {File} */ file) => {
   if (file.size > MOST_FILE_BYTES) throw new Error(`${file.name} has more than ${MOST_FILE_BYTES.toLocaleString("en")} bytes.`);
-  let content;
-  try {
-    content = JSON.parse(await file.text());
-  } catch {
-    throw new Error(`${file.name} is no file of exported work.`);
-  }
+  const content = await new Response(file).json().catch(() => null);
   if (content?.format !== FORMAT || !Array.isArray(content.texts)) throw new Error(`${file.name} is no file of exported work.`);
   if (content.version > FORMAT_VERSION) throw new Error(`${file.name} was exported by a newer playground: open it there.`);
   /** @type {Entry[]} */
@@ -75,7 +70,8 @@ export class KeptWork {
     try {
       const database = (this.database = await this.openDatabase());
       database.onversionchange = () => this.leave(database);
-      const entries = await this.readAll(database);
+      /** @type {Partial<Entry>[]} */
+      const entries = await resultOf(database.transaction(STORE).objectStore(STORE).getAll());
       this.texts = byName(entries.filter(isEntry));
       this.rest = entries.filter((entry) => !isEntry(entry));
       const damaged = `${this.rest.length} saved texts can't be read: Damaged texts saves them as a file.`;
@@ -104,11 +100,6 @@ export class KeptWork {
     database.close();
     this.readOnly = NEWER;
     this.say(NEWER);
-  }
-
-  /** @type {(database: IDBDatabase) => Promise<Partial<Entry>[]>} */
-  readAll(database) {
-    return resultOf(database.transaction(STORE).objectStore(STORE).getAll());
   }
 
   /** Whether this tab gets the lock, and so is the one that saves. */

@@ -14,7 +14,7 @@ const INPUT_PATH = "/dev/stdin";
 /** A process of the program; its status is null until it has ended. */
 export class Machine {
   /** @type {Map<number, OpenFile>} */ opened = new Map();
-  input = new Uint8Array();
+  /** @type {OpenFile} */ input = { content: new Uint8Array(), place: 0 };
   /** @type {Uint8Array[]} */ output = [];
   /** @type {number | null} */ status = null;
   place = 0; // of the stack; 0 while there is none
@@ -23,10 +23,8 @@ export class Machine {
   constructor(module, words, files) {
     this.files = files;
     this.words = ["vecmon", ...words].map((word) => new TextEncoder().encode(word));
-    /** @type {Record<string, (...values: any[]) => number | bigint | void>} of any values, since the module calls them */
-    const own = { argument: this.argument, open: this.open, read: this.read, write: this.write, close: this.close, seek: this.seek };
-    const host = Object.fromEntries(Object.entries({ ...own, stat: this.stat }).map(([name, its]) => [name, its.bind(this)]));
-    const { exports } = new WebAssembly.Instance(module, { host });
+    const { argument, open, read, write, close, seek, stat } = this;
+    const { exports } = new WebAssembly.Instance(module, { host: { argument, open, read, write, close, seek, stat } });
     this.program = /** @type {import("./playground").MachineExports} */ (/** @type {unknown} */ (exports));
     this.run(); // to its first read
   }
@@ -34,7 +32,7 @@ export class Machine {
   /** The answers to lines, in bytes; null if the process has ended. */
   ask(/** @type {Uint8Array} */ lines) {
     if (this.status !== null) return null;
-    this.input = lines;
+    this.input = { content: lines, place: 0 };
     this.output = [];
     this.program.asyncify_start_rewind(this.stack);
     this.run();
@@ -51,9 +49,8 @@ export class Machine {
     else this.status = status;
   }
 
-  bytes(/** @type {number} */ address, /** @type {number} */ size) {
-    return new Uint8Array(this.program.memory.buffer, address >>> 0, size >>> 0);
-  }
+  bytes = (/** @type {number} */ address, /** @type {number} */ size) =>
+    new Uint8Array(this.program.memory.buffer, address >>> 0, size >>> 0);
 
   /** The place of what is unwound, in pages of its own. */
   get stack() {
@@ -64,14 +61,14 @@ export class Machine {
     return this.place;
   }
 
-  argument(/** @type {number} */ index, /** @type {number} */ address, /** @type {number} */ size) {
+  argument = (/** @type {number} */ index, /** @type {number} */ address, /** @type {number} */ size) => {
     const word = this.words[index];
     if (!word) return -1;
     if (word.length <= size) this.bytes(address, word.length).set(word);
     return word.length;
-  }
+  };
 
-  open(/** @type {number} */ address) {
+  open = (/** @type {number} */ address) => {
     const memory = new Uint8Array(this.program.memory.buffer);
     const path = new TextDecoder().decode(memory.slice(address >>> 0, memory.indexOf(0, address >>> 0)));
     if (path === INPUT_PATH) return INPUT;
@@ -79,44 +76,29 @@ export class Machine {
     const descriptor = FIRST_FILE + this.opened.size;
     this.opened.set(descriptor, { content: this.files[path], place: 0 });
     return descriptor;
-  }
+  };
 
-  read(/** @type {number} */ descriptor, /** @type {number} */ address, /** @type {number} */ size) {
-    const file = this.opened.get(descriptor);
-    if (file) {
-      const part = file.content.subarray(file.place, file.place + size);
-      this.bytes(address, part.length).set(part);
-      file.place += part.length;
-      return part.length;
-    }
-    if (this.program.asyncify_get_state() === REWINDING) this.program.asyncify_stop_rewind();
-    if (!this.input.length) {
-      this.program.asyncify_start_unwind(this.stack);
-      return 0;
-    }
-    const part = this.input.subarray(0, size);
+  read = (/** @type {number} */ descriptor, /** @type {number} */ address, /** @type {number} */ size) => {
+    const file = this.opened.get(descriptor) ?? this.input;
+    if (file === this.input && this.program.asyncify_get_state() === REWINDING) this.program.asyncify_stop_rewind();
+    const part = file.content.subarray(file.place, file.place + size);
+    if (file === this.input && !part.length) this.program.asyncify_start_unwind(this.stack);
     this.bytes(address, part.length).set(part);
-    this.input = this.input.subarray(part.length);
+    file.place += part.length;
     return part.length;
-  }
+  };
 
-  write(/** @type {number} */ descriptor, /** @type {number} */ address, /** @type {number} */ size) {
-    this.output.push(this.bytes(address, size).slice());
-    return size;
-  }
+  write = (/** @type {number} */ descriptor, /** @type {number} */ address, /** @type {number} */ size) =>
+    this.output.push(this.bytes(address, size).slice()) && size;
 
-  close() {
-    return 0;
-  }
+  close = () => 0;
 
-  seek(/** @type {number} */ descriptor, /** @type {bigint} */ offset, /** @type {0 | 1 | 2} */ whence) {
+  seek = (/** @type {number} */ descriptor, /** @type {bigint} */ offset, /** @type {0 | 1 | 2} */ whence) => {
     const file = this.opened.get(descriptor);
     if (!file) return BigInt(NO_SEEK);
     file.place = Number(offset) + [0, file.place, file.content.length][whence];
     return BigInt(file.place);
-  }
+  };
 
-  stat() {
-    return NO_FILE;
-  }
+  stat = () => NO_FILE;
 }

@@ -1,5 +1,37 @@
-// The start page of the site: the text about its machine.
+// The start page of the site: a loop that is stepped through stored frames, and the text about the machine.
 
-import { byId } from "./elements.js";
+import { byId, make, prose, put } from "./elements.js";
+import { Lanes } from "./lanes.js";
+import { patched } from "./patches.js";
+import { textOf } from "./texts.js";
+import { withNames } from "./words.js";
 
-byId("about").textContent = JSON.parse(byId("data").text).about;
+/** @typedef {import("./types").MachineState} MachineState */
+
+/** @type {{ about: string, notes: string[], states: object[], used: number[] }} states: each a merge patch of the one before */
+const { about, notes, ...data } = JSON.parse(byId("data").text);
+/** @type {MachineState[]} */
+const states = [];
+for (const patch of data.states) states.push(patched(/** @type {any} none before the first */ (states.at(-1) ?? {}), patch));
+const lanes = new Lanes(byId("vectors"));
+const addresses = Object.keys(states[0].code).sort((one, other) => parseInt(one, 16) - parseInt(other, 16));
+const lines = addresses.map((address) => make("li", "", withNames(states[0].code[address].slice(9), true)));
+let place = 0;
+
+/** Shows a frame: its instruction, its elements and the last comment. */
+function show(/** @type {number} */ wanted) {
+  place = Math.max(0, Math.min(states.length - 1, wanted));
+  const [state, note] = [states[place], notes.slice(0, place + 1).findLast(Boolean) ?? ""];
+  lanes.show({ state, before: states[place - 1] ?? state, used: new Set(data.used) });
+  put(byId("sentence"), note, prose(note));
+  put(byId("count"), textOf("site.place", { number: place + 1, all: states.length }));
+  lines.forEach((line, number) => (line.ariaCurrent = addresses[number] === state.instruction ? "step" : null));
+  Object.assign(byId("back"), { disabled: place === 0 });
+  Object.assign(byId("next"), { disabled: place === states.length - 1 });
+}
+
+byId("listing").append(make("ol", "", ...lines));
+byId("about").textContent = about;
+byId("back").addEventListener("click", () => show(place - 1));
+byId("next").addEventListener("click", () => show(place + 1));
+show(0);

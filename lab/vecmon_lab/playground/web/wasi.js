@@ -24,34 +24,27 @@ export class Wasi {
   imports(/** @type {WebAssembly.Module} */ module) {
     const own = /** @type {Record<string, any>} by name, since the module says which it calls */ (/** @type {unknown} */ (this));
     const names = WebAssembly.Module.imports(module).filter((each) => each.module === "wasi_snapshot_preview1");
-    return Object.fromEntries(names.map(({ name }) => [name, own[name]?.bind(this) ?? (() => NOT_SUPPORTED)]));
+    return Object.fromEntries(names.map(({ name }) => [name, own[name] ?? (() => NOT_SUPPORTED)]));
   }
 
   /** @type {(address: number, size: number) => Uint8Array} */
-  bytes(address, size) {
-    return new Uint8Array(this.memory.buffer, address, size);
-  }
+  bytes = (address, size) => new Uint8Array(this.memory.buffer, address, size);
 
   get data() {
     return new DataView(this.memory.buffer);
   }
 
+  /** The result of something that is done. */
+  done = (/** @type {unknown} */ _) => OK;
+
   /** @type {(address: number, value: number) => number} */
-  number(address, value) {
-    this.data.setUint32(address, value, true);
-    return OK;
-  }
+  number = (address, value) => this.done(this.data.setUint32(address, value, true));
 
   /** @type {(address: number, value: number | bigint) => number} */
-  large(address, value) {
-    this.data.setBigUint64(address, BigInt(value), true);
-    return OK;
-  }
+  large = (address, value) => this.done(this.data.setBigUint64(address, BigInt(value), true));
 
   /** @type {(address: number, size: number) => string} */
-  text(address, size) {
-    return new TextDecoder().decode(this.bytes(address, size).slice());
-  }
+  text = (address, size) => new TextDecoder().decode(this.bytes(address, size).slice());
 
   /** The path that a program names from an open folder on. */
   /** @type {(folder: number, address: number, size: number) => string} */
@@ -64,9 +57,7 @@ export class Wasi {
   }
 
   /** The path of an open file or folder. */
-  pathOf(/** @type {number} */ descriptor) {
-    return this.opened.get(descriptor)?.path ?? "";
-  }
+  pathOf = (/** @type {number} */ descriptor) => this.opened.get(descriptor)?.path ?? "";
 
   /** The names in a folder; null if it is none. */
   /** @type {(path: string) => string[] | null} */
@@ -77,10 +68,7 @@ export class Wasi {
   }
 
   /** @type {(path: string) => number | null} */
-  kind(path) {
-    if (this.files[path]) return FILE;
-    return this.names(path) ? FOLDER : null;
-  }
+  kind = (path) => (this.files[path] ? FILE : this.names(path) && FOLDER);
 
   /** @type {(path: string, address: number) => number} */
   status(path, address) {
@@ -112,108 +100,86 @@ export class Wasi {
   }
 
   /** @type {(count: number, size: number) => number} */
-  args_sizes_get(count, size) {
-    return this.number(count, 0) || this.number(size, 0);
-  }
+  args_sizes_get = (count, size) => this.number(count, 0) || this.number(size, 0);
 
-  args_get() {
-    return OK;
-  }
+  args_get = () => OK;
 
   /** @type {(count: number, size: number) => number} */
-  environ_sizes_get(count, size) {
-    return this.number(count, 0) || this.number(size, 0);
-  }
+  environ_sizes_get = (count, size) => this.number(count, 0) || this.number(size, 0);
 
-  environ_get() {
-    return OK;
-  }
+  environ_get = () => OK;
 
   /** @type {(descriptor: number, address: number) => number} */
-  fd_prestat_get(descriptor, address) {
-    if (descriptor !== ROOT) return BAD_FILE;
-    return this.number(address, 0) || this.number(address + 4, 1);
-  }
+  fd_prestat_get = (descriptor, address) =>
+    descriptor === ROOT ? this.number(address, 0) || this.number(address + 4, 1) : BAD_FILE;
 
   /** @type {(descriptor: number, address: number) => number} */
-  fd_prestat_dir_name(descriptor, address) {
-    this.bytes(address, 1).set([47]);
-    return OK;
-  }
+  fd_prestat_dir_name = (descriptor, address) => this.done(this.bytes(address, 1).set([47]));
 
   /** @type {(descriptor: number, address: number) => number} */
-  fd_fdstat_get(descriptor, address) {
+  fd_fdstat_get = (descriptor, address) => {
     if (descriptor >= ROOT && !this.opened.has(descriptor)) return BAD_FILE;
     this.bytes(address, 24).fill(0);
     this.data.setUint8(address, descriptor < ROOT ? DEVICE : (this.kind(this.pathOf(descriptor)) ?? 0));
     return this.large(address + 8, ALL_RIGHTS) || this.large(address + 16, ALL_RIGHTS);
-  }
+  };
 
   /** @type {(descriptor: number, address: number) => number} */
-  fd_filestat_get(descriptor, address) {
+  fd_filestat_get = (descriptor, address) => {
     if (descriptor >= ROOT) return this.opened.has(descriptor) ? this.status(this.pathOf(descriptor), address) : BAD_FILE;
     this.bytes(address, 64).fill(0);
     this.data.setUint8(address + 16, DEVICE);
     return OK;
-  }
+  };
 
   /** @type {(folder: number, flags: number, address: number, size: number, to: number) => number} */
-  path_filestat_get(folder, flags, address, size, to) {
-    return this.status(this.path(folder, address, size), to);
-  }
+  path_filestat_get = (folder, flags, address, size, to) => this.status(this.path(folder, address, size), to);
 
   /** @param {number[]} values the folder, how to look up, address and size of the path, three kinds of rights and flags, and a place */
-  path_open(...values) {
+  path_open = (...values) => {
     const [folder, , address, size, , , , , to] = values;
     const path = this.path(folder, address, size);
     if (!this.kind(path)) return NO_FILE;
     this.opened.set(this.next, { path, place: 0 });
     return this.number(to, this.next++);
-  }
+  };
 
   /** @type {(descriptor: number, address: number, count: number, to: number) => number} */
-  fd_read(descriptor, address, count, to) {
+  fd_read = (descriptor, address, count, to) => {
     const file = this.opened.get(descriptor);
     if (!file) return this.number(to, 0);
     const done = this.fill(this.files[file.path], file.place, address, count);
     file.place += done;
     return this.number(to, done);
-  }
+  };
 
   /** @type {(descriptor: number, address: number, count: number, place: bigint, to: number) => number} */
-  fd_pread(descriptor, address, count, place, to) {
-    return this.number(to, this.fill(this.files[this.pathOf(descriptor)], Number(place), address, count));
-  }
+  fd_pread = (descriptor, address, count, place, to) =>
+    this.number(to, this.fill(this.files[this.pathOf(descriptor)], Number(place), address, count));
 
   /** @type {(descriptor: number, address: number, count: number, to: number) => number} */
-  fd_write(descriptor, address, count, to) {
+  fd_write = (descriptor, address, count, to) => {
     const parts = this.parts(address, count);
     for (const part of parts) this.host.complain(new TextDecoder().decode(part.slice()));
     return this.number(to, parts.reduce((size, part) => size + part.length, 0));
-  }
+  };
 
   /** @type {(descriptor: number, offset: bigint, whence: number, to: number) => number} */
-  fd_seek(descriptor, offset, whence, to) {
+  fd_seek = (descriptor, offset, whence, to) => {
     const file = this.opened.get(descriptor);
     if (!file || descriptor < ROOT) return NO_SEEK;
     file.place = Number(offset) + [0, file.place, this.files[file.path]?.length ?? 0][whence];
     return this.large(to, file.place);
-  }
+  };
 
   /** @type {(descriptor: number, to: number) => number} */
-  fd_tell(descriptor, to) {
-    const file = this.opened.get(descriptor);
-    return file ? this.large(to, file.place) : NO_SEEK;
-  }
+  fd_tell = (descriptor, to) => this.fd_seek(descriptor, 0n, 1, to);
 
   /** @type {(descriptor: number) => number} */
-  fd_close(descriptor) {
-    this.opened.delete(descriptor);
-    return OK;
-  }
+  fd_close = (descriptor) => this.done(this.opened.delete(descriptor));
 
   /** @type {(descriptor: number, address: number, size: number, cookie: bigint, to: number) => number} */
-  fd_readdir(descriptor, address, size, cookie, to) {
+  fd_readdir = (descriptor, address, size, cookie, to) => {
     const path = this.pathOf(descriptor);
     const names = this.names(path) ?? [];
     let done = 0;
@@ -230,26 +196,20 @@ export class Wasi {
       done += part.length;
     }
     return this.number(to, done);
-  }
+  };
 
   /** @type {(clock: number, precision: bigint, to: number) => number} */
-  clock_time_get(clock, precision, to) {
-    return this.large(to, BigInt(Math.round((clock === 0 ? this.host.now() : this.host.ticks()) * 1000)) * 1000n);
-  }
+  clock_time_get = (clock, precision, to) =>
+    this.large(to, BigInt(Math.round((clock === 0 ? this.host.now() : this.host.ticks()) * 1000)) * 1000n);
 
   /** @type {(clock: number, to: number) => number} */
-  clock_res_get(clock, to) {
-    return this.large(to, 1000);
-  }
+  clock_res_get = (clock, to) => this.large(to, 1000);
 
   /** @type {(address: number, size: number) => number} */
-  random_get(address, size) {
-    this.host.random(this.bytes(address, size));
-    return OK;
-  }
+  random_get = (address, size) => this.done(this.host.random(this.bytes(address, size)));
 
   /** @type {(status: number) => never} */
-  proc_exit(status) {
+  proc_exit = (status) => {
     throw new Error(`Python ended with ${status}`);
-  }
+  };
 }

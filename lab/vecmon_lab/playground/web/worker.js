@@ -51,11 +51,9 @@ function give(/** @type {ToWorker} */ message) {
 
 /** A part of the page, from an address or in base64; both are compressed by gzip. */
 async function load(/** @type {Part} */ part, type = "") {
-  let compressed;
-  if (part.url) {
-    compressed = await fetch(part.url);
-    if (!compressed.ok) throw new Error(`${part.url}: ${compressed.status}`);
-  } else compressed = new Response(Uint8Array.from(atob(part.base64 ?? ""), (letter) => letter.charCodeAt(0)));
+  const within = () => new Response(Uint8Array.from(atob(part.base64 ?? ""), (letter) => letter.charCodeAt(0)));
+  const compressed = part.url ? await fetch(part.url) : within();
+  if (!compressed.ok) throw new Error(`${part.url}: ${compressed.status}`);
   return new Response(compressed.body?.pipeThrough(new DecompressionStream("gzip")), { headers: { "Content-Type": type } });
 }
 
@@ -63,9 +61,7 @@ const bytesOf = async (/** @type {Part} */ part) => new Uint8Array(await (await 
 const hexadecimal = (/** @type {Uint8Array} */ bytes) => Array.from(bytes, (byte) => byte.toString(16).padStart(2, "0")).join("");
 
 /** Load pyelftools, which only images need. */
-async function loadLater() {
-  pythonFiles["later.zip"] ??= await bytesOf(parts.later);
-}
+const loadLater = async () => (pythonFiles["later.zip"] ??= await bytesOf(parts.later));
 
 async function begin(/** @type {Texts} */ texts) {
   /** @type {Record<string, number>} */
@@ -77,20 +73,15 @@ async function begin(/** @type {Texts} */ texts) {
   if (hexadecimal(memory.subarray(0, DIGEST_BYTES)) !== parts.python.digest) throw new Error("its parts don't belong together");
   times.loaded = performance.now();
   module = machine;
-  Object.assign(pythonFiles, unpacked(lessons));
+  /** @type {Record<string, string>} */
+  const lessonFiles = JSON.parse(new TextDecoder().decode(lessons));
+  for (const [path, text] of Object.entries(lessonFiles)) pythonFiles[path] = new TextEncoder().encode(text);
   if (texts["A1.image"]) await loadLater();
   python = new Python(code, host, pythonFiles, memory.subarray(DIGEST_BYTES));
   times.python = performance.now();
   give({ begin: texts });
   times.hello = performance.now();
   send({ kind: "times", times: { ...times, memory: python.memory.buffer.byteLength } });
-}
-
-/** Files of texts by path. */
-function unpacked(/** @type {Uint8Array} */ bytes) {
-  /** @type {Record<string, string>} */
-  const texts = JSON.parse(new TextDecoder().decode(bytes));
-  return Object.fromEntries(Object.entries(texts).map(([path, text]) => [path, new TextEncoder().encode(text)]));
 }
 
 /** Takes a message of the page. */

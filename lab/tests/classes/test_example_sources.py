@@ -1,0 +1,34 @@
+"""The examples of an author's start page: all have words, and those in assembler run."""
+
+import pathlib
+
+from vecmon_lab.assembler.source import assemble
+from vecmon_lab.classes.example_sources import example_sources
+from vecmon_lab.classes.languages import LANGUAGES
+from vecmon_lab.machine.session import Session
+
+
+def test_examples_have_titles_and_sentences() -> None:
+    examples = example_sources()
+    assert [example["language"] for example in examples] == [0] * 19 + [1] * 6 and LANGUAGES[1].name == "C, O2"
+    groups = ["Examples in assembler"] * 13 + ["Programs that rely on unspecified values"] * 6 + ["Examples in C"] * 6
+    assert [example["group"] for example in examples] == groups
+    by_name = {example["name"]: example for example in examples}
+    loop, flawed = by_name["strip_mined.s"], by_name["sums_not_cleared.s"]
+    assert (loop["title"], loop["about"].split(" where")[0]) == ("A strip-mined loop", "y[i] += 3 x[i]")
+    assert (
+        flawed["title"] == "Sums not cleared" and flawed["about"] == "Adds products to v8, which nobody has set to 0."
+    )
+    assert by_name["saxpy.c"]["title"] == "A multiple of one vector is added to another"
+    assert all(example["about"].endswith(".") and "#" not in example["title"] for example in examples)
+
+
+def test_examples_in_assembler_step(program: pathlib.Path) -> None:
+    """The machine takes each line of their programs, and executes them."""
+    for example in example_sources():
+        if example["language"] == 0:
+            source = assemble(example["text"])
+            lines = ["enter", *source.lines, f"setpc {source.entry:x}", "step 256"]
+            with Session(program) as session:
+                replies = [session.do(f"1 {line}")[-1] for line in lines]
+            assert not [reply for reply in replies if reply.startswith("1 E")], example["name"]

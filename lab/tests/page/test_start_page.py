@@ -1,0 +1,85 @@
+"""The start page of an author in Chromium: examples, new programs and recent sources begin the bench."""
+
+import pathlib
+from collections.abc import Iterator
+from typing import TYPE_CHECKING
+
+import pytest
+
+from support.browser import CONTRAST, media
+from support.class_pages import Explored, Tab
+from support.places import EXAMPLES
+
+if TYPE_CHECKING:
+    from selenium.webdriver import Chrome
+
+LOOP = (EXAMPLES / "strip_mined.s").read_text("utf-8")
+SHOWN = "[id('start-page').checkVisibility(), id('desk').checkVisibility()]"
+
+
+@pytest.fixture
+def page(tabs: "Chrome", program: pathlib.Path, tmp_path: pathlib.Path) -> Iterator[Tab]:
+    """The page of `explore` without a file, in a browser that has kept nothing."""
+    served = Explored(tmp_path / "explore", program, None)
+    tab = Tab(tabs, served, "A1")
+    yield tab
+    tab.activate().get("about:blank")  # or the page reports that its server has gone
+    served.end()
+
+
+def check_layout(page: Tab) -> None:
+    """No text is cut or pale, and nothing scrolls sideways."""
+    cut = "all('#start-page *').filter((each) => each.scrollWidth > each.clientWidth + 1 && each.clientWidth).map((each) => each.className)"
+    try:
+        for width, height in ((1280, 800), (820, 1180), (390, 844), (640, 400)):
+            size = {"width": width, "height": height, "deviceScaleFactor": 1, "mobile": False}
+            page.activate().execute_cdp_cmd("Emulation.setDeviceMetricsOverride", size)
+            page.wait("innerWidth === arguments[0]", width)
+            assert page.run(cut) == [] and page.run("document.documentElement.scrollWidth") <= width
+        for scheme in ("light", "dark"):
+            media(page.browser, prefers_color_scheme=scheme, prefers_reduced_motion="reduce")
+            assert page.browser.execute_script(CONTRAST) == []
+    finally:
+        media(page.browser)
+        page.browser.execute_cdp_cmd("Emulation.clearDeviceMetricsOverride", {})
+
+
+def test_example_begins_bench(page: Tab) -> None:
+    """The start page has nothing else; a press puts the example into the editor, and the focus to Step."""
+    page.wait("document.activeElement.id === 'new-program'")
+    assert page.run(SHOWN) == [True, False] and not page.run("id('controls').checkVisibility()")
+    names = page.run("all('.tile small').map((note) => note.textContent)")
+    assert len(names) == len(set(names)) == 25 and {"strip_mined.s", "doubles.s", "tail_added.s", "saxpy.c"} <= set(
+        names
+    )
+    assert page.run("id('new-in-c').disabled") == (page.text("#why-no-c") != "")
+    check_layout(page)
+    page.run("all('.tile').find((tile) => tile.textContent.endsWith('strip_mined.s')).click()")
+    page.wait("document.activeElement.id === 'one' && !id('one').disabled")
+    assert page.run(SHOWN) == [False, True] and page.run("text()") == LOOP
+    page.click("#one")
+    page.wait("one('#step .instruction')?.textContent.includes('addi a0, zero, 13')")
+
+
+def test_recent_sources_come_back(page: Tab) -> None:
+    """What was typed is among the recent sources, in the tab's next page too; New program has the first text again."""
+    page.click("#new-program")
+    first = page.wait("text()")
+    assert "Doubles" in first
+    page.write("# Mine.\n nop\n")
+    page.click("#to-start")
+    page.wait("id('start-page').checkVisibility()")
+    assert page.run("all('#recent .tile b, #recent .tile span').map((each) => each.textContent)") == [
+        "program.s",
+        "Mine.",
+    ]
+    page.run("all('.tile').find((tile) => tile.textContent.endsWith('doubles.s')).click()")
+    page.wait("text().includes('Squares of five numbers') && id('desk').checkVisibility()")
+    page.click("#to-start")
+    page.wait("all('#recent .tile').length === 2")
+    assert page.run("all('#recent .tile b').map((each) => each.textContent)") == ["doubles.s", "program.s"]
+    page.run("all('#recent .tile')[1].click()")
+    page.wait("text() === '# Mine.\\n nop\\n' && id('desk').checkVisibility()")
+    page.click("#to-start")
+    page.click("#new-program")
+    page.wait("text() === arguments[0]", first)

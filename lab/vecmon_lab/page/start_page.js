@@ -1,0 +1,104 @@
+// The start page of an author: a new program, a file, recent sources, and examples. Each of them begins the bench.
+
+import { make, part, prose, put } from "./elements.js";
+import { keepList, keptList } from "./kept_lists.js";
+import { languageOf } from "./links.js";
+import { textOf } from "./texts.js";
+
+/** @typedef {import("./messages").StudentView} View */
+/** @typedef {{ name: string, text: string, language: number }} NamedSource */
+
+const [KEY, MOST] = ["vecmon-recent", 6];
+const NAME = "begun"; // in the tab's storage: the name of the source in the editor
+
+/** The sources that this browser has kept, the last one first. */
+/** @type {() => (NamedSource & { time: number })[]} */
+const recentSources = () => keptList(KEY);
+
+/** The heading of choices, and the choices in columns; nothing without choices. */
+/** @type {(heading: string, tiles: HTMLElement[]) => HTMLElement[]} */
+const group = (heading, tiles) => (tiles.length ? [make("h3", "", heading), make("div", "tiles", ...tiles)] : []);
+
+export class StartPage {
+  /** @param {HTMLElement} root @param {import("./bench.js").Bench} bench @param {View} view with examples */
+  constructor(root, bench, view) {
+    this.root = root;
+    this.bench = bench;
+    this.view = view;
+    const { editor, source } = bench;
+    const initial = part(root, "source").defaultValue;
+    part(root, "new-program").addEventListener("click", () => this.begin({ name: "program.s", text: initial, language: 0 }));
+    part(root, "new-in-c").addEventListener("click", () => {
+      const text = part(root, "c-start").textContent ?? "";
+      this.begin({ name: "program.c", text, language: languageOf("program.c", editor.language) });
+    });
+    part(root, "open-source").addEventListener("click", () => source.file.click());
+    source.file.addEventListener("change", () => (this.keep(), this.leave(source.file.files?.[0]?.name)));
+    part(root, "to-start").addEventListener("click", () => this.open());
+    part(root, "to-start").hidden = false;
+    part(root, "new-in-c").disabled = view.no_c !== "";
+    const why = view.no_c && textOf("author.no-c", { reason: view.no_c });
+    put(part(root, "why-no-c"), why, prose(why));
+    addEventListener("pagehide", () => this.keep());
+    const examples = view.examples ?? [];
+    for (const heading of new Set(examples.map((example) => example.group))) {
+      const own = examples.filter((example) => example.group === heading);
+      part(root, "examples").append(...group(heading, own.map((each) => this.tile(each.title, each.about, each.name, each))));
+    }
+    if (!view.source.text && !view.source.exercise && view.state.run === "absent" && !sessionStorage.getItem("linked")) this.open();
+  }
+
+  /** Shows the bench once an exercise was opened, or a machine has begun. */
+  show(/** @type {View} */ view) {
+    const isOther = view.source.exercise !== this.view.source.exercise || view.state.run !== this.view.state.run;
+    this.view = view;
+    if (isOther && !part(this.root, "start-page").hidden) this.leave();
+  }
+
+  /** A button that begins with a source. */
+  /** @type {(title: string, about: string, note: string, source: NamedSource) => HTMLElement} */
+  tile(title, about, note, source) {
+    const words = [make("b", "", title), make("span", "", ...prose(about)), make("small", "", note)];
+    const tile = Object.assign(make("button", "tile", ...words), { disabled: source.language > 0 && this.view.no_c !== "" });
+    tile.addEventListener("click", () => this.begin(source));
+    return tile;
+  }
+
+  open() {
+    this.keep();
+    const tiles = recentSources().map(({ time, ...source }) => {
+      const saved = new Date(time).toLocaleString("en-GB", { dateStyle: "medium", timeStyle: "short" });
+      return this.tile(source.name, /[^\s/#].*/.exec(source.text)?.[0] ?? "", saved, source);
+    });
+    part(this.root, "recent").replaceChildren(...group(textOf("author.recent"), tiles));
+    this.toggle(true);
+    part(this.root, "new-program").focus();
+  }
+
+  /** Puts a source into the editor, where what was there becomes a version. */
+  async begin(/** @type {NamedSource} */ { name, text, language }) {
+    await this.bench.source.replace({ text, language });
+    this.leave(name);
+  }
+
+  /** Shows the bench with a source of a name. */
+  leave(name = "") {
+    sessionStorage.setItem(NAME, name);
+    this.toggle(false);
+    this.bench.panes.show("editor");
+    part(this.root, "one").focus();
+  }
+
+  toggle(/** @type {boolean} */ isOpen) {
+    part(this.root, "start-page").hidden = !isOpen;
+    this.root.classList.toggle("starting", isOpen);
+  }
+
+  /** Keeps the source in the editor among the recent ones. */
+  keep() {
+    const name = sessionStorage.getItem(NAME);
+    if (!name) return;
+    const others = recentSources().filter((each) => each.name !== name);
+    keepList(KEY, [{ name, ...this.bench.editor.source, time: Date.now() }, ...others].slice(0, MOST));
+  }
+}
