@@ -85,14 +85,14 @@ def test_page_operands_equal_decoded_words(browser: "Chrome", session: Session) 
             cases.append((text, view, operands, covered(word, view)))
     assert len({text.split()[0] for text, *_ in cases}) > 0.9 * len(names)
     script = f"""{join_modules("columns", page_file)}
-        return arguments[0].map(([operands, vtype]) => $shapes.operandGroups(operands, $words.vectorType(vtype)))"""
+        return arguments[0].map(([operands, vtype]) =>
+            operands.map((each) => $executed.operandOf(each, $words.vectorType(vtype), false)))"""
     shown = browser.execute_script(script, [(operands, f"{view.vtype:x}") for _, view, operands, _ in cases])
-    for (text, view, _, expected), groups in zip(cases, shown, strict=True):
+    for (text, view, operands, expected), groups in zip(cases, shown, strict=True):
         registers = dict[int, set[tuple[bool, int]]]()
-        for group in groups:
-            for register in range(group["register"], group["register"] + group["group"]):
-                width = 1 if group["mask"] else group["width"]
-                registers.setdefault(register, set()).add((group["writes"], width))
+        for operand, group in zip(operands, groups, strict=True):
+            for register in range(group["register"], group["register"] + group["size"] * group["groups"]):
+                registers.setdefault(register, set()).add((operand["written"], group["width"]))
         assert (text, view, registers) == (text, view, expected)
 
 

@@ -119,7 +119,8 @@ export function paintCard(root, { text, alias, meaning, formula, scalars, counts
   const names = [make("b", "", alias || text), ...(alias ? [make("code", "", text)] : [])];
   const legend = make("p", "legend", ...counts.map(([kind, words]) => make("span", kind, words)));
   const onclick = () => root.classList.toggle("brief");
-  const fold = Object.assign(make("button", "formula", make("code", "", formula)), { onclick, title: FOLDS });
+  const tag = document.body.matches(".watching") ? "span" : "button"; // the wall has no controls
+  const fold = Object.assign(make(tag, "formula", make("code", "", formula)), { onclick, title: FOLDS });
   const shown = formula ? [fold, make("small", "", scalars.join(", "))] : [];
   root.replaceChildren(make("p", "what", ...names), make("p", "meaning", ...prose(meaning)), make("div", "terms", ...shown, legend));
 }
