@@ -229,3 +229,15 @@ def test_hand_reaches_the_class(sit: Sit) -> None:
     press_key(other, "Alt+Shift+H")
     teacher.wait("!one('#seats [data-seat=A4].stuck')")
     tab.wait("id('hand').textContent === 'Raise hand' && id('hand').ariaPressed === 'false'")
+
+
+def test_run_shows_registers_before_its_last_instruction(sit: Sit) -> None:
+    """`vadd.vv v2, v2, v1` has overwritten its source, which a second machine finds: 5, 5, 5, 5 and 0, 1, 2, 3."""
+    tab = sit("A2")
+    write(tab, "vsetivli zero, 4, e32, m1, ta, ma\nvid.v v1\nvmv.v.i v2, 5\nvadd.vv v2, v2, v1\nebreak\n")
+    tab.click("#go")
+    tab.wait(f"{CONDITION} === 'Running'")
+    tab.run("id('slice').click()")  # in a menu; the clock is off
+    cells = "[...one('.lanes tr.before').querySelectorAll('td')].slice(0, 4).map((cell) => cell.firstChild.data).join()"
+    tab.wait(f"one('.lanes tr.before') && {cells} === '5,5,5,5'")
+    assert "v2, v2, v1" in tab.text(".card") and "Several instructions" not in tab.text(".card")

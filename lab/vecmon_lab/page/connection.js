@@ -14,7 +14,7 @@ const [MOST_UNANSWERED, MOST_OPENING] = [2, 7]; // beats until a connection coun
 /** @type {Record<string, string>} */
 const NAMES = {
   again: "the source", answer: "the earlier answer", check: "the check", lines: "slices", name: "the name", open: "the exercise",
-  run: "a run", source: "the source", step: "a step", draft: "", read: "", shoulder: "", wall: "",
+  run: "a run", source: "the source", step: "a step", draft: "", "last-instruction": "", read: "", shoulder: "", wall: "",
 };
 /** @type {Record<number, string>} */
 const ENDINGS = {
