@@ -282,9 +282,9 @@ class SharedMachine:
         digit, words = line[0], words_of(line)
         if may_change(line, answer) and words != ["out"]:
             self._runs.pop(digit, None)
-        if words[0] in ("slices", "run"):
+        if words[:1] in (["slices"], ["run"]):
             self._runs.update({part[0]: (self.session, number) for part in answer if is_stop(part)})
-        elif words[0] == "step" and not is_refusal(answer):
+        elif words[:1] == ["step"] and not is_refusal(answer):
             self._runs[digit] = self.session, number
 
     def _lines(self, seat: Seat, request: Lines, done: Answers, turn: Turn) -> None:
