@@ -102,6 +102,21 @@ def test_case_is_tried_before_first_check(tabs: "Chrome", course: Served) -> Non
     assert tab.text("[data-edit='set x12']") == "7" and tab.text("#tries") == ""
 
 
+def test_check_by_key_unfolds_exercise(tabs: "Chrome", course: Served) -> None:
+    """Ctrl Shift Enter does nothing while no exercise is open; it checks while one is folded, and its result is in sight then."""
+    from selenium.webdriver.common.keys import Keys
+
+    tab = Tab(tabs, course, "B3")
+    tab.type(Keys.CONTROL, Keys.SHIFT, Keys.ENTER)
+    tab.wait("id('key-says').textContent.startsWith('Check the source in all cases')")
+    choose(tab, "doubles")
+    tab.click("#fold-exercise")
+    tab.type(Keys.CONTROL, Keys.SHIFT, Keys.ENTER)
+    tab.wait("id('tries').textContent === '1 try, best 1 of 5'")
+    tab.wait(IN_SIGHT)
+    tab.run("localStorage.clear()")
+
+
 def test_exercise_is_solved(tabs: "Chrome", course: Served) -> None:
     """As one would who sees its text alone: with its source to begin with, a mistake, hints, a lesson and an answer."""
     tab = Tab(tabs, course, "A1")

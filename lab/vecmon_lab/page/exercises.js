@@ -103,6 +103,7 @@ export class Exercises {
     const [it, before] = [this.all[this.name], this.shown];
     this.panel.classList.toggle("choosing", !this.isOpen);
     this.paintList();
+    this.check.disabled = it.checking || !this.isOpen;
     if (it === before) return;
     this.shown = it;
     const title = make("h3", "", `${it.number} ${it.title}`);
@@ -138,7 +139,6 @@ export class Exercises {
     const answers = Array.from({ length: tries }, (_, place) => make("option", "", `try ${place + 1}`));
     if (this.answers.length !== tries + 1) this.answers.replaceChildren(make("option", "", "Answers …"), ...answers);
     this.answers.hidden = !tries;
-    this.check.disabled = checking;
     const words = `${tries} ${tries > 1 ? "tries" : "try"}, ${passed ? "passed" : `best ${best} of ${cases.length}`}`;
     put(part(this.root, "tries"), checking ? "It is being checked …" : tries ? words : "");
   }
