@@ -39,9 +39,9 @@ def course(program: pathlib.Path, tmp_path_factory: pytest.TempPathFactory) -> I
 def check(tab: Tab, source: str, verdict: str) -> None:
     """Check a source, and wait for the result."""
     tab.run(TYPE, source)
-    tries = tab.text("#tries")
+    tries = tab.text("#try-count")
     tab.click("#check")
-    tab.wait("!id('check').disabled && id('tries').textContent !== arguments[0]", tries)
+    tab.wait("!id('check').disabled && id('try-count').textContent !== arguments[0]", tries)
     assert tab.run(VERDICT) == verdict, tab.text("#exercise")
 
 
@@ -99,7 +99,7 @@ def test_case_is_tried_before_first_check(tabs: "Chrome", course: Served) -> Non
     assert tab.run("all('#cases tbody button').length") == 4
     tab.click("#cases tr:nth-child(2) button")
     tab.wait("id('log').textContent.includes('> set x13 32') && id('run').textContent === 'Paused'")
-    assert tab.text("[data-edit='set x12']") == "7" and tab.text("#tries") == ""
+    assert tab.text("[data-edit='set x12']") == "7" and tab.text("#try-count") == ""
 
 
 def test_check_by_key_unfolds_exercise(tabs: "Chrome", course: Served) -> None:
@@ -112,7 +112,7 @@ def test_check_by_key_unfolds_exercise(tabs: "Chrome", course: Served) -> None:
     choose(tab, "doubles")
     tab.click("#fold-exercise")
     tab.type(Keys.CONTROL, Keys.SHIFT, Keys.ENTER)
-    tab.wait("id('tries').textContent === '1 try, best 1 of 5'")
+    tab.wait("id('try-count').textContent === '1 try, best 1 of 5'")
     tab.wait(IN_SIGHT)
     tab.run("localStorage.clear()")
 
@@ -136,7 +136,7 @@ def test_exercise_is_solved(tabs: "Chrome", course: Served) -> None:
     )
     tab.wait(f"{VERDICT} === 'Source has mistakes.'")
     assert not tab.run("id('editor').hidden")
-    assert tab.text("#tries") == "" and not tab.run("one('#exercise .hints h3')")
+    assert tab.text("#try-count") == "" and not tab.run("one('#exercise .hints h3')")
     tab.click("#mistakes button")
     assert tab.run("code().indexFromPos(code().getCursor('from'))") == 23
     tab.run(TYPE, "ret")
@@ -152,7 +152,7 @@ def test_exercise_is_solved(tabs: "Chrome", course: Served) -> None:
     assert tab.run(BOXES, "#verdict .strip") == ["20", "-40", "60", "-1", "77", "88"]  # expected, and then found
     assert tab.run(BOXES, "#verdict .strip + .strip") == ["20", "-40", "60", "80", "100", "0"]
     assert tab.run("all('#verdict .wrong').map((box) => box.firstChild.data)") == ["80", "100", "0"]
-    assert tab.text("#tries") == "1 try, best 2 of 5" and tab.run("one('#course-list button').className") == "tried"
+    assert tab.text("#try-count") == "1 try, best 2 of 5" and tab.run("one('#course-list button').className") == "tried"
     assert tab.run("one('#cases [aria-current=true]').rowIndex") == 2
     assert tab.activate().execute_script(CONTRAST) == []
     tab.click("#exercise .verdict a")
@@ -181,7 +181,7 @@ def test_exercise_is_solved_in_c(tabs: "Chrome", course: Served, sandboxed_clang
     tab.run("id('check').click()")
     tab.wait("one('#mistakes button')?.textContent.startsWith('7:48: use of undeclared identifier')")
     tab.wait(f"{VERDICT} === 'Source has mistakes.'")
-    assert tab.text("#tries") == "" and tab.text("#editor .problem") == "frist"
+    assert tab.text("#try-count") == "" and tab.text("#editor .problem") == "frist"
     check(tab, good.replace("vsadd", "vadd"), "It passes 2 of 5 cases.")
     assert "no room: element 0, i16 at 0x20200: expected 32767, found -32768" in tab.text("#exercise .said")
     tab.click("#exercise .verdict button")

@@ -30,7 +30,7 @@ export class Exercises {
     this.sample = bench.editor.source.text;
     this.panel = part(root, "exercise");
     this.list = part(root, "course-list");
-    this.answers = part(root, "answers");
+    this.answers = part(root, "own-answers");
     this.check = part(root, "check");
     this.check.addEventListener("click", () => this.checkSource());
     this.answers.addEventListener("change", () => this.takeAnswer());
@@ -140,7 +140,7 @@ export class Exercises {
     if (this.answers.length !== tries + 1) this.answers.replaceChildren(make("option", "", "Answers …"), ...answers);
     this.answers.hidden = !tries;
     const words = `${tries} ${tries > 1 ? "tries" : "try"}, ${passed ? "passed" : `best ${best} of ${cases.length}`}`;
-    put(part(this.root, "tries"), checking ? "It is being checked …" : tries ? words : "");
+    put(part(this.root, "try-count"), checking ? "It is being checked …" : tries ? words : "");
   }
 
   /** Brings the last result into sight: the panel, and in it the result. */

@@ -27,7 +27,7 @@ export type Parts =
     HTMLSelectElement,
     | "against" | "by" | "form" | "given-language" | "images" | "language" | "names" | "numbers" | "on-wall" | "operated" | "receiver"
     | "text-size" | "versions" | "view" | "width"
-    | "answers"
+    | "own-answers"
   > &
   Ids<HTMLTableElement, "lengths" | "rows"> &
   Ids<HTMLTableSectionElement, "seats"> &
@@ -45,5 +45,5 @@ export type Parts =
     | "scalars-title" | "seats-title" | "series-place" | "sentence" | "sheet" | "sheet-says" | "shoulder" | "sides" | "split-dock" | "split-exercise"
     | "split-left" | "split-middle" | "split-state" | "start" | "start-page" | "start-title" | "stepped" | "stepped-title" | "state" | "step" | "stop" | "summary" | "tables" | "teacher" | "trouble"
     | "unencrypted" | "users" | "variables" | "vectors" | "vectors-title" | "wall-code" | "who" | "why-no-c"
-    | "called-hint" | "cases" | "code-hint" | "exercise-text" | "hints" | "reading" | "tries" | "verdict" | "welcome" | "welcome-title"
+    | "called-hint" | "cases" | "code-hint" | "exercise-text" | "hints" | "reading" | "try-count" | "verdict" | "welcome" | "welcome-title"
   >;
