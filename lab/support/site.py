@@ -70,9 +70,10 @@ class SiteTab(Tab):
         self.open(address)
 
     def open(self, address: str) -> None:
-        """Opens the page, and waits for its machine."""
+        """Opens the page, waits for its machine, and leaves the start page."""
         self.activate().get(address)
         self.wait("document.title === arguments[0] && id('gone').hidden", TITLE)
+        self.run("id('start-page').hidden || id('to-exercises').click()")
 
     def write(self, source: str) -> None:
         """Writes a source into memory."""

@@ -214,6 +214,23 @@ def test_files_are_dropped(tabs: "Chrome", site: pathlib.Path) -> None:
     tab.wait("id('run').textContent === 'Ready'")
 
 
+def test_it_starts_with_examples(tabs: "Chrome", site: pathlib.Path) -> None:
+    """A first visit shows the start page, and one with work the bench; an exercise that the address names comes at once."""
+    tab = SiteTab(tabs, (site / "playground.html").as_uri() + "#exercise=filter")
+    tab.wait("id('desk').checkVisibility() && text().includes('how many are goes to a0')")
+    forget(tab)
+    tab.run("sessionStorage.clear()")
+    tab.activate().get("about:blank")
+    tab.activate().get((site / "playground.html").as_uri())
+    tab.wait("id('start-page').checkVisibility()")
+    assert tab.run("all('.tile').length") == 19 and tab.run("id('new-in-c').disabled")
+    tab.run("all('.tile').find((tile) => tile.textContent.endsWith('strip_mined.s')).click()")
+    tab.wait("id('desk').checkVisibility() && text().startsWith('## A strip-mined loop')")
+    tab.click("#one")
+    tab.wait("id('run').textContent === 'Paused'")
+    forget(tab)
+
+
 def test_a_second_tab_is_told(tabs: "Chrome", server: tuple[str, list[str]]) -> None:
     first = SiteTab(tabs, f"{server[0]}/play/index.html")
     second = SiteTab(tabs, f"{server[0]}/play/index.html")
@@ -226,6 +243,15 @@ def test_the_pages_around_it(tabs: "Chrome", server: tuple[str, list[str]]) -> N
     tabs.get(f"{server[0]}/index.html")
     links = tabs.execute_script("return [...document.querySelectorAll('main a')].map((each) => each.href)")
     assert len(links) == 5
+    for place in range(2, 7):  # to vmacc.vx, under a mask of 9, 2, 7, 1, 8, 3, 6, 4 above 4
+        tabs.find_element("id", "next").click()
+        assert tabs.find_element("id", "count").text == f"{place} of 22"
+    assert tabs.find_element("css selector", "#listing [aria-current]").text == "vse32.v v9, (a2)"
+    tabs.find_element("id", "back").click()
+    cells = tabs.execute_script(
+        "return [...document.querySelectorAll('#elements .after td')].map((each) => each.firstChild.data)"
+    )
+    assert cells == ["127", "100", "121", "100", "124", "100", "118", "100"] and not tabs.get_log("browser")
     tabs.get(f"{server[0]}/course/index.html")
     hrefs = tabs.execute_script("return [...document.querySelectorAll('a')].map((each) => each.getAttribute('href'))")
     assert "../play/index.html#exercise=doubles" in hrefs and len([it for it in hrefs if "#exercise=" in it]) == 12

@@ -5,7 +5,7 @@ type Ids<Kind, Names extends string> = { [Name in Names]: Kind };
 export type Parts =
   Ids<
     HTMLButtonElement,
-    | "again" | "begin" | "new-in-c" | "new-program" | "open-source" | "to-start" | "break-here" | "next-pane" | "next-problem" | "previous-pane" | "previous-problem" | "step-out" | "step-over" | "until-go" | "assemble" | "back" | "backward" | "by-address" | "by-ticks" | "close-sheet" | "edit-close" | "first" | "fold-dock"
+    | "again" | "begin" | "new-in-c" | "new-program" | "open-source" | "to-exercises" | "to-start" | "break-here" | "next-pane" | "next-problem" | "previous-pane" | "previous-problem" | "step-out" | "step-over" | "until-go" | "assemble" | "back" | "backward" | "by-address" | "by-ticks" | "close-sheet" | "edit-close" | "first" | "fold-dock"
     | "all-messages" | "check" | "open-first" | "show-welcome" | "step-once" | "start-over"
     | "fold-exercise" | "fold-state" | "forget" | "forth" | "give" | "go" | "halt" | "hand" | "home" | "last" | "line-back" | "line-go"
     | "line-next" | "link" | "many" | "new" | "next" | "no" | "now" | "one" | "open-file" | "open-sheet" | "print" | "read" | "save"

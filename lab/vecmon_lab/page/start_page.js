@@ -40,12 +40,16 @@ export class StartPage {
     const why = view.no_c && textOf("author.no-c", { reason: view.no_c });
     put(part(root, "why-no-c"), why, prose(why));
     addEventListener("pagehide", () => this.keep());
+    document.addEventListener("drop", () => this.toggle(false)); // an image, whose refusal is in the console
     const examples = view.examples ?? [];
     for (const heading of new Set(examples.map((example) => example.group))) {
       const own = examples.filter((example) => example.group === heading);
       part(root, "examples").append(...group(heading, own.map((each) => this.tile(each.title, each.about, each.name, each))));
     }
-    if (!view.source.text && !view.source.exercise && view.state.run === "absent" && !sessionStorage.getItem("linked")) this.open();
+    part(root, "to-exercises").addEventListener("click", () => this.leave());
+    part(root, "to-exercises").hidden = !Object.keys(view.exercises).length;
+    const isWanted = sessionStorage.getItem(NAME) !== null || sessionStorage.getItem("linked"); // a source or an exercise
+    if (!view.source.text && view.state.run === "absent" && !isWanted) this.open();
   }
 
   /** Shows the bench once an exercise was opened, or a machine has begun. */

@@ -120,6 +120,7 @@ export interface Places {
   "author.new": never;
   "author.new-c": never;
   "author.open": never;
+  "author.exercises": never;
   "author.no-c": "reason";
   "author.recent": never;
   "author.assembler": never;
