@@ -43,15 +43,7 @@ def test_faults_are_found(browser: "Chrome", tmp_path: pathlib.Path) -> None:
 def test_page_of_student_is_accessible(tabs: "Chrome", course: Served) -> None:
     tab = Tab(tabs, course, "A1")
     tab.wait("!id('exercise').hidden")
-    check(
-        tab.activate(),
-        "button Run",
-        "button Step",
-        "button Raise hand",
-        "button Check",
-        "textbox Assembler source",
-        "tab Problems",
-    )
+    check(tab.activate(), "button Run", "button Step", "button Raise hand", "textbox Assembler source", "tab Problems")
     for begin in (make_problems, fail_exercise, step):
         begin(tab)
         check(tab.activate(), "separator Width of the source", "tab Listing")
@@ -120,6 +112,9 @@ def test_exercise_is_solved_by_keys_alone(tabs: "Chrome", course: Served) -> Non
     tab = Tab.__new__(Tab)
     tab.browser, tab.handle, tab.who = tabs, tabs.current_window_handle, "B1"
     tab.wait("!id('exercise').hidden && text()")
+    focus(tab, "#course-list li:first-child button")
+    press(tabs, Keys.ENTER)
+    tab.wait("id('check').checkVisibility()")
     answer = (OURS / "doubles" / "good.s").read_text()
     for source, verdict in (("ret", "It passes 1 of 5 cases."), (answer, "It passes all cases.")):
         focus(tab, ".CodeMirror-code")
@@ -127,8 +122,8 @@ def test_exercise_is_solved_by_keys_alone(tabs: "Chrome", course: Served) -> Non
         press(tabs, source)
         press(tabs, Keys.CONTROL, Keys.SHIFT, Keys.ENTER)
         tab.wait("one('#exercise .verdict h3')?.textContent === arguments[0]", verdict)
-    focus(tab, "#exercise select")
-    press(tabs, Keys.ARROW_DOWN)
+    focus(tab, "#course-list li:nth-child(2) button")
+    press(tabs, Keys.ENTER)
     tab.wait("text().includes('how many this round takes')")
 
 
