@@ -1,5 +1,6 @@
 """A class served for tests of its pages, and tabs of one browser in it."""
 
+import contextlib
 import hashlib
 import json
 import os
@@ -10,7 +11,7 @@ import subprocess
 import sys
 import time
 import urllib.request
-from collections.abc import Callable, Sequence
+from collections.abc import Callable, Iterator, Sequence
 from typing import IO, TYPE_CHECKING, Any
 
 from support.checked_requests import invalid_requests
@@ -261,6 +262,33 @@ class Tab:
 
     def close(self) -> None:
         self.activate().close()
+
+
+def press_key(tab: Tab, name: str) -> None:
+    """Presses a key that aria-keyshortcuts names."""
+    from selenium.webdriver.common.keys import Keys
+
+    from support.browser import press
+
+    *held, key = name.split("+")
+    letters = {each: getattr(Keys, each.upper()) for each in (*held, key) if len(each) > 1}
+    press(tab.activate(), *(letters.get(each, each.lower()) for each in (*held, key)))
+
+
+def look_at(teacher: Tab, seat: str) -> None:
+    """Look over a student's shoulder."""
+    teacher.click(f"#seats [data-seat='{seat}'] .look")
+    teacher.wait(
+        "id('shoulder').matches('.looks') && one('#seats [aria-current=true]')?.dataset.seat === arguments[0]", seat
+    )
+
+
+@contextlib.contextmanager
+def dialog(teacher: Tab, name: str) -> Iterator[None]:
+    """Open a dialog of the teacher's page, and close it."""
+    teacher.click(f"[data-dialog='{name}']")
+    yield
+    teacher.click(f"#{name} .done")
 
 
 def digest_of(teacher: Tab) -> str:

@@ -19,7 +19,7 @@ import aiohttp
 
 from support import class_tabs
 from support.browser import browser_with
-from support.class_pages import Served, Tab, close_all
+from support.class_pages import Served, Tab, close_all, dialog
 from vecmon_lab.machine.program import find_program
 
 if TYPE_CHECKING:
@@ -49,7 +49,7 @@ const click = () => {
 click();"""
 BUSY = """window.busy = setInterval(() => document.getElementById("one").click(), 300 + Math.random() * 60)"""
 SEEN = """window.seen = []; new MutationObserver(() => window.seen.push(performance.timeOrigin + performance.now()))
-    .observe(document.querySelector("tr[data-seat='A2'] .pill"), { childList: true, characterData: true, subtree: true })"""
+    .observe(document.querySelector("#seats [data-seat='A2'] .condition span + span"), { childList: true, characterData: true, subtree: true })"""
 
 
 def print_times(name: str, taken: Sequence[float]) -> None:
@@ -88,15 +88,21 @@ def eight_seats(browser: "Chrome", served: Served, count: int) -> None:
     for tab in others:
         tab.run("clearInterval(window.busy)")
     teacher = Tab(browser, served, "teacher")
-    teacher.click("[name=on]")
+    turn_clock(teacher)
     press_all(others, "#go")
     print_times("the same, seven others run", clicks(first, count))
     press_all(others, "#halt")
-    teacher.click("[name=on]")
+    turn_clock(teacher)
     first.run("(code().setValue(arguments[0]), id('assemble').click())", LONG)
     first.wait("id('listing').textContent.includes('vid.v') && !id('one').disabled")
     print_times("the first one with 3,900 rows", clicks(first, count))
     print_times("a stop until the teacher's page shows it", stops(others[0], teacher, count // 3))
+
+
+def turn_clock(teacher: Tab) -> None:
+    """Turn the clock on, or off."""
+    with dialog(teacher, "settings"):
+        teacher.click("[name=on]")
 
 
 def stops(tab: Tab, teacher: Tab, count: int) -> list[float]:
@@ -105,7 +111,7 @@ def stops(tab: Tab, teacher: Tab, count: int) -> list[float]:
     teacher.activate().execute_script(SEEN)
     for _ in range(count):
         press_all([tab], "#go")
-        teacher.wait("one(\"tr[data-seat='A2'] .pill\").textContent === 'running'")
+        teacher.wait("one(\"#seats [data-seat='A2'] .condition\").textContent === '▶running'")
         before = teacher.run("window.seen.length")
         tab.wait("!id('halt').disabled")
         started = tab.run("(id('halt').click(), performance.timeOrigin + performance.now())")

@@ -16,7 +16,7 @@ import tempfile
 from typing import TYPE_CHECKING
 
 from support.browser import browser_with
-from support.class_pages import Explored, Served, Tab
+from support.class_pages import Explored, Served, Tab, look_at
 from support.places import EXAMPLES, TOP
 from vecmon_lab.exercises.exercise import OURS
 from vecmon_lab.machine.program import find_program
@@ -100,21 +100,16 @@ def picture_class(browser: "Chrome", served: Served, folder: pathlib.Path) -> No
     student = seat_students(browser, served)
     give_room(student.activate(), HEIGHT)
     teacher = Tab(browser, served, "teacher")
-    give_room(browser, 2 * HEIGHT)
-    teacher.click("tr[data-seat='A3'] td:nth-child(2) button")
-    teacher.wait("id('shoulder').textContent.includes('A3')")
-    for line in ("slices 20", "list", "stats"):
-        teacher.keys("#operator-line", f"{line}\n")
-    teacher.wait("id('operator-log').textContent.includes('owner')")
-    teacher.choose("#on-wall", "A3")
+    give_room(browser, HEIGHT)
+    look_at(teacher, "A3")
+    teacher.click("#on-wall")
     wall = Tab(browser, served, "wall")
     give_room(browser, WALL_HEIGHT)
     wall.wait("id('who').textContent === 'Seat A3'")
     student.command("step 1")
     save(student.activate(), folder / "student.png", HEIGHT)
     teacher.wait("id('step').textContent.includes('v0.t')")
-    height = teacher.run("Math.ceil(one('.vectors').getBoundingClientRect().bottom + 8)")
-    save(browser, folder / "teacher.png", height)
+    save(browser, folder / "teacher.png", HEIGHT)
     wall.wait("id('step').textContent.includes('v0.t')")
     save(browser, folder / "wall.png", WALL_HEIGHT)
 

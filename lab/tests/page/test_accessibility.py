@@ -6,7 +6,7 @@ from typing import TYPE_CHECKING
 from page.conftest import Sit
 from support.accessibility import Node, accessible_nodes, nameless, tab_stops
 from support.browser import media, press
-from support.class_pages import Explored, Served, Tab
+from support.class_pages import Explored, Served, Tab, look_at
 from support.commands import Lab
 from support.page_states import SOURCE, fail_exercise, make_problems, step, write_pages
 from vecmon_lab.exercises.exercise import OURS
@@ -54,8 +54,11 @@ def test_pages_of_teacher_and_wall_are_accessible(tabs: "Chrome", course: Served
     step(student)
     teacher = Tab(tabs, course, "teacher")
     teacher.wait("one(\"tr[data-seat='A1']\")")
-    check(teacher.activate())
-    teacher.run("(id('on-wall').value = 'A1', id('on-wall').onchange())")
+    look_at(teacher, "A1")
+    check(
+        teacher.activate(), "button Next who needs help", "checkbox Choose seat A1", "tab Answers", "radio all 32 seats"
+    )
+    teacher.click("#on-wall")
     wall = Tab(tabs, course, "wall")
     wall.wait("one('#listing .told')")
     check(wall.activate())

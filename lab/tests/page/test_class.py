@@ -11,7 +11,7 @@ import pytest
 
 from support.browser import CONTRAST, media, press
 from page.conftest import Sit
-from support.class_pages import PANES, Served, Tab, digest_of
+from support.class_pages import PANES, Served, Tab, dialog, digest_of, look_at
 from support.places import EXAMPLES
 
 if TYPE_CHECKING:
@@ -44,7 +44,7 @@ def test_eight_tabs_are_independent(tabs: "Chrome", own_class: Served) -> None:
         "> 2 leave", "E03", "> * list", "E03"
     ]  # fmt: skip
     teacher = Tab(tabs, own_class, "teacher")
-    assert teacher.run("all('.seats .pill').map((pill) => pill.textContent)") == ["stopped"] * 8
+    assert teacher.run("all('#seats .condition').map((cell) => cell.textContent)") == ["•paused: .word"] * 8
     script = own_class.check_replay(digest_of(teacher)).decode().splitlines()
     steps = sorted(f"{number} step {count}" for number in range(1, 9) for count in (1, 2))
     assert sorted(line for line in script if "step" in line) == steps  # the last of three steps is single
@@ -63,7 +63,8 @@ def test_source_is_stepped(sit: Sit) -> None:
     tab.click(f"#listing tr[data-address='{place}'] .text")
     tab.wait("one('#listing .breakpoint')?.closest('tr').dataset.address === arguments[0]", place)
     teacher.run("one('[name=ms]').value = 20")
-    teacher.click("[name=on]")
+    with dialog(teacher, "settings"):
+        teacher.click("[name=on]")
     tab.click("#go")
     tab.wait("id('run').textContent === 'Paused' && id('stop').textContent.includes('breakpoint')")
     count = "all(`#elements .after[data-register='9'] ${arguments[0]}`).length"
@@ -75,8 +76,9 @@ def test_source_is_stepped(sit: Sit) -> None:
     tab.click("#go")
     tab.wait("id('facts').textContent.includes('vl5 of 8')")
     assert [tab.run(count, kind) for kind in (".masked", ".tail")] == [sum(each <= 4 for each in x[8:]), 3]
-    teacher.click("[name=on]")
-    teacher.wait("!one('[name=on]').checked")
+    with dialog(teacher, "settings"):
+        teacher.click("[name=on]")
+        teacher.wait("!one('[name=on]').checked")
 
 
 def test_mistake_links_to_source_location(sit: Sit) -> None:
@@ -144,9 +146,10 @@ def test_pasted_text_is_taken_or_refused(sit: Sit, served: Served) -> None:
         tab.run(put, "line", text)
         tab.keys("#line", Keys.ENTER)
         assert tab.text("#stop") == expected
-        teacher.run(put, "operator-line", text)
-        teacher.keys("#operator-line", Keys.ENTER)
-        assert teacher.text("#gone").replace("`", "") == expected
+        with dialog(teacher, "settings"):
+            teacher.run(put, "operator-line", text)
+            teacher.keys("#operator-line", Keys.ENTER)
+            assert teacher.text("#operator-log li:last-child").replace("`", "") == expected
     _paste_long_sources(tab)
     assert served.fetch("A/script") == script
     _paste_longest_source(tab)
@@ -313,13 +316,14 @@ def test_earlier_lines_and_refusals_are_shown(sit: Sit) -> None:
     tab.keys("#line", "é\n")
     tab.wait("id('stop').textContent.includes(\"Character 1 of line 1, é, isn't printable ASCII\")")
     teacher = sit("teacher")
-    teacher.click("tr[data-seat='A4'] td:nth-child(2) button")
+    look_at(teacher, "A4")
     teacher.wait("id('log').textContent.includes(arguments[0])", tag)
     assert "vill" in teacher.text("#stop") and "vle32.v" in teacher.text("#listing")
-    teacher.keys("#operator-line", f"{tag}\n")
-    teacher.wait("id('operator-log').textContent.includes('E03there is no command <img') && !one('img')")
-    teacher.keys("#operator-line", "slices 0\n")
-    teacher.wait("id('operator-log').textContent.includes(\"0 isn't from 1 to 1,000; the form is * slices N\")")
+    with dialog(teacher, "settings"):
+        teacher.keys("#operator-line", f"{tag}\n")
+        teacher.wait("id('operator-log').textContent.includes('E03there is no command <img') && !one('img')")
+        teacher.keys("#operator-line", "slices 0\n")
+        teacher.wait("id('operator-log').textContent.includes(\"0 isn't from 1 to 1,000; the form is * slices N\")")
     assert teacher.run("document.title") == "Teacher – vecmon" and tab.run("!one('img') && document.title").startswith(
         "Seat"
     )
@@ -333,16 +337,16 @@ def test_earlier_lines_and_refusals_are_shown(sit: Sit) -> None:
 def test_teacher_page_changes_settings(sit: Sit, tmp_path: pathlib.Path, served: Served) -> None:
     """The teacher's page has a student's stop; rights, operator's lines, a new code, downloads, files to take home."""
     tab, teacher = sit("A5"), sit("teacher")
-    row = "tr[data-seat='A5']"
+    status = "one(\"#seats [data-seat='A5'] .condition\").textContent"
     tab.begin(*COUNT_UP)
     tab.command("break 10004")
     tab.click("#go")
-    teacher.wait(f"one(\"{row} .pill\").textContent === 'running'")
-    teacher.click(f"{row} td:nth-child(2) button")
+    teacher.wait(f"{status} === '▶running'")
+    look_at(teacher, "A5")
+    teacher.click("[data-dialog='settings']")
     teacher.keys("#operator-line", "run 5\n")
-    teacher.wait(f'/at a breakpoint, \\d+ s/.test(one("{row}").textContent)')
+    teacher.wait(f"{status} === '•at a breakpoint'")
     teacher.wait("id('operator-log').textContent.includes('granted 1') && id('listing').querySelector('.breakpoint')")
-    assert teacher.text(f"{row} .pill") == "stopped"
     tab.wait("id('run').textContent === 'Paused'")
     teacher.click("[name=own]")
     tab.wait("id('slice').hidden")
@@ -363,12 +367,14 @@ def test_teacher_page_changes_settings(sit: Sit, tmp_path: pathlib.Path, served:
         assert b"5 break 10004\n" in packed.read("A5/A5.script")
     tab.wait("!id('home').disabled && !id('hint').textContent")
     old = served.codes["A5"]
-    teacher.click(f"{row} [aria-label^='New code']")
+    teacher.click("#settings .done")
+    teacher.click("[data-dialog='join-class']")
+    teacher.click("[aria-label='New code for seat A5']")
     teacher.click("#yes")
     tab.wait("!id('join').hidden && id('head').hidden")
     assert "isn't valid" in tab.text("#join-says") and tab.run("sessionStorage.getItem('code')") is None
     assert served.codes["A5"] != old
-    teacher.wait(f"one(\"{row} a\").hash === '#' + arguments[0]", served.codes["A5"])
+    teacher.wait("one(\"[data-code='A5'] a\").hash === '#' + arguments[0]", served.codes["A5"])
     tab.keys("#code", served.codes["A5"] + "\n")
     tab.wait("id('who').textContent === 'Seat A5'")
     served.check_replay(digest_of(teacher))
@@ -401,7 +407,7 @@ def test_tab_reconnects_after_server_restart(tabs: "Chrome", own_class: Served) 
     tab.click("#one")
     tab.wait("id('step').textContent.includes('addi t0')")
     tab.run("window.marked = 1")
-    teacher.click("tr[data-seat='A1'] td:nth-child(2) button")
+    look_at(teacher, "A1")
     (machine,) = own_class.programs()
     os.kill(machine, signal.SIGSTOP)
     tab.click("#one")
@@ -436,9 +442,10 @@ def test_teacher_controls_two_machines(program: pathlib.Path, tmp_path: pathlib.
     served = Served(tmp_path / "class", program, "--machines", "2")
     tab, teacher = Tab(tabs, served, "B8"), Tab(tabs, served, "teacher")
     tab.begin(*COUNT_UP)
-    assert teacher.run("all('#machines h2').map((head) => head.textContent).join()") == "Machine A,Machine B"
-    teacher.wait("one(\"[data-seat='B8'] .pill\").textContent === 'stopped'")
-    assert teacher.run("all('.seats .pill').filter((pill) => pill.textContent === 'stopped').length") == 1
+    assert teacher.run("all('#machines h3').map((head) => head.textContent).join()") == "Machine A,Machine B"
+    teacher.wait("one(\"[data-seat='B8'] .condition\").textContent === '•paused: addi'")
+    assert teacher.run("all('#seats .work').length") == 1
+    teacher.click("[data-dialog='settings']")
     teacher.run("id('operated').value = 'B'")
     teacher.keys("#operator-line", "list\n")
     teacher.wait("id('operator-log').textContent.includes('B * list 1:- 2:- 3:- 4:- 5:- 6:- 7:- 8:stopped')")
@@ -467,7 +474,7 @@ def test_pages_have_contrast_and_fit_narrow_windows(sit: Sit) -> None:
     tab.run("id('number').value = 2")
     tab.click("#many")
     tab.command("dance")
-    teacher.click("tr[data-seat='A8'] td:nth-child(2) button")
+    look_at(teacher, "A8")
     teacher.wait("id('listing').textContent.includes('vadd.vi')")
     for page in (tab, teacher):
         page.activate()
@@ -480,8 +487,6 @@ def test_pages_have_contrast_and_fit_narrow_windows(sit: Sit) -> None:
             assert page.run("document.documentElement.scrollWidth") <= width
         page.browser.execute_cdp_cmd("Emulation.clearDeviceMetricsOverride", {})
         media(page.browser)
-    teacher.click("tr[data-seat='A8'] td:nth-child(2) button")
-    teacher.wait("id('desk').hidden")
 
 
 def test_focus_is_visible_and_controls_have_names(sit: Sit) -> None:
@@ -496,7 +501,7 @@ def test_focus_is_visible_and_controls_have_names(sit: Sit) -> None:
             tab,
             {"one", "go", "More steps", "Menu", "line", "show-listing", "listing", "form", "view", "log"},
         ),
-        (teacher, {"Look at seat A1", "New code for seat A8", "Script", "operator-line", "operator-log"}),
+        (teacher, {"next-help", "open-join", "Choose seat A7", "A7 ", "show-message", "words"}),
     ):
         page.activate()
         seen = dict[str, str]()

@@ -8,7 +8,7 @@ from typing import TYPE_CHECKING
 import pytest
 
 from support.browser import CONTRAST
-from support.class_pages import Served, Tab
+from support.class_pages import Served, Tab, look_at
 from vecmon_lab.compilers.compiler import Compiler
 from vecmon_lab.exercises.exercise import OURS
 from vecmon_lab.tables.table import read_table
@@ -24,7 +24,7 @@ IN_SIGHT = """((panel, shown) => shown.every(({ top, bottom }) => top >= panel.t
     [one("#verdict h3"), ...all("#verdict .strip"), one("#verdict button")].slice(0, 5).map((each) => each.getBoundingClientRect()))"""
 BOXES = "[...one(arguments[0]).querySelectorAll('.strip span[title]')].map((box) => box.firstChild.data)"
 
-ANSWERS = "#scores button[aria-label^='Answers of seat A3 to']"
+ANSWERS = "#seats [data-seat='A3'] button[data-exercise='doubles']"
 
 
 @pytest.fixture(scope="module")
@@ -215,14 +215,12 @@ def test_passed_cases_are_shown(tabs: "Chrome", course: Served) -> None:
     assert "how many this round takes" in tab.run("text()")
     assert tab.run("one('#course-list .passed').textContent") == "1Doubles✓"
     teacher = Tab(tabs, course, "teacher")
-    teacher.wait("one(arguments[0])?.textContent.startsWith('✓ try 2')", ANSWERS)
-    assert teacher.run(
-        "all('#seats tr').length === 32 && one('#scores tbody tr').getBoundingClientRect().bottom < innerHeight"
-    )
+    teacher.wait("one(arguments[0])?.textContent === '✓2'", ANSWERS)
+    look_at(teacher, "A3")
     teacher.click(ANSWERS)
-    teacher.wait("id('scores').querySelector('pre').textContent.includes('vadd.vv')")
-    teacher.choose("#scores select", "try 1")
-    teacher.wait("id('scores').querySelector('pre').textContent.includes('vsetivli zero, 8')")
+    teacher.wait("id('answer').textContent.includes('vadd.vv')")
+    teacher.choose("#answer-try", "try 1")
+    teacher.wait("id('answer').textContent.includes('vsetivli zero, 8')")
     assert teacher.activate().execute_script(CONTRAST) == []
 
 
@@ -272,4 +270,4 @@ def test_class_without_exercises_shows_none(tabs: "Chrome", served: Served) -> N
     tab = Tab(tabs, served, "A1")
     assert tab.run("id('exercise').hidden") and not re.search("Exercise", tab.run("id('head').innerText"))
     teacher = Tab(tabs, served, "teacher")
-    assert teacher.run("id('scores').hidden")
+    assert teacher.run("all('#columns button').length") == 0

@@ -6,7 +6,7 @@ from typing import TYPE_CHECKING
 
 import pytest
 
-from support.class_pages import Explored, Served, Tab
+from support.class_pages import Explored, Served, Tab, look_at
 from support.commands import Lab
 from support.layouts import SIZES, faults_now, layout_faults, reset, resize
 from support.page_states import SOURCE, STUDENT, step, write_pages
@@ -41,7 +41,8 @@ def test_wall_fits(tabs: "Chrome", course: Served) -> None:
     step(tab)
     teacher = Tab(tabs, course, "teacher")
     teacher.wait("one(\"tr[data-seat='A2']\")")
-    teacher.run("(id('on-wall').value = 'A2', id('on-wall').onchange())")
+    look_at(teacher, "A2")
+    teacher.click("#on-wall")
     wall = Tab(tabs, course, "wall")
     wall.wait("one('#listing .told')")
     assert layout_faults(wall.activate()) == {}

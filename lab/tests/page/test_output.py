@@ -3,7 +3,7 @@
 import json
 from typing import TYPE_CHECKING
 
-from support.class_pages import Served, Tab
+from support.class_pages import Served, Tab, dialog
 
 if TYPE_CHECKING:
     from selenium.webdriver import Chrome
@@ -44,8 +44,9 @@ def test_endlessly_printing_program_is_stopped(tabs: "Chrome", own_class: Served
     tab.run("code().setValue(arguments[0])", PRINTS)
     tab.click("#assemble")
     tab.wait("one('#listing .next')")
-    teacher.click("#clocks [name='on']")
-    teacher.wait("one('#clocks [name=on]').checked")
+    with dialog(teacher, "settings"):
+        teacher.click("#clocks [name='on']")
+        teacher.wait("one('#clocks [name=on]').checked")
     tab.click("#go")
     tab.wait("!id('output-new').hidden")  # the tab of the output is marked, and stays behind the console
     tab.click("#show-output")

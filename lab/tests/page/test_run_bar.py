@@ -4,7 +4,7 @@ import pathlib
 from typing import TYPE_CHECKING
 
 from page.conftest import Sit
-from support.class_pages import Served, Tab
+from support.class_pages import Served, Tab, press_key
 
 if TYPE_CHECKING:
     from selenium.webdriver import Chrome
@@ -45,17 +45,6 @@ KEYS = {
 def write(tab: Tab, text: str) -> None:
     """Puts a source into the editor, as typing does."""
     tab.run("code().setValue(arguments[0])", text)
-
-
-def press_key(tab: Tab, name: str) -> None:
-    """Presses a key that aria-keyshortcuts names."""
-    from selenium.webdriver.common.keys import Keys
-
-    from support.browser import press
-
-    *held, key = name.split("+")
-    letters = {each: getattr(Keys, each.upper()) for each in (*held, key) if len(each) > 1}
-    press(tab.activate(), *(letters.get(each, each.lower()) for each in (*held, key)))
 
 
 def test_run_and_step_build_a_changed_source(sit: Sit) -> None:
@@ -121,7 +110,7 @@ def test_each_key_presses_its_button(tabs: "Chrome", program: pathlib.Path, tmp_
     try:
         tab = Tab(tabs, served, "A1")
         tab.wait("!id('exercise').hidden && text()")
-        names = "all(`button[aria-keyshortcuts~='${arguments[0]}']`).map((each) => each.id || each.textContent)"
+        names = "all(`button:not(.teacher)[aria-keyshortcuts~='${arguments[0]}']`).map((each) => each.id || each.textContent)"
         for key, button in KEYS.items():
             assert tab.run(names, key) == [button]
         assert tab.run("all('button[aria-keyshortcuts]:enabled').every(({ title }) => title.endsWith(')'))")
@@ -225,9 +214,9 @@ def test_hand_reaches_the_class(sit: Sit) -> None:
     press_key(tab, "Alt+Shift+H")
     for page in (tab, other):
         page.wait("id('hand').textContent === 'Hand raised' && id('hand').ariaPressed === 'true'")
-    teacher.wait("one('#seats .stuck[data-seat=A4] .wraps')?.textContent.startsWith('hand raised')")
+    teacher.wait("one('#seats .hand[data-seat=A4] .condition')?.textContent === '☝hand raised'")
     press_key(other, "Alt+Shift+H")
-    teacher.wait("!one('#seats [data-seat=A4].stuck')")
+    teacher.wait("!one('#seats [data-seat=A4].hand')")
     tab.wait("id('hand').textContent === 'Raise hand' && id('hand').ariaPressed === 'false'")
 
 

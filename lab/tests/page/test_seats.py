@@ -1,4 +1,4 @@
-"""The table of seats, names, and what a teacher does for one seat, in Chromium."""
+"""The teacher's page in Chromium: the list of seats, names, messages, offers, keys, and the start of a class."""
 
 import pathlib
 from collections.abc import Iterator
@@ -6,10 +6,13 @@ from typing import TYPE_CHECKING
 
 import pytest
 
-from support.class_pages import Served, Tab
+from support.class_pages import Served, Tab, look_at, press_key
 
 if TYPE_CHECKING:
     from selenium.webdriver import Chrome
+
+
+SEATS = "all('#seats tr').map((row) => row.dataset.seat)"
 
 
 @pytest.fixture(scope="module")
@@ -21,7 +24,7 @@ def served(program: pathlib.Path, tmp_path_factory: pytest.TempPathFactory) -> I
 
 
 def test_typed_name_is_shown(tabs: "Chrome", served: Served) -> None:
-    """With the code, at the top of the page, and by the teacher; in the table, over the shoulder, and on the sheet."""
+    """With the code, at the top of the page, and by the teacher; in the list, over the shoulder, and on the sheet."""
     tab, teacher = Tab(tabs, served, "A2"), Tab(tabs, served, "teacher")
     tab.click("#menu summary")
     tab.click("#forget")
@@ -30,17 +33,19 @@ def test_typed_name_is_shown(tabs: "Chrome", served: Served) -> None:
     tab.keys("#called", "Bo")
     tab.keys("#code", served.codes["A2"] + "\n")
     tab.wait("id('who').textContent === 'Seat A2' && id('name').value === 'Bo'")
-    teacher.wait("one(\"tr[data-seat='A2'] input\").value === 'Bo'")
+    teacher.wait("one(\"#seats [data-seat='A2'] .look\").textContent === 'A2 Bo'")
     tab.click("#menu summary")
     tab.keys("#name", " <b>\n")
-    tab.wait("id('stop').textContent.includes('a name begins with a letter') && !one('b')")
+    tab.wait("id('stop').textContent.includes('a name begins with a letter') && !one('b:not(#help-count)')")
     tab.run("id('name').value = ''")
     tab.keys("#name", "Zoë O'Brien\n")
-    teacher.wait('one("tr[data-seat=\'A2\'] input").value === "Zoë O\'Brien"')
-    teacher.keys("tr[data-seat='D8'] input", "Ada L.\n")
-    teacher.click("tr[data-seat='A2'] td:nth-child(2) button")
-    teacher.wait("id('shoulder').textContent === \"Seat A2, Zoë O'Brien, over the shoulder\"")
-    teacher.wait("scrollY > 0 && id('shoulder').getBoundingClientRect().top < innerHeight / 2")
+    teacher.wait('one("#seats [data-seat=\'A2\'] .look").textContent === "A2 Zoë O\'Brien"')
+    teacher.click("[data-dialog='join-class']")
+    teacher.keys("[data-code='D8'] input", "Ada L.\n")
+    teacher.click("#join-class .done")
+    look_at(teacher, "A2")
+    assert teacher.text("#shoulder-title") == "Zoë O'Brien (A2)"
+    teacher.click("[data-dialog='join-class']")
     teacher.click("#open-sheet")
     teacher.wait("all('#slips h2').length === 32")
     heads = teacher.run("all('#slips h2').map((head) => head.textContent)")
@@ -49,53 +54,102 @@ def test_typed_name_is_shown(tabs: "Chrome", served: Served) -> None:
 
 
 def test_stuck_students_are_listed_first(tabs: "Chrome", served: Served) -> None:
-    """One table for 32 seats, with one clock; a line for a seat, which is reset."""
+    """Of 32 seats, whose rows are all in sight; N goes to the one that has waited longest, and a message reaches that one."""
     tab, other, teacher = Tab(tabs, served, "D7"), Tab(tabs, served, "B1"), Tab(tabs, served, "teacher")
-    seats = "all('#seats tr').map((row) => row.dataset.seat)"
-    assert teacher.run(seats) == [f"{letter}{number}" for letter in "ABCD" for number in range(1, 9)]
-    assert teacher.run("all('#seats tr').every((row) => row.offsetHeight < 30)")
-    assert teacher.run("((box) => box.scrollWidth <= box.clientWidth)(one('.seats .scroll'))")
+    teacher.wait(f"{SEATS}.length === 32")
+    assert teacher.run("all('#seats tr').every((row) => row.offsetHeight < 24)")
+    assert teacher.run("((box) => box.scrollWidth <= box.clientWidth)(one('#roster .scroll'))")
     tab.begin("vle32.v v1, (x1)")
     other.begin("addi x5, x5, 1")
     tab.click("#one")
-    teacher.wait(f"{seats}[0] === 'D7'")
-    shown = teacher.text("tr[data-seat='D7'] .wraps")
-    assert shown.startswith("illegal instruction vle32.v v1, (x1), ") and shown.endswith(" s")
-    assert teacher.text("tr[data-seat='B1'] .wraps").startswith("at addi x5, x5, 1, ")
-    assert teacher.run(f"{seats}.slice(1, 3)") == ["A1", "A2"]
-    teacher.click("#clocks [name=on]")
-    teacher.wait("one('#clocks [name=on]').checked")
-    teacher.choose("#receiver", "D7")
-    teacher.keys("#words", "Set a vector type <i>first</i>.\n")
-    tab.wait("id('log').textContent.includes('The teacher: Set a vector type <i>first</i>.')")
-    teacher.wait("id('words').value === ''")
-    assert "Set a vector" not in other.text("#log") + other.text("#notices")
-    assert "The teacher: Set a vector type <i>first</i>." in tab.text("#notices")
+    teacher.wait(f"{SEATS}[0] === 'D7'")
+    assert teacher.text("[data-seat='D7'] .condition") == "↯fault: vle32.v"
+    assert teacher.text("[data-seat='D7'] .minutes").endswith(" s")
+    assert teacher.text("[data-seat='B1'] .condition") == "•paused: addi"
+    assert teacher.run(f"{SEATS}[1]") == "B1"  # at work, before those that are empty
+    press_key(teacher, "N")
+    teacher.wait("id('shoulder-title').textContent === 'seat D7' && document.activeElement.textContent === 'D7 '")
+    press_key(teacher, "M")
+    teacher.wait("document.activeElement.id === 'words'")
+    teacher.keys("#words", "Nobody sets a vector type <i>first</i>.")  # letters are letters in a field
+    assert teacher.run("[id('send-it'), id('preview')].map((each) => each.textContent)") == [
+        "Send to seat D7",
+        "seat D7 will see it above the source until it is closed.",
+    ]
+    teacher.click("#send-it")
+    tab.wait("id('log').textContent.includes('The teacher: Nobody sets a vector type <i>first</i>.')")
+    teacher.wait("id('words').value === '' && one('#sent li')?.textContent.includes('read by 0 of 1')")
+    assert "vector type" not in other.text("#log") + other.text("#notices")
+    assert "The teacher: Nobody sets a vector type <i>first</i>." in tab.text("#notices")
     tab.click("#notices button")
     tab.wait("!one('#notices li')")
-    teacher.click("tr[data-seat='D7'] [aria-label^='Reset']")
+    teacher.wait("one('#sent li').textContent.includes('read by 1 of 1') && !one('#sent button')")
+    teacher.click("#reset")
     teacher.click("#yes")
     tab.wait("id('run').textContent === 'Not begun' && id('log').textContent.includes('taken this machine away')")
-    teacher.run("document.activeElement.blur()")
-    teacher.keys("#operator-line", "list\n")
-    teacher.wait("one(\"tr[data-seat='D7'] .pill\").textContent === 'not entered'")
+    teacher.wait("one(\"[data-seat='D7'] .condition\").textContent === 'not begun'")
 
 
-OFFER = """((code, request) => {
-    const socket = new WebSocket(`ws://${location.host}/socket`);
-    socket.onopen = () => [{ code }, request].forEach((it) => socket.send(JSON.stringify(it)));
-})(...arguments)"""
-
-
-def test_offered_source_is_opened(tabs: "Chrome", served: Served) -> None:
-    """It has its title in the banner, replaces the source at a press of *Open*, and is gone from the banner then."""
-    tab = Tab(tabs, served, "C4")
+def test_source_is_offered_to_chosen_seats(tabs: "Chrome", served: Served) -> None:
+    """Ticked rows are chosen; who opens the offer is counted; it is taken back from the one who hasn't read it."""
+    tab, other, teacher = Tab(tabs, served, "C4"), Tab(tabs, served, "C5"), Tab(tabs, served, "teacher")
     before = tab.run("text()")
-    words = {"title": "A <i>start</i>", "text": "addi x6, x6, 2"}
-    tab.run(OFFER, served.codes["teacher"], {"id": 1, "ask": "give", "seats": ["C4"], "how": "offer", **words})
-    tab.wait("all('#notices button').length === 2")
-    assert "The teacher offers a source: A <i>start</i>" in tab.text("#notices")
-    assert tab.run("text()") == before
+    press_key(teacher, "G")
+    teacher.wait("!id('gift').hidden && id('send-it').disabled")
+    teacher.run("code('given').setValue('addi x6, x6, 2')")
+    for seat in ("C4", "C5"):
+        teacher.click(f"#seats [data-seat='{seat}'] input")
+    teacher.keys("#gift-title", "A <i>start</i>")
+    assert teacher.text("#send-it") == "Offer to 2 students" and "seat C4, seat C5" in teacher.text("#preview")
+    teacher.click("#send-it")
+    for each in (tab, other):
+        each.wait("all('#notices button').length === 2")
+    assert "The teacher offers a source: A <i>start</i>" in tab.text("#notices") and tab.run("text()") == before
     tab.click("#notices button")
     tab.wait("text() === 'addi x6, x6, 2' && !one('#notices li')")
-    assert "You opened the teacher's source." in tab.text("#log")
+    teacher.wait("one('#sent li').textContent.includes('read by 1 of 2, opened by 1')")
+    teacher.click("#sent button")
+    other.wait("!one('#notices li')")
+    teacher.wait("id('sent-says').textContent === 'Taken back. Read before by seat C4.'")
+    assert other.run("text()") == before and "opened the teacher's source" in tab.text("#log")
+
+
+def test_keys_of_letters_can_be_off(tabs: "Chrome", served: Served) -> None:
+    """In the menu; the browser keeps it. F1 lists the keys."""
+    teacher = Tab(tabs, served, "teacher")
+    press_key(teacher, "G")
+    assert not teacher.run("id('gift').hidden")
+    press_key(teacher, "F1")
+    assert teacher.run("id('key-list').open && id('teacher-keys').textContent.includes('Shift N')")
+    teacher.click("#key-list .done")
+    teacher.click("#letters")
+    press_key(teacher, "M")
+    assert teacher.run("id('message').hidden")
+    teacher.activate().refresh()
+    teacher.wait("id('letters') && !id('letters').checked && id('seats').childElementCount === 32")
+    teacher.run("localStorage.clear()")
+
+
+def test_start_page_leads_in(tabs: "Chrome", program: pathlib.Path, tmp_path: pathlib.Path) -> None:
+    """It has the address, exercises to turn on, and a message for all; the list comes with the first student."""
+    served = Served(tmp_path / "class", program, "--exercise", "doubles", "--address", "http://192.168.1.20:24108/")
+    try:
+        teacher = Tab(tabs, served, "teacher")
+        teacher.wait("!id('opening').hidden && !id('roster').checkVisibility()")
+        assert teacher.text("#opening .address") == "http://192.168.1.20:24108/"
+        assert teacher.run("all('#opening .course :checked').map(({ name }) => name)") == ["doubles"]
+        teacher.click("#opening [name=filter]")
+        teacher.wait("all('#opening .course :checked').map(({ name }) => name).join() === 'doubles,filter'")
+        teacher.keys("#words", "Welcome.")
+        assert teacher.text("#send-it") == "Send to 8 students"
+        teacher.click("#send-it")
+        teacher.wait("one('#sent li')")
+        tab = Tab(tabs, served, "A3")
+        tab.wait("id('notices').textContent.includes('Welcome.')")
+        tab.wait("one('#exercise select').length === 2")
+        teacher.wait(
+            "id('opening').hidden && id('roster').checkVisibility() && one('[name=to]:checked').value === 'one'"
+        )
+        assert teacher.text("#summary-says") == "1 of 8 seats · programs wait: the clock is off"
+    finally:
+        served.end()

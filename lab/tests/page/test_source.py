@@ -4,7 +4,7 @@ import pathlib
 from typing import TYPE_CHECKING
 
 from page.conftest import Sit
-from support.class_pages import PIECES, Served, Tab
+from support.class_pages import PIECES, Served, Tab, look_at
 
 if TYPE_CHECKING:
     from selenium.webdriver import Chrome
@@ -114,8 +114,7 @@ def test_source_is_shared_by_tabs_of_seat(sit: Sit) -> None:
     from selenium.webdriver.common.keys import Keys
 
     tab, other, outsider, teacher = sit("A2"), sit("A2"), sit("A3"), sit("teacher")
-    teacher.click("tr[data-seat='A2'] td:nth-child(2) button")
-    teacher.wait("!id('desk').hidden")
+    look_at(teacher, "A2")
     teacher.click("#show-source")
     tab.type(Keys.CONTROL, Keys.END, Keys.NULL, "# mine")
     for page in (other, teacher):
@@ -147,14 +146,15 @@ def test_given_source_is_offered(sit: Sit, tmp_path: pathlib.Path) -> None:
     empty(tab)
     tab.type("nop # mine", Keys.CONTROL, Keys.ENTER)
     tab.wait("id('editor').hidden && one('#listing .next')")
-    teacher.click("tr[data-seat='A3'] td:nth-child(2) button")
-    teacher.wait(f"!id('desk').hidden && {TEXT} === 'nop # mine'")
+    look_at(teacher, "A3")
+    teacher.wait(f"{TEXT} === 'nop # mine'")
     teacher.click("#show-source")
     teacher.click("#take")
     assert teacher.run("text('given')") == "nop # mine"
     teacher.type(Keys.CONTROL, Keys.HOME, Keys.NULL, "# theirs", Keys.ENTER, field="given")
-    assert teacher.run("id('receiver').value") == "A3"  # the seat that is looked at
-    teacher.click("#give")
+    assert teacher.text("#send-it") == "Offer to seat A3"  # the seat that is looked at
+    teacher.click("[name=how][value=replace]")
+    teacher.click("#send-it")
     tab.wait(f"{TEXT} === '# theirs\\nnop # mine' && !id('editor').hidden")
     assert "The teacher gave a source" in tab.text("#log") and "theirs" not in other.run(TEXT)
     tab.type(Keys.CONTROL, "z", Keys.NULL)
@@ -173,14 +173,13 @@ def test_given_source_is_offered(sit: Sit, tmp_path: pathlib.Path) -> None:
 
 def _give_to_all(teacher: Tab, tab: Tab, other: Tab) -> None:
     """The teacher gives every seat a source, while the source of one is too long for a version."""
-    teacher.run("id('receiver').value = 'all'")
+    teacher.click("[name=to][value=all]")
     teacher.type("# all ", field="given")
-    teacher.click("#give")
-    assert "every seat" in teacher.text("#question")
+    assert teacher.text("#send-it") == "Replace for 8 students"
     replace = f"(code().setValue(arguments[0]), {TEXT}.length)"
     assert tab.run(replace, "#" * 65537) == 65537  # which can't become a version
     assert "the server doesn't save it, and nothing replaces it" in tab.text("#left")
-    teacher.click("#yes")
+    teacher.click("#send-it")
     tab.wait("id('log').textContent.split('The teacher gave a source').length === 3")
     assert tab.run(f"{TEXT}.length") == 65537
     tab.run(replace, "# short")
@@ -190,16 +189,13 @@ def _give_to_all(teacher: Tab, tab: Tab, other: Tab) -> None:
 
 
 def _take_back(teacher: Tab, tab: Tab) -> None:
-    """The teacher takes the source back, and then gives one to no seat, which sends nothing."""
-    teacher.wait("id('gave').textContent.startsWith('Given to all seats: ')")
-    teacher.click("#take-back")
+    """The teacher takes the source back; to no seat nothing can be given."""
+    teacher.wait("one('#sent .given')?.textContent.includes('all seats')")
+    teacher.click("#sent .given button")
     tab.wait(f"{TEXT}.startsWith('# theirs')")
-    teacher.wait("id('take-back').hidden && id('gave').textContent.startsWith('Taken back: ')")
-    teacher.click("tr[data-seat='A3'] td:nth-child(2) button")
-    teacher.wait("id('desk').hidden")
-    assert teacher.run("id('receiver').value") == ""
-    teacher.click("#give")
-    assert teacher.text("#gone").startswith("Nothing was sent: choose a seat")
+    teacher.wait("!one('#sent .given') && id('sent-says').textContent.startsWith('Taken back: ')")
+    teacher.click("[name=to][value=chosen]")
+    assert teacher.run("id('send-it').disabled") and teacher.text("#preview").startswith("Choose a student")
     teacher.activate().refresh()
     teacher.wait("document.title === 'Teacher – vecmon' && text('given').includes('# all')")
 

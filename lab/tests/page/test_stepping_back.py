@@ -1,7 +1,7 @@
 """A class's page goes back through what it saw, and asks where something would be lost."""
 
 from page.conftest import Sit
-from support.class_pages import Tab
+from support.class_pages import Tab, dialog, look_at
 
 SHOWN_ADDRESS = "one('#listing .told')?.dataset.address"
 V1 = "all(\"#elements .after[data-register='1'] td\").map((cell) => cell.firstChild.data).join(' ')"
@@ -26,8 +26,9 @@ def _step_thrice(tab: Tab, teacher: Tab) -> None:
     tab.run("code().setValue(arguments[0])", DOUBLES)
     tab.click("#assemble")
     tab.wait("one('#listing .next')")
-    teacher.click("tr[data-seat='A1'] td:nth-child(2) button")
+    look_at(teacher, "A1")
     teacher.wait("one('#listing .next')")
+    teacher.click("#tab-vectors")
     for address in ("10000", "10004", "10008"):
         tab.click("#one")
         tab.wait(f"{SHOWN_ADDRESS} === arguments[0]", address)
@@ -75,8 +76,6 @@ def test_steps_back_and_forth(sit: Sit) -> None:
     )  # who stays in the past
     teacher.click("#now")
     assert teacher.run(SHOWN_ADDRESS) == "1000c"
-    teacher.click("tr[data-seat='A1'] td:nth-child(2) button")
-    teacher.wait("id('desk').hidden")
 
 
 def test_steps_back_over_run(sit: Sit) -> None:
@@ -85,7 +84,8 @@ def test_steps_back_over_run(sit: Sit) -> None:
     tab.begin("addi x5, x5, 1", "jal x0, -4")
     tab.command("set x5 0", "go")
     tab.wait("id('run').textContent === 'Running'")
-    teacher.keys("#operator-line", "slices 3\n")
+    with dialog(teacher, "settings"):
+        teacher.keys("#operator-line", "slices 3\n")
     tab.wait("id('registers').textContent.includes('x5')")
     tab.command("stop")
     tab.wait("id('run').textContent === 'Paused' && one(\"[data-edit='set x5']\").textContent !== '0'")

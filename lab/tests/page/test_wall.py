@@ -9,7 +9,7 @@ import pytest
 
 from page.conftest import Sit
 from support.browser import CONTRAST, media
-from support.class_pages import PANES, Served, Tab
+from support.class_pages import PANES, Served, Tab, dialog, look_at
 
 if TYPE_CHECKING:
     from selenium.webdriver import Chrome
@@ -41,15 +41,16 @@ def test_codes_are_shown_and_printed(sit: Sit, served: Served) -> None:
         return [name for name, code in codes.items() if code in page]
 
     assert seen() == []
+    teacher.click("[data-dialog='join-class']")
     for _ in range(2):
-        teacher.click("tr[data-seat='A3'] [aria-label^='Code']")
-        teacher.wait("one(\"tr[data-seat='A3'] a\").href === arguments[0]", f"{ADDRESS}#{codes['A3']}")
+        teacher.click("[aria-label='Code for seat A3']")
+        teacher.wait("one(\"[data-code='A3'] a\").href === arguments[0]", f"{ADDRESS}#{codes['A3']}")
         assert seen() == ["A3"]
-        teacher.click("tr[data-seat='A3'] [aria-label^='Code']")
+        teacher.click("[aria-label='Code for seat A3']")
         assert seen() == []
     teacher.click("#show-codes")
-    teacher.wait("id('wall-code').textContent.includes(arguments[0])", codes["wall"])
-    assert teacher.run("all('.seats td a').map((link) => link.textContent)") == [codes[seat] for seat in seats]
+    teacher.wait("one('[data-code=wall]').textContent.includes(arguments[0])", codes["wall"])
+    assert teacher.run("all('#codes a').map((link) => link.textContent)") == [codes[seat] for seat in [*seats, "wall"]]
     teacher.click("#show-codes")
     assert seen() == []
     teacher.click("#open-sheet")
@@ -99,17 +100,19 @@ def test_wall_shows_seat_without_codes(tabs: "Chrome", served: Served) -> None:
     wall = Tab(tabs, served, "wall", KEEP)
     assert "shows no seat" in wall.text("#who") and not wall.run("id('desk').checkVisibility()")
     tab.begin("vsetivli x0, 8, e16, m2, ta, ma", *["vadd.vi v2, v2, 3"] * 20)
-    teacher.choose("#on-wall", "A7")
+    look_at(teacher, "A7")
+    teacher.click("#on-wall")
     wall.wait("id('who').textContent === 'Seat A7' && id('desk').checkVisibility()")
     tab.run("id('number').value = 12")
     tab.click("#many")
     wall.wait("one('#listing .told')?.dataset.address === '1002c'")
     _check_layout(wall)
-    teacher.click("#show-codes")
-    teacher.click("tr[data-seat='A2'] [aria-label^='New code']")
-    teacher.click("#yes")
-    shown = "one(\"tr[data-seat='A2'] a\").hash"
-    teacher.wait(f"{shown} && {shown} !== '#' + arguments[0]", codes["A2"])
+    with dialog(teacher, "join-class"):
+        teacher.click("#show-codes")
+        teacher.click("[aria-label='New code for seat A2']")
+        teacher.click("#yes")
+        shown = "one(\"[data-code='A2'] a\").hash"
+        teacher.wait(f"{shown} && {shown} !== '#' + arguments[0]", codes["A2"])
     tab.click("#one")
     wall.wait("one('#listing .told')?.dataset.address === '10030'")
     everywhere = [*wall.run("told"), wall.run(PAGE), *wall.run("[location.href, document.cookie, document.referrer]")]
@@ -118,21 +121,23 @@ def test_wall_shows_seat_without_codes(tabs: "Chrome", served: Served) -> None:
     assert len(others) == 10 and len(everywhere) > 8
     assert not [code for code in others for text in everywhere if code in text]
     assert not wall.run("all('button, input, textarea').some((each) => each.checkVisibility())")
-    teacher.choose("#on-wall", "no seat")
+    teacher.click("#on-wall")
     wall.wait("!id('desk').checkVisibility()")
-    teacher.click("#show-codes")
+    with dialog(teacher, "join-class"):
+        teacher.click("#show-codes")
 
 
 def test_wall_reconnects_to_new_server(tabs: "Chrome", own_class: Served) -> None:
     """It goes on without a reload, since the teacher's page says again what it shows."""
     tab, teacher, wall = (Tab(tabs, own_class, role) for role in ("A1", "teacher", "wall"))
     tab.begin("vid.v v1")
-    teacher.choose("#on-wall", "A1")
+    look_at(teacher, "A1")
+    teacher.click("#on-wall")
     wall.wait("id('who').textContent === 'Seat A1'")
     own_class.kill()
     wall.wait("id('gone').textContent.includes('is gone')")
     own_class.begin()
-    teacher.wait("id('gone').hidden && id('on-wall').value === 'A1'")
+    teacher.wait("id('gone').hidden && id('on-wall').ariaPressed === 'true'")
     wall.wait("id('gone').hidden && id('who').textContent === 'Seat A1' && id('listing').textContent.includes('vid.v')")
-    teacher.choose("#on-wall", "no seat")
+    teacher.click("#on-wall")
     wall.wait("id('who').textContent.includes('no seat')")

@@ -6,6 +6,7 @@ import { textOf } from "./texts.js";
 /** @type {Record<string, string>} */
 const EARLIER = { F8: "F11", "Control+F9": "Control+Shift+F5" }; // keys of version 1.0, and those of today
 const FOCUSABLE = 'textarea, [contenteditable="true"], [tabindex="0"], input, select, button';
+const FIELDS = 'input:not([type="checkbox"], [type="radio"]), textarea, select, [contenteditable="true"]';
 const PANELS = '[role="tabpanel"], .menu, .exercise'; // that may be out of sight
 
 /** The name of the key that an event is of, with the keys that are held. */
@@ -35,6 +36,8 @@ function keyRow(/** @type {Element} */ button, /** @type {string} */ does) {
 }
 
 export class Keys {
+  usesLetters = () => true; // whether keys of one letter or digit press their buttons, outside of fields
+
   /**
    * @param {HTMLElement} root of the buttons
    * @param {() => boolean} mayPress whether a key presses its button now
@@ -64,6 +67,8 @@ export class Keys {
   pressed(/** @type {KeyboardEvent} */ event) {
     if (event.defaultPrevented || event.isComposing || !event.key || document.querySelector("dialog[open]")) return;
     const key = keyOf(event);
+    const isLetter = /^(Shift\+)?.$/.test(key);
+    if (isLetter && (!this.usesLetters() || /** @type {Element} */ (event.target).closest(FIELDS))) return;
     const own = this.buttonOf(key);
     const later = EARLIER[key];
     const isEarlier = later && (!own || own.disabled);

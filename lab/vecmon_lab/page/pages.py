@@ -16,7 +16,7 @@ from .texts import fill
 
 FILES = pathlib.Path(__file__).parent
 _COMMENTS = re.compile(r" */\*.*?\*/\n*", re.DOTALL)  # of styles
-PIECES = ("bench", "start_page", "vectors")  # files of HTML that are parts of pages
+PIECES = ("bench", "start_page", "teacher", "vectors")  # files of HTML that are parts of pages
 
 
 class Page:

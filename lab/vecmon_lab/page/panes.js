@@ -132,7 +132,7 @@ export class Panes {
 
   /** Gives a pane a size in rem, or without one its first. */
   resize(/** @type {string} */ id, /** @type {number | undefined} */ size = undefined) {
-    this.machine.style.setProperty(`--${id}`, size === undefined ? "" : `${size}rem`);
+    this.root.style.setProperty(`--${id}`, size === undefined ? "" : `${size}rem`);
   }
 
   /** Folds a pane to its head or its rail, or unfolds it. */

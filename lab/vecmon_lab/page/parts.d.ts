@@ -5,45 +5,54 @@ type Ids<Kind, Names extends string> = { [Name in Names]: Kind };
 export type Parts =
   Ids<
     HTMLButtonElement,
-    | "again" | "begin" | "new-in-c" | "new-program" | "open-source" | "to-exercises" | "to-start" | "break-here" | "next-pane" | "next-problem" | "previous-pane" | "previous-problem" | "step-out" | "step-over" | "until-go" | "assemble" | "back" | "backward" | "by-address" | "by-ticks" | "close-sheet" | "edit-close" | "first" | "fold-dock"
-    | "all-messages" | "check" | "open-first" | "show-welcome" | "step-once" | "start-over"
-    | "fold-exercise" | "fold-state" | "forget" | "forth" | "give" | "go" | "halt" | "hand" | "home" | "last" | "line-back" | "line-go"
-    | "line-next" | "link" | "many" | "new" | "next" | "no" | "now" | "one" | "open-file" | "open-sheet" | "print" | "read" | "save"
-    | "save-table" | "show-codes" | "show-console" | "show-file" | "show-listing" | "show-memory" | "show-output" | "show-problems" | "show-reference"
-    | "show-registers" | "show-source" | "show-variables" | "slice" | "tab-dock" | "tab-exercise" | "tab-program"
-    | "tab-state" | "tab-vectors" | "take" | "take-back" | "unfold-exercise" | "yes"
+    | "again" | "all-messages" | "assemble" | "back" | "backward" | "begin" | "break-here" | "by-address" | "by-ticks" | "check"
+    | "close-sheet" | "edit-close" | "first" | "fold-dock" | "fold-exercise" | "fold-state" | "forget" | "forth" | "go" | "halt" | "hand"
+    | "home" | "last" | "line-back" | "line-go" | "line-next" | "link" | "lower-hand" | "many" | "new" | "new-in-c" | "new-program"
+    | "next" | "next-help" | "next-pane" | "next-problem" | "no" | "now" | "on-wall" | "one" | "open-exercises" | "open-file"
+    | "open-first" | "open-join" | "open-settings" | "open-sheet" | "open-source" | "previous-help" | "previous-pane" | "previous-problem"
+    | "print" | "read" | "reset" | "save" | "send-it" | "show-codes" | "show-console" | "show-file" | "show-gift" | "show-keys"
+    | "show-listing" | "show-memory" | "show-message" | "show-output" | "show-problems" | "show-reference" | "show-registers"
+    | "show-source" | "show-variables" | "show-welcome" | "slice" | "start-over" | "step-once" | "step-out" | "step-over" | "tab-answers"
+    | "tab-dock" | "tab-exercise" | "tab-program" | "tab-state" | "tab-vectors" | "take" | "to-exercises" | "to-start" | "unfold-exercise"
+    | "until-go" | "yes"
   > &
-  Ids<HTMLDListElement, "facts" | "keys"> &
-  Ids<HTMLDialogElement, "ask" | "edit"> &
-  Ids<HTMLFieldSetElement, "controls"> &
-  Ids<HTMLFormElement, "change" | "clocks" | "join" | "operate" | "steps" | "tell" | "until"> &
-  Ids<HTMLInputElement, "called" | "code" | "find" | "moment" | "name" | "number" | "open" | "place" | "until-line" | "value" | "words"> &
-  Ids<HTMLLabelElement, "edit-name" | "operator-machine"> &
-  Ids<HTMLOListElement, "lessons" | "log" | "mistakes" | "operator-log" | "progress" | "slips" | "course-list"> &
+  Ids<HTMLDListElement, "facts" | "keys" | "teacher-keys"> &
+  Ids<HTMLDialogElement, "ask" | "edit" | "exercises" | "join-class" | "key-list" | "settings"> &
+  Ids<HTMLFieldSetElement, "controls" | "receivers"> &
+  Ids<HTMLFormElement, "change" | "clocks" | "join" | "operate" | "sending" | "steps" | "until"> &
+  Ids<
+    HTMLInputElement,
+    | "called" | "code" | "find" | "gift-title" | "letters" | "moment" | "name" | "number" | "open" | "place" | "until-line" | "value"
+  > &
+  Ids<HTMLLabelElement, "edit-name"> &
+  Ids<HTMLOListElement, "course-list" | "lessons" | "log" | "mistakes" | "operator-log" | "progress" | "slips"> &
   Ids<HTMLOutputElement, "count" | "moment-count"> &
-  Ids<HTMLPreElement, "c-start" | "output"> &
+  Ids<HTMLPreElement, "answer" | "c-start" | "output"> &
   Ids<HTMLScriptElement, "data" | "lesson" | "reference-data"> &
   Ids<
     HTMLSelectElement,
-    | "against" | "by" | "form" | "given-language" | "images" | "language" | "names" | "numbers" | "on-wall" | "operated" | "receiver"
-    | "text-size" | "versions" | "view" | "width"
-    | "own-answers"
+    | "against" | "answer-try" | "by" | "form" | "given-language" | "images" | "language" | "names" | "numbers" | "operated"
+    | "own-answers" | "text-size" | "versions" | "view" | "width"
   > &
   Ids<HTMLTableElement, "lengths" | "rows"> &
-  Ids<HTMLTableSectionElement, "seats"> &
-  Ids<HTMLTextAreaElement, "given" | "operator-line" | "source"> &
-  Ids<HTMLUListElement, "in-memory" | "notices" | "points"> &
+  Ids<HTMLTableSectionElement, "codes" | "seats"> &
+  Ids<HTMLTextAreaElement, "given" | "operator-line" | "source" | "words"> &
+  Ids<HTMLTableRowElement, "columns"> &
+  Ids<HTMLUListElement, "failures" | "in-memory" | "notices" | "points" | "sent"> &
   Ids<HTMLFormElement | HTMLPreElement, "command"> &
   Ids<HTMLSelectElement | HTMLTextAreaElement, "line"> &
   Ids<
     HTMLElement,
-    | "about" | "at" | "banner" | "bytes" | "calls" | "card" | "checked" | "codes" | "console" | "course" | "desk" | "detail" | "dock" | "editor"
-    | "elements" | "entries" | "examples" | "entry" | "exercise" | "exercise-title" | "file" | "flame" | "gave" | "giving-title" | "gone" | "head"
-    | "hint" | "introduction" | "introduction-title" | "join-says" | "key-says" | "left" | "left-column" | "line-ways" | "links" | "listing" | "machine" | "machines" | "memory" | "menu"
-    | "middle" | "no-c" | "no-output" | "no-problems" | "operator-title" | "output-box" | "output-new" | "past" | "problems"
-    | "problems-count" | "program" | "program-title" | "question" | "recent" | "reference" | "registers" | "right" | "run" | "run-place" | "says-past" | "scalars"
-    | "scalars-title" | "seats-title" | "series-place" | "sentence" | "sheet" | "sheet-says" | "shoulder" | "sides" | "split-dock" | "split-exercise"
-    | "split-left" | "split-middle" | "split-state" | "start" | "start-page" | "start-title" | "stepped" | "stepped-title" | "state" | "step" | "stop" | "summary" | "tables" | "teacher" | "trouble"
-    | "unencrypted" | "users" | "variables" | "vectors" | "vectors-title" | "wall-code" | "who" | "why-no-c"
-    | "called-hint" | "cases" | "code-hint" | "exercise-text" | "hints" | "reading" | "try-count" | "verdict" | "welcome" | "welcome-title"
+    | "about" | "answer-says" | "answer-title" | "at" | "banner" | "beside" | "bytes" | "called-hint" | "calls" | "card" | "cases"
+    | "checked" | "code-hint" | "console" | "course" | "desk" | "detail" | "dock" | "editor" | "elements" | "entries" | "entry"
+    | "examples" | "exercise" | "exercise-text" | "exercise-title" | "exercises-title" | "file" | "flame" | "gift" | "gone" | "head"
+    | "help-count" | "hint" | "hints" | "introduction" | "introduction-title" | "join-says" | "join-title" | "key-says" | "key-title"
+    | "left" | "left-column" | "line-ways" | "links" | "listing" | "machine" | "machines" | "memory" | "menu" | "message" | "middle"
+    | "no-output" | "no-problems" | "opening" | "opening-title" | "operator-title" | "output-box" | "output-new" | "past" | "preview"
+    | "problems" | "problems-count" | "program" | "program-title" | "question" | "reading" | "recent" | "reference" | "registers"
+    | "right" | "roster" | "run" | "run-place" | "says-past" | "scalars" | "scalars-title" | "seat-answers" | "send" | "sent-says"
+    | "sentence" | "series-place" | "settings-title" | "sheet" | "sheet-says" | "shoulder" | "shoulder-says" | "shoulder-title" | "sides"
+    | "split-dock" | "split-exercise" | "split-left" | "split-middle" | "split-state" | "start" | "start-page" | "start-title" | "state"
+    | "step" | "stepped" | "stepped-title" | "stop" | "summary" | "summary-says" | "tables" | "teacher" | "trouble" | "try-count"
+    | "unencrypted" | "users" | "variables" | "vectors" | "vectors-title" | "verdict" | "welcome" | "welcome-title" | "who" | "why-no-c"
   >;

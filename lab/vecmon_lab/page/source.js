@@ -9,7 +9,7 @@ import { lineOf, stoppedLines, stopsOf } from "./source_lines.js";
 /** @typedef {import("./messages").SourceView} SourceView */
 /** @typedef {import("./messages").Version} Version */
 /** @typedef {import("./types").SourceText} SourceText */
-/** @typedef {Record<string, import("./messages").ExerciseView>} Exercises */
+/** @typedef {Record<string, { title: string }>} Exercises */
 
 export const MOST_LETTERS = 65536;
 const MOST = MOST_LETTERS.toLocaleString("en");
