@@ -8,7 +8,9 @@ IMPORT = "from support.bracketed_texts import bracket_texts; bracket_texts(); "
 READ = texts.read_texts
 # Texts outside of brackets in the order of the page, and those of attributes, each with its element; without those in elements of a selector.
 UNBRACKETED = """
-const [data] = arguments, found = new Set(), WORD = /\\p{L}{2,}/u;
+const [data] = arguments, found = new Set(), KEYS = /\\b(Alt|End|Enter|Escape|Home|Space|Tab)\\b/g;
+const hasWord = (text) => /\\p{L}{2,}/u.test(text.replace(KEYS, ""));
+const isShown = (element) => (element.closest("select") ?? element).checkVisibility() && !element.closest(data);
 const name = (element) => element.id ? `#${element.id}` : `${element.parentElement?.id ?? ""} ${element.localName}.${element.className}`;
 const outside = (text, depth = 0) => [...text].reduce(([kept, depth], letter) =>
   letter === "⟦" ? [kept, depth + 1] : letter === "⟧" ? [kept, depth - 1] : [depth ? kept : kept + letter, depth], ["", depth]);
@@ -19,17 +21,17 @@ while (walker.nextNode()) {
   if (element.closest("script, style, noscript")) continue;
   let text;
   [text, depth] = outside(walker.currentNode.data, depth);
-  if (WORD.test(text) && element.checkVisibility() && !element.closest(data)) found.add(`${name(element)}: ${text.trim()}`);
+  if (hasWord(text) && isShown(element)) found.add(`${name(element)}: ${text.trim()}`);
 }
 if (depth) found.add(`brackets: ${depth}`);
 for (const element of document.querySelectorAll("[title], [aria-label], [placeholder], [aria-valuetext], [alt]")) {
-  if (!element.checkVisibility() || element.closest(data)) continue;
+  if (!isShown(element)) continue;
   for (const attribute of ["title", "aria-label", "placeholder", "aria-valuetext", "alt"]) {
     const [text] = outside(element.getAttribute(attribute) ?? "");
-    if (WORD.test(text)) found.add(`${name(element)} ${attribute}: ${text}`);
+    if (hasWord(text)) found.add(`${name(element)} ${attribute}: ${text}`);
   }
 }
-if (WORD.test(outside(document.title)[0].replace("vecmon", ""))) found.add(`title: ${document.title}`);
+if (hasWord(outside(document.title)[0].replace("vecmon", ""))) found.add(`title: ${document.title}`);
 return [...found];
 """
 

@@ -4,6 +4,7 @@ import { executedOf, operandOf } from "./executed.js";
 import { accessRows, cellOf, formOf, guardRows, headOf, makeRow, operandRows } from "./lane_rows.js";
 import { LETTER, REGISTER_BITS, elementOf } from "./numbers.js";
 import { outcomeOf } from "./outcomes.js";
+import { textOf } from "./texts.js";
 import { pairsOf } from "./wires.js";
 import { vectorType } from "./words.js";
 
@@ -112,7 +113,7 @@ function plainRow(view, { register, size, width }) {
   const { vill, most } = vectorType(state.vtype);
   const isMask = width === 1 && !view.width;
   const count = isMask ? Math.max(1, Math.floor(most)) : (size * REGISTER_BITS) / width;
-  return makeRow("plain", isMask ? "mask" : "", { register, width, count }, (element) => {
+  return makeRow("plain", isMask ? textOf("row.mask") : "", { register, width, count }, (element) => {
     const [now, was] = [state.v, before.v ?? state.v].map((registers) => elementOf(registers, register, width, element));
     const outcome = element >= state.vl ? "tail" : element < state.vstart ? "prestart" : "active";
     return cellOf(now, vill || view.width ? "" : outcome, { width, form: formOf(view), was });

@@ -2,6 +2,7 @@
 
 import { make, part } from "./elements.js";
 import { Past, isAlike } from "./past.js";
+import { textOf } from "./texts.js";
 import { Log } from "./transcript.js";
 import { MachineView, machineOf, usedIn } from "./view.js";
 
@@ -63,7 +64,7 @@ export class Desk {
 
   showStage() {
     const state = this.past.moment?.state ?? this.state;
-    this.view.showStep(state, ...(state.run === "absent" ? [make("small", "", "there is no machine here yet")] : []));
+    this.view.showStep(state, ...(state.run === "absent" ? [make("small", "", textOf("step.no-machine"))] : []));
     this.view.showStop([this.past.moment ? "" : this.refusal, state.stop].filter(Boolean).join(" "));
   }
 }

@@ -7,6 +7,7 @@ import { columnsOf, fit, stripsOf } from "./columns.js";
 import { detailOf, elementEdit } from "./detail.js";
 import { editable } from "./edits.js";
 import { header, make, part, remPixels, unseen } from "./elements.js";
+import { textOf } from "./texts.js";
 import { markWires, wiresPicture } from "./wires.js";
 import { vectorType } from "./words.js";
 
@@ -87,12 +88,13 @@ export class Lanes {
     this.fit = fit(columns, this.room);
     const { strips, folded } = stripsOf(columns, this.fit.columns, this.isOpen);
     const tail = folded < columns.elements ? [this.foldedTail(folded, columns.elements)] : [];
-    const title = columns.executed ? ` of ${columns.executed.text}` : this.hasAll ? " of all registers" : " of the registers in use";
+    const ofRegisters = this.hasAll ? textOf("lanes.all.label") : textOf("lanes.used.label");
+    const title = columns.executed ? textOf("lanes.executed.label", { instruction: columns.executed.text }) : ofRegisters;
     const parts = [make("colgroup", "", make("col", "head")), ...strips.map((strip) => this.strip(columns, strip)), ...tail];
     const grid = make("table", `lanes ${this.fit.size} ${this.fit.head}`, ...parts);
     grid.setAttribute("role", "grid");
-    grid.ariaLabel = `Elements${title}`;
-    const empty = make("p", "empty", "No vector register is in use yet.");
+    grid.ariaLabel = title;
+    const empty = make("p", "empty", textOf("lanes.none"));
     this.box.replaceChildren(columns.rows.length ? grid : empty);
     this.choose(Math.min(this.chosen, Math.max(0, columns.elements - 1)), hadFocus);
   }
@@ -104,7 +106,7 @@ export class Lanes {
   strip(columns, { first, rows }) {
     const numbers = Array.from({ length: this.fit.columns }, (_, place) =>
       first + place < columns.elements ? header("col", `${first + place}`) : make("td", ""));
-    const heads = make("tr", "numbers", header("row", make("small", "", "element")), ...numbers);
+    const heads = make("tr", "numbers", header("row", make("small", "", textOf("lanes.element"))), ...numbers);
     const made = rows.map(({ row, head, cells }) => this.row(row, head, first, cells));
     const last = rows.findIndex(({ row }) => row.kind === "before" || row.kind === "after");
     const { executed, pairs } = columns;
@@ -123,14 +125,15 @@ export class Lanes {
    * @param {(Cell | undefined)[]} cells
    */
   row({ kind, register, width, words }, head, first, cells) {
-    const what = make("small", words.startsWith("field") ? "field" : "", words);
+    const what = make("small", /\d$/.test(words) ? "field" : "", words);
     const name = header("row", make("b", "", head), ...(words ? [" ", what] : []));
     const made = cells.map((cell, place) => {
       if (!cell) return make("td", "");
       const shown = make("td", cell.classes.join(" "), cell.text);
       shown.dataset.element = `${first + place}`;
       shown.setAttribute("role", "gridcell");
-      shown.title = `element ${first + place} of ${head}${words ? `, ${words}` : ""}${cell.words ? `: ${cell.words}` : ""}`;
+      const where = [textOf("lanes.cell", { element: first + place, head }), words].filter(Boolean).join(", ");
+      shown.title = [where, cell.words].filter(Boolean).join(": ");
       if (cell.words) shown.append(unseen(` ${cell.words}`));
       return this.view?.width ? editable(shown, elementEdit(this.view, register, width, first + place)) : shown;
     });
@@ -144,7 +147,7 @@ export class Lanes {
    * @param {number} elements
    */
   foldedTail(first, elements) {
-    const text = `Elements ${first} to ${elements - 1}: tail, unchanged`;
+    const text = textOf("lanes.folded", { first, last: elements - 1 });
     const open = Object.assign(make("button", "", text), { onclick: () => ((this.isOpen = true), this.paint()) });
     const cell = Object.assign(make("td", "", open), { colSpan: this.fit.columns + 1 });
     return make("tbody", "folded", make("tr", "", cell));
@@ -236,7 +239,7 @@ export class Lanes {
     if (!this.view || !this.columns) return;
     const { name, place, sentence, value, edit } = detailOf(this.view, this.columns, this.chosen, this.register);
     const parts = [make("b", "", name), make("small", "", place), make("span", "", sentence), make("code", "", calculation)];
-    const change = Object.assign(make("button", "change", "Change"), { title: "Write another value to this element (Enter)" });
+    const change = Object.assign(make("button", "change", textOf("detail.change")), { title: textOf("detail.change.title") });
     change.dataset.value = value;
     this.detail.replaceChildren(...parts.filter((part) => part.textContent), ...(edit ? [editable(change, edit)] : []));
   }

@@ -9,7 +9,10 @@ import { saysMore, target, withNames } from "./words.js";
 
 /** @typedef {import("./types").MachineState} MachineState */
 
-const NAMES = ["marks", "address", "word", "instruction", "source"];
+const NAMES = [
+  ...[textOf("listing.marks"), textOf("listing.address"), textOf("listing.word")],
+  ...[textOf("listing.instruction"), textOf("listing.source")],
+];
 const COLUMNS = 20; // of an instruction, as the style has it
 
 /** The listing of a machine's program. */

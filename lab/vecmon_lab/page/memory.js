@@ -5,12 +5,13 @@ import { editable } from "./edits.js";
 import { header, make, part } from "./elements.js";
 import { LETTER, littleEndian } from "./numbers.js";
 import { RowTable, placesOf } from "./rows.js";
+import { textOf } from "./texts.js";
 import { knownVariables, numberText } from "./variables.js";
 
 /** @typedef {import("./types").MachineState} MachineState */
 /** @typedef {{ at: bigint, element: string, counts: number[] }} PlacedArray */
 
-const NAMES = ["address", "bytes 0 to 3", "4 to 7", "8 to 11", "12 to 15", "text"];
+const NAMES = [textOf("memory.address"), textOf("memory.bytes"), "4–7", "8–11", "12–15", textOf("memory.text")];
 const ROW = 16; // bytes of a row in a state
 const HEAD = 13; // characters of the address and of spaces
 /** @type {Record<string, number>} */
@@ -26,7 +27,7 @@ export class MemoryPanel {
 
   constructor(/** @type {ParentNode} */ root) {
     this.box = part(root, "bytes");
-    this.rows = new RowTable(this.box, "Memory", NAMES, "No memory but the program is in use yet.");
+    this.rows = new RowTable(this.box, textOf("memory"), NAMES, textOf("memory.none"));
     new ResizeObserver(([{ contentRect }]) => this.measured(contentRect.width)).observe(this.box);
   }
 

@@ -1,6 +1,7 @@
 // The past of a machine: states of it that the tab saw, to go back and forth through as through a lesson's frames.
 
 import { part, put } from "./elements.js";
+import { textOf } from "./texts.js";
 
 /** @typedef {import("./messages").State} State */
 /** @typedef {{ state: State, before: State, used: Set<number>, entry: Element | null, hasRun?: boolean }} Moment hasRun: up to it */
@@ -101,12 +102,12 @@ export class Past {
     const isPast = this.place !== null;
     this.backward.disabled = place === 0;
     this.forth.disabled = this.now.disabled = !isPast;
-    const count = isPast ? `step ${place} of ${this.end}` : `step ${this.end}, now`;
+    const count = isPast ? textOf("past.step", { step: place, last: this.end }) : textOf("past.at-now", { step: this.end });
     Object.assign(this.slider, { max: this.end, value: place, disabled: this.end === 0, ariaValueText: count });
     put(this.count, count);
     const next = this.moments[place + 1];
-    const gap = next?.hasRun ? " From here the program ran: no step up to the next one was recorded." : "";
-    put(this.says, isPast ? `This is the past: ${count}.${gap}` : "");
+    const said = [textOf("past.shown", { count }), next?.hasRun ? textOf("past.gap") : ""].filter(Boolean).join(" ");
+    put(this.says, isPast ? said : "");
     this.says.hidden = !isPast;
     this.root.classList.toggle("past", isPast);
     this.told();

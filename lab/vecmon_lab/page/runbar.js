@@ -1,6 +1,7 @@
 // The run bar: buttons that run, step, stop and reset a program. What is off has a title that says why.
 
 import { part, put } from "./elements.js";
+import { textOf } from "./texts.js";
 
 /** @typedef {import("./messages").StudentView} View */
 /** @typedef {"Not begun" | "Ready" | "Assembling" | "Running" | "Paused" | "Ended" | "Fault" | "No connection"} Condition */
@@ -13,7 +14,17 @@ import { part, put } from "./elements.js";
 const STARTING = ["go", "one", "many", "until-go", "step-over", "step-out"]; // buttons that let a stopped program go on
 /** @type {Name[]} */
 const NAMES = [...STARTING, "halt", "slice", "again", "assemble", "new", "images"];
-const PAST = "This is the past: Now (Escape) returns to the machine.";
+/** @type {Record<Condition, string>} */
+const CONDITIONS = {
+  "Not begun": textOf("condition.not-begun"),
+  Ready: textOf("condition.ready"),
+  Assembling: textOf("condition.assembling"),
+  Running: textOf("condition.running"),
+  Paused: textOf("condition.paused"),
+  Ended: textOf("condition.ended"),
+  Fault: textOf("condition.fault"),
+  "No connection": textOf("condition.no-connection"),
+};
 
 /**
  * The condition of a machine.
@@ -77,12 +88,12 @@ export class RunBar {
     this.titles ??= new Map(NAMES.map((id) => [id, part(this.root, id).title]));
     const { isConnected, isPast } = this.ask();
     this.condition = !isConnected ? "No connection" : this.isBuilding ? "Assembling" : conditionOf(this.view, this.isStarted);
-    put(this.run, this.condition);
+    put(this.run, CONDITIONS[this.condition]);
     this.run.dataset.condition = this.condition;
-    put(part(this.root, "go"), this.condition === "Paused" ? "Continue" : "Run");
+    put(part(this.root, "go"), this.condition === "Paused" ? textOf("run.continue") : textOf("run"));
     part(this.root, "slice").hidden = !this.view.own_slices;
     for (const id of NAMES) {
-      const why = isPast ? PAST : this.whyOff(id);
+      const why = isPast ? textOf("off.past") : this.whyOff(id);
       Object.assign(part(this.root, id), { disabled: why !== "", title: why || this.titles.get(id) });
     }
   }
@@ -90,13 +101,13 @@ export class RunBar {
   /** Why a button is off; "" where it is on. */
   whyOff(/** @type {Name} */ id) {
     const { state, ready = false, again = false } = this.view ?? { state: { run: "absent" } };
-    if (this.condition === "No connection") return "There is no connection to the machine: the page connects again by itself.";
-    if (this.condition === "Assembling") return "The source is being built.";
-    if (!ready) return "The machine isn't ready yet.";
+    if (this.condition === "No connection") return textOf("off.no-connection");
+    if (this.condition === "Assembling") return textOf("off.building");
+    if (!ready) return textOf("off.not-ready");
     if (["assemble", "new", "images"].includes(id)) return "";
-    if (id === "halt" || id === "slice") return state.run === "running" ? "" : "No program runs.";
-    if (id === "again") return again ? "" : "No source is loaded: Assemble or Run loads the one in the editor.";
-    if (state.run === "running") return "The program runs: stop it first.";
-    return state.run === "absent" && this.ask().isBlank ? "There is no program: write a source first." : "";
+    if (id === "halt" || id === "slice") return state.run === "running" ? "" : textOf("off.not-running");
+    if (id === "again") return again ? "" : textOf("off.no-source");
+    if (state.run === "running") return textOf("off.running");
+    return state.run === "absent" && this.ask().isBlank ? textOf("off.no-program") : "";
   }
 }

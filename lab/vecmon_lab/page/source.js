@@ -4,6 +4,7 @@ import { NO_MARKS } from "./editor.js";
 import { make, offerFile, part, put, timeText } from "./elements.js";
 import { languageOf, suffixOf } from "./links.js";
 import { lineOf, stoppedLines, stopsOf } from "./source_lines.js";
+import { textOf } from "./texts.js";
 
 /** @typedef {import("./types").Message} Message */
 /** @typedef {import("./messages").SourceView} SourceView */
@@ -13,10 +14,10 @@ import { lineOf, stoppedLines, stopsOf } from "./source_lines.js";
 
 export const MOST_LETTERS = 65536;
 const MOST = MOST_LETTERS.toLocaleString("en");
-const TOO_LONG = `This text has more than ${MOST} characters: the server doesn't save it, and nothing replaces it. Save it, or shorten it.`;
+const TOO_LONG = textOf("source.too-long", { most: MOST });
 const PAUSE = 700; // ms in which nothing is typed, and then it is sent
 /** @type {Record<string, string>} */
-const REASONS = { typed: "typed", written: "assembled", given: "given" };
+const REASONS = { typed: textOf("source.typed"), written: textOf("source.assembled"), given: textOf("source.given") };
 
 const keyOf = (/** @type {SourceText} */ { text, language }) => `${language} ${text}`;
 
@@ -137,8 +138,8 @@ export class Source {
     this.share = share;
     const isCompiled = this.editor.source.language > 0;
     const bytes = share && (share.of - share.used).toLocaleString("en");
-    const left = bytes && isCompiled ? `${bytes} bytes of the script's room are left.` : "";
-    put(this.assemble, isCompiled ? "Compile" : "Assemble");
+    const left = bytes && isCompiled ? textOf("source.room", { bytes }) : "";
+    put(this.assemble, isCompiled ? textOf("source.compile") : textOf("source.assemble"));
     put(this.left, this.isTooLong ? TOO_LONG : left);
   }
 
@@ -185,7 +186,7 @@ export class Source {
     const option = (/** @type {Version} */ version) =>
       Object.assign(make("option", "", versionText(version, exercises)), { value: version.number });
     const options = versions.map(option);
-    this.versions.replaceChildren(make("option", "", "Versions …"), ...options.reverse());
+    this.versions.replaceChildren(make("option", "", textOf("source.versions")), ...options.reverse());
     this.versions.hidden = !versions.length;
   }
 

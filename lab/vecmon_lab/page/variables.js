@@ -2,6 +2,7 @@
 
 import { header, make, part, table } from "./elements.js";
 import { memoryElement } from "./numbers.js";
+import { textOf } from "./texts.js";
 import { withNames } from "./words.js";
 
 /** @typedef {import("./types").MachineState} MachineState */
@@ -33,8 +34,8 @@ export function knownVariables(/** @type {MachineState} */ { variables = [], pc,
     const value = values[kind];
     const text = isNumber && typeof value === "bigint" ? numberText(element, value) : "";
     /** @type {Record<string, string>} */
-    const places = { register: `x${register}`, vector: `v${register}`, memory: `at ${sum.toString(16)}`, value: "",
-      untold: "unsupported location", gone: "optimized out" };
+    const places = { register: `x${register}`, vector: `v${register}`, memory: textOf("variables.at", { address: sum.toString(16) }),
+      value: "", untold: textOf("variables.unsupported"), gone: textOf("variables.gone") };
     return { declaration, element, counts, isLocal: scopes.length > 0, at, text, where: places[kind] };
   });
 }
@@ -56,6 +57,6 @@ export class VariablePanel {
       const place = withNames(where, this.names.value === "abi");
       return make("tr", "", header("row", declaration), make("td", kind, text), make("td", "where", place));
     });
-    this.list.replaceChildren(table("Variables", make("tbody", "", ...rows)));
+    this.list.replaceChildren(table(textOf("variables"), make("tbody", "", ...rows)));
   }
 }
