@@ -90,7 +90,8 @@ def stepped_example(program: Vecmon) -> dict[str, object]:
     shown = executed[next(place for place, name in enumerate(names) if name.startswith("v")) :]
     states = [frame.states["1"] for frame in shown]
     used = {number for state in states for number, data in state["v"].items() if data.strip("0")}
-    patches = [merge_patch(before, after) for before, after in pairwise([{}, *states])]
+    all_states: list[Mapping[str, object]] = [{}, *states]
+    patches = [merge_patch(before, after) for before, after in pairwise(all_states)]
     return {"notes": [frame.note for frame in shown], "states": patches, "used": sorted(map(int, used))}
 
 
