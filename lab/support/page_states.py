@@ -41,6 +41,11 @@ def step(tab: Tab, steps: int = 6) -> None:
     tab.wait("one('#listing .told')")
 
 
+def wait_for_exercises(tab: Tab) -> None:
+    """Wait until the page shows the exercises of the class."""
+    tab.wait("!id('exercise').hidden")
+
+
 def make_problems(tab: Tab) -> None:
     """Assemble a source with mistakes."""
     tab.run(TYPE, PROBLEMS)
@@ -78,7 +83,7 @@ def step_in_c(tab: Tab) -> None:
 
 
 STUDENT: Mapping[str, Callable[[Tab], None]] = {
-    "first": lambda tab: tab.wait("!id('exercise').hidden"),
+    "first": wait_for_exercises,
     "problems": make_problems,
     "failed cases": fail_exercise,
     "stepped": step,

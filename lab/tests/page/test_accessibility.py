@@ -1,6 +1,7 @@
 """The pages for readers who use keys, a screen reader, or less motion: names, roles, the order of focus, and an exercise by keys alone."""
 
 import pathlib
+from collections.abc import Callable
 from typing import TYPE_CHECKING
 
 from page.conftest import Sit
@@ -44,7 +45,8 @@ def test_page_of_student_is_accessible(tabs: "Chrome", course: Served) -> None:
     tab = Tab(tabs, course, "A1")
     tab.wait("!id('exercise').hidden")
     check(tab.activate(), "button Run", "button Step", "button Raise hand", "textbox Assembler source", "tab Problems")
-    for begin in (make_problems, fail_exercise, step):
+    states: tuple[Callable[[Tab], None], ...] = (make_problems, fail_exercise, step)
+    for begin in states:
         begin(tab)
         check(tab.activate(), "separator Width of the source", "tab Listing")
 

@@ -6,8 +6,9 @@ from typing import TYPE_CHECKING
 
 import pytest
 
-from support.browser import CONTRAST, media
+from support.accessibility import accessible_nodes, nameless, tab_stops
 from support.class_pages import Explored, Tab
+from support.layouts import layout_faults
 from support.places import EXAMPLES
 
 if TYPE_CHECKING:
@@ -27,23 +28,6 @@ def page(tabs: "Chrome", program: pathlib.Path, tmp_path: pathlib.Path) -> Itera
     served.end()
 
 
-def check_layout(page: Tab) -> None:
-    """No text is cut or pale, and nothing scrolls sideways."""
-    cut = "all('#start-page *').filter((each) => each.scrollWidth > each.clientWidth + 1 && each.clientWidth).map((each) => each.className)"
-    try:
-        for width, height in ((1280, 800), (820, 1180), (390, 844), (640, 400)):
-            size = {"width": width, "height": height, "deviceScaleFactor": 1, "mobile": False}
-            page.activate().execute_cdp_cmd("Emulation.setDeviceMetricsOverride", size)
-            page.wait("innerWidth === arguments[0]", width)
-            assert page.run(cut) == [] and page.run("document.documentElement.scrollWidth") <= width
-        for scheme in ("light", "dark"):
-            media(page.browser, prefers_color_scheme=scheme, prefers_reduced_motion="reduce")
-            assert page.browser.execute_script(CONTRAST) == []
-    finally:
-        media(page.browser)
-        page.browser.execute_cdp_cmd("Emulation.clearDeviceMetricsOverride", {})
-
-
 def test_example_begins_bench(page: Tab) -> None:
     """The start page has nothing else; a press puts the example into the editor, and the focus to Step."""
     page.wait("document.activeElement.id === 'new-program'")
@@ -53,7 +37,8 @@ def test_example_begins_bench(page: Tab) -> None:
         names
     )
     assert page.run("id('new-in-c').disabled") == (page.text("#why-no-c") != "")
-    check_layout(page)
+    assert layout_faults(page.activate()) == {}
+    assert nameless(accessible_nodes(page.browser), tab_stops(page.browser)) == []
     page.run("all('.tile').find((tile) => tile.textContent.endsWith('strip_mined.s')).click()")
     page.wait("document.activeElement.id === 'one' && !id('one').disabled")
     assert page.run(SHOWN) == [False, True] and page.run("text()") == LOOP
