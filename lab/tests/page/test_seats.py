@@ -146,7 +146,7 @@ def test_start_page_leads_in(tabs: "Chrome", program: pathlib.Path, tmp_path: pa
         teacher.wait("one('#sent li')")
         tab = Tab(tabs, served, "A3")
         tab.wait("id('notices').textContent.includes('Welcome.')")
-        tab.wait("one('#exercise select').length === 2")
+        tab.wait("id('exercise').textContent.includes('A filter')")
         teacher.wait(
             "id('opening').hidden && id('roster').checkVisibility() && one('[name=to]:checked').value === 'one'"
         )

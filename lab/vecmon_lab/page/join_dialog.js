@@ -7,7 +7,8 @@ class CodeRow {
   constructor(/** @type {string} */ name, /** @type {import("./teacher.js").Teacher} */ teacher) {
     const whose = name === "wall" ? "the wall" : `seat ${name}`;
     const loss = `The code of ${whose} stops working at once, and its tabs close.`;
-    this.name = Object.assign(make("input", ""), { maxLength: 40, ariaLabel: `Name at ${whose}`, autocomplete: "off", hidden: name === "wall" });
+    const field = { maxLength: 40, ariaLabel: `Name at ${whose}`, autocomplete: "off", hidden: name === "wall" };
+    this.name = Object.assign(make("input", ""), field);
     this.name.onchange = () => teacher.request({ ask: "name", seat: name, name: this.name.value }).then(() => teacher.join.showNames());
     this.link = Object.assign(make("a", ""), { target: "_blank", rel: "noopener" });
     const turn = () => (this.link.hash ? this.show("") : teacher.request({ ask: "codes", seat: name }));

@@ -89,7 +89,8 @@ export class Send {
     const { choices, kind } = this;
     const seats = choices[this.group("to").value];
     const { one, chosen, waiting, all } = choices;
-    const labels = [one.length ? this.names(one) : "no seat", `chosen: ${chosen.length}`, `need help: ${waiting.length}`, `all ${all.length} seats`];
+    const looked = one.length ? this.names(one) : "no seat";
+    const labels = [looked, `chosen: ${chosen.length}`, `need help: ${waiting.length}`, `all ${all.length} seats`];
     elementsIn(this.form, "#receivers span").forEach((label, place) => put(label, labels[place]));
     const [verb, words] = KINDS[kind];
     const changed = seats.filter((seat) => this.teacher.seatOf(seat).changed).length;
