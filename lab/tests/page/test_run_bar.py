@@ -32,7 +32,7 @@ KEYS = {
     "Shift+F8": "previous-problem",
     "Control+Shift+B": "assemble",
     "Control+Enter": "assemble",
-    "Control+Shift+Enter": "Check",
+    "Control+Shift+Enter": "check",
     "Control+B": "fold-exercise",
     "Control+J": "fold-dock",
     "F6": "next-pane",

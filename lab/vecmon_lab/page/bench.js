@@ -159,7 +159,8 @@ export class Bench {
   /** Offers names in a list, if there are any. */
   offer(/** @type {HTMLSelectElement} */ list, /** @type {string} */ title, /** @type {string[]} */ names) {
     offerLanguages(list, { languages: [title, ...names], no_c: "" });
-    Object.assign(list, { hidden: !names.length, selectedIndex: 0 });
+    list.hidden = !names.length;
+    if (list.selectedIndex) list.selectedIndex = 0;
   }
 
   /** Shows the listing of a machine that has just begun without a source, and otherwise the editor, also once it has gone. */

@@ -7,7 +7,7 @@ import { textOf } from "./texts.js";
 const EARLIER = { F8: "F11", "Control+F9": "Control+Shift+F5" }; // keys of version 1.0, and those of today
 const FOCUSABLE = 'textarea, [contenteditable="true"], [tabindex="0"], input, select, button';
 const FIELDS = 'input:not([type="checkbox"], [type="radio"]), textarea, select, [contenteditable="true"]';
-const PANELS = '[role="tabpanel"], .menu, .exercise'; // that may be out of sight
+const PANELS = '[role="tabpanel"], .menu > div, .exercise'; // that may be out of sight
 
 /** The name of the key that an event is of, with the keys that are held. */
 export function keyOf(/** @type {KeyboardEvent} */ { key, code, ctrlKey, metaKey, altKey, shiftKey }) {

@@ -78,9 +78,11 @@ export class Past {
       this.hasRun = false;
     }
     this.isStill = moment.state.run === "stopped";
-    if (this.moments.length <= MOST_MOMENTS) return this.tell();
-    this.moments.shift();
-    return this.show(this.place === null ? this.end : this.place - 1);
+    if (this.moments.length > MOST_MOMENTS) {
+      this.moments.shift();
+      if (this.place !== null) this.show(this.place - 1);
+    }
+    this.tell();
   }
 
   forget() {
@@ -93,8 +95,9 @@ export class Past {
   show(/** @type {number} */ place) {
     const before = this.place;
     this.place = place >= this.end ? null : Math.max(0, place);
+    if (this.place === before) return;
     this.tell();
-    if (this.place !== before) this.shown();
+    this.shown();
   }
 
   tell() {

@@ -94,7 +94,8 @@ export class RunBar {
     part(this.root, "slice").hidden = !this.view.own_slices;
     for (const id of NAMES) {
       const why = isPast ? textOf("off.past") : this.whyOff(id);
-      Object.assign(part(this.root, id), { disabled: why !== "", title: why || this.titles.get(id) });
+      const [button, title] = [part(this.root, id), why || (this.titles.get(id) ?? "")];
+      if (button.title !== title) Object.assign(button, { disabled: why !== "", title });
     }
   }
 
