@@ -120,6 +120,7 @@ def test_each_key_presses_its_button(tabs: "Chrome", program: pathlib.Path, tmp_
         tab.run(f"({listen}, {held})")
         for key, button in KEYS.items():
             tab.run("all('button:disabled').forEach((each) => (each.disabled = false))")
+            tab.run("id('exercise').classList.remove('choosing')")  # as with an open exercise
             tab.run("(window.pressed = window.isHeld = null)")
             press_key(tab, key)
             tab.wait("window.isHeld !== null")
