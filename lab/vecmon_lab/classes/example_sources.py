@@ -55,7 +55,7 @@ def _example(group: str, name: str, path: pathlib.Path) -> ExampleSource:
 
 def _first_comments(lines: Iterable[str]) -> list[str]:
     """The comments at the start of a source."""
-    comments = []
+    comments = list[str]()
     for line in lines:
         if not re.match("#(?!include)|//", line):
             return comments
