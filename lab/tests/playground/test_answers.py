@@ -21,6 +21,7 @@ NAMES = ["doubles"]
 WEB = TOP / "lab" / "vecmon_lab" / "playground" / "web"
 OWN = (
     "title",
+    "class_title",
     "name",
     "own_slices",
     "no_c",
