@@ -68,6 +68,14 @@ def forget(tab: SiteTab) -> None:
     )
 
 
+def visit_first(tab: SiteTab, address: str) -> None:
+    """Opens a page as at a first visit."""
+    forget(tab)
+    tab.run("sessionStorage.clear()")
+    tab.activate().get("about:blank")
+    tab.activate().get(address)
+
+
 def test_the_page_steps_goes_and_goes_back(tabs: "Chrome", site: pathlib.Path) -> None:
     tab = SiteTab(tabs, (site / "playground.html").as_uri())
     tab.write(LOOP)
@@ -115,9 +123,10 @@ def test_work_comes_back_after_a_reload(tabs: "Chrome", server: tuple[str, list[
 def test_an_exercise_fails_and_passes(tabs: "Chrome", site: pathlib.Path) -> None:
     from selenium.webdriver.support.wait import WebDriverWait
 
-    tab = SiteTab(tabs, (site / "playground.html").as_uri() + "#exercise=doubles")
-    tab.wait("one('#exercise .reading') && !one('#exercise').hidden")
-    for answer, told in (("        ret\n", "1 try"), ((GIVEN / "good.s").read_text(), "2 tries, passed")):
+    tab = SiteTab(tabs, (site / "playground.html").as_uri())
+    visit_first(tab, (site / "playground.html").as_uri() + "#exercise=doubles")
+    tab.wait("id('exercise-text').checkVisibility() && text() === arguments[0]", (GIVEN / "start.s").read_text())
+    for answer, told in (("        ret\n", "1 try, best 1 of 5"), ((GIVEN / "good.s").read_text(), "2 tries, passed")):
         tab.run("code().setValue(arguments[0])", answer)
         tab.run("all('#exercise button').find((each) => each.textContent === 'Check').click()")
         tab.wait("one('#exercise [role=status]').textContent === arguments[0]", told)
@@ -218,10 +227,7 @@ def test_it_starts_with_examples(tabs: "Chrome", site: pathlib.Path) -> None:
     """A first visit shows the start page, and one with work the bench; an exercise that the address names comes at once."""
     tab = SiteTab(tabs, (site / "playground.html").as_uri() + "#exercise=filter")
     tab.wait("id('desk').checkVisibility() && text().includes('how many are goes to a0')")
-    forget(tab)
-    tab.run("sessionStorage.clear()")
-    tab.activate().get("about:blank")
-    tab.activate().get((site / "playground.html").as_uri())
+    visit_first(tab, (site / "playground.html").as_uri())
     tab.wait("id('start-page').checkVisibility()")
     assert tab.run("all('.tile').length") == 19 and tab.run("id('new-in-c').disabled")
     tab.run("all('.tile').find((tile) => tile.textContent.endsWith('strip_mined.s')).click()")

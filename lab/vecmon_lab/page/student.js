@@ -73,6 +73,8 @@ export class Student {
     if (view.examples) (this.start ??= new StartPage(this.root, this.bench, view)).show(view);
     this.bench.show(view, logs[view.seat] ?? [], isAnew);
     this.exercises.show(view.exercises, view.source);
+    const wanted = this.connection.takeWanted?.() ?? "";
+    if (view.exercises[wanted]) this.exercises.choose(wanted);
     part(this.root, "log").ariaLive = "polite";
   }
 

@@ -43,6 +43,8 @@ export interface Connection {
   ask(request: Request): Promise<Message | null>;
   /** Saves a file of the server's as a file of a name; whether it has it. */
   download(place: string, name: string): Promise<boolean>;
+  /** The exercise that the page's address names, once; "" without one. Only the playground has such addresses. */
+  takeWanted?(): string;
 }
 
 /** The owner of a connection, which reports to it. */

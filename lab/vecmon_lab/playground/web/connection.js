@@ -56,7 +56,7 @@ export class Connection {
     this.work = new KeptWork((words) => this.say(words));
     this.addElements();
     document.addEventListener("click", (event) => this.openLesson(event), true);
-    addEventListener("hashchange", (event) => this.openWanted(event), true);
+    addEventListener("hashchange", (event) => this.hearAddress(event), true);
     document.addEventListener("dragover", (event) => event.preventDefault());
     document.addEventListener("drop", (event) => (event.preventDefault(), this.drop(event.dataTransfer?.files[0])));
     addEventListener("pagehide", () => this.send({ keep: true }));
@@ -133,20 +133,25 @@ export class Connection {
         this.isReady = true;
         Object.assign(message.patch ?? {}, { examples: pageData().examples });
         this.listener.gone("");
-        this.openWanted();
         if (message.lost.length) this.say([this.work.trouble, ...message.lost.map((words) => `${words}.`)].join(" "));
     }
     this.listener.told(message);
     if (message.kind === "answer") this.pending.settle(message);
   }
 
-  /** Opens the exercise that the address names, if it does. */
-  openWanted(/** @type {Event | undefined} */ event = undefined) {
+  /** The exercise that the address names, once: the page opens it. */
+  takeWanted() {
+    const name = wanted;
+    wanted = "";
+    return name;
+  }
+
+  /** Has the page open the exercise that a new address names. */
+  hearAddress(/** @type {Event} */ event) {
     wanted = takeExercise() || wanted;
     if (!wanted) return;
-    event?.stopImmediatePropagation();
-    this.ask({ ask: "open", exercise: wanted });
-    wanted = "";
+    event.stopImmediatePropagation();
+    if (this.isReady) this.listener.told({ kind: "news" });
   }
 
   /** The lab's answer to a request; null if the lab isn't there. With `keep` the lab sends all changes first. */
