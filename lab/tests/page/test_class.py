@@ -463,7 +463,7 @@ def test_tab_shows_killed_and_hanging_program(program: pathlib.Path, tmp_path: p
         tab.command("step 7")
         assert tab.text("#log > li:last-child") == f"stepped 7 pc=00000000000{place}"
         assert tab.text("[data-edit='set x5']") == count
-        teacher.wait("one('.figures').textContent.includes('processes replaced')")
+        teacher.wait("one('.figures').textContent.includes('Processes replaced')")
         served.check_replay(digest_of(teacher))
     served.end()
 

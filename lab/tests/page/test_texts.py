@@ -1,5 +1,6 @@
 """The texts of pages: the table, the keys that files name, and texts in place of keys, worked out by hand."""
 
+import html.parser
 import pathlib
 import re
 import subprocess
@@ -7,6 +8,7 @@ from collections.abc import Iterator
 
 import pytest
 
+from prose_texts import c_blocks
 from support.text_keys import DECLARATIONS
 from vecmon_lab.page import texts
 from vecmon_lab.page.modules import join_modules
@@ -18,7 +20,22 @@ TABLES = sorted(path.stem for path in (LAB / "tables").glob("texts.*.txt"))
 SOURCES = {
     path: path.read_text("utf-8") for path in sorted([*LAB.rglob("*.html"), *LAB.rglob("*.js"), *LAB.rglob("*.py")])
 }
-SHOWN_ATTRIBUTES = {"title", "aria-label", "placeholder", "alt", "label"}
+SHOWN = {"title", "aria-label", "placeholder", "alt", "label"}  # attributes of HTML
+NO_TEXTS = {"script", "style", "textarea", "pre", "code", "kbd"}  # elements
+WORD = re.compile(r"[^\W\d_]{2,}")
+SENTENCE = re.compile(r"^[A-Z][a-z]+ [a-z]|[a-z]{2,},? [a-z]+,? [a-z]{2,}|[a-z]{2,} ?[.…:!?]$")
+WORDS_OF_CALLS = [  # a word that is shown, or read aloud
+    r'\bmake\("\w+", "[^"]*", "([^"\n]*)"',
+    r'\b(?:unseen|table|button|ask)\("([^"\n]*)"',
+    r'\b(?:header|link|say)\("\w+", "([^"\n]*)"',
+    r'\b(?:title|ariaLabel|placeholder|textContent)(?::| =) "([^"\n]*)"',
+]
+NAMES = {  # of things, and commands: they are no texts
+    *("vecmon", "pc", "Not supported", "Not begun", "No connection", "left as it was", "vecmon-lab class DIR --course"),
+    *("an instruction without an access has no row of memory", "the lab has failed", "its parts don't belong together"),
+    *("Python can't be started: ``", "Python ended with ``"),
+    *("Replace all:", "Replace with:", "Replace?", "(Use /re/ syntax for regexp search)"),  # phrases of CodeMirror
+}
 TABLE = {
     "texts.en": [["language", "en"], ["stop", "Stopped & <em>ended</em> at `{line}`."], ["step.one", "{count} step"]]
     + [["step.other", "{count} steps"], ["late", "late"]],
@@ -72,6 +89,46 @@ def test_scripts_name_keys_literally() -> None:
         if path.suffix == ".js" and path.name != "texts.js":
             code = re.sub(r"^import .*$|/\*\*.*?\*/|//.*$", "", text, flags=re.MULTILINE)
             assert len(re.findall(r"\b(?:textOf|contentOf)\b", code)) == len(texts.IN_SCRIPT.findall(code)), path
+
+
+class LiteralTexts(html.parser.HTMLParser):
+    """The texts of HTML that aren't keys or places, but for code."""
+
+    def __init__(self, page: str) -> None:
+        super().__init__()
+        self.texts, self.tag = list[str](), ""
+        self.feed(page)
+        self.found = [text for text in self.texts if WORD.search(re.sub(r"\{\{[\w.-]+\}\}|\$\w+", "", text))]
+
+    def handle_starttag(self, tag: str, attributes: list[tuple[str, str | None]]) -> None:
+        self.tag = tag
+        self.texts += [value for name, value in attributes if name in SHOWN and value]
+
+    def handle_endtag(self, tag: str) -> None:
+        self.tag = ""
+
+    def handle_data(self, data: str) -> None:
+        if self.tag not in NO_TEXTS:
+            self.texts.append(data.strip())
+
+
+def literals_of(script: str) -> set[str]:
+    """The sentences in the strings of a script, and the words that its calls show."""
+    strings = [block.lines[0] for block in c_blocks(script, True) if not block.comment and len(block.lines) == 1]
+    sentences = {text for text in strings if SENTENCE.search(text) and not re.search(r"[;={}\[]|/\*\*|^zero ra", text)}
+    return sentences | {word for call in WORDS_OF_CALLS for word in re.findall(call, script) if WORD.search(word)}
+
+
+def test_pages_have_texts_from_table_alone() -> None:
+    page, script = (
+        '<p title="{{a}}">{{b}} or <kbd>Enter</kbd></p>$rest',
+        'make("p", "", "Stop"); put(x, `Ends at ${y}.`);',
+    )
+    assert LiteralTexts(page).found == ["{{b}} or"] and literals_of(script) == {"Stop", "Ends at ``."}
+    for path, text in SOURCES.items():
+        if path.suffix != ".py":
+            found = literals_of(text) if path.suffix == ".js" else set(LiteralTexts(text).found)
+            assert (path.name, found - NAMES) == (path.name, set())
 
 
 def test_declaration_has_keys_of_table() -> None:

@@ -6,8 +6,10 @@ from typing import TYPE_CHECKING
 
 import pytest
 
-from support.bracketed_texts import UNBRACKETED, bracketed
+from support.bracketed_texts import IMPORT, UNBRACKETED, bracketed
+from support.class_pages import Served, Tab
 from support.places import EXAMPLES
+from vecmon_lab.exercises.exercise import OURS
 from vecmon_lab.lessons.frames import make_frames
 from vecmon_lab.lessons.page import Series, lesson_page
 from vecmon_lab.lessons.script import read_assembled
@@ -24,7 +26,8 @@ DATA = ", ".join(
         ".facts dt, .facts dd, .lanes th b, .card b, .card .meaning, .detail b, .detail small",
         "#step > span, #stop, #sentence, #points li, #in-memory li",
         "#entry, #entries, #mistakes, .problems-below",
-        "#course-list button, #exercise-text, #hints li, #cases tbody, #verdict .said, #verdict p:has(+ div)",
+        "#course-list button, #exercise-text, #hints li, #cases tbody, #verdict p",
+        ".teaching #who, .course label, #columns, #seats [title], #shoulder-says",
         ".listings thead, .profile tbody, #tables, #summary, #flame, #lengths",  # of the core's tables
         "#lessons a, #lessons p, #course h2, #course a, #course > p, .strip",
     ]
@@ -56,6 +59,12 @@ LONE = {  # the data of pages without a machine
         "listings": [{"name": "gcc", "summary": ["1"], "rows": [["10000", 1, "", "vid", 1, 8, 0, 0]]}],
     },
 }
+
+
+class Bracketed(Served):
+    """A class whose pages have texts in brackets."""
+
+    before = IMPORT
 
 
 def unbracketed(browser: "Chrome") -> Sequence[str]:
@@ -105,3 +114,58 @@ def test_lesson_shows_texts_of_table(
         browser.execute_script("document.getElementById('place').dispatchEvent(new Event('input'))")
         shown += unbracketed(browser)
     assert shown == []
+
+
+def show_student(tab: Tab) -> Iterator[str]:
+    """States of a student's page: the first visit, steps, each tab, the past, a problem, a check that fails, a question, a message."""
+    tab.wait("!id('exercise').hidden")
+    yield "first visit"
+    tab.write(
+        "li x1, 8\nvsetvli t0, x1, e32, m1, ta, ma\nvid.v v1\nvmsgtu.vi v0, v1, 3\nvadd.vv v2, v1, v1, v0.t\nlw x1, 0(x0)"
+    )
+    tab.run("id('assemble').click()")
+    tab.wait("one('#listing .next')")
+    for place, steps in (("2", 5), ("3", 1)):
+        tab.run("(id('number').value = arguments[0], id('many').click())", steps)
+        tab.wait("one('#moment-count').textContent.includes(arguments[0])", place)
+        yield f"{steps} steps"
+    for name in ("show-reference", "show-problems", "show-output", "show-memory", "show-listing", "backward"):
+        tab.run("id(arguments[0]).click()", name)
+        yield name
+    tab.run("(id('now').click(), all('details').forEach((each) => each.open = true))")
+    tab.write("vadd.vv v1, v2\n")
+    tab.run("id('go').click()")
+    tab.wait("one('#mistakes button')")
+    yield "problem"
+    tab.run("one('#course-list button').click()")
+    tab.wait("!id('check').disabled")
+    tab.write((OURS / "doubles" / "wrong" / "always_eight.s").read_text("utf-8"))
+    tab.run("id('check').click()")
+    tab.wait("one('#verdict h3')")
+    yield "check"
+    tab.run("id('new').click()")
+    yield "question"
+
+
+def test_class_shows_texts_of_table(tabs: "Chrome", program: pathlib.Path, tmp_path: pathlib.Path) -> None:
+    """The page for a code, the pages of a student and of the teacher, before and after the student's work, and the wall."""
+    served = Bracketed(tmp_path / "class", program, "--course")
+    try:
+        tabs.get(f"http://127.0.0.1:{served.port}/")
+        shown = {"join": unbracketed(tabs)}
+        tabs.get_log("browser")  # which says that the form has the focus already
+        teacher = Tab(tabs, served, "teacher")
+        shown["start"] = unbracketed(teacher.activate())
+        student = Tab(tabs, served, "A1")
+        shown |= {state: unbracketed(student.activate()) for state in show_student(student)}
+        teacher.click("tr[data-seat='A1'] .look")
+        teacher.wait("one('#listing tbody tr')")
+        shown["shoulder"] = unbracketed(teacher.activate())
+        for name in ("open-settings", "open-join", "open-exercises", "show-keys"):
+            teacher.run("(id(arguments[0]).click(), 0)", name)
+            shown[name] = unbracketed(teacher.activate())
+            teacher.run("all('dialog[open]').forEach((each) => each.close())")
+        shown["wall"] = unbracketed(Tab(tabs, served, "wall").activate())
+        assert [f"{state}: {text}" for state, found in shown.items() for text in found] == []
+    finally:
+        served.end()

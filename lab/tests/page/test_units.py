@@ -13,7 +13,10 @@ WEB = FILES.parent / "playground" / "web"
 
 
 def test_functions_without_page(tmp_path: pathlib.Path) -> None:
-    for folder in (FILES, WEB, UNITS):
+    web = tmp_path / WEB.relative_to(TOP)
+    shutil.copytree(FILES, web)  # whose modules those of the playground import
+    shutil.copytree(WEB, web, dirs_exist_ok=True)
+    for folder in (FILES, UNITS):
         shutil.copytree(folder, tmp_path / folder.relative_to(TOP))
     shutil.copy(FILES.parent / "package.json", tmp_path / FILES.parent.relative_to(TOP))
     for path in tmp_path.glob("lab/vecmon_lab/**/*.js"):

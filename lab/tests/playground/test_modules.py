@@ -1,17 +1,16 @@
 """Modules of the page under node: links that carry sources, and files of exported work, malformed ones among them."""
 
 import json
-import pathlib
 import shutil
 import subprocess
-import urllib.parse
 from typing import Any
 
 import pytest
 
 from support.skips import NO_NODE, leave_out
 from support.places import TOP
-from vecmon_lab.page.pages import FILES
+from vecmon_lab.page.modules import join_modules
+from vecmon_lab.page.pages import page_file
 
 WEB = TOP / "lab" / "vecmon_lab" / "playground" / "web"
 OPTIONS = '{options: [{text: "assembler"}, {text: "C, O2"}]}'
@@ -19,12 +18,11 @@ OPTIONS = '{options: [{text: "assembler"}, {text: "C, O2"}]}'
 pytestmark = pytest.mark.site
 
 
-def evaluated(module: pathlib.Path, script: str) -> Any:
+def evaluated(module: str, script: str) -> Any:
     """The JSON output of a script, in which the module is `it`."""
     if not shutil.which("node"):
         leave_out(NO_NODE)
-    address = f"data:text/javascript,{urllib.parse.quote(module.read_text('utf-8'))}"
-    whole = f'import * as it from "{address}"; {script}'
+    whole = f"{join_modules(module, lambda name: page_file(name, WEB))}const it = ${module}; {script}"
     done = subprocess.run(["node", "--input-type=module"], input=whole, stdout=subprocess.PIPE, text=True, check=True)
     return json.loads(done.stdout)
 
@@ -45,7 +43,7 @@ def test_links() -> None:
         console.log(JSON.stringify([it.sourceOf(link, {OPTIONS}), /^#source=[\\w-]+$/.test(link),
             it.linkOf({{text: "x".repeat(90000), language: 0}}, {OPTIONS}), ...{json.dumps(hashes)}.map((hash) => it.sourceOf(hash, {OPTIONS}))]));
     """
-    source, is_plain, *others = evaluated(FILES / "links.js", script)
+    source, is_plain, *others = evaluated("links", script)
     assert (source, is_plain) == ({"text": text, "language": 1}, True) and others == [None] * 7
 
 
@@ -68,11 +66,11 @@ def test_files_of_exported_work() -> None:
         await it.textsOf({{size: 1e9, name: "large.json"}}).catch((error) => refusals.push(error.message));
         console.log(JSON.stringify([await it.textsOf(file), refusals]));
     """
-    found, refusals = evaluated(WEB / "kept_work.js", script)
+    found, refusals = evaluated("kept_work", script)
     assert found == {name: entry for name, entry in texts.items() if name.startswith(("A1", "sources"))}
     assert refusals == [
-        "work.json is no file of exported work.",
-        "work.json is no file of exported work.",
+        "work.json isn't a file of exported work.",
+        "work.json isn't a file of exported work.",
         "work.json was exported by a newer playground: open it there.",
         "work.json has no work that can be read.",
         "large.json has more than 67,108,864 bytes.",

@@ -183,7 +183,7 @@ def test_work_is_brought_from_a_file(tabs: "Chrome", site: pathlib.Path, tmp_pat
     assert "1234567" in tab.text("#log")
     path.write_text("{}")
     tab.keys("input[type=file][accept='.json']", str(path))
-    tab.wait("id('stored').textContent === 'vecmon-work.json is no file of exported work.'")
+    tab.wait("id('stored').textContent === \"vecmon-work.json isn't a file of exported work.\"")
 
 
 def test_links_carry_sources_and_no_markup(tabs: "Chrome", site: pathlib.Path) -> None:

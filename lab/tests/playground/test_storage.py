@@ -88,7 +88,7 @@ def test_damaged_texts_leave_the_others(browser: "Chrome", address: str, tmp_pat
     tab.open(page)
     tab.wait("text() === arguments[0]", LOOP)
     said = tab.text("#stored")
-    assert said.startswith("1 saved texts can't be read: Damaged texts saves them as a file.")
+    assert said.startswith("1 saved text can't be read: Damaged texts saves it as a file.")
     assert "the machine's lines can't be executed again" in said or "the machine's lines are damaged" in said
     is_whole = lambda content: content.rstrip().endswith((b"]", b"}"))  # noqa: E731
     saved = tab.save("[aria-label='Save damaged texts as a file']", tmp_path / "vecmon-damaged.json", is_whole)

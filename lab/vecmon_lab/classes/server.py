@@ -22,6 +22,7 @@ from aiohttp.http import HttpProcessingError
 
 from .. import LabError
 from ..page.pages import Page
+from ..page.texts import page_text
 from ..page.reference import reference_text
 from .codes import TEACHER
 from .resumed_pages import OpenPages
@@ -124,7 +125,7 @@ class Server:
         response.headers.update({"Content-Security-Policy": own + sockets} | HEADERS)
 
     async def _get_page(self, request: web.Request) -> web.Response:
-        return web.Response(text=self._page.text("vecmon class", reference_text()), content_type="text/html")
+        return web.Response(text=self._page.text(page_text("join.class"), reference_text()), content_type="text/html")
 
     async def _room(self, request: web.Request, *names: str) -> Room:
         """The machine that a request names, or the first one. Raises HTTPNotFound unless it has somebody's code of these."""

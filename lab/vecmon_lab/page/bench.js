@@ -16,6 +16,7 @@ import { entryText, showReference, tellName } from "./reference.js";
 import { RunBar } from "./runbar.js";
 import { MOST_LETTERS, Source } from "./source.js";
 import { stopsOf } from "./source_lines.js";
+import { textOf } from "./texts.js";
 
 /** @typedef {import("./types").Message} Message */
 /** @typedef {import("./messages").Mistake} Mistake */
@@ -26,8 +27,8 @@ import { stopsOf } from "./source_lines.js";
 const MOST_BREAKPOINTS = 16;
 const PAUSE = 600; // ms in which nothing is typed, and then problems are asked for
 const NEW_MACHINE = ["map 10000 1 rwx", "map 20000 1 rw", "setpc 10000"];
-const LOSS = "Registers, memory and breakpoints of this machine would be lost. The source stays, and Back shows earlier steps.";
-const NO_BREAKPOINTS = "A breakpoint needs the program in the machine: assemble or compile this source first (Ctrl Shift B).";
+const LOSS = textOf("machine.loss");
+const NO_BREAKPOINTS = textOf("breakpoints.no-program");
 const MOST_LINES = 1000; // that a program is stepped through up to a line
 const LEAVING = { absent: [], stopped: ["leave"], running: ["stop", "leave"] };
 
@@ -115,8 +116,8 @@ export class Bench {
     new Cursor(this.root, (place) => this.edit(place));
     on("slice", "click", () => this.request({ ask: "lines", slices: 100 }));
     on("again", "click", () => this.restart());
-    on("new", "click", () => this.beginAnew("Empty machine", NEW_MACHINE));
-    on("images", "change", () => this.beginAnew("Load", [`load ${this.images.value}`]));
+    on("new", "click", () => this.beginAnew(textOf("run.empty-machine"), NEW_MACHINE));
+    on("images", "change", () => this.beginAnew(textOf("run.load"), [`load ${this.images.value}`]));
     on("assemble", "click", () => this.write());
     on("against", "change", () => this.write({ ask: "listings", other: this.against.selectedIndex - 1 }));
     on("link", "click", () => this.link());
@@ -144,8 +145,8 @@ export class Bench {
     this.askForRead(view.state);
     this.chooseSide(run !== "absent", view.source);
     offerLanguages(this.editor.language, view);
-    this.offer(this.images, "Load …", view.images);
-    this.offer(this.against, "Side by side …", view.against);
+    this.offer(this.images, textOf("run.load-image"), view.images);
+    this.offer(this.against, textOf("source.side-by-side"), view.against);
     this.showSource(view);
   }
 
@@ -206,8 +207,7 @@ export class Bench {
       if (!answer || answer.error || answer.mistakes?.length || stop || run !== "stopped" || pc === before.pc) return undefined;
       if (this.source.nextLine(this.desk.state) === line) return undefined;
     }
-    const lines = `${MOST_LINES.toLocaleString("en")} lines`;
-    return this.refuse(`The program went through ${lines}, but not through line ${line}: set a breakpoint (F9), and run.`);
+    return this.refuse(textOf("run.not-reached", { lines: MOST_LINES.toLocaleString(textOf("language")), line }));
   }
 
   /** Runs or steps the program; a source that has changed is built first. With problems it leads to the first one. */
@@ -229,8 +229,8 @@ export class Bench {
   /** Whether the source is too long to be sent; says so. */
   isTooMuch() {
     const { length } = this.editor.source.text;
-    const [size, most] = [length, MOST_LETTERS].map((each) => each.toLocaleString("en"));
-    if (length > MOST_LETTERS) this.refuse(`This source has ${size} characters, and ${most} are the most: nothing was sent.`);
+    const [size, most] = [length, MOST_LETTERS].map((each) => each.toLocaleString(textOf("language")));
+    if (length > MOST_LETTERS) this.refuse(textOf("source.not-sent", { size, most }));
     return length > MOST_LETTERS;
   }
 
@@ -248,7 +248,7 @@ export class Bench {
     if (lines.length > 1 || name === undefined) return this.send(lines);
     this.panes.show("reference");
     this.refer(name);
-    return this.refuse(entryText(name) || (name && `There is no command and no instruction \`${name}\`.`));
+    return this.refuse(entryText(name) || (name && textOf("help.unknown", { name })));
   }
 
   /** Sends lines, unless one of them can't be sent. */
@@ -296,10 +296,10 @@ export class Bench {
     const addresses = stopsOf(state)[line] ?? [];
     const there = addresses.filter((address) => breaks.includes(address));
     const left = MOST_BREAKPOINTS - breaks.length;
-    const much = `Line ${line} needs ${addresses.length} breakpoints, and ${left} of ${MOST_BREAKPOINTS} are left: none was set.`;
+    const much = textOf("breakpoints.too-many", { line, needed: addresses.length, left, most: MOST_BREAKPOINTS });
     if (there.length) return this.send(there.map((address) => `unbreak ${address}`));
     if (addresses.length > left) return this.refuse(much);
-    if (!addresses.length) return this.refuse(`Line ${line} has no instruction to stop at.`);
+    if (!addresses.length) return this.refuse(textOf("breakpoints.no-instruction", { line }));
     return this.send(addresses.map((address) => `break ${address}`));
   }
 
@@ -334,16 +334,17 @@ export class Bench {
   mark(/** @type {State} */ state) {
     const { last, next } = this.source.mark(state);
     this.links.show(this.source.stands ? state.starts : undefined);
-    const texts = [last && `${state.faulted ? "at" : "after"} line ${last}`, next && state.run === "stopped" && `next line ${next}`];
+    const done = state.faulted ? textOf("run.at-line", { line: last ?? 0 }) : textOf("run.after-line", { line: last ?? 0 });
+    const texts = [last && done, next && state.run === "stopped" && textOf("run.next-line", { line: next })];
     put(part(this.root, "run-place"), texts.filter(Boolean).join(" · "));
   }
 
   /** Puts the source into the page's address. */
   link() {
     const hash = linkOf(this.editor.source, this.editor.language);
-    if (!hash) return this.refuse("This source is too long for a link. Save it as a file instead.");
+    if (!hash) return this.refuse(textOf("link.too-long"));
     history.replaceState(null, "", hash);
-    return this.refuse("The address of this page has the source now. Opened, it puts the source into the editor.");
+    return this.refuse(textOf("link.in-address"));
   }
 
   /** Puts a source into the editor that a link has brought; it is compiled only where that is asked for. */
@@ -352,10 +353,10 @@ export class Bench {
     sessionStorage.removeItem("linked");
     if (!hash) return;
     const linked = sourceOf(hash, this.editor.language);
-    if (!linked) return void this.refuse("The source in this link can't be read: it is damaged, or too long.");
+    if (!linked) return void this.refuse(textOf("link.damaged"));
     this.source.replace(linked);
     this.panes.show("editor");
-    this.refuse("A link has brought this source; undo takes it back.");
+    this.refuse(textOf("link.brought"));
   }
 
   /** Loads the source into a new machine, whose text becomes a version if it is another one; or does what another request says. */

@@ -15,7 +15,7 @@ import { ROUNDING, typeText, typeWords, vectorType, withNames } from "./words.js
  */
 
 const COUNTS = ["active", "masked", "prestart", "fault", "pending", "tail"];
-const FOLDS = "Hide or show the sentence above";
+const FOLDS = textOf("card.fold.title");
 const NOTHING = { alias: "", formula: "", scalars: [], counts: [] };
 
 /**

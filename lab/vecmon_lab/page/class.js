@@ -7,11 +7,12 @@ import { patched } from "./patches.js";
 import { offerTextSizes } from "./preferences.js";
 import { Student } from "./student.js";
 import { Teacher } from "./teacher.js";
+import { textOf } from "./texts.js";
 import { Wall } from "./wall.js";
 
 /** @type {("head" | "teacher" | "desk")[]} */
 const PARTS = ["head", "teacher", "desk"];
-const LEAVING = "This tab forgets its code, and nobody can come back without it. The class keeps the work of this seat.";
+const LEAVING = textOf("class.leaving");
 
 /** Begins anew with a code, or with none, that is kept for this tab's session alone, and not in the address. */
 function sitDown(/** @type {string} */ code) {
@@ -79,7 +80,7 @@ class ClassTab {
 }
 
 window.addEventListener("hashchange", () => (takeHash(), location.reload()));
-byId("forget").addEventListener("click", () => ask(LEAVING, "Leave", () => (sitDown(""), location.reload())));
+byId("forget").addEventListener("click", () => ask(LEAVING, textOf("menu.leave"), () => (sitDown(""), location.reload())));
 document.addEventListener("submit", (event) => event.preventDefault());
 byId("join").addEventListener("submit", () => {
   sitDown(byId("code").value.toLowerCase().replace(/[\s-]/g, ""));

@@ -2,6 +2,7 @@
 
 import { offerFile } from "./elements.js";
 import { Pending } from "./pending.js";
+import { textOf } from "./texts.js";
 
 /** @typedef {import("./types").Message} Message */
 /** @typedef {import("./types").Connection} Channel */
@@ -13,19 +14,20 @@ const BEAT = 1500; // ms between questions whether the connection works
 const [MOST_UNANSWERED, MOST_OPENING] = [2, 7]; // beats until a connection counts as broken, and until one that opens does
 /** @type {Record<string, string>} */
 const NAMES = {
-  again: "the source", answer: "the earlier answer", check: "the check", lines: "slices", name: "the name", open: "the exercise",
-  run: "a run", source: "the source", step: "a step", draft: "", "last-instruction": "", read: "", shoulder: "", wall: "",
+  again: textOf("request.source"), answer: textOf("request.answer"), check: textOf("request.check"), lines: textOf("request.slices"),
+  name: textOf("request.name"), open: textOf("request.exercise"), run: textOf("request.run"), source: textOf("request.source"),
+  step: textOf("request.step"), draft: "", "last-instruction": "", read: "", shoulder: "", wall: "",
 };
 /** @type {Record<number, string>} */
 const ENDINGS = {
-  4403: "This code isn't valid. Compare it with your slip, or ask your teacher for a new one.",
-  4429: "This seat is open in too many tabs. Close one of them.",
+  4403: textOf("connection.invalid-code"),
+  4429: textOf("connection.too-many-tabs"),
 };
 
 /** The name of a lost request in a message; "" if its sender repeats it. */
 export function nameOf(/** @type {Request} */ request) {
   const lines = request.ask === "lines" ? (request.do ?? []) : [];
-  const some = lines.length > 4 ? `${lines[0]} and ${lines.length - 1} lines more` : lines.join(", ");
+  const some = lines.length > 4 ? textOf("request.lines", { line: lines[0], more: lines.length - 1 }) : lines.join(", ");
   return some || (NAMES[request.ask] ?? request.ask);
 }
 
@@ -84,10 +86,10 @@ export class Connection {
   /** Takes the connection up: a server that knows the page executes a request once, also if it is sent again. */
   resume(/** @type {Message} */ { time = 0, resumed = false }) {
     const words = this.isUnderWay && !resumed && nameOf(this.pending.drop(1)[0]);
-    this.lost = words ? `${words} was under way: the console shows whether it was executed.` : "";
+    this.lost = words ? textOf("connection.lost", { request: words }) : "";
     Object.assign(this, { isReady: true, isUnderWay: false, pause: FIRST_PAUSE });
     this.ahead = time - Date.now() / 1000; // seconds that the server's clock is ahead of this one
-    this.listener.gone(this.lost && `The server is there again. ${this.lost}`);
+    this.listener.gone(this.lost && textOf("connection.back", { lost: this.lost }));
   }
 
   /** @type {Channel["ask"]} */
@@ -128,7 +130,7 @@ export class Connection {
   /** Says that the server is gone, and what waits for it. */
   tell() {
     const names = this.pending.requests.map(nameOf).filter(Boolean);
-    const waiting = names.length ? ` Waiting: ${names.slice(0, 4).join(", ")}${names.length > 4 ? " …" : ""}.` : "";
-    this.listener.gone(`The server is gone. This page tries again by itself.${waiting}`);
+    const requests = names.length > 4 ? [...names.slice(0, 4), "…"] : names;
+    this.listener.gone(names.length ? textOf("connection.waiting", { requests: requests.join(", ") }) : textOf("connection.gone"));
   }
 }

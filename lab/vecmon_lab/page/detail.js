@@ -2,6 +2,7 @@
 
 import { REGISTER_BITS, elementOf, numberText } from "./numbers.js";
 import { OUTCOMES, resultOutcome } from "./outcomes.js";
+import { textOf } from "./texts.js";
 
 /** @typedef {import("./executed.js").View} View */
 /** @typedef {import("./columns.js").Columns} Columns */
@@ -25,7 +26,7 @@ export function detailOf(view, columns, element, chosen) {
   const row = results.find((each) => each.register === chosen) ?? results[0];
   const nothing = { name: "", place: "", sentence: "", value: "", edit: null, explain: "" };
   if (!columns.rows.length) return nothing;
-  const [name, sentence] = [`Element ${element}`, sentenceOf(view, columns, element)];
+  const [name, sentence] = [textOf("detail.element", { element }), sentenceOf(view, columns, element)];
   if (!row) return { ...nothing, name, sentence };
   const { register, width } = row;
   const address = columns.executed?.access?.address(element).toString(16);
@@ -49,9 +50,10 @@ export const elementEdit = ({ form = "signed" }, register, width, index) =>
 
 /** @type {(register: number, width: number, place: number) => string} */
 function placeText(register, width, place) {
-  if (width === 1) return `bit ${place} of v${register}`;
+  if (width === 1) return textOf("detail.bit", { bit: place, register: `v${register}` });
   const bytes = width / 8;
-  return `v${register}, ${bytes === 1 ? `byte ${place}` : `bytes ${place * bytes} to ${(place + 1) * bytes - 1}`}`;
+  if (bytes === 1) return textOf("detail.byte", { register: `v${register}`, byte: place });
+  return textOf("detail.bytes", { register: `v${register}`, first: place * bytes, last: (place + 1) * bytes - 1 });
 }
 
 /**
@@ -64,17 +66,18 @@ function sentenceOf({ state }, { executed, outcomes, rows, vl }, element) {
   if (!executed) return "";
   const outcome = executed.destination ? resultOutcome(executed, outcomes, element) : outcomes[element];
   const { access } = executed;
-  const where = access && outcome !== "tail" ? `${access.isStore ? "to" : "from"} 0x${access.address(element).toString(16)}` : "";
+  const address = access && outcome !== "tail" ? `0x${access.address(element).toString(16)}` : "";
+  const where = address && (access?.isStore ? textOf("detail.to", { address }) : textOf("detail.from", { address }));
   const [before, after] = ["before", "after"].map((kind) => rows.find((row) => row.kind === kind)?.cells[element]?.text);
-  const was = before === undefined ? "" : before === after ? `it was ${before} before, too` : `${before} → ${after}`;
+  const was = before === undefined ? "" : before === after ? textOf("detail.unchanged", { value: before }) : `${before} → ${after}`;
   /** @type {Record<string, string>} */
   const sentences = {
-    masked: `masked off: v0[${element}] is 0`,
-    tail: element >= vl ? `tail: ${element} is at or above vl = ${vl}` : "tail: the instruction doesn't write it",
-    prestart: state.faulted ? `done before the fault ${where}` : `before vstart = ${executed.earlier.vstart}`,
-    fault: `the access ${where} faulted`,
-    pending: "not reached",
-    kept: `kept: ${element} is below the offset`,
+    masked: textOf("detail.masked", { element }),
+    tail: element >= vl ? textOf("detail.tail", { element, vl }) : textOf("detail.unwritten"),
+    prestart: state.faulted ? textOf("detail.done", { where }) : textOf("detail.prestart", { vstart: executed.earlier.vstart }),
+    fault: textOf("detail.fault", { where }),
+    pending: OUTCOMES.pending,
+    kept: textOf("detail.kept", { element }),
   };
   return [sentences[outcome] ?? where, was].filter(Boolean).join("; ") || (executed.destination ? "" : OUTCOMES[outcome]);
 }

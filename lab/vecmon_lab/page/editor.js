@@ -7,6 +7,7 @@ import { namesAt } from "./hints.js";
 import { LineMarks } from "./line_marks.js";
 import { MARGIN, ProblemMarks } from "./problem_marks.js";
 import { TINTS } from "./source_lines.js";
+import { textOf } from "./texts.js";
 
 const [INDENT, INDENT_OF_C] = [8, 4]; // columns
 const TOGETHER = 1000; // ms: what is typed without a longer pause is undone at once
@@ -18,6 +19,13 @@ const ALSO_PAINTED = 80; // lines above and below those in sight: a screen reade
 
 /** @type {MachineLines} */
 export const NO_MARKS = { last: 0, next: 0, stops: [] };
+
+const PHRASES = { // of CodeMirror's dialogs
+  "Search:": textOf("editor.search"), "(Use /re/ syntax for regexp search)": textOf("editor.search.help"),
+  "Replace:": textOf("editor.replace"), "Replace all:": textOf("editor.replace-all"), "With:": textOf("editor.with"),
+  "Replace with:": textOf("editor.replace-with"), "Replace?": textOf("editor.is-replaced"),
+  Yes: textOf("editor.yes"), No: textOf("editor.no"), All: textOf("editor.all"), Stop: textOf("editor.stop"),
+};
 
 export class Editor {
   /** @type {(line: number) => void} */ toggleBreakpoint = () => {};
@@ -67,7 +75,7 @@ export class Editor {
       mode: ASSEMBLER, lineNumbers: true, gutters: ["marks", "CodeMirror-linenumbers", "problems"], inputStyle: "contenteditable",
       readOnly, screenReaderLabel: ariaLabel, indentUnit: INDENT, tabSize: INDENT, historyEventDelay: TOGETHER, undoDepth: MOST_CHANGES,
       viewportMargin: ALSO_PAINTED, matchBrackets: true, autoCloseBrackets: true, styleActiveLine: true,
-      extraKeys: readOnly ? { Esc: false } : extraKeys,
+      extraKeys: readOnly ? { Esc: false } : extraKeys, phrases: PHRASES,
     };
   }
 

@@ -2,6 +2,7 @@
 
 import { blocks } from "./blocks.js";
 import { elementsIn, link, make, part, prose, put } from "./elements.js";
+import { contentOf, textOf } from "./texts.js";
 import { caseTable, verdict } from "./verdict.js";
 
 /** @typedef {import("./messages").ExerciseView} ExerciseView */
@@ -9,10 +10,11 @@ import { caseTable, verdict } from "./verdict.js";
 /** @typedef {Record<string, ExerciseView>} All exercises by name */
 
 const MARKS = { passed: "✓", tried: "◐", open: "" };
+const STATES = { passed: textOf("exercises.passed"), tried: textOf("exercises.tried"), open: "" };
 
 /** A paragraph with the lesson before an exercise, if it has one. */
 const lessonBefore = (/** @type {string} */ href) =>
-  href ? [make("p", "", link(href, "The lesson before it"), " solves another problem of the kind, step by step.")] : [];
+  href ? [make("p", "", ...contentOf("exercises.lesson-before", { lesson: link(href, textOf("exercises.the-lesson")) }))] : [];
 
 export class Exercises {
   /** @type {All} */ all = {};
@@ -72,7 +74,7 @@ export class Exercises {
     this.list.inert = true; // one at a time
     const isOpen = await this.bench.source.openExercise(name);
     this.list.inert = false;
-    return isOpen || this.bench.refuse("The exercise isn't open: the source in the editor couldn't be saved before.");
+    return isOpen || this.bench.refuse(textOf("exercises.not-open"));
   }
 
   /** Opens the first exercise, and brings it into sight. */
@@ -114,7 +116,7 @@ export class Exercises {
     if (it.told !== before.told || it.lesson !== before.lesson) part(this.root, "verdict").replaceChildren(...verdict(it, start));
     if (it.told !== before.told || it.cases !== before.cases) part(this.root, "cases").replaceChildren(...caseTable(it, start));
     const hints = it.hints.map((hint) => make("li", "", ...prose(hint)));
-    const count = `Hints, ${hints.length} of ${it.hint_count}`;
+    const count = textOf("exercises.hints", { number: hints.length, all: it.hint_count });
     part(this.root, "hints").replaceChildren(...(hints.length ? [make("h3", "", count), make("ol", "", ...hints)] : []));
     const isTold = this.awaited === this.name && !it.checking;
     if (it.checking) this.awaited = this.name;
@@ -129,18 +131,19 @@ export class Exercises {
       const state = passed ? "passed" : tries ? "tried" : "open";
       const [text, mark] = [`${number}`, MARKS[state]];
       put(own, `${text}${title}${mark}`, [text, make("span", "title", title), make("span", "mark", mark)]);
-      Object.assign(own, { className: state, title, ariaLabel: `${number} ${title}${tries ? `, ${state}` : ""}` });
+      Object.assign(own, { className: state, title, ariaLabel: [`${number} ${title}`, STATES[state]].filter(Boolean).join(", ") });
       own.ariaCurrent = `${this.isOpen && name === this.name}`;
     });
   }
 
   /** Paints what there is of tries: earlier answers, and the best result. */
   paintTries(/** @type {ExerciseView} */ { tries, best, cases, passed, checking }) {
-    const answers = Array.from({ length: tries }, (_, place) => make("option", "", `try ${place + 1}`));
-    if (this.answers.length !== tries + 1) this.answers.replaceChildren(make("option", "", "Answers …"), ...answers);
+    const answers = Array.from({ length: tries }, (_, place) => make("option", "", textOf("exercises.try", { number: place + 1 })));
+    if (this.answers.length !== tries + 1) this.answers.replaceChildren(make("option", "", textOf("exercises.answers")), ...answers);
     this.answers.hidden = !tries;
-    const words = `${tries} ${tries > 1 ? "tries" : "try"}, ${passed ? "passed" : `best ${best} of ${cases.length}`}`;
-    put(part(this.root, "try-count"), checking ? "It is being checked …" : tries ? words : "");
+    const result = passed ? textOf("exercises.passed") : textOf("exercises.best", { best, all: cases.length });
+    const words = textOf("exercises.tries", { count: tries, result });
+    put(part(this.root, "try-count"), checking ? textOf("exercises.checking") : tries ? words : "");
   }
 
   /** Brings the last result into sight: the panel, and in it the result. */

@@ -1,21 +1,22 @@
 // How students join: the address, names and codes of seats, which are there only while they are shown, and the sheet to print.
 
 import { ask, button, elementsIn, header, link, make, part, put } from "./elements.js";
+import { textOf } from "./texts.js";
 
 /** A seat, or the wall: its student's name, and its code, a link where it is shown. */
 class CodeRow {
   constructor(/** @type {string} */ name, /** @type {import("./teacher.js").Teacher} */ teacher) {
-    const whose = name === "wall" ? "the wall" : `seat ${name}`;
-    const loss = `The code of ${whose} stops working at once, and its tabs close.`;
-    const field = { maxLength: 40, ariaLabel: `Name at ${whose}`, autocomplete: "off", hidden: name === "wall" };
+    const whose = name === "wall" ? textOf("codes.wall") : textOf("teacher.seat-name", { seat: name });
+    const ariaLabel = textOf("codes.name.label", { whose });
+    const field = { maxLength: 40, ariaLabel, autocomplete: "off", hidden: name === "wall" };
     this.name = Object.assign(make("input", ""), field);
     this.name.onchange = () => teacher.request({ ask: "name", seat: name, name: this.name.value }).then(() => teacher.join.showNames());
     this.link = Object.assign(make("a", ""), { target: "_blank", rel: "noopener" });
     const turn = () => (this.link.hash ? this.show("") : teacher.request({ ask: "codes", seat: name }));
-    this.shows = button("Code", `Code for ${whose}`, turn);
-    const renews = () => ask(loss, "New code", () => teacher.request({ ask: "renew", seat: name }));
-    const cells = [this.name, this.link, this.shows, button("New code", `New code for ${whose}`, renews)];
-    this.row = make("tr", "", header("row", name), ...cells.map((each) => make("td", "", each)));
+    this.shows = button(textOf("codes.show"), textOf("codes.show.label", { whose }), turn);
+    const renews = () => ask(textOf("codes.loss", { whose }), textOf("codes.new"), () => teacher.request({ ask: "renew", seat: name }));
+    const cells = [this.name, this.link, this.shows, button(textOf("codes.new"), textOf("codes.new.label", { whose }), renews)];
+    this.row = make("tr", "", header("row", name === "wall" ? textOf("wall.name") : name), ...cells.map((each) => make("td", "", each)));
     this.row.dataset.code = name;
   }
 
@@ -24,7 +25,7 @@ class CodeRow {
     put(this.link, code);
     if (code) this.link.href = `${address}#${code}`;
     else this.link.removeAttribute("href");
-    put(this.shows, code ? "Hide" : "Code");
+    put(this.shows, code ? textOf("codes.hide") : textOf("codes.show"));
   }
 }
 
@@ -55,7 +56,7 @@ export class JoinDialog {
   /** Shows the address that students open, with its QR code. */
   async showAddress(/** @type {string} */ address) {
     const answer = await this.teacher.connection.ask({ ask: "codes", seat: "wall", pictures: true });
-    const picture = { src: answer?.pictures?.[""] ?? "", alt: `QR code of ${address}` };
+    const picture = { src: answer?.pictures?.[""] ?? "", alt: textOf("codes.address.label", { address }) };
     for (const box of elementsIn(this.root, ".address"))
       box.replaceChildren(link(address, address), Object.assign(make("img", ""), picture));
   }
@@ -85,8 +86,9 @@ export class JoinDialog {
   showSheet(codes = {}, pictures = {}) {
     const { address, machines } = this.teacher.view;
     const slips = Object.entries(codes).filter(([seat]) => seat !== "wall").map(([seat, code]) => {
-      const image = pictures[seat] ? [Object.assign(make("img", ""), { src: pictures[seat], alt: `QR code for seat ${seat}` })] : [];
-      const head = [`Seat ${seat}`, machines[seat[0]].seats[seat[1]].name].filter(Boolean).join(", ");
+      const alt = textOf("codes.picture.label", { seat });
+      const image = pictures[seat] ? [Object.assign(make("img", ""), { src: pictures[seat], alt })] : [];
+      const head = [textOf("student.seat", { seat }), machines[seat[0]].seats[seat[1]].name].filter(Boolean).join(", ");
       return make("li", "", ...image, make("div", "", make("h2", "", head), make("p", "", address), make("code", "", code)));
     });
     part(this.root, "slips").replaceChildren(...slips);

@@ -1,37 +1,48 @@
 // The teacher's list: a row for each seat, those who need help first, with a column for each exercise.
 
 import { header, make, part, put } from "./elements.js";
+import { textOf } from "./texts.js";
 
 /** @typedef {import("./messages").SeatView} SeatView */
 /** @typedef {import("./messages").SeatStatus} SeatStatus */
 /** @typedef {Record<string, import("./messages").ExerciseTable>} Exercises by name */
 /** @typedef {import("./teacher.js").Teacher} Teacher */
 
+const HEADS = [textOf("teacher.student"), textOf("teacher.status"), textOf("teacher.for")];
 const AGES_EVERY = 5000; // ms
 const GROUPS = ["hand", "help", "work", "waits", "free"]; // of seats, from above
 /** @type {Record<SeatStatus["kind"], [sign: string, words: string]>} */
 const STATUSES = {
-  none: ["", "not begun"], running: ["▶", "running"], paused: ["•", "paused"], breakpoint: ["•", "at a breakpoint"],
-  problems: ["⊗", "problems in the source"], fault: ["↯", "fault"], limit: ["↻", "stopped at the limit"],
-  output: ["…", "waits: its output is full"], ebreak: ["✓", "ended"], ended: ["✓", "ended"],
+  none: ["", textOf("status.not-begun")],
+  running: ["▶", textOf("status.running")],
+  paused: ["•", textOf("status.paused")],
+  breakpoint: ["•", textOf("status.breakpoint")],
+  problems: ["⊗", textOf("status.some-problems")],
+  fault: ["↯", textOf("status.fault")],
+  limit: ["↻", textOf("status.limit")],
+  output: ["…", textOf("status.output")],
+  ebreak: ["✓", textOf("status.ended")],
+  ended: ["✓", textOf("status.ended")],
 };
 
 /** For how long, in words, of seconds. */
 export function forHow(/** @type {number} */ seconds) {
   const minutes = Math.floor(seconds / 60);
-  if (minutes < 1) return `${Math.max(0, Math.floor(seconds))} s`;
-  return minutes < 60 ? `${minutes} min` : `${Math.floor(minutes / 60)} h ${minutes % 60} min`;
+  if (minutes < 1) return textOf("time.seconds", { seconds: Math.max(0, Math.floor(seconds)) });
+  if (minutes < 60) return textOf("time.minutes", { minutes });
+  return textOf("time.hours", { hours: Math.floor(minutes / 60), minutes: minutes % 60 });
 }
 
 /** The status of a seat as a sign and in words, as `fault: vle32.v, element 0`. */
 /** @type {(seat: SeatView) => [sign: string, words: string]} */
 export function statusOf({ tabs, hand, status: { kind, count, exit, instruction, element } }) {
-  if (hand) return ["☝", `hand raised${hand.text && `: “${hand.text}”`}`];
+  if (hand) return ["☝", hand.text ? textOf("status.hand-text", { text: hand.text }) : textOf("status.hand")];
   const [sign, words] = STATUSES[kind];
-  if (kind === "none") return [sign, tabs ? words : "not here"];
-  if (count !== undefined) return [sign, `${count} ${count === 1 ? words.replace("s", "") : words}`];
+  if (kind === "none") return [sign, tabs ? words : textOf("status.not-here")];
+  if (count !== undefined) return [sign, textOf("status.problems", { count })];
   const isNamed = kind === "fault" || kind === "paused";
-  const place = [isNamed && instruction, element !== undefined && `element ${element}`, exit && `with status ${exit}`];
+  const number = element !== undefined && textOf("status.element", { element });
+  const place = [isNamed && instruction, number, exit && textOf("status.exit", { exit })];
   return [sign, [words, place.filter(Boolean).join(", ")].filter(Boolean).join(isNamed ? ": " : " ")];
 }
 
@@ -41,9 +52,9 @@ export const waitOf = (/** @type {SeatView} */ { hand, stuck_since: stuck, since
 /** A seat's work at an exercise, in words. */
 /** @type {(result: import("./messages").SeatResult | undefined, most: number) => string} */
 export function workText(result, most) {
-  if (!result) return "not checked yet";
+  if (!result) return textOf("work.unchecked");
   const { tries, passed, best } = result;
-  return passed ? `passed at try ${passed}` : `${best} of ${most} cases, ${tries} ${tries > 1 ? "tries" : "try"}`;
+  return passed ? textOf("work.passed", { number: passed }) : textOf("work.tries", { best, most, count: tries });
 }
 
 /** A button that shows answers to an exercise, at the top of its column or at a seat. */
@@ -61,7 +72,7 @@ class Row {
   constructor(/** @type {string} */ seat, /** @type {Teacher} */ teacher) {
     this.seat = seat;
     this.teacher = teacher;
-    this.box = Object.assign(make("input", ""), { type: "checkbox", ariaLabel: `Choose seat ${seat}` });
+    this.box = Object.assign(make("input", ""), { type: "checkbox", ariaLabel: textOf("teacher.choose-seat.label", { seat }) });
     this.name = make("span", "");
     this.look = make("button", "look", make("span", "seat", seat), " ", this.name);
     this.sign = Object.assign(make("span", "sign"), { ariaHidden: "true" });
@@ -143,11 +154,12 @@ export class Roster {
   /** The heads of exercises, which show the answers of the seat that is looked at. */
   showColumns() {
     const heads = Object.entries(this.exercises).map(([name, { title }], place) => {
-      const head = columnButton(name, `${title}: answers of this seat`, `${place + 1}`, make("span", "title", ` ${title}`));
+      const contents = [`${place + 1}`, make("span", "title", ` ${title}`)];
+      const head = columnButton(name, textOf("teacher.column.title", { exercise: title }), ...contents);
       if (place < 9) head.setAttribute("aria-keyshortcuts", `${place + 1}`);
       return header("col", head);
     });
-    this.head.replaceChildren(make("td", ""), ...["student", "status", "for"].map((name) => header("col", name)), ...heads);
+    this.head.replaceChildren(make("td", ""), ...HEADS.map((name) => header("col", name)), ...heads);
   }
 
   /** The rows of those who need help. */

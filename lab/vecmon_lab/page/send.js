@@ -4,19 +4,18 @@ import { Editor } from "./editor.js";
 import { button, elementsIn, make, part, put, timeText } from "./elements.js";
 import { offerLanguages } from "./languages.js";
 import { MOST_LETTERS } from "./source.js";
+import { textOf } from "./texts.js";
 
 /** @typedef {import("./messages").TeacherView} TeacherView */
 
 const SHOWN = 3; // names in a sentence, and messages in the list of those sent
-/** @type {Record<"message" | "offer" | "replace", [verb: string, words: string]>} */
+/** The button and the preview of what is sent, for its receivers. */
+/** @type {Record<"message" | "offer" | "replace", [button: (to: string) => string, preview: (to: string) => string]>} */
 const KINDS = {
-  message: ["Send to", "will see it above the source until it is closed."],
-  offer: ["Offer to", "will see the offer above the source. It replaces nothing; opening it keeps the student's text as a version."],
-  replace: ["Replace for", "will have this source in the editor at once. What is there becomes a version."],
+  message: [(to) => textOf("send.message", { to }), (to) => textOf("send.message.preview", { to })],
+  offer: [(to) => textOf("send.offer", { to }), (to) => textOf("send.offer.preview", { to })],
+  replace: [(to) => textOf("send.replace", { to }), (to) => textOf("send.replace.preview", { to })],
 };
-
-/** A number with its noun, as `1 editor` or `3 editors`. */
-const counted = (/** @type {number} */ number, /** @type {string} */ noun) => `${number} ${noun}${number === 1 ? "" : "s"}`;
 
 export class Send {
   /** @type {TeacherView["sent"] | null} */ sent = null;
@@ -74,9 +73,9 @@ export class Send {
 
   /** Names of seats in a sentence. */
   names(/** @type {string[]} */ seats) {
-    if (seats.length === this.teacher.roster.rows.length) return "all seats";
-    const more = seats.length - SHOWN;
-    return `${seats.slice(0, SHOWN).map((seat) => this.teacher.withName(seat)).join(", ")}${more > 0 ? ` and ${more} more` : ""}`;
+    if (seats.length === this.teacher.roster.rows.length) return textOf("teacher.all-seats");
+    const [more, names] = [seats.length - SHOWN, seats.slice(0, SHOWN).map((seat) => this.teacher.withName(seat)).join(", ")];
+    return more > 0 ? textOf("send.more", { names, more }) : names;
   }
 
   /** What is sent: a message, or a source that is offered or replaces others. */
@@ -89,14 +88,15 @@ export class Send {
     const { choices, kind } = this;
     const seats = choices[this.group("to").value];
     const { one, chosen, waiting, all } = choices;
-    const looked = one.length ? this.names(one) : "no seat";
-    const labels = [looked, `chosen: ${chosen.length}`, `need help: ${waiting.length}`, `all ${all.length} seats`];
+    const looked = one.length ? this.names(one) : textOf("teacher.no-seat");
+    const [some, needy] = [textOf("send.chosen", { number: chosen.length }), textOf("send.waiting", { number: waiting.length })];
+    const labels = [looked, some, needy, textOf("send.all", { number: all.length })];
     elementsIn(this.form, "#receivers span").forEach((label, place) => put(label, labels[place]));
-    const [verb, words] = KINDS[kind];
+    const [button, preview] = KINDS[kind];
     const changed = seats.filter((seat) => this.teacher.seatOf(seat).changed).length;
-    const loss = kind === "replace" && changed ? ` ${counted(changed, "text")} changed since the last version.` : "";
-    put(part(this.root, "preview"), seats.length ? `${this.names(seats)} ${words}${loss}` : "Choose a student in the list, or tick some.");
-    put(part(this.root, "send-it"), `${verb} ${seats.length === 1 ? this.names(seats) : counted(seats.length, "student")}`);
+    const loss = kind === "replace" && changed ? ` ${textOf("send.changed", { count: changed })}` : "";
+    put(part(this.root, "preview"), seats.length ? `${preview(this.names(seats))}${loss}` : textOf("send.nobody"));
+    put(part(this.root, "send-it"), button(seats.length === 1 ? this.names(seats) : textOf("send.students", { count: seats.length })));
     part(this.root, "send-it").disabled = !seats.length || !(kind === "message" ? this.words.value : this.given.source.text).trim();
   }
 
@@ -125,30 +125,35 @@ export class Send {
     Object.assign(this, { sent, gift: given });
     const items = Object.keys(sent).slice(-SHOWN).reverse().map((number) => this.item(Number(number), sent[number]));
     if (given) {
-      const words = `Replaced ${counted(given.replaced, "editor")}: ${given.seats.length ? this.names(given.seats) : "all seats"}`;
-      items.unshift(make("li", "given", words, button("Take back", `Take back: ${words}`, () => this.takeBack())));
+      const names = given.seats.length ? this.names(given.seats) : textOf("teacher.all-seats");
+      const words = textOf("send.replaced", { count: given.replaced, names });
+      items.unshift(make("li", "given", words, this.backButton(words, () => this.takeBack())));
     }
     part(this.root, "sent").replaceChildren(...items);
   }
 
   item(/** @type {number} */ number, /** @type {import("./messages").SentNotice} */ { time, text, offer, to, read, opened }) {
-    const what = text ? `“${text}”` : `a source${offer?.title && `, “${offer.title}”`}`;
-    const seen = `read by ${read.length} of ${to.length}${offer ? `, opened by ${opened.length}` : ""}`;
+    const offered = offer?.title ? textOf("send.offered-title", { title: offer.title }) : textOf("send.offered");
+    const [what, numbers] = [text ? `“${text}”` : offered, { read: read.length, all: to.length }];
+    const seen = offer ? textOf("send.opened", { ...numbers, opened: opened.length }) : textOf("send.read", numbers);
     const words = Object.assign(make("span", "", `${timeText(time)} ${this.names(to)}: ${what}, ${seen}`), { title: read.join(", ") });
-    const back = button("Take back", `Take back: ${what}`, () => this.unsend(number));
-    return make("li", "", words, ...(read.length < to.length ? [back] : []));
+    return make("li", "", words, ...(read.length < to.length ? [this.backButton(what, () => this.unsend(number))] : []));
+  }
+
+  /** @param {string} what was sent @param {() => unknown} takeBack */
+  backButton(what, takeBack) {
+    return button(textOf("teacher.take-back"), textOf("send.take-back.label", { what }), takeBack);
   }
 
   async unsend(/** @type {number} */ number) {
     const { read } = (await this.teacher.request({ ask: "unsend", number })) ?? {};
-    if (read) put(this.says, read.length ? `Taken back. Read before by ${this.names(read)}.` : "Taken back.");
+    if (read) put(this.says, read.length ? textOf("send.read-before", { names: this.names(read) }) : textOf("send.taken-back"));
   }
 
   /** Takes back the source that was given last, where no student has changed it since. */
   async takeBack() {
     const seats = this.gift?.seats ?? [];
     const answer = await this.teacher.request({ ask: "take-back", ...(seats.length ? { seats } : { seat: "" }) });
-    const restored = counted(answer?.replaced ?? 0, "editor");
-    if (answer && !answer.error) put(this.says, `Taken back: ${restored} restored. A source that a student has changed since stays.`);
+    if (answer && !answer.error) put(this.says, textOf("send.restored", { count: answer.replaced ?? 0 }));
   }
 }

@@ -2,6 +2,7 @@
 
 import { elementsIn, header, make, part, put, table, timeText } from "./elements.js";
 import { LineField, requestsOf, unfitLines } from "./lines.js";
+import { textOf } from "./texts.js";
 import { Log } from "./transcript.js";
 
 /** @typedef {import("./messages").MachineView} MachineView */
@@ -9,6 +10,7 @@ import { Log } from "./transcript.js";
 
 /** @type {("slices" | "ms" | "limit")[]} */
 const NUMBERS = ["slices", "ms", "limit"]; // of a clock
+const SAVES = { script: textOf("settings.save-script"), transcript: textOf("settings.save-transcript") };
 
 export class Settings {
   /** @type {Record<string, HTMLElement>} */ figures = {}; // by machine
@@ -51,12 +53,12 @@ export class Settings {
     Object.assign(this, { course, exercises, failures });
     const focused = document.activeElement?.closest(".course input")?.getAttribute("name");
     for (const box of elementsIn(this.root, ".course")) {
-      box.replaceChildren(table("Exercises", make("tbody", "", ...course.map((_, place) => this.exerciseRow(place)))));
+      box.replaceChildren(table(textOf("exercises"), make("tbody", "", ...course.map((_, place) => this.exerciseRow(place)))));
       if (focused && box.checkVisibility()) elementsIn(box, `[name="${focused}"]`)[0].focus();
     }
     const items = failures.map(({ seat, exercise, time, cause }) => {
       const what = `${timeText(time)} ${this.teacher.withName(seat)}, ${exercises[exercise].title}`;
-      return make("li", "", `${what}: the check failed and nothing was counted: ${cause}.`);
+      return make("li", "", textOf("settings.failed", { what, cause }));
     });
     part(this.root, "failures").replaceChildren(...items.reverse());
   }
@@ -69,24 +71,24 @@ export class Settings {
     const names = this.course.filter((each) => each.on !== (each.name === name)).map((each) => each.name);
     const onchange = () => this.teacher.request({ ask: "exercises", on: names });
     const box = Object.assign(make("input", ""), { type: "checkbox", name, checked: on, onchange });
-    const counts = results.length ? `${passed} passed, ${results.length - passed} trying` : "";
-    const cells = [minutes ? `${minutes} min` : "", counts].map((text) => make("td", "", text));
+    const counts = results.length ? textOf("settings.counts", { passed, trying: results.length - passed }) : "";
+    const cells = [minutes ? textOf("time.minutes", { minutes }) : "", counts].map((text) => make("td", "", text));
     return make("tr", "", header("row", make("label", "", box, ` ${title}`)), ...cells);
   }
 
   /** What is wrong with a machine, its script, and its answers. */
   figuresOf(/** @type {MachineView} */ { lines, script, of, restarts, loss, digest, trouble }) {
-    const [number, bytes, most] = [lines, script, of].map((each) => each.toLocaleString("en"));
-    const replaced = restarts ? `; processes replaced: ${restarts} (${loss})` : "";
-    return `${trouble} Script: ${number} lines, ${bytes} of ${most} bytes${replaced}; SHA-256 of all answers: ${digest}`.trim();
+    const [number, bytes, most] = [lines, script, of].map((each) => each.toLocaleString(textOf("language")));
+    const replaced = restarts ? textOf("settings.replaced", { restarts, loss }) : "";
+    return `${trouble} ${textOf("settings.script", { lines: number, bytes, most, digest })} ${replaced}`.trim();
   }
 
   /** Adds a machine, with buttons that save its script and transcript. */
   add(/** @type {string} */ letter) {
-    const saves = ["script", "transcript"].map((name) =>
-      Object.assign(make("button", "", `Save ${name}`), { name, onclick: () => this.download(letter, name) }));
+    const saves = /** @type {("script" | "transcript")[]} */ (["script", "transcript"]).map((name) =>
+      Object.assign(make("button", "", SAVES[name]), { name, onclick: () => this.download(letter, name) }));
     const figures = make("p", "figures");
-    part(this.root, "machines").append(make("div", "top", make("h3", "", `Machine ${letter}`), ...saves), figures);
+    part(this.root, "machines").append(make("div", "top", make("h3", "", textOf("settings.machine", { letter })), ...saves), figures);
     part(this.root, "operated").append(make("option", "", letter));
     return figures;
   }
@@ -121,7 +123,7 @@ export class Settings {
     for (let number = 1; number <= scripts; number++) {
       const place = number < scripts ? `${letter}.${number}` : letter;
       const isThere = await this.teacher.connection.download(`${place}/${name}`, `${place}.${name}.txt`);
-      if (!isThere) this.log.add([`!The ${name} can't be fetched.`]);
+      if (!isThere) this.log.add([`!${textOf("settings.not-fetched", { file: `${place}.${name}.txt` })}`]);
     }
   }
 }

@@ -8,6 +8,7 @@ import { Panes } from "./panes.js";
 import { Problems } from "./problems.js";
 import { forHow, statusOf, waitOf, workText } from "./roster.js";
 import { Source } from "./source.js";
+import { textOf } from "./texts.js";
 
 /** @typedef {import("./messages").TeacherView} TeacherView */
 
@@ -72,8 +73,8 @@ export class Shoulder {
 
   reset() {
     const { seat } = this;
-    const loss = `Registers, memory and breakpoints of seat ${seat} would be lost. Its source is kept.`;
-    ask(loss, "Reset", () => this.teacher.request({ ask: "reset", seat }));
+    const loss = textOf("shoulder.loss", { seat });
+    ask(loss, textOf("run.reset"), () => this.teacher.request({ ask: "reset", seat }));
   }
 
   /** Shows a seat's answers to an exercise, the last one first. */
@@ -81,12 +82,13 @@ export class Shoulder {
     const { title, seats } = this.teacher.view.exercises[exercise];
     const { tries = 0 } = seats[seat] ?? {};
     this.answered = { seat, exercise };
-    this.tries.replaceChildren(...Array.from({ length: tries }, (_, place) => make("option", "", `try ${place + 1}`)));
+    const option = (/** @type {number} */ number) => make("option", "", textOf("exercises.try", { number }));
+    this.tries.replaceChildren(...Array.from({ length: tries }, (_, place) => option(place + 1)));
     this.tries.hidden = !tries;
     this.tries.selectedIndex = tries - 1;
     this.panes.show("seat-answers");
     put(part(this.root, "answer-title"), `${this.teacher.withName(seat)}: ${title}`);
-    put(part(this.root, "answer"), tries ? "" : "No answer was checked yet.");
+    put(part(this.root, "answer"), tries ? "" : textOf("shoulder.no-answer"));
     return tries && this.read(tries);
   }
 

@@ -6,6 +6,7 @@ import { Exercises } from "./exercises.js";
 import { Keys } from "./keys.js";
 import { placePast } from "./past.js";
 import { StartPage } from "./start_page.js";
+import { textOf } from "./texts.js";
 
 /** @typedef {import("./messages").Notice} Notice */
 
@@ -48,27 +49,27 @@ export class Student {
     this.home.disabled = true;
     const isThere = await this.connection.download(`${this.seat}/home`, `${this.seat}.zip`);
     this.home.disabled = false;
-    this.bench.refuse(isThere ? "" : "There is nothing to take home yet, or it can't be made now.");
+    this.bench.refuse(isThere ? "" : textOf("student.nothing-to-take"));
   }
 
   /** @type {import("./types").RolePage["show"]} */
   show(view, logs, isAnew) {
     const isFirst = !this.seat && view.state.run === "absent" && !view.source.text;
     this.seat = view.seat;
-    const title = view.title || `Seat ${view.seat}`;
-    document.title = `${title} – vecmon`;
+    const title = view.title || textOf("student.seat", { seat: view.seat });
+    document.title = textOf("page.named", { name: title });
     put(part(this.root, "who"), title);
-    if (view.title) this.home.title = "An archive: the source, the script, and a lesson of it";
+    if (view.title) this.home.title = textOf("student.take-home.title");
     if (view.messages !== this.messages) this.showMessages(view.messages);
     part(this.root, "welcome").hidden = Boolean(view.title);
     if (logs[view.seat]) this.welcome(false);
     if (isFirst && !view.title) this.bench.panes.show("vectors"); // which has what to do first
     this.hand.hidden = Boolean(view.title); // of a page without a teacher
     this.hand.ariaPressed = `${Boolean(view.hand)}`;
-    put(this.hand, view.hand ? "Hand raised" : "Raise hand");
+    put(this.hand, view.hand ? textOf("hand.raised") : textOf("hand.raise"));
     if (document.activeElement !== this.name) this.name.value = view.name;
     const share = Math.floor((100 * view.share.used) / view.share.of);
-    const warning = share < 90 ? "" : `${share} % of the script's room is used up.`;
+    const warning = share < 90 ? "" : textOf("student.share", { share });
     say("trouble", [view.trouble, warning].join(" ").trim());
     if (view.examples) (this.start ??= new StartPage(this.root, this.bench, view)).show(view);
     this.bench.show(view, logs[view.seat] ?? [], isAnew);
@@ -98,9 +99,11 @@ export class Student {
 
   /** A message with its buttons. */
   item(/** @type {number} */ number, /** @type {Notice} */ { time, text, offer, read }) {
-    const said = text ? `The teacher: ${text}` : `The teacher offers a source${offer?.title ? `: ${offer.title}` : "."}`;
-    const close = button("Close", `Close: ${said}`, () => this.connection.ask({ ask: "read", number }));
-    const open = button("Open", `Open; your source is kept as a version: ${said}`, () => this.connection.ask({ ask: "open", number }));
+    const offered = offer?.title ? textOf("messages.offer-title", { title: offer.title }) : textOf("messages.offer");
+    const said = text ? textOf("messages.text", { text }) : offered;
+    const [closeLabel, openLabel] = [textOf("messages.close.label", { said }), textOf("messages.open.label", { said })];
+    const close = button(textOf("dialog.close"), closeLabel, () => this.connection.ask({ ask: "read", number }));
+    const open = button(textOf("messages.open"), openLabel, () => this.connection.ask({ ask: "open", number }));
     const buttons = [...(offer ? [open] : []), ...(read ? [] : [close])];
     return make("li", read ? "read" : "", make("small", "", timeText(time)), make("span", "", said), ...buttons);
   }

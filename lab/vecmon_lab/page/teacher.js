@@ -8,6 +8,7 @@ import { Roster } from "./roster.js";
 import { Send } from "./send.js";
 import { Settings } from "./settings.js";
 import { Shoulder } from "./shoulder.js";
+import { textOf } from "./texts.js";
 
 /** @typedef {import("./messages").TeacherView} TeacherView */
 
@@ -25,7 +26,7 @@ export class Teacher {
     this.send = new Send(root, this);
     this.join = new JoinDialog(root, this);
     this.settings = new Settings(root, this);
-    document.title = "Teacher – vecmon";
+    document.title = textOf("page.named", { name: textOf("teacher.page") });
     part(root, "teacher").hidden = false;
     part(root, "read").onclick = () => (sessionStorage.setItem("unencrypted", "read"), this.warn());
     this.listenToKeys();
@@ -77,8 +78,9 @@ export class Teacher {
     const { rows, waiting } = this.roster;
     const used = rows.filter(({ row }) => !row.matches(".free")).length;
     const isRunning = Object.values(machines).some(({ clock }) => clock.on);
-    const words = [`${used} of ${rows.length} seats`, isRunning ? "programs run" : "programs wait: the clock is off"];
-    put(part(this.root, "summary-says"), [...words, ...(wall ? [`on the wall: ${this.withName(wall)}`] : [])].join(" · "));
+    const words = [textOf("teacher.used", { used, all: rows.length }), isRunning ? textOf("teacher.running") : textOf("teacher.clock-off")];
+    if (wall) words.push(textOf("teacher.on-wall", { seat: this.withName(wall) }));
+    put(part(this.root, "summary-says"), words.join(" · "));
     put(part(this.root, "help-count"), waiting.length ? `${waiting.length}` : "");
     const isStart = !used && !shoulder;
     if (isStart === part(this.root, "opening").hidden) this.send.choose(isStart ? "all" : "one");
@@ -104,7 +106,7 @@ export class Teacher {
   /** A student's name with the seat, as `Nora (B6)`. */
   withName(/** @type {string} */ seat) {
     const { name } = this.seatOf(seat);
-    return name ? `${name} (${seat})` : `seat ${seat}`;
+    return name ? `${name} (${seat})` : textOf("teacher.seat-name", { seat });
   }
 
   async request(/** @type {import("./types").Request} */ request) {

@@ -24,6 +24,7 @@ from ..machine.program import find_program
 from ..page.modules import join_modules
 from ..page.pages import Page, merge_patch, page_file
 from ..page.reference import reference_text
+from ..page.texts import page_text
 
 WEB = pathlib.Path(__file__).with_name("web")
 DIGEST_BYTES = 32
@@ -31,10 +32,6 @@ DATA, DATA_COUNT = 11, 12  # sections of WebAssembly
 LATER = "later"  # the part that is loaded where it is needed
 LAB = pathlib.Path(__file__).parents[1]
 STEPPED = "strip_mined.s"  # the example of the start page
-PRACTICE = (
-    "Checks on this page are practice and not marks: the expected values are in the file, for anyone to read. "
-    "Nothing that you write here is sent anywhere."
-)
 
 
 def without_data(module: bytes) -> bytes:
@@ -71,8 +68,9 @@ def parts_of(folder: pathlib.Path) -> dict[str, bytes]:
 
 def about(provenance: str) -> str:
     """The text about the machine and the checks at the foot of the page; provenance: the text of tools/wasm."""
-    proof = "the proved program" if "of the proved program" in provenance else "the program built without its proofs"
-    return f"The machine is {proof}, as WebAssembly. {PRACTICE}"
+    is_proved = "of the proved program" in provenance
+    machine = page_text("playground.proved") if is_proved else page_text("playground.unproved")
+    return " ".join([machine, page_text("playground.practice")])
 
 
 def examples() -> list[ExampleSource]:
@@ -107,7 +105,7 @@ def playground(page: Page, entries: Mapping[str, object], words: str, connect: s
     )
     meta = f'<meta http-equiv="Content-Security-Policy" content="{html.escape(policy)}">'
     worker = join_modules("worker", lambda name: page_file(name, WEB))
-    return page.text("vecmon playground", reference_text(), meta) + "".join(
+    return page.text(page_text("playground.page"), reference_text(), meta) + "".join(
         f'<script type="application/json" id="{name}">{_as_json(it)}</script>\n'
         for name, it in (("parts", {"files": entries, "about": words, "examples": examples()}), ("worker", worker))
     )

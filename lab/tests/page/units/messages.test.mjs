@@ -83,14 +83,14 @@ test("an entry of the transcript has a text, and the words of a refusal", () => 
   assert.deepEqual(entryParts(">1 regs"), ["1 regs", ""]);
 });
 
-/** A file of a browser, as far as it is read. */
-const file = (text, size = text.length) => ({ name: "work.json", size, text: async () => text });
+/** A file with a text, which may say that it has another size. */
+const file = (text, size) => Object.defineProperties(new File([text], "work.json"), size ? { size: { value: size } } : {});
 
 test("a file of exported work has its texts by name, and others are refused by name", async () => {
   const texts = [{ name: "A1.source", text: "nop", time: 5 }, { name: "a/b/c", text: "", time: 1 }];
   const content = { format: "vecmon work", version: 1, texts };
   assert.deepEqual(await textsOf(file(JSON.stringify(content))), { "A1.source": ["nop", 5] });
-  await assert.rejects(textsOf(file("{")), { message: "work.json is no file of exported work." });
+  await assert.rejects(textsOf(file("{")), { message: "work.json isn't a file of exported work." });
   await assert.rejects(textsOf(file(JSON.stringify({ ...content, version: 2 }))), /newer playground/);
   await assert.rejects(textsOf(file(JSON.stringify({ ...content, texts: [] }))), /no work that can be read/);
   await assert.rejects(textsOf(file("{}", 1e8)), /more than 67,108,864 bytes/);

@@ -3,6 +3,7 @@
 import { ask, byId, button, make, offerFile, put } from "./elements.js";
 import { KeptWork, fileOf, textsOf } from "./kept_work.js";
 import { Pending } from "./pending.js";
+import { textOf } from "./texts.js";
 
 /** @typedef {import("./playground").FromWorker} FromWorker */
 /** @typedef {import("./playground").PageData} PageData */
@@ -10,7 +11,7 @@ import { Pending } from "./pending.js";
 /** @typedef {import("./types").Connection} Channel */
 
 const WORK_FILE = "vecmon-work.json";
-const REPLACED = "The work in this file replaces the sources, versions, tries and machine of this page. Take home exports them before.";
+const [REPLACED, FILE_LABEL] = [textOf("playground.replaces"), textOf("playground.file.label")];
 const MOST_IMAGE_BYTES = 1 << 20;
 const elementText = (/** @type {string} */ id) => document.getElementById(id)?.textContent ?? "";
 /** @type {() => PageData} */
@@ -47,7 +48,7 @@ export class Connection {
   /** @type {Record<string, number>} */ times = { page: performance.now() };
   /** @type {Worker | null} */ worker = null;
   /** @type {Window | null} */ tab = null; // for a lesson
-  damaged = button("Damaged texts", "Save damaged texts as a file", () => this.saveRest());
+  damaged = button(textOf("playground.damaged"), textOf("playground.damaged.label"), () => this.saveRest());
   words = Object.assign(make("p", ""), { id: "stored", hidden: true });
 
   /** @param {string} code of the only seat @param {import("./types").Listener} listener */
@@ -60,7 +61,7 @@ export class Connection {
     document.addEventListener("dragover", (event) => event.preventDefault());
     document.addEventListener("drop", (event) => (event.preventDefault(), this.drop(event.dataTransfer?.files[0])));
     addEventListener("pagehide", () => this.send({ keep: true }));
-    this.listener.gone("The machine starts …");
+    this.listener.gone(textOf("playground.starts"));
     this.work.open().then(() => this.begin());
   }
 
@@ -74,11 +75,11 @@ export class Connection {
 
   /** Adds what a page without a server has: work from a file, a sentence on storage, and one on checks. */
   addElements() {
-    byId("home").title = "A file with all work of this page: sources, versions, tries, images and the machine";
-    const choose = Object.assign(make("input", ""), { type: "file", accept: ".json", ariaLabel: "A file of exported work", hidden: true });
+    byId("home").title = textOf("playground.take-home.title");
+    const choose = Object.assign(make("input", ""), { type: "file", accept: ".json", ariaLabel: FILE_LABEL, hidden: true });
     choose.addEventListener("change", () => (this.bring(choose.files?.[0]), (choose.value = "")));
     this.damaged.hidden = true;
-    byId("home").after(button("Bring work", "Open a file of exported work", () => choose.click()), choose, this.damaged);
+    byId("home").after(button(textOf("playground.bring"), textOf("playground.bring.label"), () => choose.click()), choose, this.damaged);
     byId("banner").append(this.words);
     byId("keys").after(make("p", "", pageData().about));
   }
@@ -115,7 +116,7 @@ export class Connection {
   fail(/** @type {string} */ words) {
     this.isReady = false;
     this.pending.drop();
-    this.listener.gone(`The lab in this page has failed: ${words}. Reload the page; Take home exports your work.`);
+    this.listener.gone(textOf("playground.failed", { cause: words }));
   }
 
   hear(/** @type {FromWorker} */ message) {
@@ -175,7 +176,7 @@ export class Connection {
     if (!file) return;
     try {
       const texts = await textsOf(file);
-      ask(REPLACED, "Bring work", () => this.restart(texts));
+      ask(REPLACED, textOf("playground.bring"), () => this.restart(texts));
     } catch (error) {
       this.say(/** @type {Error} */ (error).message);
     }
@@ -204,7 +205,7 @@ export class Connection {
   }
 
   showLesson(/** @type {{ page?: string, error?: string }} */ { page = "", error }) {
-    if (error || !this.tab) return this.say(error ?? "The browser has opened no tab for the lesson: allow windows of this page.");
+    if (error || !this.tab) return this.say(error ?? textOf("playground.no-tab"));
     this.tab.location.href = URL.createObjectURL(new Blob([page], { type: "text/html" }));
     return undefined;
   }

@@ -1,5 +1,7 @@
 // The work of this page in the browser's storage (IndexedDB): texts by name, each with its time in seconds since 1970; and files of them.
 
+import { textOf } from "./texts.js";
+
 /** @typedef {import("./playground").Entry} Entry */
 /** @typedef {import("./playground").Texts} Texts */
 
@@ -7,9 +9,7 @@ const [DATABASE, STORE] = ["vecmon playground", "texts"];
 const FORMAT_VERSION = 1;
 const LOCK = "vecmon playground"; // held by the tab that saves
 const FORMAT = "vecmon work";
-const ELSEWHERE = "The playground is open in another tab, which saves its work. Changes in this tab aren't saved: Take home exports them.";
-const NEWER =
-  "A newer playground has saved the work in this browser. It is only read here, and changes aren't saved: Take home exports them.";
+const [ELSEWHERE, NEWER] = [textOf("playground.elsewhere"), textOf("playground.newer")];
 const [MOST_FILE_BYTES, MOST_TEXTS] = [64 << 20, 20000];
 const NAME = /^[\w.@-]+(\/[\w.@-]+)?$/; // of a text, with one folder at most
 
@@ -38,13 +38,14 @@ export function fileOf(/** @type {Texts} */ texts) {
 
 /** The texts of a file, by name; raises an error with a sentence if it is none of these. */
 export const textsOf = async (/** @type {File} */ file) => {
-  if (file.size > MOST_FILE_BYTES) throw new Error(`${file.name} has more than ${MOST_FILE_BYTES.toLocaleString("en")} bytes.`);
+  const most = MOST_FILE_BYTES.toLocaleString(textOf("language"));
+  if (file.size > MOST_FILE_BYTES) throw new Error(textOf("playground.file.too-large", { file: file.name, most }));
   const content = await new Response(file).json().catch(() => null);
-  if (content?.format !== FORMAT || !Array.isArray(content.texts)) throw new Error(`${file.name} is no file of exported work.`);
-  if (content.version > FORMAT_VERSION) throw new Error(`${file.name} was exported by a newer playground: open it there.`);
+  if (content?.format !== FORMAT || !Array.isArray(content.texts)) throw new Error(textOf("playground.file.unknown", { file: file.name }));
+  if (content.version > FORMAT_VERSION) throw new Error(textOf("playground.file.newer", { file: file.name }));
   /** @type {Entry[]} */
   const entries = content.texts.slice(0, MOST_TEXTS).filter(isEntry);
-  if (!entries.length) throw new Error(`${file.name} has no work that can be read.`);
+  if (!entries.length) throw new Error(textOf("playground.file.empty", { file: file.name }));
   return byName(entries);
 };
 
@@ -74,12 +75,11 @@ export class KeptWork {
       const entries = await resultOf(database.transaction(STORE).objectStore(STORE).getAll());
       this.texts = byName(entries.filter(isEntry));
       this.rest = entries.filter((entry) => !isEntry(entry));
-      const damaged = `${this.rest.length} saved texts can't be read: Damaged texts saves them as a file.`;
+      const damaged = textOf("playground.unreadable", { count: this.rest.length });
       this.say([this.rest.length ? damaged : "", this.readOnly].join(" ").trim());
     } catch (error) {
       this.database = null;
-      const why = `This browser stores nothing for this page (${/** @type {Error} */ (error).name})`;
-      this.say(`${why}. Your work is lost when the page closes: Take home exports it.`);
+      this.say(textOf("playground.no-storage", { cause: /** @type {Error} */ (error).name }));
     }
   }
 
@@ -144,7 +144,7 @@ export class KeptWork {
     } catch (error) {
       for (const [name, entry] of entries) if (!this.due.has(name)) this.due.set(name, entry); // for the next transaction
       const { name = "" } = /** @type {Partial<Error>} */ (error ?? {});
-      this.isFull = `The browser's storage takes no more (${name}). Changes aren't saved: Take home exports your work.`;
+      this.isFull = textOf("playground.full", { cause: name });
       this.say(this.isFull);
     }
   }
