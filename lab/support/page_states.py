@@ -29,6 +29,7 @@ PROBLEMS = """        vsetvli t0, a2, e32
         j nowhere
 """
 TYPE = "code().setValue(arguments[0])"
+NEW_PROGRAM = "one('#listing .next') && !one('#listing .told') && !id('many').disabled"  # no instruction of it was executed
 VERDICT = "one('#exercise .verdict h3')?.textContent"
 
 
@@ -36,7 +37,7 @@ def step(tab: Tab, steps: int = 6) -> None:
     """Assemble the source, and execute instructions of it."""
     tab.run(TYPE, SOURCE)
     tab.run("id('assemble').click()")
-    tab.wait("one('#listing .next')")
+    tab.wait(NEW_PROGRAM)
     tab.run("(id('number').value = arguments[0], id('many').click())", steps)
     tab.wait("one('#listing .told')")
 
@@ -77,7 +78,7 @@ def step_in_c(tab: Tab) -> None:
     )
     tab.run(TYPE, "int sum = 0;\nint main() {\n  for (int at = 1; at < 4; at++) sum += at;\n  return sum;\n}\n")
     tab.run("id('assemble').click()")
-    tab.wait("one('#listing .next') && id('listing').textContent.includes('sum += at')")
+    tab.wait(f"{NEW_PROGRAM} && id('listing').textContent.includes('sum += at')")
     tab.run("(id('number').value = 3, id('many').click())")
     tab.wait("one('#listing .told')")
 
