@@ -88,19 +88,21 @@ for (const [place, one] of parts.entries())
 const ids = [...document.querySelectorAll("[id]")].map(({ id }) => id);
 return [...faults, ...ids.filter((id, place) => ids.indexOf(id) !== place).map((id) => `twice: ${id}`)];
 """
-# The height of the source that is in sight; null where it isn't shown.
+# The height of the source that is in sight, after the page is scrolled to it if the whole page scrolls; null where it isn't shown.
 SOURCE = """
 const source = document.querySelector("#editor .lines, #editor .CodeMirror");
 if (!source?.checkVisibility({visibilityProperty: true})) return null;
+if (document.documentElement.scrollHeight > innerHeight) scrollTo(0, scrollY + source.getBoundingClientRect().top);
 const [own, pane] = [source, source.closest(".pane")].map((each) => each.getBoundingClientRect());
 return Math.min(own.bottom, pane.bottom, innerHeight) - Math.max(own.top, pane.top);
 """
 FAULTS = f"""
 const cut = () => {{ {SEEN} {CUT} }}, unreachable = () => {{ {SEEN} {UNREACHABLE} }};
 const low = () => {{ {CONTRAST} }}, source = () => {{ {SOURCE} }};
+const faults = [...cut(), ...unreachable(), ...low().map((each) => `low contrast: ${{each}}`)];
 const height = source();
-const short = height !== null && height < {LINES * LINE} ? [`source: ${{height}} px`] : [];
-return [...cut(), ...unreachable(), ...low().map((each) => `low contrast: ${{each}}`), ...short];
+scrollTo(0, 0);
+return height !== null && height < {LINES * LINE} ? [...faults, `source: ${{height}} px`] : faults;
 """
 
 

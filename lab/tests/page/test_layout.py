@@ -35,13 +35,14 @@ def test_page_of_student_fits(tabs: "Chrome", course: Served, sandboxed_clang: C
     assert "no vector operands" in tab.text(".card")  # of the state in C, the last one
 
 
-def test_wall_fits(tabs: "Chrome", course: Served) -> None:
+def test_pages_of_teacher_and_wall_fit(tabs: "Chrome", course: Served) -> None:
     tab = Tab(tabs, course, "A2")
     tab.wait("!id('exercise').hidden")
     step(tab)
     teacher = Tab(tabs, course, "teacher")
     teacher.wait("one(\"tr[data-seat='A2']\")")
     look_at(teacher, "A2")
+    assert layout_faults(teacher.activate()) == {}
     teacher.click("#on-wall")
     wall = Tab(tabs, course, "wall")
     wall.wait("one('#listing .told')")
