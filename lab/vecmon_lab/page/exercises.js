@@ -77,10 +77,10 @@ export class Exercises {
     return isOpen || this.bench.refuse(textOf("exercises.not-open"));
   }
 
-  /** Opens the first exercise, and brings it into sight. */
-  openFirst() {
+  /** Opens an exercise, the first one without a name, and brings it into sight. */
+  open(name = this.names[0]) {
     this.bench.panes.show("exercise");
-    return this.choose(this.names[0]);
+    return this.choose(name);
   }
 
   /** Puts an earlier answer into the editor, where undo takes it back. */

@@ -31,7 +31,7 @@ export class Student {
     placePast(root);
     part(root, "vectors").append(part(root, "welcome"));
     part(root, "step-once").addEventListener("click", () => this.bench.step("into"));
-    part(root, "open-first").addEventListener("click", () => this.exercises.openFirst());
+    part(root, "open-first").addEventListener("click", () => this.exercises.open());
     part(root, "show-welcome").addEventListener("click", () => this.welcome(true));
     this.all.addEventListener("click", () => ((this.all.ariaPressed = `${this.all.ariaPressed !== "true"}`), this.showMessages()));
     this.name.addEventListener("change", () => this.bench.request({ ask: "name", name: this.name.value }));
@@ -75,7 +75,7 @@ export class Student {
     this.bench.show(view, logs[view.seat] ?? [], isAnew);
     this.exercises.show(view.exercises, view.source);
     const wanted = this.connection.takeWanted?.() ?? "";
-    if (view.exercises[wanted]) this.exercises.choose(wanted);
+    if (view.exercises[wanted]) this.exercises.open(wanted);
     part(this.root, "log").ariaLive = "polite";
   }
 
