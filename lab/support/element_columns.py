@@ -22,7 +22,7 @@ IMPORTS = "".join(f'import {{ {names} }} from "./{module}.js";\n' for module, na
 SHOWN = """
 const views = JSON.parse(require("fs").readFileSync(0, "utf-8"));
 const shown = views.map((given) => {
-  const view = { ...given, used: new Set(given.used ?? []) };
+  const view = { before: given.state, ...given, used: new Set(given.used ?? []) };
   const columns = columnsOf(view);
   const { rows, elements, outcomes, pairs, executed } = columns;
   const head = (row) => `${headOf(row, 0, row.cells.length - 1)} ${row.words}`.trim();
@@ -42,7 +42,7 @@ process.stdout.write(JSON.stringify(shown));
 
 
 def shown_columns(views: Sequence[Any], folder: pathlib.Path) -> list[dict[str, Any]]:
-    """What the page's modules make of views: a state, the one before it, the form of numbers, and elements to explain.
+    """What the page's modules make of views: a state, the one before it, if any, the form of numbers, and elements to explain.
 
     folder: for the script
     """

@@ -178,6 +178,15 @@ def test_sources_after_several_steps(tmp_path: pathlib.Path) -> None:
     assert [cells_of(each["rows"][2])[1] for each in shown] == ["0", "0", "1"]
 
 
+def test_a_page_opened_again_shows_no_values_before(tmp_path: pathlib.Path) -> None:
+    """Without any state before the last instruction the result has no row before it, and no change is counted."""
+    pair = stored()["multiply and add, masked"]
+    (shown,) = shown_columns([{"state": pair["state"], "elements": [1]}], tmp_path)
+    assert [row["head"] for row in shown["rows"]] == ["v0 mask", "v4 now", "v8 after"]
+    assert "The values before it are unknown" in shown["card"]["meaning"]
+    assert "changed" not in dict(shown["card"]["counts"]) and "before" not in shown["details"][0]
+
+
 def test_strips_fold_tails_and_fit(shown: dict[str, dict[str, Any]]) -> None:
     """The numbers of strips of 16, 8, 4 and 2, and where the unchanged tail begins; and the widest strip that has room."""
     assert shown["group of eight"]["strips"] == [[1, 16], [2, 16], [3, 12], [5, 10]]  # vl is 9 of 64

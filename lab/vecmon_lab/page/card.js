@@ -35,7 +35,7 @@ export function cardOf(view, columns) {
     meaning: [executed.meaning.does, ...maskSentence(state, executed), ...stopSentence(view, executed)].filter(Boolean).join(" "),
     formula: executed.meaning.formula && guard + formulaText(executed),
     scalars: scalarTexts(view, executed),
-    counts: countsOf(columns, state),
+    counts: countsOf(columns, view),
   };
 }
 
@@ -79,9 +79,10 @@ function maskSentence(state, { isMasked, access, destination, meaning }) {
  * @param {View} view
  * @param {import("./executed.js").Executed} executed
  */
-function stopSentence({ state }, { access, earlier, name }) {
+function stopSentence({ state, before }, { access, earlier, name }) {
   const isUnknown = !earlier.isKnown || !earlier.hasOld;
-  const unknown = earlier.isKnown ? textOf("card.several") : textOf("card.several.unknown");
+  const several = earlier.isKnown ? textOf("card.several") : textOf("card.several.unknown");
+  const unknown = before === state ? textOf("card.unknown") : several;
   if (!state.faulted) {
     const isCut = name.endsWith("ff.v") && state.vl < earlier.vl;
     const cut = textOf("card.cut", { element: state.vl });
@@ -94,10 +95,10 @@ function stopSentence({ state }, { access, earlier, name }) {
 /**
  * Counts elements by their class.
  * @param {Columns} columns
- * @param {import("./executed.js").State} state
+ * @param {View} view
  * @returns {[string, string][]}
  */
-function countsOf({ outcomes, changed, executed }, state) {
+function countsOf({ outcomes, changed, executed }, { state, before }) {
   /** @type {Record<string, string>} */
   const words = { ...OUTCOMES };
   if (state.faulted) words.prestart = textOf("card.done");
@@ -107,6 +108,7 @@ function countsOf({ outcomes, changed, executed }, state) {
     const number = outcomes.filter((each) => each === kind).length;
     return number ? [/** @type {[string, string]} */ ([kind, textOf("card.count", { number, outcome: words[kind] })])] : [];
   });
+  if (before === state && !(executed?.destination && executed.earlier.hasOld)) return counts; // there is nothing to compare with
   return [...counts, ["changed", textOf("card.count", { number: changed.filter(Boolean).length, outcome: textOf("outcome.changed") })]];
 }
 

@@ -154,7 +154,8 @@ function resultRows(view, executed, outcomes, hasBefore) {
     const after = makeRow("after", KINDS.after, place, (element) =>
       cellOf(now(element), outcome(element), { ...how, was: old(element) }),
     );
-    return hasBefore && groups === 1 ? [before, after] : [after];
+    const isKnown = earlier.hasOld || view.before !== view.state; // as it isn't once a page was opened again
+    return hasBefore && groups === 1 && isKnown ? [before, after] : [after];
   });
 }
 

@@ -367,6 +367,7 @@ export interface Places {
   "card.mask.undisturbed": never;
   "card.mask.ones": never;
   "card.mask.keep": never;
+  "card.unknown": never;
   "card.several": never;
   "card.several.unknown": never;
   "card.cut": "element";
