@@ -81,6 +81,7 @@ def test_step_over_and_out_of_a_function(sit: Sit) -> None:
     for address in ("10004", "1000c"):
         press_key(tab, "F11")
         tab.wait(f"{NEXT} === arguments[0]", address)
+    assert tab.run("id('editor').checkVisibility()"), "a reset changes the tab"
     press_key(tab, "Shift+F11")
     tab.wait(f"{NEXT} === '10008' && {A0} === '2'")
     press_key(tab, "Control+Shift+F5")

@@ -188,7 +188,6 @@ export class Bench {
   async restart() {
     const { mistakes, warnings } = (await this.bar.building(this.request({ ask: "again" }))) ?? {};
     this.showMistakes(mistakes, warnings);
-    if (mistakes) this.panes.show("listing");
   }
 
   /** Steps the program: into calls, over them, or out of a function. */
