@@ -33,6 +33,9 @@ async def test_whole_course_is_offered(tmp_path: pathlib.Path) -> None:
         assert [each["name"] for each in course] == ["filter", *(name for name in COURSE if name != "filter")]
         assert [each["name"] for each in course if each["on"]] == ["filter"]
         assert course[1] == {"name": "doubles", "title": "Doubles", "minutes": 30, "on": False}
+        await teacher.ask("exercises", on=["doubles"])
+        await teacher.until(lambda view: [each["name"] for each in view["course"] if each["on"]] == ["doubles"])
+        assert [each["name"] for each in teacher.view["course"]] == [each["name"] for each in course]
 
 
 async def test_exercises_are_turned_on_and_off(tmp_path: pathlib.Path) -> None:

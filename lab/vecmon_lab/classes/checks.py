@@ -115,11 +115,11 @@ class Checks:
         self._save_choice()
 
     def offered(self) -> list[OfferedExercise]:
-        """The exercises that the teacher may turn on: those that students have, in their order, then the others."""
+        """The exercises that the teacher may turn on: first those the class was started with. The order stays while it runs."""
         on = self.exercises.by_name
         return [
-            {"name": name, "title": self._offered[name].title, "minutes": self._minutes(name), "on": name in on}
-            for name in dict.fromkeys([*on, *self._offered])
+            {"name": name, "title": exercise.title, "minutes": self._minutes(name), "on": name in on}
+            for name, exercise in self._offered.items()
         ]
 
     async def lesson(self, ticket: str) -> bytes:
