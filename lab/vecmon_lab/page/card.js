@@ -1,7 +1,7 @@
 // The card of the instruction that was executed last: its text, meaning, formula and counts; and the vector control registers.
 
 import { formulaText, scalarTexts } from "./calculation.js";
-import { make, prose } from "./elements.js";
+import { make, prose, renew } from "./elements.js";
 import { OUTCOMES } from "./outcomes.js";
 import { textOf } from "./texts.js";
 import { ROUNDING, typeText, typeWords, vectorType, withNames } from "./words.js";
@@ -124,7 +124,7 @@ export function paintCard(root, { text, alias, meaning, formula, scalars, counts
   const tag = document.body.matches(".watching") ? "span" : "button"; // the wall has no controls
   const fold = Object.assign(make(tag, "formula", make("code", "", formula)), { onclick, title: FOLDS });
   const shown = formula ? [fold, make("small", "", scalars.join(", "))] : [];
-  root.replaceChildren(make("p", "what", ...names), make("p", "meaning", ...prose(meaning)), make("div", "terms", ...shown, legend));
+  renew(root, [make("p", "what", ...names), make("p", "meaning", ...prose(meaning)), make("div", "terms", ...shown, legend)]);
 }
 
 /**
@@ -158,5 +158,5 @@ export function paintFacts(root, state, before) {
   const pairs = factsOf(state).map(([name, text]) =>
     make("div", isInitial(name, text) && !kind(name) ? "initial" : "", make("dt", "", name), make("dd", kind(name), text)));
   root.title = typeWords(type);
-  root.replaceChildren(...pairs, ...(type.vill ? [make("p", "", typeWords(type))] : []));
+  renew(root, [...pairs, ...(type.vill ? [make("p", "", typeWords(type))] : [])]);
 }

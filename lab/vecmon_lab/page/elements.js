@@ -68,6 +68,17 @@ export function put(element, text, contents = [text]) {
   if (element.textContent !== text.replaceAll("`", "")) element.replaceChildren(...contents);
 }
 
+/** Gives an element these children. Equal ones that it has in their places stay, so that the browser lays out and paints less. */
+/** @type {(parent: Element, children: Element[]) => void} */
+export function renew(parent, children) {
+  const old = [...parent.children];
+  children.forEach((child, place) => {
+    if (!old[place]) parent.append(child);
+    else if (!old[place].isEqualNode(child)) old[place].replaceWith(child);
+  });
+  old.slice(children.length).forEach((child) => child.remove());
+}
+
 /** Asks in a dialog, where something would be lost, and does that if the answer is yes. */
 /** @type {(question: string, yes: string, carryOut: () => unknown) => void} */
 export function ask(question, yes, carryOut) {

@@ -1,6 +1,6 @@
 // Tables of rows by address, with gaps and labels.
 
-import { header, make, table, unseen } from "./elements.js";
+import { header, make, renew, table, unseen } from "./elements.js";
 
 const MOST_MADE = 200; // rows that are made whether they are in sight or not
 const [ROWS_AROUND, ROWS_TOGETHER] = [30, 10]; // made around those in sight; those by which it moves on
@@ -96,8 +96,10 @@ export class RowTable {
     const { top, room, seen, height } = this;
     const place = this.places.findIndex(({ address }) => address && address === seen) * height;
     if (!room || place < 0 || (place >= top + 2 * height && place <= top + room - 3 * height)) return;
-    this.moved(Math.max(0, Math.min(place - room / 3, this.places.length * height - room)));
-    this.box.scrollTop = this.top;
+    const wanted = Math.max(0, Math.min(place - room / 3, this.places.length * height - room));
+    if (wanted === top) return; // or the assignment waits for a layout
+    this.moved(wanted);
+    this.box.scrollTop = wanted;
   }
 
   /** Makes the rows in sight, and some around them. */
@@ -112,7 +114,7 @@ export class RowTable {
       const row = place.address ? this.makeRow(place.address) : this.otherRow(place.text ?? "", place.kind ?? "");
       return Object.assign(row, { ariaRowIndex: `${first + at + 1}` });
     });
-    this.body.replaceChildren(this.space(first), ...rows, this.space(places.length - first - rows.length));
+    renew(this.body, [this.space(first), ...rows, this.space(places.length - first - rows.length)]);
   }
 
   otherRow(/** @type {string} */ text, /** @type {string} */ kind) {
