@@ -29,7 +29,7 @@ PROBLEMS = """        vsetvli t0, a2, e32
         j nowhere
 """
 TYPE = "code().setValue(arguments[0])"
-NEW_PROGRAM = "one('#listing .next') && !one('#listing .told') && !id('many').disabled"  # no instruction of it was executed
+NEW_PROGRAM = "one('#listing .next') && !one('#listing .told') && !id('many').disabled"  # before its first instruction
 VERDICT = "one('#exercise .verdict h3')?.textContent"
 
 

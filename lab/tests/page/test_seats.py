@@ -121,7 +121,9 @@ def test_keys_of_letters_can_be_off(tabs: "Chrome", served: Served) -> None:
     assert not teacher.run("id('gift').hidden")
     press_key(teacher, "F1")
     assert teacher.run("id('key-list').open && id('teacher-keys').textContent.includes('Shift N')")
-    assert not teacher.run("id('teacher-keys').textContent.includes('Ctrl Shift Enter')"), "only a student checks an exercise"
+    assert not teacher.run(
+        "id('teacher-keys').textContent.includes('Ctrl Shift Enter')"
+    ), "only a student checks an exercise"
     teacher.click("#key-list .done")
     teacher.click("#letters")
     press_key(teacher, "M")
