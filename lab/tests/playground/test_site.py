@@ -227,6 +227,8 @@ def test_it_starts_with_examples(tabs: "Chrome", site: pathlib.Path) -> None:
     """A first visit shows the start page, and one with work the bench; an exercise that the address names comes at once."""
     tab = SiteTab(tabs, (site / "playground.html").as_uri() + "#exercise=filter")
     tab.wait("id('desk').checkVisibility() && text().includes('how many are goes to a0')")
+    tab.run("location.hash = 'exercise=doubles'")
+    tab.wait("one('#exercise-text h3').textContent === '1 Doubles'")
     visit_first(tab, (site / "playground.html").as_uri())
     tab.wait("id('start-page').checkVisibility()")
     assert tab.run("all('.tile').length") == 19 and tab.run("id('new-in-c').disabled")

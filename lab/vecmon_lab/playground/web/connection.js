@@ -39,6 +39,13 @@ function takeExercise() {
 }
 
 let wanted = takeExercise();
+/** @type {Connection | undefined} */ let current;
+
+addEventListener("hashchange", (event) => { // registered before the page's listener, which takes an address as a code
+  wanted = takeExercise() || wanted;
+  if (wanted) event.stopImmediatePropagation();
+  if (wanted && current?.isReady) current.listener.told({ kind: "news" });
+});
 
 /** @implements {Channel} */
 export class Connection {
@@ -53,11 +60,11 @@ export class Connection {
 
   /** @param {string} code of the only seat @param {import("./types").Listener} listener */
   constructor(code, listener) {
+    current = this;
     this.listener = listener;
     this.work = new KeptWork((words) => this.say(words));
     this.addElements();
     document.addEventListener("click", (event) => this.openLesson(event), true);
-    addEventListener("hashchange", (event) => this.hearAddress(event), true);
     document.addEventListener("dragover", (event) => event.preventDefault());
     document.addEventListener("drop", (event) => (event.preventDefault(), this.drop(event.dataTransfer?.files[0])));
     addEventListener("pagehide", () => this.send({ keep: true }));
@@ -145,14 +152,6 @@ export class Connection {
     const name = wanted;
     wanted = "";
     return name;
-  }
-
-  /** Has the page open the exercise that a new address names. */
-  hearAddress(/** @type {Event} */ event) {
-    wanted = takeExercise() || wanted;
-    if (!wanted) return;
-    event.stopImmediatePropagation();
-    if (this.isReady) this.listener.told({ kind: "news" });
   }
 
   /** The lab's answer to a request; null if the lab isn't there. With `keep` the lab sends all changes first. */
