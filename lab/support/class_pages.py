@@ -141,7 +141,9 @@ class Explored(Served):
         super().__init__(folder, program, *words, takes_c=True)
 
     def begin(self) -> None:
-        self._begin([*lab_command(True), "explore", *([str(self.source)] if self.source else []), *self.words])
+        self._begin(
+            [*lab_command(True, self.before), "explore", *([str(self.source)] if self.source else []), *self.words]
+        )
 
     def address(self, role: str) -> str:
         """That of the page, which is one seat's."""

@@ -7,7 +7,7 @@ from typing import TYPE_CHECKING
 import pytest
 
 from support.bracketed_texts import IMPORT, UNBRACKETED, bracketed
-from support.class_pages import Served, Tab
+from support.class_pages import Explored, Served, Tab
 from support.places import EXAMPLES
 from vecmon_lab.exercises.exercise import OURS
 from vecmon_lab.lessons.frames import make_frames
@@ -28,6 +28,7 @@ DATA = ", ".join(
         "#entry, #entries, #mistakes, .problems-below",
         "#course-list button, #exercise-text, #hints li, #cases tbody, #verdict p",
         ".teaching #who, .course label, #columns, #seats [title], #shoulder-says",
+        "#examples .tile, #recent .tile",
         ".listings thead, .profile tbody, #tables, #summary, #flame, #lengths",  # of the core's tables
         "#lessons a, #lessons p, #course h2, #course a, #course > p, .strip",
     ]
@@ -63,6 +64,12 @@ LONE = {  # the data of pages without a machine
 
 class Bracketed(Served):
     """A class whose pages have texts in brackets."""
+
+    before = IMPORT
+
+
+class BracketedAuthor(Explored):
+    """An author's page, so too."""
 
     before = IMPORT
 
@@ -167,5 +174,21 @@ def test_class_shows_texts_of_table(tabs: "Chrome", program: pathlib.Path, tmp_p
             teacher.run("all('dialog[open]').forEach((each) => each.close())")
         shown["wall"] = unbracketed(Tab(tabs, served, "wall").activate())
         assert [f"{state}: {text}" for state, found in shown.items() for text in found] == []
+    finally:
+        served.end()
+
+
+def test_page_of_author_shows_texts_of_table(tabs: "Chrome", program: pathlib.Path, tmp_path: pathlib.Path) -> None:
+    """The start page, and the bench with search and replacement in the editor."""
+    served = BracketedAuthor(tmp_path / "author", program, None)
+    try:
+        tab = Tab(tabs, served, "A1")
+        shown = [*unbracketed(tab.activate())]
+        tab.run("id('new-program').click()")
+        for command in ("find", "replaceAll"):
+            tab.run("code().execCommand(arguments[0])", command)
+            tab.wait("one('.CodeMirror-dialog')")
+            shown += tabs.execute_script(UNBRACKETED, DATA.replace(", .CodeMirror,", ", .CodeMirror-lines,"))
+        assert shown == []
     finally:
         served.end()

@@ -11,6 +11,7 @@ from ..arguments import between
 from ..compilers.compiler import choice_for, find_compilers
 from ..lessons.lesson import add_compiler
 from ..machine.program import find_program
+from ..page.texts import page_text
 from .builds import builds_by
 from .example_sources import example_sources
 from .languages import LANGUAGES, SourceText
@@ -44,7 +45,7 @@ def run(arguments: argparse.Namespace) -> int:
     with tempfile.TemporaryDirectory(prefix="vecmon-") as folder:
         store = Store(pathlib.Path(folder) / "own", find_program(), quantum=arguments.quantum)
         members = Class(store, PATIENCE, builds=builds)
-        members.title = path.name if path else "Explore"
+        members.title = path.name if path else page_text("author.page")
         if path:
             members.students[SEAT].source.give(source)
         else:

@@ -40,6 +40,7 @@ export interface Places {
   "request.step": never;
   "request.lines": "line" | "more";
   "class.leaving": never;
+  "author.page": never;
   "author.heading": never;
   "author.about": never;
   "author.new": never;
