@@ -81,6 +81,7 @@ def test_problems_are_shown_while_typing(sit: Sit) -> None:
     tab.type(Keys.CONTROL, ".", Keys.NULL)
     assert tab.run("code().getLine(1)") == f"        {first} v1, v2, v3"
     tab.wait(f"{MARKED} === '1'")
+    assert tab.run(BELOW) is None
     tab.type(Keys.CONTROL, "z", Keys.NULL)
     tab.wait(f"{MARKED} === 'vad.vv,1'")
     tab.click(".problems-below button")

@@ -41,7 +41,7 @@ export class ProblemMarks {
       this.ranges.splice(0).forEach((range) => range.clear());
       this.problems = problems.filter(({ line }) => line > 0 && line <= this.code.lineCount());
       for (const problem of [...this.problems].reverse()) this.mark(problem); // so that the first one of a line is in the gutter
-      this.line = 0;
+      this.line = -1; // so that what was below a line goes
       this.showBelow();
     });
   }
