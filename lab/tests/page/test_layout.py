@@ -6,7 +6,7 @@ from typing import TYPE_CHECKING
 
 import pytest
 
-from support.class_pages import Explored, Served, Tab, look_at
+from support.class_pages import Explored, Served, Tab, look_at, press_key
 from support.commands import Lab
 from support.layouts import SIZES, faults_now, layout_faults, reset, resize
 from support.page_states import SOURCE, STUDENT, step, write_pages
@@ -161,6 +161,12 @@ def test_bar_of_phone_is_one_row(tabs: "Chrome", served: Served) -> None:
         assert [(button.accessible_name, button.size["width"] >= 38) for button in shown] == [
             (name, True) for name in ("Run", "Step", "Step over", "Stop", "Reset")
         ]
+        tab.click("#one")
+        tab.wait("id('run').textContent === 'Paused'")
+        press_key(tab, "F7")
+        assert tab.run("!id('says-past').hidden && id('now').checkVisibility()")
+        press_key(tab, "Escape")
+        assert tab.run("id('says-past').hidden")
         resize(tab.activate(), SIZES["laptop"])
         tab.wait("one('#head #past')")
     finally:
