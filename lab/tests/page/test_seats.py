@@ -139,7 +139,7 @@ def test_start_page_leads_in(tabs: "Chrome", program: pathlib.Path, tmp_path: pa
     try:
         teacher = Tab(tabs, served, "teacher")
         teacher.wait("!id('opening').hidden && !id('roster').checkVisibility()")
-        assert teacher.text("#opening .address") == "http://192.168.1.20:24108/"
+        teacher.wait("one('#opening .address').textContent === 'http://192.168.1.20:24108/'")  # with its QR code
         assert teacher.run("all('#opening .course :checked').map(({ name }) => name)") == ["doubles"]
         teacher.click("#opening [name=filter]")
         teacher.wait("all('#opening .course :checked').map(({ name }) => name).join() === 'doubles,filter'")
