@@ -291,8 +291,8 @@ def _view(vector: dict[str, Any], before: Any, after: bytes) -> dict[str, Any]:
 
 
 CHOSEN = "return [...document.querySelectorAll('#elements td.chosen')].map((cell) => cell.firstChild.data)"
-CUT = """return [...document.querySelectorAll(".lanes td[data-element]")].filter((cell) => cell.scrollWidth > cell.clientWidth + 1)
-    .map((cell) => cell.textContent)"""
+CUT = """return [...document.querySelectorAll(".lanes :is(td[data-element], th[scope='row'])")]
+    .filter((cell) => cell.scrollWidth > cell.clientWidth + 1).map((cell) => cell.textContent)"""
 
 
 def _open_lesson(browser: "Chrome", program: pathlib.Path, folder: pathlib.Path, name: str) -> None:
@@ -354,7 +354,7 @@ def test_element_is_explained_and_changed(sit: Sit) -> None:
 
 
 def test_elements_fit_and_have_contrast(browser: "Chrome", program: pathlib.Path, tmp_path: pathlib.Path) -> None:
-    """No number is cut, nothing scrolls sideways, and texts can be read, in windows from a phone's to a desktop's."""
+    """No number and no row's name is cut, nothing scrolls sideways, and texts can be read, in windows from a phone's to a desktop's."""
     sizes = {(1280, 800): "light", (820, 1180): "light", (390, 844): "light", (640, 400): "light", (1281, 800): "dark"}
     try:
         for name in ("multiply and add, masked", "load of segments", "load with a fault", "illegal"):

@@ -249,6 +249,7 @@ def test_lesson_page_has_contrast_and_width(
             size = {"width": width, "height": 800, "deviceScaleFactor": 1, "mobile": False}
             browser.execute_cdp_cmd("Emulation.setDeviceMetricsOverride", size)
             assert browser.execute_script("return document.documentElement.scrollWidth") <= width
+            assert browser.execute_script("return document.getElementById('log').clientHeight") > 60  # three lines
         browser.execute_cdp_cmd("Emulation.clearDeviceMetricsOverride", {})
     media(browser)
 

@@ -181,6 +181,32 @@ def test_what_is_off_says_why(sit: Sit) -> None:
     assert tab.run(title, "one") == "The program runs: stop it first." and not tab.run("id('halt').disabled")
     press_key(tab, "Shift+F5")
     tab.wait(f"{CONDITION} === 'Paused' && id('go').textContent === 'Continue'")
+    write(tab, "ebreak\n")
+    press_key(tab, "F11")
+    tab.wait(f"{CONDITION} === 'Ended'")
+    press_key(tab, "F11")
+    ended = "The program has ended: Run or Reset starts it again."
+    assert tab.run(title, "one") == tab.text("#key-says") == ended and not tab.run("id('go').disabled")
+    write(tab, "nop\nebreak\n")  # which a step loads
+    assert tab.run(title, "one").startswith("Step, into")
+
+
+def test_new_machine_is_compared_with_no_earlier_one(sit: Sit) -> None:
+    """After a step that loads a source, and after Reset, only values are marked that the new program has written."""
+    tab = sit("A5")
+    marked = "all('#registers .changed, #facts .changed, .lanes .changed').map((each) => each.dataset.edit ?? each.textContent)"
+    write(tab, "li t0, 9\nvsetivli zero, 8, e32, m1, ta, ma\nvid.v v1\nebreak\n")
+    tab.run("id('number').value = 4")
+    tab.click("#many")
+    tab.wait(f"{CONDITION} === 'Ended'")
+    assert tab.run("id('vectors').textContent.includes('v1')")
+    write(tab, "li a0, 5\nebreak\n")
+    tab.click("#one")
+    tab.wait(f"{A0} === '5'")
+    assert tab.run(marked) == ["set x10"] and not tab.run("id('vectors').textContent.includes('v1')")
+    tab.click("#again")
+    tab.wait(f"{CONDITION} === 'Ready' && {A0} === '0'")
+    assert tab.run(marked) == []
 
 
 def test_fault_outside_of_memory_names_the_address(sit: Sit) -> None:

@@ -83,7 +83,7 @@ export class Bench {
   /** The page's state for the run bar. */
   standing() {
     const isBlank = !this.editor.source.text.trim();
-    return { isConnected: this.connection.isReady, isPast: this.desk.past.moment !== undefined, isBlank };
+    return { isConnected: this.connection.isReady, isPast: this.desk.past.moment !== undefined, isBlank, hasChanged: this.hasChanged };
   }
 
   /**
@@ -139,7 +139,6 @@ export class Bench {
   show(view, entries, isAnew) {
     const { run, instruction } = view.state;
     if (entries.some((entry) => /^>. (enter|load)\b/.test(entry))) this.isEdited = false;
-    this.bar.show(view, entries);
     if (instruction) this.panes.makeRoom();
     this.desk.show(view.seat, view.state, entries, isAnew);
     this.askForRead(view.state);
@@ -148,6 +147,7 @@ export class Bench {
     this.offer(this.images, textOf("run.load-image"), view.images);
     this.offer(this.against, textOf("source.side-by-side"), view.against);
     this.showSource(view);
+    this.bar.show(view, entries);
   }
 
   /** Asks once, after a run that ended with a vector instruction, for the registers before that. */
@@ -171,7 +171,10 @@ export class Bench {
     this.panes.show(hasMachine && !(stands && text) ? "listing" : "editor");
   }
 
-  /** Whether the source has to be built before the program goes on: a machine without one is left as it is, until the source changes. */
+  /**
+   * Whether the source has to be built before the program goes on: a machine without one is left as it is, until the source changes.
+   * @returns {boolean}
+   */
   get hasChanged() {
     const { run, code = {} } = this.desk.state;
     const isLoaded = this.bar.view?.again || this.isEdited || run === "absent" || !Object.keys(code).length;

@@ -10,6 +10,17 @@ import { MachineView, machineOf, usedIn } from "./view.js";
 
 /** @type {State} */
 const ABSENT = { run: "absent" };
+const BLANK = { vtype: "8000000000000000", vl: 0, vstart: 0, vxrm: 0, vxsat: 0 }; // vtype is vill
+const STACK_POINTER = 2; // which the lab may set before the program starts
+
+/** A new machine, before its program executes anything: the command `enter` sets all registers to 0. Its memory is the state's. */
+/** @type {(state: State) => State} */
+const newMachine = (state) => {
+  const { x = {}, v = {} } = state;
+  const zeros = Object.keys(x).map((name) => [name, Number(name) === STACK_POINTER ? x[name] : "0"]);
+  const vectors = Object.keys(v).map((name) => [name, v[name].replace(/./g, "0")]);
+  return state.x ? { ...state, ...BLANK, x: Object.fromEntries(zeros), v: Object.fromEntries(vectors) } : state;
+};
 
 /** A machine's state, painted where it changed: at its seat, and for a teacher who looks over the shoulder. */
 export class Desk {
@@ -38,9 +49,10 @@ export class Desk {
     if (entries.some((entry) => /^>. go$/.test(entry))) this.past.hasRun = true;
     if (entries.length) this.frame ||= requestAnimationFrame(() => this.paint()); // once, for all messages before it
     if (state === this.state) return;
-    if (isAnew || !isAlike(state, this.state)) this.before = isAnew ? state : this.state;
+    const isNew = entries.some((entry) => /^>. enter$/.test(entry));
+    if (isAnew || isNew || !isAlike(state, this.state)) this.before = isAnew ? state : isNew ? newMachine(state) : this.state;
     this.state = state;
-    if (isAnew || !state.v) this.used = new Set();
+    if (isAnew || isNew || !state.v) this.used = new Set();
     usedIn(state).forEach((number) => this.used.add(number));
     this.past.add({ state, before: this.before, used: this.used, entry: this.log.lastElementChild });
     this.frame ||= requestAnimationFrame(() => this.paint());

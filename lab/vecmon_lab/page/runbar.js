@@ -48,7 +48,8 @@ export class RunBar {
 
   /**
    * @param {HTMLElement} root has the buttons
-   * @param {() => { isConnected: boolean, isPast: boolean, isBlank: boolean }} ask isBlank: whether there is no source to build
+   * @param {() => { isConnected: boolean, isPast: boolean, isBlank: boolean, hasChanged: boolean }} ask
+   *   isBlank: whether there is no source to build; hasChanged: whether it is built before the program goes on
    */
   constructor(root, ask) {
     this.root = root;
@@ -109,6 +110,7 @@ export class RunBar {
     if (id === "halt" || id === "slice") return state.run === "running" ? "" : textOf("off.not-running");
     if (id === "again") return again ? "" : textOf("off.no-source");
     if (state.run === "running") return textOf("off.running");
+    if (this.condition === "Ended" && id !== "go" && again && !this.ask().hasChanged) return textOf("off.ended");
     return state.run === "absent" && this.ask().isBlank ? textOf("off.no-program") : "";
   }
 }

@@ -104,6 +104,7 @@ export interface Places {
   "off.not-running": never;
   "off.no-source": never;
   "off.running": never;
+  "off.ended": never;
   "off.no-program": never;
   "machine.loss": never;
   "step.running": never;
