@@ -71,7 +71,12 @@ export class Connection {
     if (!this.socket) return;
     if (this.unanswered >= (this.isReady ? MOST_UNANSWERED : MOST_OPENING)) return this.closed();
     this.unanswered++;
-    if (this.isReady) this.socket.send('{"ask":"beat"}');
+    if (this.isReady) this.send({ ask: "beat" });
+  }
+
+  /** Sends a request; a socket that is closing takes none, and the connection after it gets those that aren't answered. */
+  send(/** @type {object} */ request) {
+    if (this.socket?.readyState === WebSocket.OPEN) this.socket.send(JSON.stringify(request));
   }
 
   hear(/** @type {Message} */ message) {
@@ -115,7 +120,7 @@ export class Connection {
     const { first } = this.pending;
     if (!this.isReady || this.isUnderWay || !first) return;
     this.isUnderWay = true;
-    this.socket?.send(JSON.stringify(first));
+    this.send(first);
   }
 
   closed(reason = 0) {

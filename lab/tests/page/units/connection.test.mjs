@@ -9,7 +9,9 @@ const HELLO = { kind: "hello", who: "A1", time: 0 };
 function begin() {
   const [sockets, timers, banners] = [[], [], []];
   globalThis.location = { protocol: "http:", host: "here" };
-  globalThis.WebSocket = class extends EventTarget {
+  globalThis.WebSocket = class WebSocket extends EventTarget {
+    static OPEN = 1;
+    readyState = WebSocket.OPEN;
     sent = [];
     constructor() {
       super();
@@ -64,4 +66,17 @@ test("a server that was restarted gets no request that was under way, but those 
   assert.equal(await step, null);
   assert.deepEqual(sockets[1].sent.filter(isRequest), [{ id: 2, ask: "lines", do: ["regs"] }]);
   assert.equal(banners.at(-1), "The server is there again. a step was under way: the console shows whether it was executed.");
+});
+
+test("a socket that is closing takes no request, and the next one gets it", () => {
+  const { connection, sockets: [first], sockets, timers } = begin();
+  first.hear(HELLO);
+  first.readyState = 2; // closing
+  connection.ask({ ask: "name", name: "Ada" });
+  timers[0].beat();
+  assert.deepEqual(first.sent.filter(({ ask }) => ask), []);
+  connection.closed();
+  timers.pop()();
+  sockets[1].hear({ ...HELLO, resumed: true });
+  assert.deepEqual(sockets[1].sent.filter(isRequest).map(({ name }) => name), ["Ada"]);
 });
