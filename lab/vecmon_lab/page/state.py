@@ -200,38 +200,53 @@ def look_at(
         return ABSENT.copy()
     state = before.copy()
     if is_done:
-        state.pop("instruction", None)
-        state.pop("read", None)
-        state.pop("accessed", None)
-        state.pop("faulted", None)
-        state.pop("stop", None)
-    state["run"], state["pc"] = place.run, f"{place.pc:x}"
-    for answer in answers:
-        if isinstance(answer, Output) and answer.data:
-            state["output"] = state.get("output", "") + answer.data.hex()
+        _forget_last(state)
+    _set_position(state, place, answers)
     if place.run == "running":
         return state
     assert isinstance(scalar, ScalarRegisters) and isinstance(control, ControlRegisters)
     assert isinstance(breaks, Addresses) and isinstance(traced, Addresses)
     set_registers(state, scalar, control)
-    state["breaks"] = [f"{address:x}" for address in breaks.addresses]
-    state["policy"] = guest.session.policy[guest.user]
+    state["breaks"], state["policy"] = [f"{address:x}" for address in breaks.addresses], guest.session.policy[guest.user]
     if has_vectors:
         set_vectors(state, [each for each in vectors if isinstance(each, VectorRegister)])
     trace, may_store = traced.addresses, opcode in (None, STORE, STORE_FP)
     stepped = any(isinstance(answer, Position) and answer.kind == "stepped" for answer in answers)
     _set_code(state, _code(guest, watch_set, place.pc, trace, {} if may_store else state["code"]))
     _take_calls(state)
-    text, pages = state["code"].get(state["pc"], ""), len(watch_set.pages)
-    if text:
-        watch_set.add_accessed(int(text[:8], 16), scalar.x)
-    if may_store or len(watch_set.pages) > pages:
-        state["memory"] = _memory(guest, watch_set)
+    text = state["code"].get(state["pc"], "")
+    _set_memory(guest, watch_set, state, scalar, text, may_store)
     if trace and (stepped or trace != watch_set.trace):
         state["instruction"] = f"{trace[-1]:x}"
     _set_stop(state, answers, text, control)
     watch_set.trace = trace
     return state
+
+
+def _forget_last(state: State) -> None:
+    """Remove the last instruction and the last stop from a state."""
+    state.pop("instruction", None)
+    state.pop("read", None)
+    state.pop("accessed", None)
+    state.pop("faulted", None)
+    state.pop("stop", None)
+
+
+def _set_position(state: State, place: Position, answers: Sequence[Answer]) -> None:
+    """Set whether the program runs, and its program counter; add what the answers printed to its output."""
+    state["run"], state["pc"] = place.run, f"{place.pc:x}"
+    for answer in answers:
+        if isinstance(answer, Output) and answer.data:
+            state["output"] = state.get("output", "") + answer.data.hex()
+
+
+def _set_memory(guest: Guest, watch_set: WatchSet, state: State, scalar: ScalarRegisters, text: str, may_store: bool) -> None:
+    """Set the shown memory of a state, if it may have changed or a page is new. text: the line of the listing at the program counter"""
+    pages = len(watch_set.pages)
+    if text:
+        watch_set.add_accessed(int(text[:8], 16), scalar.x)
+    if may_store or len(watch_set.pages) > pages:
+        state["memory"] = _memory(guest, watch_set)
 
 
 def _set_code(state: State, code: dict[str, str]) -> None:
