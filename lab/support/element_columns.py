@@ -22,7 +22,7 @@ IMPORTS = "".join(f'import {{ {names} }} from "./{module}.js";\n' for module, na
 SHOWN = """
 const views = JSON.parse(require("fs").readFileSync(0, "utf-8"));
 const shown = views.map((given) => {
-  const view = { before: given.state, ...given, used: new Set(given.used ?? []) };
+  const view = { form: "signed", before: given.state, ...given, used: new Set(given.used ?? []) };
   const columns = columnsOf(view);
   const { rows, elements, outcomes, pairs, executed } = columns;
   const head = (row) => `${headOf(row, 0, row.cells.length - 1)} ${row.words}`.trim();

@@ -1,5 +1,6 @@
 // Formulas of the reference with an instruction's own operands, and with an element's numbers.
 
+import { isMoving } from "./executed.js";
 import { bitOf, elementOf, numberText } from "./numbers.js";
 import { resultOutcome } from "./outcomes.js";
 import { ABI_NAMES, vectorType } from "./words.js";
@@ -9,16 +10,12 @@ import { ABI_NAMES, vectorType } from "./words.js";
 /** @typedef {import("./columns.js").Columns} Columns */
 
 const CONVERTED = /\b(signed|sext|zext)\(([^()]*)\)/g;
-const MOVES = ["gather", "slide", "compress"];
-
-/** @param {number} word */
-const fieldsOf = (word) => ({ vd: (word >> 7) & 31, vs1: (word >> 15) & 31, vs2: (word >> 20) & 31 });
 
 /**
  * Returns the scalar register or the immediate that an instruction has in place of vs1; "" without one.
  * @param {Executed} executed
  */
-export const scalarOf = ({ text, access }) =>
+const scalarOf = ({ text, access }) =>
   access ? "" : (text.split(/ |, /).slice(2).find((each) => !/^v\d+(\.t)?$/.test(each)) ?? "");
 
 /**
@@ -27,19 +24,17 @@ export const scalarOf = ({ text, access }) =>
  */
 export function formulaText(executed) {
   const { word, access, text, meaning } = executed;
-  const [scalar, own] = [bracketed(scalarOf(executed)), fieldsOf(word)];
-  const step = /\), (\w+)/.exec(text)?.[1] ?? "";
+  const scalar = bracketed(scalarOf(executed));
+  const [vd, vs1, vs2] = [7, 15, 20].map((bit) => `v${(word >> bit) & 31}`);
+  const bytes = `${Math.max(8, access?.width ?? 8) / 8}`;
+  /** @type {Record<string, string>} */
+  const operands = { vd, vs1, vs2, vs3: vd, imm: scalar, uimm: scalar, offset: scalar, bytes, nf: `${access?.fields}` };
+  /** @type {Record<string, string>} */
+  const registers = { rs1: access?.base ?? scalar, rs2: /\), (\w+)/.exec(text)?.[1] ?? "", rd: text.split(/ |, /)[1] };
   return meaning.formula
-    .replace(/\bvs1\[i\]/g, scalar || `v${own.vs1}[i]`)
-    .replace(/\bvs1\b/g, `v${own.vs1}`)
-    .replace(/\bvs2\b/g, `v${own.vs2}`)
-    .replace(/\b(?:vd|vs3)\b/g, `v${own.vd}`)
-    .replace(/x\[rs1\]/g, access?.base ?? scalar)
-    .replace(/x\[rs2\]/g, step)
-    .replace(/x\[rd\]/g, text.split(/ |, /)[1])
-    .replace(/\b(?:imm|uimm|offset)\b/g, scalar)
-    .replace(/\bbytes\b/g, `${Math.max(8, access?.width ?? 8) / 8}`)
-    .replace(/\bnf\b/g, `${access?.fields}`)
+    .replace(/\bvs1\[i\]/g, scalar || "vs1[i]")
+    .replace(/x\[(rs1|rs2|rd)\]/g, (_, field) => registers[field])
+    .replace(/\b(vd|vs[123]|u?imm|offset|bytes|nf)\b/g, (name) => operands[name])
     .replace(/ \* 1\b/g, "");
 }
 
@@ -84,8 +79,8 @@ export function calculationText(view, { executed, outcomes }, element) {
  * @param {Executed} executed
  * @param {string} branch
  */
-const hasEitherSign = ({ meaning, destination, sources }, branch) => MOVES.includes(meaning.layout) ||
-  (!/min|max|[<>/%]|clip|round|zext/.test(branch) && sources.every(({ width }) => width === destination?.width));
+const hasEitherSign = (executed, branch) => isMoving(executed) || (!/min|max|[<>/%]|clip|round|zext/.test(branch) &&
+  executed.sources.every(({ width }) => width === executed.destination?.width));
 
 /**
  * Returns a formula's right side with the numbers of an element and of those that it reads.
@@ -96,11 +91,10 @@ const hasEitherSign = ({ meaning, destination, sources }, branch) => MOVES.inclu
  */
 function numbered(view, executed, formula, element) {
   const [scalar, type] = [scalarOf(executed), vectorType(view.state.vtype)];
-  const offset = MOVES.includes(executed.meaning.layout) && /^[a-z]/.test(scalar) ? new RegExp(`\\b${scalar}(?=[ \\]])`, "g") : /$^/;
-  const value = numberText(BigInt("0x" + (view.state.x[(executed.word >> 15) & 31] ?? "0")), 64, "unsigned");
+  const offset = isMoving(executed) && /^[a-z]/.test(scalar) ? new RegExp(`\\b${scalar}(?=[ \\]])`, "g") : /$^/;
   return formula
     .replace(/\bi\b/g, `${element}`)
-    .replace(offset, value)
+    .replace(offset, `${executed.scalar}`)
     .replace(/\bv(\d+)\[(\d+)\](?=\]| <)/g, (_, register, index) => `${valueOf(executed, type.sew, register, "", index)}`)
     .replace(/\[(\d+) ([+-]) (\d+)\]/g, (_, one, sign, other) => `[${BigInt(one) + BigInt(`${sign}${other}`.replace("+", ""))}]`)
     .replace(/\b(sew|vlmax|vl)\b/g, (name) => `${{ sew: type.sew, vlmax: type.most, vl: executed.earlier.vl }[name]}`)
@@ -132,7 +126,7 @@ function filledIn({ state }, executed, text, form) {
   const elements = text.replace(/\bv(\d+)(\.mask)?\[(\d+)\]/g, (_, register, mask, index) =>
     bracketed(numberText(valueOf(executed, sew, register, mask, index), mask ? 1 : widthOf(executed, register, sew), form)));
   if (!/^[a-z]/.test(scalar)) return elements;
-  const value = numberText(BigInt.asUintN(sew, BigInt("0x" + state.x[(executed.word >> 15) & 31])), sew, form);
+  const value = numberText(BigInt.asUintN(sew, executed.scalar), sew, form);
   return elements.replace(new RegExp(`\\b${scalar}\\b`, "g"), bracketed(value));
 }
 

@@ -15,8 +15,6 @@ import { ROUNDING, typeText, typeWords, vectorType, withNames } from "./words.js
  */
 
 const COUNTS = ["active", "masked", "prestart", "fault", "pending", "tail"];
-const FOLDS = textOf("card.fold.title");
-const NOTHING = { alias: "", formula: "", scalars: [], counts: [] };
 
 /**
  * Returns the content of the card.
@@ -25,28 +23,18 @@ const NOTHING = { alias: "", formula: "", scalars: [], counts: [] };
  * @returns {Card}
  */
 export function cardOf(view, columns) {
-  const { executed } = columns;
-  const { state } = view;
-  const line = state.code[state.instruction ?? ""];
-  if (!executed) return { ...NOTHING, text: withNames(line?.slice(9) ?? "", true), meaning: restOf(state, line) };
+  const [{ executed }, { state }] = [columns, view];
+  const line = state.code[state.instruction ?? ""] ?? "";
+  const meaning = !line ? textOf("card.nothing") : state.faulted ? textOf("card.stopped") : textOf("card.no-operands");
+  if (!executed) return { text: withNames(line.slice(9), true), alias: "", meaning, formula: "", scalars: [], counts: [] };
   const guard = executed.isMasked && executed.meaning.layout !== "reduce" ? "if v0.mask[i]: " : "";
   return {
     ...aliasOf(state, executed.text),
-    meaning: [executed.meaning.does, ...maskSentence(state, executed), ...stopSentence(view, executed)].filter(Boolean).join(" "),
+    meaning: [executed.meaning.does, maskSentence(state, executed), ...stopSentences(view, executed)].filter(Boolean).join(" "),
     formula: executed.meaning.formula && guard + formulaText(executed),
     scalars: scalarTexts(view, executed),
     counts: countsOf(columns, view),
   };
-}
-
-/**
- * Returns what to say where no vector instruction was executed last.
- * @param {import("./executed.js").State} state
- * @param {string | undefined} line
- */
-function restOf(state, line) {
-  if (!line) return textOf("card.nothing");
-  return state.faulted ? textOf("card.stopped") : textOf("card.no-operands");
 }
 
 /**
@@ -66,12 +54,11 @@ function aliasOf(state, text) {
  * @param {import("./executed.js").Executed} executed
  */
 function maskSentence(state, { isMasked, access, destination, meaning }) {
-  if (!isMasked) return [];
-  if (access?.isStore) return [textOf("card.mask.store")];
-  if (!destination || meaning.layout === "reduce") return [textOf("card.mask.not-counted")];
-  const isKept = !vectorType(state.vtype).mask || destination.width === 1;
-  if (isKept) return [textOf("card.mask.undisturbed")];
-  return [state.policy === "ones" ? textOf("card.mask.ones") : textOf("card.mask.keep")];
+  if (!isMasked) return "";
+  if (access?.isStore) return textOf("card.mask.store");
+  if (!destination || meaning.layout === "reduce") return textOf("card.mask.not-counted");
+  if (!vectorType(state.vtype).mask || destination.width === 1) return textOf("card.mask.undisturbed");
+  return state.policy === "ones" ? textOf("card.mask.ones") : textOf("card.mask.keep");
 }
 
 /**
@@ -79,17 +66,13 @@ function maskSentence(state, { isMasked, access, destination, meaning }) {
  * @param {View} view
  * @param {import("./executed.js").Executed} executed
  */
-function stopSentence({ state, before }, { access, earlier, name }) {
-  const isUnknown = !earlier.isKnown || !earlier.hasOld;
+function stopSentences({ state, before }, { isIllegal, earlier, name }) {
+  if (isIllegal) return [textOf("card.illegal")];
+  if (state.faulted) return [textOf("card.fault", { element: state.vstart })];
+  const cut = name.endsWith("ff.v") && state.vl < earlier.vl ? textOf("card.cut", { element: state.vl }) : "";
+  if (earlier.isKnown && earlier.hasOld) return [cut];
   const several = earlier.isKnown ? textOf("card.several") : textOf("card.several.unknown");
-  const unknown = before === state ? textOf("card.unknown") : several;
-  if (!state.faulted) {
-    const isCut = name.endsWith("ff.v") && state.vl < earlier.vl;
-    const cut = textOf("card.cut", { element: state.vl });
-    return [...(isCut ? [cut] : []), ...(isUnknown ? [unknown] : [])];
-  }
-  if (!access || /illegal/i.test(state.stop ?? "")) return [textOf("card.illegal")];
-  return [textOf("card.fault", { element: state.vstart })];
+  return [cut, before === state ? textOf("card.unknown") : several];
 }
 
 /**
@@ -104,12 +87,10 @@ function countsOf({ outcomes, changed, executed }, { state, before }) {
   if (state.faulted) words.prestart = textOf("card.done");
   if (state.faulted && !outcomes.includes("fault")) words.pending = textOf("card.not-executed");
   if (executed?.name.endsWith("ff.v") && !state.faulted) words.pending = textOf("card.not-loaded");
-  const counts = COUNTS.flatMap((kind) => {
-    const number = outcomes.filter((each) => each === kind).length;
-    return number ? [/** @type {[string, string]} */ ([kind, textOf("card.count", { number, outcome: words[kind] })])] : [];
-  });
-  if (before === state && !(executed?.destination && executed.earlier.hasOld)) return counts; // there is nothing to compare with
-  return [...counts, ["changed", textOf("card.count", { number: changed.filter(Boolean).length, outcome: textOf("outcome.changed") })]];
+  const hasBefore = before !== state || (executed?.destination && executed.earlier.hasOld);
+  const counts = COUNTS.map((kind) => ({ kind, number: outcomes.filter((each) => each === kind).length })).filter(({ number }) => number);
+  if (hasBefore) counts.push({ kind: "changed", number: changed.filter(Boolean).length });
+  return counts.map(({ kind, number }) => [kind, textOf("card.count", { number, outcome: words[kind] })]);
 }
 
 /**
@@ -122,26 +103,9 @@ export function paintCard(root, { text, alias, meaning, formula, scalars, counts
   const legend = make("p", "legend", ...counts.map(([kind, words]) => make("span", kind, words)));
   const onclick = () => root.classList.toggle("brief");
   const tag = document.body.matches(".watching") ? "span" : "button"; // the wall has no controls
-  const fold = Object.assign(make(tag, "formula", make("code", "", formula)), { onclick, title: FOLDS });
+  const fold = Object.assign(make(tag, "formula", make("code", "", formula)), { onclick, title: textOf("card.fold.title") });
   const shown = formula ? [fold, make("small", "", scalars.join(", "))] : [];
   renew(root, [make("p", "what", ...names), make("p", "meaning", ...prose(meaning)), make("div", "terms", ...shown, legend)]);
-}
-
-/**
- * Returns the vector control registers as names and texts.
- * @param {import("./executed.js").State} state
- * @returns {[keyof import("./executed.js").State, string][]}
- */
-export function factsOf(state) {
-  const type = vectorType(state.vtype);
-  return [
-    ["vl", type.vill ? `${state.vl}` : textOf("card.vl", { vl: state.vl, most: type.most })],
-    ["vtype", typeText(type)],
-    ["vstart", `${state.vstart}`],
-    ["vxrm", `${state.vxrm} ${ROUNDING[state.vxrm ?? 0]}`],
-    ["vxsat", `${state.vxsat}`],
-    ["policy", `${state.policy}`],
-  ];
 }
 
 /**
@@ -151,12 +115,16 @@ export function factsOf(state) {
  * @param {import("./executed.js").State} before
  */
 export function paintFacts(root, state, before) {
-  const kind = (/** @type {keyof import("./executed.js").State} */ name) => (before[name] === state[name] ? "" : "changed");
   const type = vectorType(state.vtype);
-  /** @type {(name: string, text: string) => boolean} */
-  const isInitial = (name, text) => /^(0|keep)\b/.test(text) && (name !== "vl" || type.vill);
-  const pairs = factsOf(state).map(([name, text]) =>
-    make("div", isInitial(name, text) && !kind(name) ? "initial" : "", make("dt", "", name), make("dd", kind(name), text)));
+  const vl = type.vill ? `${state.vl}` : textOf("card.vl", { vl: state.vl, most: type.most });
+  const rounding = `${state.vxrm} ${ROUNDING[state.vxrm ?? 0]}`;
+  const texts = { vl, vtype: typeText(type), vstart: state.vstart, vxrm: rounding, vxsat: state.vxsat, policy: state.policy };
+  const pairs = Object.entries(texts).map(([key, text]) => {
+    const name = /** @type {keyof typeof texts} */ (key);
+    const kind = before[name] === state[name] ? "" : "changed";
+    const isInitial = !kind && /^(0|keep)\b/.test(`${text}`) && (name !== "vl" || type.vill);
+    return make("div", isInitial ? "initial" : "", make("dt", "", name), make("dd", kind, `${text}`));
+  });
   root.title = typeWords(type);
-  renew(root, [...pairs, ...(type.vill ? [make("p", "", typeWords(type))] : [])]);
+  renew(root, [...pairs, ...(type.vill ? [make("p", "", root.title)] : [])]);
 }

@@ -1,15 +1,14 @@
 // The elements of the last vector instruction as columns, and their strips.
 
-import { executedOf, operandOf } from "./executed.js";
-import { accessRows, cellOf, formOf, guardRows, headOf, makeRow, operandRows } from "./lane_rows.js";
-import { LETTER, REGISTER_BITS, elementOf } from "./numbers.js";
+import { countOf, executedOf, operandOf } from "./executed.js";
+import { accessRows, guardRows, operandRows, registerRow } from "./lane_rows.js";
+import { LETTER } from "./numbers.js";
 import { outcomeOf } from "./outcomes.js";
 import { textOf } from "./texts.js";
 import { pairsOf } from "./wires.js";
 import { vectorType } from "./words.js";
 
 /** @typedef {import("./executed.js").View} View */
-/** @typedef {import("./lane_rows.js").Cell} Cell */
 /** @typedef {import("./lane_rows.js").Row} Row */
 /**
  * outcomes: by element, none where the last instruction is no vector instruction; changed: whether an element of a result changed;
@@ -23,10 +22,6 @@ import { vectorType } from "./words.js";
  * @property {import("./wires.js").Pair[]} pairs
  * @property {number} longest
  * @property {number} vl
- */
-/**
- * Some elements side by side. A row has no cell where it has no such element.
- * @typedef {{ first: number, rows: { row: Row, head: string, cells: (Cell | undefined)[] }[] }} Strip
  */
 /** @typedef {{ columns: number, size: "large" | "medium" | "small" | "tiny", head: "wide" | "narrow" | "least" }} Fit */
 
@@ -44,10 +39,10 @@ export function columnsOf(view) {
   const executed = view.width ? undefined : executedOf(view);
   if (!executed) return withSizes(registerRows(view), { executed, outcomes: [], pairs: [], vl: view.state.vl });
   const outcomes = Array.from({ length: executed.elements }, (_, element) => outcomeOf(view.state, executed, element));
-  const pairs = pairsOf(view.state, executed, outcomes);
-  const guard = guardRows(view, executed, outcomes);
-  const rows = executed.access ? accessRows(view, executed, outcomes) : operandRows(view, executed, outcomes, pairs);
-  return withSizes([...guard, ...rows], { executed, outcomes, pairs, vl: executed.earlier.vl });
+  const pairs = pairsOf(executed, outcomes);
+  const { access, earlier: { vl } } = executed;
+  const rows = access ? accessRows(view, executed, outcomes, access) : operandRows(view, executed, outcomes, pairs);
+  return withSizes([...guardRows(view, executed, outcomes), ...rows], { executed, outcomes, pairs, vl });
 }
 
 /**
@@ -58,8 +53,8 @@ export function columnsOf(view) {
  */
 function withSizes(rows, others) {
   const elements = Math.max(others.outcomes.length, ...rows.map(({ cells }) => cells.length));
-  const isChanged = (/** @type {number} */ element) => rows.some(({ cells }) => cells[element]?.classes.includes("changed"));
-  const changed = Array.from({ length: elements }, (_, element) => isChanged(element));
+  const changed = Array.from({ length: elements }, (_, element) =>
+    rows.some(({ cells }) => cells[element]?.classes.includes("changed")));
   const longest = Math.max(2, ...rows.flatMap(({ cells }) => cells.map(({ text }) => text.length)));
   return { rows, elements, changed, longest, ...others };
 }
@@ -73,10 +68,11 @@ function registerRows(view) {
   const { state, used = new Set(), width } = view;
   if (width) return Array.from({ length: 32 }, (_, register) => plainRow(view, { register, width, size: 1 }));
   const type = vectorType(state.vtype);
-  const shapes = registerShapes(state, type);
+  const plain = { width: type.sew, size: Math.max(1, type.lmul) };
+  const shapes = registerShapes(state, type, plain);
   const rows = [];
   for (let register = 0; register < 32; ) {
-    const shape = shapes.get(register) ?? { width: type.sew, size: Math.max(1, type.lmul) };
+    const shape = shapes.get(register) ?? plain;
     const size = register % shape.size ? 1 : shape.size;
     const numbers = Array.from({ length: size }, (_, place) => register + place);
     if (numbers.some((each) => used.has(each) || shapes.has(each))) rows.push(plainRow(view, { ...shape, register, size }));
@@ -86,13 +82,13 @@ function registerRows(view) {
 }
 
 /**
- * Returns the width of elements and the number of registers of each group that a program's instructions name: those of the vector type
- * where they don't agree.
+ * Returns the width of elements and the number of registers of each group that a program's instructions name: plain ones where they
+ * don't agree.
  * @param {import("./executed.js").State} state
  * @param {import("./words.js").VectorType} type
+ * @param {{ width: number, size: number }} plain
  */
-function registerShapes({ operands }, type) {
-  const plain = { width: type.sew, size: Math.max(1, type.lmul) };
+function registerShapes({ operands }, type, plain) {
   /** @type {Map<number, { width: number, size: number }>} */
   const shapes = new Map();
   for (const { register, size, groups, width } of Object.values(operands).flat().map((each) => operandOf(each, type, false))) {
@@ -108,16 +104,14 @@ function registerShapes({ operands }, type) {
  * @param {{ register: number, size: number, width: number }} group
  * @returns {Row}
  */
-function plainRow(view, { register, size, width }) {
-  const { state, before } = view;
+function plainRow({ state, before, form, width: chosen }, { register, size, width }) {
   const { vill, most } = vectorType(state.vtype);
-  const isMask = width === 1 && !view.width;
-  const count = isMask ? Math.max(1, Math.floor(most)) : (size * REGISTER_BITS) / width;
-  return makeRow("plain", isMask ? textOf("row.mask") : "", { register, width, count }, (element) => {
-    const [now, was] = [state.v, before.v ?? state.v].map((registers) => elementOf(registers, register, width, element));
-    const outcome = element >= state.vl ? "tail" : element < state.vstart ? "prestart" : "active";
-    return cellOf(now, vill || view.width ? "" : outcome, { width, form: formOf(view), was });
-  });
+  const isMask = width === 1 && !chosen;
+  const count = isMask ? Math.max(1, Math.floor(most)) : countOf({ size, width });
+  const outcomes = Array.from({ length: count }, (_, element) =>
+    vill || chosen ? "" : element >= state.vl ? "tail" : element < state.vstart ? "prestart" : "active");
+  const values = { registers: state.v, olds: before.v ?? state.v, outcomes, form };
+  return registerRow("plain", isMask ? textOf("row.mask") : "", { register, width, count }, values);
 }
 
 /**
@@ -142,31 +136,15 @@ export function fit({ longest, elements, vl }, { width, unit }) {
 }
 
 /**
- * Returns the strips of columns, and the first element of those that are folded: strips of an unchanged tail alone.
+ * Returns the first elements of the strips of columns, and the first of those that are folded: strips of an unchanged tail alone.
  * @param {Columns} columns
  * @param {number} width columns of a strip
  * @param {boolean} [isOpen] whether none is folded
- * @returns {{ strips: Strip[], folded: number }} folded: the number of elements where none is folded
+ * @returns {{ strips: number[], folded: number }} folded: the number of elements where none is folded
  */
-export function stripsOf({ rows, elements, outcomes, changed }, width, isOpen = false) {
-  const strips = Array.from({ length: Math.ceil(elements / width) }, (_, place) => stripAt(rows, elements, place * width, width));
-  const isTail = (/** @type {number} */ first) => outcomes.length > 0 &&
-    outcomes.slice(first, first + width).every((each, place) => each === "tail" && !changed[first + place]);
-  let shown = strips.length;
-  while (!isOpen && shown > 1 && isTail(strips[shown - 1].first)) shown -= 1;
-  return { strips: strips.slice(0, shown), folded: Math.min(elements, shown * width) };
-}
-
-/**
- * @param {Row[]} rows
- * @param {number} elements
- * @param {number} first
- * @param {number} width
- * @returns {Strip}
- */
-function stripAt(rows, elements, first, width) {
-  const last = Math.min(elements, first + width) - 1;
-  const shown = rows.filter(({ cells }) => cells.length > first);
-  const cellsOf = (/** @type {Row} */ { cells }) => Array.from({ length: width }, (_, place) => cells[first + place]);
-  return { first, rows: shown.map((row) => ({ row, head: headOf(row, first, last), cells: cellsOf(row) })) };
+export function stripsOf({ elements, outcomes, changed }, width, isOpen = false) {
+  const used = outcomes.findLastIndex((each, element) => each !== "tail" || changed[element]);
+  const last = isOpen || !outcomes.length ? elements - 1 : Math.max(0, used);
+  const strips = Array.from({ length: Math.floor(last / width) + 1 }, (_, place) => place * width);
+  return { strips, folded: Math.min(elements, strips.length * width) };
 }

@@ -24,34 +24,38 @@ import { textOf } from "./texts.js";
 export function detailOf(view, columns, element, chosen) {
   const results = columns.rows.filter(({ kind, cells }) => (kind === "after" || kind === "plain") && cells[element]);
   const row = results.find((each) => each.register === chosen) ?? results[0];
-  const nothing = { name: "", place: "", sentence: "", value: "", edit: null, explain: "" };
-  if (!columns.rows.length) return nothing;
-  const [name, sentence] = [textOf("detail.element", { element }), sentenceOf(view, columns, element)];
-  if (!row) return { ...nothing, name, sentence };
+  const name = columns.rows.length ? textOf("detail.element", { element }) : "";
+  const detail = { name, place: "", sentence: sentenceOf(view, columns, element), value: "", edit: null, explain: "" };
+  if (!row) return detail;
   const { register, width } = row;
-  const address = columns.executed?.access?.address(element).toString(16);
-  if (register < 0) return { ...nothing, name, place: columns.outcomes[element] === "tail" ? "" : `0x${address}`, sentence };
-  const own = register + (width > 1 ? Math.floor((element * width) / REGISTER_BITS) : 0);
-  const place = width > 1 ? element % (REGISTER_BITS / width) : element;
+  if (register < 0) return { ...detail, place: addressOf(columns, element) };
+  const own = register + Math.floor((element * width) / REGISTER_BITS);
+  const index = element % (REGISTER_BITS / width);
   const value = row.cells[element].text;
   const hexadecimal = width > 1 ? ` = 0x${numberText(elementOf(view.state.v, register, width, element), width, "hexadecimal")}` : "";
-  return {
-    ...{ name, place: `${placeText(own, width, place)}: ${value}${hexadecimal}`, sentence, value },
-    ...{ edit: elementEdit(view, own, width, place), explain: `v${register}[${element}]` },
-  };
+  const place = `${placeText(own, width, index)}: ${value}${hexadecimal}`;
+  return { ...detail, place, value, edit: elementEdit(view, own, width, index), explain: `v${register}[${element}]` };
 }
+
+/**
+ * Returns the address of an element of an access; "" without one, and in the tail.
+ * @param {Columns} columns
+ * @param {number} element
+ */
+const addressOf = ({ executed, outcomes }, element) =>
+  executed?.access && outcomes[element] !== "tail" ? `0x${executed.access.address(element).toString(16)}` : "";
 
 /**
  * Returns what changes an element of a register. width: in bits
  * @type {(view: View, register: number, width: number, index: number) => import("./edits.js").Edit}
  */
-export const elementEdit = ({ form = "signed" }, register, width, index) =>
+export const elementEdit = ({ form }, register, width, index) =>
   ({ of: "element", register, bits: width, index, form: width === 1 ? "mask" : form });
 
 /** @type {(register: number, width: number, place: number) => string} */
 function placeText(register, width, place) {
-  if (width === 1) return textOf("detail.bit", { bit: place, register: `v${register}` });
   const bytes = width / 8;
+  if (width === 1) return textOf("detail.bit", { bit: place, register: `v${register}` });
   if (bytes === 1) return textOf("detail.byte", { register: `v${register}`, byte: place });
   return textOf("detail.bytes", { register: `v${register}`, first: place * bytes, last: (place + 1) * bytes - 1 });
 }
@@ -62,12 +66,12 @@ function placeText(register, width, place) {
  * @param {Columns} columns
  * @param {number} element
  */
-function sentenceOf({ state }, { executed, outcomes, rows, vl }, element) {
+function sentenceOf({ state }, columns, element) {
+  const { executed, outcomes, rows, vl } = columns;
   if (!executed) return "";
   const outcome = executed.destination ? resultOutcome(executed, outcomes, element) : outcomes[element];
-  const { access } = executed;
-  const address = access && outcome !== "tail" ? `0x${access.address(element).toString(16)}` : "";
-  const where = address && (access?.isStore ? textOf("detail.to", { address }) : textOf("detail.from", { address }));
+  const address = addressOf(columns, element);
+  const where = address && (executed.access?.isStore ? textOf("detail.to", { address }) : textOf("detail.from", { address }));
   const [before, after] = ["before", "after"].map((kind) => rows.find((row) => row.kind === kind)?.cells[element]?.text);
   const was = before === undefined ? "" : before === after ? textOf("detail.unchanged", { value: before }) : `${before} → ${after}`;
   /** @type {Record<string, string>} */

@@ -14,7 +14,7 @@ import { ABI_NAMES, vectorType, withNames } from "./words.js";
 /**
  * A state, the one before it, the registers that always have rows, and the form of numbers. width: of elements in bits, where all
  * registers are shown in place of the last instruction.
- * @typedef {{ state: State, before: State, used?: Set<number>, form?: import("./numbers.js").NumberForm, width?: number }} View
+ * @typedef {{ state: State, before: State, used?: Set<number>, form: import("./numbers.js").NumberForm, width?: number }} View
  */
 /**
  * A register operand. size: registers of a group; groups: how many there are, one behind another; width: of an element in bits,
@@ -44,17 +44,27 @@ import { ABI_NAMES, vectorType, withNames } from "./words.js";
  * @property {number} word
  * @property {boolean} isMasked whether elements whose bit in v0 is 0 are masked off
  * @property {boolean} isWhole whether it takes whole registers, whatever vl is
+ * @property {boolean} isIllegal whether it was refused, and changed nothing
  * @property {Operand | undefined} destination
  * @property {Operand[]} sources as registers: vs2, vs1; in a store the data first
  * @property {boolean} hasChooser whether v0 is a source, a bit for each element
  * @property {Access | undefined} access
  * @property {Meaning} meaning
  * @property {Earlier} earlier
+ * @property {number} rs1 the number in its field rs1, vs1 or imm
+ * @property {bigint} scalar the immediate, or the value of x[rs1], if it has one of them
  * @property {bigint} offset of a slide, in elements
  * @property {number} elements the most that it has under the vector type
  */
 
 const NO_MEANING = { does: "", formula: "", layout: "by element" };
+
+/** Whether elements of the source go to other places. */
+export const isMoving = (/** @type {Executed} */ { meaning }) => ["gather", "slide", "compress"].includes(meaning.layout);
+
+/** The number of elements of a register group; of a mask that of all its bits. */
+/** @type {(group: { size: number, width: number }) => number} */
+export const countOf = ({ size, width }) => (width === 1 ? REGISTER_BITS : (size * REGISTER_BITS) / width);
 
 /**
  * Returns the vector instruction that a state executed last, or that faulted; undefined if it is none with vector operands.
@@ -65,38 +75,25 @@ export function executedOf({ state, before }) {
   const [line, shown] = [state.code[state.instruction ?? ""], state.operands[state.instruction ?? ""] ?? []];
   if (!line || !shown.length) return undefined;
   const [word, machineText] = [parseInt(line.slice(0, 8), 16), line.slice(9)];
-  const name = machineText.split(" ")[0];
+  const [name] = machineText.split(" ");
   const type = vectorType(state.vtype);
   const isWhole = /^v(?:[ls]|mv)\dr/.test(name);
   const isMasked = machineText.endsWith(", v0.t");
   const hasChooser = /\.v[vxi]m$/.test(name) && !isMasked;
-  const operands = shown.map((each) => operandOf(each, type, isWhole));
-  if (isMasked || hasChooser) operands.pop();
-  const destination = shown[0].written ? operands.shift() : undefined;
-  const earlier = earlierOf(state, before, operands, destination, isMasked || hasChooser);
-  const most = isWhole ? wholeElements(destination ?? operands[0]) : Math.max(1, Math.floor(type.most));
+  const sources = shown.map((each) => operandOf(each, type, isWhole));
+  const destination = shown[0].written ? sources.shift() : undefined;
+  const earlier = earlierOf(state, before, sources, destination);
+  if (isMasked || hasChooser) sources.pop();
+  const access = accessOf(state, machineText, destination, sources, earlier);
+  const rs1 = (word >> 15) & 31;
+  const scalar = name.endsWith("i") ? BigInt(rs1) : BigInt("0x" + state.x[rs1]);
   return {
-    ...{ text: withNames(machineText, true), name, word, isMasked, isWhole, destination, sources: operands, hasChooser, earlier },
-    ...{ access: accessOf(state, machineText, destination, operands, earlier), elements: most },
-    ...{ meaning: state.meanings?.[name] ?? NO_MEANING, offset: offsetOf(state, name, word) },
+    ...{ text: withNames(machineText, true), name, word, isMasked, isWhole, destination, sources, hasChooser, access, earlier },
+    ...{ rs1, scalar, offset: name.startsWith("vslide1") ? 1n : scalar, meaning: state.meanings?.[name] ?? NO_MEANING },
+    isIllegal: Boolean(state.faulted) && (!access || /illegal/i.test(state.stop ?? "")),
+    elements: isWhole ? countOf(destination ?? sources[0]) : Math.max(1, Math.floor(type.most)),
   };
 }
-
-/**
- * Returns by how many elements a slide moves its source; 0n of other instructions.
- * @param {State} state
- * @param {string} name
- * @param {number} word
- */
-function offsetOf(state, name, word) {
-  if (!name.startsWith("vslide")) return 0n;
-  const rs1 = (word >> 15) & 31;
-  if (name.startsWith("vslide1")) return 1n;
-  return name.endsWith(".vi") ? BigInt(rs1) : BigInt("0x" + state.x[rs1]);
-}
-
-/** @param {Operand} operand */
-const wholeElements = ({ size, width }) => (size * REGISTER_BITS) / width;
 
 /**
  * @param {ShownOperand} shown
@@ -106,21 +103,19 @@ const wholeElements = ({ size, width }) => (size * REGISTER_BITS) / width;
  */
 export function operandOf({ register, groups, bits, part, whole }, type, isAll) {
   const width = bits || Math.min(64, Math.max(8, part * type.sew));
-  if (isAll) return { register, size: groups, groups: 1, width, isWhole: whole };
   const size = whole ? 1 : Math.max(1, (type.lmul * width) / type.sew);
-  return { register, size, groups, width, isWhole: whole };
+  return { register, width, isWhole: whole, ...(isAll ? { size: groups, groups: 1 } : { size, groups }) };
 }
 
 /**
  * Returns the state before the last instruction, as far as it is known.
  * @param {State} state
  * @param {State} before
- * @param {Operand[]} sources
+ * @param {Operand[]} sources with the mask
  * @param {Operand | undefined} destination
- * @param {boolean} hasMask
  * @returns {Earlier}
  */
-function earlierOf(state, before, sources, destination, hasMask) {
+function earlierOf(state, before, sources, destination) {
   const { read } = state;
   const isStep = before.v !== undefined && before.pc === state.instruction; // one instruction lies between them
   const known = { ...(read?.v0 === undefined ? {} : { 0: read.v0 }), ...read?.v };
@@ -131,7 +126,7 @@ function earlierOf(state, before, sources, destination, hasMask) {
     olds: { ...(before.v ?? state.v), ...known },
     vl: read?.vl ?? (isStep ? before.vl : state.vl),
     vstart: read?.vstart ?? (isStep ? before.vstart : 0),
-    isKnown: isStep || (read !== undefined && sources.every(isRead) && (!hasMask || 0 in known)),
+    isKnown: isStep || (read !== undefined && sources.every(isRead)),
     hasOld: isStep || destination === undefined || isRead(destination),
     memory: before.memory ?? state.memory,
   };

@@ -1,13 +1,16 @@
 // The rows of the pane of elements: the mask bits, the sources, memory, and the values before and after an instruction.
 
+import { countOf, isMoving } from "./executed.js";
 import { REGISTER_BITS, elementOf, memoryElement, numberText, registersText } from "./numbers.js";
 import { OUTCOMES, resultOutcome } from "./outcomes.js";
 import { textOf } from "./texts.js";
 
+/** @typedef {import("./executed.js").Access} Access */
 /** @typedef {import("./executed.js").Executed} Executed */
 /** @typedef {import("./executed.js").Operand} Operand */
 /** @typedef {import("./executed.js").View} View */
 /** @typedef {import("./numbers.js").NumberForm} NumberForm */
+/** @typedef {import("./numbers.js").Registers} Registers */
 /** @typedef {import("./outcomes.js").Outcome} Outcome */
 /** @typedef {{ text: string, classes: string[], words: string }} Cell */
 /**
@@ -32,28 +35,29 @@ const KINDS = { memory: textOf("row.memory"), before: textOf("row.before"), afte
  * @param {{ width: number, form: NumberForm, was?: bigint | null }} how
  * @returns {Cell}
  */
-export function cellOf(value, outcome, { width, form, was }) {
+function cellOf(value, outcome, { width, form, was }) {
   const isChanged = was !== undefined && was !== value;
   const bit = width === 1 && value !== null ? [value ? "set" : "clear"] : [];
-  const classes = [...bit, ...(outcome ? [outcome] : []), ...(isChanged ? ["changed"] : [])];
-  const words = [...(outcome && outcome !== "active" ? [OUTCOMES[outcome]] : []), ...(isChanged ? [textOf("outcome.changed")] : [])];
-  return { text: value === null ? "?" : numberText(value, width, form), classes, words: words.join(", ") };
+  const marks = [...(outcome ? [outcome] : []), ...(isChanged ? [/** @type {const} */ ("changed")] : [])];
+  const words = marks.filter((mark) => mark !== "active").map((mark) => OUTCOMES[mark]).join(", ");
+  return { text: value === null ? "?" : numberText(value, width, form), classes: [...bit, ...marks], words };
 }
 
 /**
- * Makes a row with a cell for each of its elements.
+ * Makes a row of elements of registers. outcomes: by element; olds: the registers before, where the elements are a result
  * @param {Row["kind"]} kind
  * @param {string} words
  * @param {Place} place
- * @param {(element: number) => Cell} cell
+ * @param {{ registers: Registers, olds?: Registers, outcomes: (Outcome | "")[], form: NumberForm }} values
  * @returns {Row}
  */
-export function makeRow(kind, words, { register, width, count }, cell) {
-  return { kind, register, width, head: "", words, cells: Array.from({ length: count }, (_, element) => cell(element)) };
+export function registerRow(kind, words, { register, width, count }, { registers, olds, outcomes, form }) {
+  const cells = Array.from({ length: count }, (_, element) => {
+    const was = olds && elementOf(olds, register, width, element);
+    return cellOf(elementOf(registers, register, width, element), outcomes[element], { width, form, was });
+  });
+  return { kind, register, width, head: "", words, cells };
 }
-
-/** @param {View} view */
-export const formOf = ({ form }) => form ?? "signed";
 
 /**
  * The form of numbers of elements and of offsets, which have no sign.
@@ -61,11 +65,8 @@ export const formOf = ({ form }) => form ?? "signed";
  */
 const indexForm = ({ form }) => (form === "hexadecimal" ? form : "unsigned");
 
-/** @param {Operand} operand */
-const countOf = ({ size, width }) => (width === 1 ? REGISTER_BITS : (size * REGISTER_BITS) / width);
-
-/** @param {Executed} executed */
-const isMoving = ({ meaning }) => ["gather", "slide", "compress"].includes(meaning.layout);
+/** @type {(outcomes: Outcome[], other: Outcome | "") => (Outcome | "")[]} */
+const tailOr = (outcomes, other) => outcomes.map((outcome) => (outcome === "tail" ? outcome : other));
 
 /**
  * Returns the row of v0, where it is a mask or a source of bits.
@@ -74,14 +75,10 @@ const isMoving = ({ meaning }) => ["gather", "slide", "compress"].includes(meani
  * @param {Outcome[]} outcomes
  * @returns {Row[]}
  */
-export function guardRows(view, { isMasked, hasChooser, earlier, elements }, outcomes) {
+export function guardRows({ form }, { isMasked, hasChooser, earlier, elements }, outcomes) {
   if (!isMasked && !hasChooser) return [];
-  return [
-    makeRow("mask", isMasked ? textOf("row.mask") : textOf("row.bits"), { register: 0, width: 1, count: elements }, (element) => {
-      const outcome = outcomes[element] === "tail" ? "tail" : "active";
-      return cellOf(elementOf(earlier.v, 0, 1, element), outcome, { width: 1, form: formOf(view) });
-    }),
-  ];
+  const values = { registers: earlier.v, outcomes: tailOr(outcomes, "active"), form };
+  return [registerRow("mask", isMasked ? textOf("row.mask") : textOf("row.bits"), { register: 0, width: 1, count: elements }, values)];
 }
 
 /**
@@ -94,13 +91,13 @@ export function guardRows(view, { isMasked, hasChooser, earlier, elements }, out
  */
 export function operandRows(view, executed, outcomes, pairs) {
   const { destination, sources, meaning } = executed;
-  const isApart = (/** @type {Operand} */ each) => each.register !== destination?.register || each.width !== destination.width;
-  const isTwice = (/** @type {Operand} */ { register, width }, /** @type {number} */ place) =>
-    sources.slice(0, place).some((other) => other.register === register && other.width === width);
-  const rows = sources
-    .map((each, place) => ({ each, place }))
-    .filter(({ each, place }) => isMoving(executed) || meaning.layout === "reduce" || (isApart(each) && !isTwice(each, place)))
-    .map(({ each, place }) => sourceRow(view, executed, each, place, outcomes, pairs));
+  const isSame = (/** @type {Operand} */ one, /** @type {Operand | undefined} */ other) =>
+    one.register === other?.register && one.width === other.width;
+  const hasAll = isMoving(executed) || meaning.layout === "reduce";
+  const rows = sources.flatMap((each, place) => {
+    const isDouble = [destination, ...sources.slice(0, place)].some((other) => isSame(each, other));
+    return hasAll || !isDouble ? [sourceRow(view, executed, each, place, outcomes, pairs)] : [];
+  });
   if (isMoving(executed)) rows.reverse(); // the moved source is next to the curves
   const hasBefore = !["gather", "compress"].includes(meaning.layout);
   return [...rows, ...resultRows(view, executed, outcomes, hasBefore)];
@@ -117,17 +114,14 @@ export function operandRows(view, executed, outcomes, pairs) {
  */
 function sourceRow(view, executed, source, place, outcomes, pairs) {
   const { meaning, earlier, destination, elements } = executed;
-  const isScalar = !destination && source.isWhole && source.width > 1; // vmv.x.s
-  const read = isMoving(executed) && !place ? new Set(pairs.map(([from]) => from)) : undefined;
-  const outcome = (/** @type {number} */ element) => {
-    if (isScalar || (meaning.layout === "reduce" && place)) return element ? "idle" : "active";
-    return read ? (read.has(element) ? "active" : "idle") : outcomes[element];
-  };
-  const form = isMoving(executed) && place ? indexForm(view) : formOf(view);
-  const count = Math.min(elements, countOf(source));
-  return makeRow("source", earlier.isKnown ? textOf("row.from") : textOf("row.now"), { ...source, count }, (element) =>
-    cellOf(elementOf(earlier.v, source.register, source.width, element), outcome(element), { width: source.width, form }),
-  );
+  const isScalar = (!destination && source.isWhole && source.width > 1) || (meaning.layout === "reduce" && place > 0); // as vmv.x.s
+  const isMoved = isMoving(executed) && !place;
+  const read = isScalar ? [0] : pairs.map(([from]) => from);
+  const own = outcomes.map((_, element) => (read.includes(element) ? "active" : "idle"));
+  const form = isMoving(executed) && place ? indexForm(view) : view.form;
+  const values = { registers: earlier.v, outcomes: isScalar || isMoved ? own : outcomes, form };
+  const words = earlier.isKnown ? textOf("row.from") : textOf("row.now");
+  return registerRow("source", words, { ...source, count: Math.min(elements, countOf(source)) }, values);
 }
 
 /**
@@ -138,25 +132,18 @@ function sourceRow(view, executed, source, place, outcomes, pairs) {
  * @param {boolean} hasBefore
  * @returns {Row[]}
  */
-function resultRows(view, executed, outcomes, hasBefore) {
+function resultRows({ state, before, form }, executed, outcomes, hasBefore) {
   const { destination, elements, earlier } = executed;
   if (!destination) return [];
   const { register, size, groups, width } = destination;
-  const [count, how] = [Math.min(elements, countOf(destination)), { width, form: formOf(view) }];
-  const fields = Array.from({ length: groups }, (_, field) => register + field * size);
-  return fields.flatMap((first) => {
-    const outcome = (/** @type {number} */ element) => resultOutcome(executed, outcomes, element);
-    const old = (/** @type {number} */ element) => elementOf(earlier.olds, first, width, element);
-    const now = (/** @type {number} */ element) => elementOf(view.state.v, first, width, element);
-    const place = { register: first, width, count };
-    const tail = (/** @type {number} */ element) => (outcome(element) === "tail" ? "tail" : "");
-    const before = makeRow("before", KINDS.before, place, (element) => cellOf(old(element), tail(element), how));
-    const after = makeRow("after", KINDS.after, place, (element) =>
-      cellOf(now(element), outcome(element), { ...how, was: old(element) }),
-    );
-    const isKnown = earlier.hasOld || view.before !== view.state; // as it isn't once a page was opened again
-    return hasBefore && groups === 1 && isKnown ? [before, after] : [after];
-  });
+  const results = outcomes.map((_, element) => resultOutcome(executed, outcomes, element));
+  const isKnown = earlier.hasOld || before !== state; // as it isn't once a page was opened again
+  const [old, now] = [{ registers: earlier.olds, outcomes: tailOr(results, ""), form }, { registers: state.v, outcomes: results, form }];
+  return Array.from({ length: groups }, (_, field) => {
+    const place = { register: register + field * size, width, count: Math.min(elements, countOf(destination)) };
+    const after = registerRow("after", KINDS.after, place, { ...now, olds: earlier.olds });
+    return hasBefore && groups === 1 && isKnown ? [registerRow("before", KINDS.before, place, old), after] : [after];
+  }).flat();
 }
 
 /**
@@ -164,58 +151,51 @@ function resultRows(view, executed, outcomes, hasBefore) {
  * @param {View} view
  * @param {Executed} executed
  * @param {Outcome[]} outcomes
+ * @param {Access} access
  * @returns {Row[]}
  */
-export function accessRows(view, executed, outcomes) {
-  const { access, sources, elements, earlier } = executed;
-  if (!access) return [];
+export function accessRows(view, executed, outcomes, access) {
+  const { sources: [data], elements, earlier } = executed;
   const source = (/** @type {string} */ words, /** @type {Operand} */ each, /** @type {NumberForm} */ form) =>
-    makeRow("source", words, { ...each, count: elements }, (element) =>
-      cellOf(elementOf(earlier.v, each.register, each.width, element), outcomes[element], { width: each.width, form }),
-    );
+    registerRow("source", words, { ...each, count: elements }, { registers: earlier.v, outcomes, form });
   const memory = (/** @type {"memory" | "before" | "after"} */ kind, /** @type {number} */ field) =>
-    memoryRow(view, executed, outcomes, kind, access.fields > 1 ? textOf("row.field", { field }) : KINDS[kind], field);
+    memoryRow(view, executed, outcomes, access, kind, field);
   const offsets = access.index ? [source(textOf("row.offset"), access.index, indexForm(view))] : [];
   const fields = Array.from({ length: access.fields }, (_, field) => field);
-  if (!access.isStore) {
-    const loaded = fields.map((field) => memory("memory", field));
-    return [...offsets, ...loaded, ...resultRows(view, executed, outcomes, true)];
-  }
-  const [data] = sources;
-  const stored = fields.map((field) => {
-    const words = access.fields > 1 ? textOf("row.field", { field }) : textOf("row.from");
-    return source(words, { ...data, register: data.register + field * data.size }, formOf(view));
-  });
+  const rows = (/** @type {"memory" | "after"} */ kind) => fields.map((field) => memory(kind, field));
+  if (!access.isStore) return [...offsets, ...rows("memory"), ...resultRows(view, executed, outcomes, true)];
+  const stored = fields.map((field) =>
+    source(fieldName(access, textOf("row.from"), field), { ...data, register: data.register + field * data.size }, view.form));
   const before = access.fields > 1 ? [] : [memory("before", 0)];
-  return [...offsets, ...stored, ...before, ...fields.map((field) => memory("after", field))];
+  return [...offsets, ...stored, ...before, ...rows("after")];
 }
+
+/** @type {(access: Access, words: string, field: number) => string} */
+const fieldName = ({ fields }, words, field) => (fields > 1 ? textOf("row.field", { field }) : words);
 
 /**
  * Returns the row of an access's elements in memory, or of a field of its segments. The tail has no place in memory.
  * @param {View} view
  * @param {Executed} executed
  * @param {Outcome[]} outcomes
+ * @param {Access} access
  * @param {"memory" | "before" | "after"} kind
- * @param {string} words
  * @param {number} field
  * @returns {Row}
  */
-function memoryRow(view, { access, elements, earlier }, outcomes, kind, words, field) {
-  if (!access) throw new Error("an instruction without an access has no row of memory");
+function memoryRow({ state, form }, { earlier }, outcomes, access, kind, field) {
   const { width, base, address } = access;
-  const how = { width, form: formOf(view) };
   const read = (/** @type {Record<string, string> | undefined} */ rows, /** @type {number} */ element) => {
     const found = memoryElement(rows, address(element, field), Math.max(8, width));
     return width === 1 && found !== null ? (found >> BigInt(element & 7)) & 1n : found;
   };
-  const cell = (/** @type {number} */ element) => {
-    const outcome = outcomes[element];
+  const cells = outcomes.map((outcome, element) => {
     if (outcome === "tail") return { text: "", classes: ["tail"], words: OUTCOMES.tail };
     const old = read(earlier.memory, element);
-    if (kind !== "after") return cellOf(old, kind === "before" ? "" : outcome, how);
-    return cellOf(read(view.state.memory, element), outcome, { ...how, was: old });
-  };
-  return { ...makeRow(kind, words, { register: -1, width, count: elements }, cell), head: `(${base})` };
+    if (kind !== "after") return cellOf(old, kind === "before" ? "" : outcome, { width, form });
+    return cellOf(read(state.memory, element), outcome, { width, form, was: old });
+  });
+  return { kind, register: -1, width, head: `(${base})`, words: fieldName(access, KINDS[kind], field), cells };
 }
 
 /**

@@ -6,20 +6,17 @@ import { cardOf, paintCard, paintFacts } from "./card.js";
 import { columnsOf, fit, stripsOf } from "./columns.js";
 import { detailOf, elementEdit } from "./detail.js";
 import { editable } from "./edits.js";
-import { header, make, part, remPixels, unseen } from "./elements.js";
+import { elementsIn, header, make, part, remPixels, unseen } from "./elements.js";
+import { headOf } from "./lane_rows.js";
 import { textOf } from "./texts.js";
-import { markWires, wiresPicture } from "./wires.js";
+import { wiresPicture } from "./wires.js";
 import { vectorType } from "./words.js";
 
 /** @typedef {import("./executed.js").View} View */
 /** @typedef {import("./columns.js").Columns} Columns */
 /** @typedef {import("./columns.js").Fit} Fit */
-/** @typedef {import("./columns.js").Strip} Strip */
 /** @typedef {import("./lane_rows.js").Row} Row */
-/** @typedef {import("./lane_rows.js").Cell} Cell */
 /** @typedef {{ name: string, take: (text: string) => void }} Question the detail of an event `explain` */
-
-const WIRED = ["gather", "slide", "compress", "reduce"];
 
 /** Shows the elements of a machine's state in its root. */
 export class Lanes {
@@ -34,13 +31,8 @@ export class Lanes {
   /** @param {Element} root */
   constructor(root) {
     this.root = root;
-    this.facts = part(root, "facts");
-    this.card = part(root, "card");
     this.box = part(root, "elements");
     this.detail = part(root, "detail");
-    this.form = part(root, "form");
-    this.layout = part(root, "view");
-    this.width = part(root, "width");
     this.box.addEventListener("click", ({ target }) => this.pressed(/** @type {Element} */ (target)));
     this.box.addEventListener("keydown", (event) => this.keyed(event));
     new ResizeObserver(([{ contentRect }]) => this.measured(contentRect.width)).observe(this.box);
@@ -48,18 +40,13 @@ export class Lanes {
 
   /**
    * Shows a state, compared with the one before it.
-   * @param {View} view
+   * @param {Omit<View, "form">} shown
    */
-  show(view) {
-    const isOther = view.state.instruction !== this.view?.state.instruction || view.state.vtype !== this.view?.state.vtype;
-    if (isOther) this.isOpen = false;
-    this.view = view;
+  show(shown) {
+    const { instruction, vtype } = this.view?.state ?? {};
+    if (shown.state.instruction !== instruction || shown.state.vtype !== vtype) this.isOpen = false;
+    this.view = { ...shown, form: "signed" };
     this.paint();
-  }
-
-  /** Whether all registers are shown in place of elements. */
-  get hasAll() {
-    return this.layout.value === "all";
   }
 
   /** Takes the room of the strips, in px, and paints them again where it is another one. */
@@ -72,186 +59,181 @@ export class Lanes {
 
   paint() {
     if (!this.view) return;
-    const form = /** @type {import("./numbers.js").NumberForm} */ (this.form.value || "signed");
-    const width = this.hasAll ? Number(this.width.value) || vectorType(this.view.state.vtype).sew : 0;
+    const { root, view: { state, before } } = this;
+    const form = /** @type {import("./numbers.js").NumberForm} */ (part(root, "form").value || "signed");
+    const width = part(root, "view").value === "all" ? Number(part(root, "width").value) || vectorType(state.vtype).sew : 0;
     this.view = { ...this.view, form, width };
     this.columns = columnsOf(this.view);
-    paintFacts(this.facts, this.view.state, this.view.before);
-    paintCard(this.card, cardOf(this.view, this.columns));
-    this.root.classList.toggle("all", this.hasAll);
-    this.paintStrips(this.columns);
-  }
-
-  /** @param {Columns} columns */
-  paintStrips(columns) {
-    const hadFocus = this.box.contains(document.activeElement) && document.activeElement !== this.box;
-    this.fit = fit(columns, this.room);
-    const { strips, folded } = stripsOf(columns, this.fit.columns, this.isOpen);
-    const tail = folded < columns.elements ? [this.foldedTail(folded, columns.elements)] : [];
-    const ofRegisters = this.hasAll ? textOf("lanes.all.label") : textOf("lanes.used.label");
-    const title = columns.executed ? textOf("lanes.executed.label", { instruction: columns.executed.text }) : ofRegisters;
-    const parts = [make("colgroup", "", make("col", "head")), ...strips.map((strip) => this.strip(columns, strip)), ...tail];
-    const grid = make("table", `lanes ${this.fit.size} ${this.fit.head}`, ...parts);
-    grid.setAttribute("role", "grid");
-    grid.ariaLabel = title;
-    const empty = make("p", "empty", textOf("lanes.none"));
-    this.box.replaceChildren(columns.rows.length ? grid : empty);
-    this.choose(Math.min(this.chosen, Math.max(0, columns.elements - 1)), hadFocus);
+    paintFacts(part(root, "facts"), state, before);
+    paintCard(part(root, "card"), cardOf(this.view, this.columns));
+    root.classList.toggle("all", width > 0);
+    this.paintStrips(this.view, this.columns);
   }
 
   /**
+   * @param {View} view
    * @param {Columns} columns
-   * @param {Strip} strip
    */
-  strip(columns, { first, rows }) {
-    const numbers = Array.from({ length: this.fit.columns }, (_, place) =>
-      first + place < columns.elements ? header("col", `${first + place}`) : make("td", ""));
+  paintStrips(view, columns) {
+    const hadFocus = this.box.contains(document.activeElement) && document.activeElement !== this.box;
+    this.fit = fit(columns, this.room);
+    const { strips, folded } = stripsOf(columns, this.fit.columns, this.isOpen);
+    const open = make("button", "", textOf("lanes.folded", { first: folded, last: columns.elements - 1 }));
+    const wide = Object.assign(make("td", "", open), { colSpan: this.fit.columns + 1 });
+    const tail = folded < columns.elements ? [make("tbody", "folded", make("tr", "", wide))] : [];
+    const ofRegisters = view.width ? textOf("lanes.all.label") : textOf("lanes.used.label");
+    const ariaLabel = columns.executed ? textOf("lanes.executed.label", { instruction: columns.executed.text }) : ofRegisters;
+    const parts = [make("colgroup", "", make("col", "head")), ...strips.map((first) => this.strip(view, columns, first)), ...tail];
+    const grid = Object.assign(make("table", `lanes ${this.fit.size} ${this.fit.head}`, ...parts), { role: "grid", ariaLabel });
+    this.box.replaceChildren(columns.rows.length ? grid : make("p", "empty", textOf("lanes.none")));
+    this.choose(view, columns, Math.min(this.chosen, Math.max(0, columns.elements - 1)), hadFocus);
+  }
+
+  /**
+   * @param {View} view
+   * @param {Columns} columns
+   * @param {number} first
+   */
+  strip(view, { elements, pairs, rows }, first) {
+    const colSpan = this.fit.columns;
+    const places = Array.from({ length: colSpan }, (_, place) => first + place);
+    const numbers = places.map((element) => (element < elements ? header("col", `${element}`) : make("td", "")));
     const heads = make("tr", "numbers", header("row", make("small", "", textOf("lanes.element"))), ...numbers);
-    const made = rows.map(({ row, head, cells }) => this.row(row, head, first, cells));
-    const last = rows.findIndex(({ row }) => row.kind === "before" || row.kind === "after");
-    const { executed, pairs } = columns;
-    if (pairs.length && WIRED.includes(executed?.meaning.layout ?? "")) {
-      const { columns: colSpan } = this.fit;
+    const shown = rows.filter(({ cells }) => cells.length > first);
+    const made = shown.map((row) => this.row(view, row, headOf(row, first, Math.min(elements, first + colSpan) - 1), places));
+    if (pairs.length) {
       const picture = Object.assign(make("td", "", wiresPicture(pairs, first, colSpan)), { colSpan });
-      made.splice(last, 0, make("tr", "wires", make("td", ""), picture));
+      made.splice(shown.findIndex(({ kind }) => /before|after/.test(kind)), 0, make("tr", "wires", make("td", ""), picture));
     }
     return make("tbody", "", heads, ...made);
   }
 
   /**
+   * @param {View} view
    * @param {Row} row
    * @param {string} head
-   * @param {number} first
-   * @param {(Cell | undefined)[]} cells
+   * @param {number[]} places of its elements
    */
-  row({ kind, register, width, words }, head, first, cells) {
+  row(view, { kind, register, width, words, cells }, head, places) {
     const what = make("small", /\d$/.test(words) ? "field" : "", words);
-    const name = header("row", make("b", "", head), ...(words ? [" ", what] : []));
-    const made = cells.map((cell, place) => {
+    const made = places.map((element) => {
+      const cell = cells[element];
       if (!cell) return make("td", "");
-      const shown = make("td", cell.classes.join(" "), cell.text);
-      shown.dataset.element = `${first + place}`;
-      shown.setAttribute("role", "gridcell");
-      const where = [textOf("lanes.cell", { element: first + place, head }), words].filter(Boolean).join(", ");
-      shown.title = [where, cell.words].filter(Boolean).join(": ");
+      const where = [textOf("lanes.cell", { element, head }), words].filter(Boolean).join(", ");
+      const title = [where, cell.words].filter(Boolean).join(": ");
+      const shown = Object.assign(make("td", cell.classes.join(" "), cell.text), { role: "gridcell", title });
+      shown.dataset.element = `${element}`;
       if (cell.words) shown.append(unseen(` ${cell.words}`));
-      return this.view?.width ? editable(shown, elementEdit(this.view, register, width, first + place)) : shown;
+      return view.width ? editable(shown, elementEdit(view, register, width, element)) : shown;
     });
-    const shown = make("tr", kind, name, ...made);
+    const shown = make("tr", kind, header("row", make("b", "", head), ...(words ? [" ", what] : [])), ...made);
     if (register >= 0) shown.dataset.register = `${register}`;
     return shown;
-  }
-
-  /**
-   * @param {number} first
-   * @param {number} elements
-   */
-  foldedTail(first, elements) {
-    const text = textOf("lanes.folded", { first, last: elements - 1 });
-    const open = Object.assign(make("button", "", text), { onclick: () => ((this.isOpen = true), this.paint()) });
-    const cell = Object.assign(make("td", "", open), { colSpan: this.fit.columns + 1 });
-    return make("tbody", "folded", make("tr", "", cell));
   }
 
   /** @param {Element} target */
   pressed(target) {
     const cell = /** @type {HTMLElement | null} */ (target.closest("td[data-element]"));
-    if (!cell) return;
+    if (target.matches(".folded button")) {
+      this.isOpen = true;
+      this.paint();
+    }
+    if (!cell || !this.view || !this.columns) return;
     this.register = Number(cell.parentElement?.dataset.register ?? -1);
-    this.choose(Number(cell.dataset.element), true);
-    this.ask();
+    this.choose(this.view, this.columns, Number(cell.dataset.element), true);
+    this.ask(this.view, this.columns);
   }
 
   /** @param {KeyboardEvent} event */
   keyed(event) {
-    if (!this.columns || event.ctrlKey || event.altKey || event.metaKey) return;
-    const [last, { columns }] = [this.columns.elements - 1, this.fit];
+    const { view, columns, chosen, fit } = this;
+    if (!view || !columns || event.ctrlKey || event.altKey || event.metaKey) return;
     const down = { ArrowDown: 1, ArrowUp: -1 }[event.key];
-    if (down && !this.columns.executed) return this.chooseRow(event, down);
-    const steps = { ArrowRight: 1, ArrowLeft: -1, ArrowDown: columns, ArrowUp: -columns, Home: -last, End: last };
-    const step = steps[/** @type {keyof typeof steps} */ (event.key)];
+    if (down && !columns.executed) return this.chooseRow(event, view, columns, down);
     if (event.key === "Enter" && /** @type {Element} */ (event.target).matches("td")) {
       event.preventDefault(); // or the dialog takes the same key
       this.detail.querySelector("button")?.click();
     }
-    if (step === undefined || last < 0) return;
+    const last = columns.elements - 1;
+    const rows = { ArrowUp: chosen - fit.columns, ArrowDown: chosen + fit.columns };
+    const goals = { ...rows, ArrowLeft: chosen - 1, ArrowRight: chosen + 1, Home: 0, End: last };
+    const goal = goals[/** @type {keyof typeof goals} */ (event.key)];
+    if (goal === undefined || last < 0) return;
     event.preventDefault();
-    const next = this.chosen + step;
-    const isEnd = event.key === "Home" || event.key === "End";
-    if (isEnd || (next >= 0 && next <= last)) this.choose(Math.max(0, Math.min(last, next)), true);
-    this.ask();
+    if (goal >= 0 && goal <= last) this.choose(view, columns, goal, true);
+    this.ask(view, columns);
   }
 
   /**
    * Chooses the register in the next row, where registers in use are shown.
    * @param {KeyboardEvent} event
+   * @param {View} view
+   * @param {Columns} columns
    * @param {number} step
    */
-  chooseRow(event, step) {
-    const registers = (this.columns?.rows ?? []).filter(({ cells }) => cells[this.chosen]).map(({ register }) => register);
-    const place = Math.max(0, registers.indexOf(this.register)) + step;
+  chooseRow(event, view, columns, step) {
+    const registers = columns.rows.filter(({ cells }) => cells[this.chosen]).map(({ register }) => register);
     event.preventDefault();
-    this.register = registers[Math.max(0, Math.min(registers.length - 1, place))] ?? -1;
-    this.choose(this.chosen, true);
+    this.register = registers[Math.max(0, registers.indexOf(this.register)) + step] ?? this.register;
+    this.choose(view, columns, this.chosen, true);
   }
 
   /**
    * Chooses an element: marks its column, its sources and its curves, and shows its calculation.
+   * @param {View} view
+   * @param {Columns} columns
    * @param {number} element
    * @param {boolean} takesFocus
    */
-  choose(element, takesFocus) {
-    if (!this.view || !this.columns) return;
+  choose(view, columns, element, takesFocus) {
     this.chosen = element;
-    const isShown = this.box.querySelector(`td[data-element="${element}"]`);
-    if (!isShown && this.columns.elements > element && !this.isOpen && this.columns.rows.length) {
+    const own = elementsIn(this.box, `td[data-element="${element}"]`);
+    if (!own.length && columns.elements > element && !this.isOpen && columns.rows.length) {
       this.isOpen = true; // the element is in the folded tail
-      return this.paintStrips(this.columns);
+      return this.paintStrips(view, columns);
     }
-    const cells = [...this.box.querySelectorAll("td[data-element]")].map((cell) => /** @type {HTMLElement} */ (cell));
-    for (const cell of cells) {
-      const isChosen = Number(cell.dataset.element) === this.placeIn(/** @type {HTMLElement} */ (cell.parentElement));
+    const isMove = columns.executed?.meaning.layout !== "reduce"; // then the cells above curves go to others
+    const source = columns.pairs.find(([, to]) => to === element)?.[0] ?? -1;
+    for (const cell of elementsIn(this.box, "td[data-element]")) {
+      const wanted = isMove && cell.matches("tr:has(+ .wires) > td") ? source : element;
+      const isChosen = Number(cell.dataset.element) === wanted;
       cell.classList.toggle("chosen", isChosen);
       cell.ariaSelected = `${isChosen}`;
       cell.removeAttribute("tabindex");
     }
-    const own = cells.filter((cell) => Number(cell.dataset.element) === element);
-    const results = own.filter((cell) => cell.parentElement?.matches(".after, .plain"));
-    const reached = results.find((cell) => cell.parentElement?.dataset.register === `${this.register}`) ?? results[0] ?? own.at(-1);
+    for (const curve of this.box.querySelectorAll("path")) curve.classList.toggle("chosen", curve.dataset.to === `${element}`);
+    const results = own.filter((cell) => cell.matches(":is(.after, .plain) > td"));
+    const reached = results.find((cell) => cell.matches(`[data-register="${this.register}"] > td`)) ?? results[0] ?? own.at(-1);
     if (reached) reached.tabIndex = 0;
-    if (reached && takesFocus) reached.focus();
-    markWires(this.box, element);
-    this.paintDetail(calculationText(this.view, this.columns, element));
+    if (takesFocus) reached?.focus();
+    this.paintDetail(view, columns, calculationText(view, columns, element));
   }
 
   /**
-   * Returns the element that is chosen in a row: above curves the source of the chosen one.
-   * @param {HTMLElement} row
+   * @param {View} view
+   * @param {Columns} columns
+   * @param {string} calculation
    */
-  placeIn(row) {
-    const isSource = row.nextElementSibling?.matches(".wires") ?? false;
-    if (!this.columns || !isSource || this.columns.executed?.meaning.layout === "reduce") return this.chosen;
-    return this.columns.pairs.find(([, to]) => to === this.chosen)?.[0] ?? -1;
-  }
-
-  /** @param {string} calculation */
-  paintDetail(calculation) {
-    if (!this.view || !this.columns) return;
-    const { name, place, sentence, value, edit } = detailOf(this.view, this.columns, this.chosen, this.register);
+  paintDetail(view, columns, calculation) {
+    const { name, place, sentence, value, edit } = detailOf(view, columns, this.chosen, this.register);
     const parts = [make("b", "", name), make("small", "", place), make("span", "", sentence), make("code", "", calculation)];
     const change = Object.assign(make("button", "change", textOf("detail.change")), { title: textOf("detail.change.title") });
     change.dataset.value = value;
     this.detail.replaceChildren(...parts.filter((part) => part.textContent), ...(edit ? [editable(change, edit)] : []));
   }
 
-  /** Asks the page for the calculation of the chosen element: an event `explain` with the name and a function that takes the text. */
-  ask() {
-    if (!this.view || !this.columns?.executed) return;
-    const [{ chosen }, { state }] = [this, this.view];
-    const { explain } = detailOf(this.view, this.columns, chosen, this.register);
+  /**
+   * Asks the page for the calculation of the chosen element: an event `explain` with the name and a function that takes the text.
+   * @param {View} view
+   * @param {Columns} columns
+   */
+  ask(view, columns) {
+    const { chosen, register } = this;
+    const name = columns.executed && detailOf(view, columns, chosen, register).explain;
     const take = (/** @type {string} */ text) => {
-      if (text && this.chosen === chosen && this.view?.state === state) this.paintDetail(text);
+      const isShown = this.chosen === chosen && this.view?.state === view.state;
+      if (text && isShown) this.paintDetail(this.view ?? view, this.columns ?? columns, text);
     };
-    if (explain) this.root.dispatchEvent(new CustomEvent("explain", { bubbles: true, detail: { name: explain, take } }));
+    if (name) this.root.dispatchEvent(new CustomEvent("explain", { bubbles: true, detail: { name, take } }));
   }
 }

@@ -9,10 +9,8 @@ import { saysMore, target, withNames } from "./words.js";
 
 /** @typedef {import("./types").MachineState} MachineState */
 
-const NAMES = [
-  ...[textOf("listing.marks"), textOf("listing.address"), textOf("listing.word")],
-  ...[textOf("listing.instruction"), textOf("listing.source")],
-];
+const MARKS = [textOf("listing.marks"), textOf("listing.address"), textOf("listing.word")];
+const NAMES = [...MARKS, textOf("listing.instruction"), textOf("listing.source")];
 const COLUMNS = 20; // of an instruction, as the style has it
 
 /** The listing of a machine's program. */
@@ -30,8 +28,8 @@ export class ListingPanel {
 
   paint(/** @type {MachineState} */ state, /** @type {MachineState} */ before) {
     if (state.code !== this.code || state.labels !== this.labels) {
-      Object.assign(this, { code: state.code, labels: state.labels });
-      this.places = placesOf(Object.keys(state.code), 4, state.labels);
+      const places = placesOf(Object.keys(state.code), 4, state.labels);
+      Object.assign(this, { code: state.code, labels: state.labels, places });
     }
     const { instruction } = state;
     if (instruction && state.code[instruction] && !Object.keys(state.starts ?? {}).length) this.seen = instruction;

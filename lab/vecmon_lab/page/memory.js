@@ -12,17 +12,15 @@ import { knownVariables, numberText } from "./variables.js";
 /** @typedef {{ at: bigint, element: string, counts: number[] }} PlacedArray */
 
 const NAMES = [textOf("memory.address"), textOf("memory.bytes"), "4–7", "8–11", "12–15", textOf("memory.text")];
+const ACCESSES = { read: "read", write: "written" }; // classes
 const ROW = 16; // bytes of a row in a state
 const HEAD = 13; // characters of the address and of spaces
 /** @type {Record<string, number>} */
 const ROOM = { i8: 6, u8: 5 }; // characters of a byte as a number, with a space and its place in the text; of others 4.4
-/** @type {Record<string, string>} */
-const MARKS = { read: "read", write: "written" };
 
 /** The rows of a machine's memory. */
 export class MemoryPanel {
   /** @type {[MachineState, MachineState] | null} */ shown = null;
-  bytes = ROW; // of a row here
   letters = Infinity; // that fit into a row
 
   constructor(/** @type {ParentNode} */ root) {
@@ -38,12 +36,6 @@ export class MemoryPanel {
     if (this.shown) this.paint(...this.shown);
   }
 
-  /** The bytes of a row that fits with these numbers. */
-  fit(/** @type {PlacedArray[]} */ arrays) {
-    const byte = Math.max(4.4, ...arrays.map(({ element }) => ROOM[element] ?? 0));
-    return [ROW, ROW / 2].find((each) => HEAD + byte * each <= this.letters) ?? ROW / 4;
-  }
-
   /** A change comes into sight, the first one where there are more. */
   paint(/** @type {MachineState} */ state, /** @type {MachineState} */ before) {
     this.shown = [state, before];
@@ -51,24 +43,21 @@ export class MemoryPanel {
     const names = placed.filter(({ counts, isLocal }) => counts.length || !isLocal);
     const labels = names.map(({ at, declaration }) => [at.toString(16), [declaration]]);
     const arrays = [...placed.filter(({ element }) => element && element !== "c8"), ...arraysOf(state)];
-    this.bytes = this.fit(arrays);
-    const [now, then] = [state.memory, before.memory].map((rows) => this.cut(rows));
-    const places = placesOf(Object.keys(now), this.bytes, { ...state.labels, ...Object.fromEntries(labels) });
+    const letters = Math.max(4.4, ...arrays.map(({ element }) => ROOM[element] ?? 0));
+    const bytes = [ROW, ROW / 2].find((each) => HEAD + letters * each <= this.letters) ?? ROW / 4;
+    const [now, then] = [state.memory, before.memory].map((rows) => (bytes === ROW ? rows : cut(rows, bytes)));
+    const places = placesOf(Object.keys(now), bytes, { ...state.labels, ...Object.fromEntries(labels) });
     const row = (/** @type {string} */ address) => memoryRow(address, now[address], then[address], arrays, state.accessed ?? []);
     const isOther = ({ address = "" }) => ![undefined, now[address]].includes(then[address]);
     this.rows.show(places, row, places.find(isOther)?.address);
   }
-
-  /** Rows of a state cut into those that are shown. */
-  cut(/** @type {Record<string, string>} */ rows) {
-    if (this.bytes === ROW) return rows;
-    const starts = Array.from({ length: ROW / this.bytes }, (_, place) => place * this.bytes);
-    const pieces = Object.entries(rows).flatMap(([address, digits]) =>
-      starts.map((start) => [(BigInt(`0x${address}`) + BigInt(start)).toString(16), digits.slice(2 * start, 2 * (start + this.bytes))]),
-    );
-    return /** @type {Record<string, string>} */ (Object.fromEntries(pieces));
-  }
 }
+
+/** Rows of a state cut into shorter ones. */
+/** @type {(rows: Record<string, string>, bytes: number) => Record<string, string>} */
+const cut = (rows, bytes) => Object.fromEntries(Object.entries(rows).flatMap(([address, digits]) =>
+  Array.from({ length: ROW / bytes }, (_, place) =>
+    [(BigInt(`0x${address}`) + BigInt(place * bytes)).toString(16), digits.slice(2 * place * bytes, 2 * (place + 1) * bytes)])));
 
 /** The numbers that a source in assembler has at its labels. */
 const arraysOf = (/** @type {MachineState} */ { data = {} }) =>
@@ -114,21 +103,17 @@ export class OutputPanel {
   }
 }
 
-/** The kind of the number at a place, and its bytes; one byte where no variable has a number there. */
-/** @type {(place: bigint, arrays: PlacedArray[]) => [element: string, size: number]} */
-function elementAt(place, arrays) {
-  const sizeOf = (/** @type {PlacedArray} */ { element }) => Number(element.slice(1)) / 8;
-  const length = (/** @type {PlacedArray} */ each) => each.counts.reduce((product, count) => product * count, sizeOf(each));
-  const array = arrays.find((each) => each.at <= place && place < each.at + BigInt(length(each)));
-  const size = array ? sizeOf(array) : 1;
-  return array && place % BigInt(size) === 0n ? [array.element, size] : ["", 1];
-}
+/** Whether a place is within some bytes from an address. */
+/** @type {(place: bigint, start: bigint, bytes: number) => boolean} */
+const isWithin = (place, start, bytes) => start <= place && place < start + BigInt(bytes);
 
-/** The class of a byte that the last instruction accessed, or "". */
-/** @type {(at: bigint, accessed: import("./messages").Access[]) => string} */
-function markOf(at, accessed) {
-  const its = accessed.find(({ address, length }) => BigInt(`0x${address}`) <= at && at < BigInt(`0x${address}`) + BigInt(length));
-  return its ? MARKS[its.kind] : "";
+/** The kind of the number at a place, and its bytes, `most` at most; one byte where no variable has a number there. */
+/** @type {(place: bigint, arrays: PlacedArray[], most: number) => [element: string, size: number]} */
+function elementAt(place, arrays, most) {
+  const sizeOf = (/** @type {PlacedArray} */ { element }) => Number(element.slice(1)) / 8;
+  const array = arrays.find((each) => isWithin(place, each.at, each.counts.reduce((product, count) => product * count, sizeOf(each))));
+  const size = array ? sizeOf(array) : 1;
+  return array && size <= most && place % BigInt(size) === 0n ? [array.element, size] : ["", 1];
 }
 
 /**
@@ -142,14 +127,14 @@ function markOf(at, accessed) {
 function memoryRow(address, digits, digitsBefore, arrays, accessed) {
   const bytes = digits.length / 2;
   const cells = Array.from({ length: Math.ceil(bytes / 4) }, () => make("td", ""));
-  for (let place = 0, size; place < bytes; place += size) {
+  for (let place = 0, size = 1; place < bytes; place += size) {
     const at = BigInt("0x" + address) + BigInt(place);
-    let element;
-    [element, size] = elementAt(at, arrays);
-    if (place + size > bytes) [element, size] = ["", 1]; // it goes on in the next row
+    const [element, length] = elementAt(at, arrays, bytes - place);
+    const access = accessed.find((each) => isWithin(at, BigInt(`0x${each.address}`), each.length))?.kind ?? "";
+    size = length;
     const own = digits.slice(2 * place, 2 * (place + size));
     const changed = digitsBefore !== undefined && digitsBefore.slice(2 * place, 2 * (place + size)) !== own;
-    const kinds = [element && "number", changed ? "changed" : /[^0]/.test(own) ? "" : "zero", markOf(at, accessed)];
+    const kinds = [element && "number", changed ? "changed" : /[^0]/.test(own) ? "" : "zero", access && ACCESSES[access]];
     const span = make("span", kinds.filter(Boolean).join(" "), element ? numberText(element, littleEndian(own)) : own);
     editable(span, { of: "bytes", address: at.toString(16) });
     if (element) span.title = own.replace(/..(?=.)/g, "$& ");

@@ -42,23 +42,20 @@ export function elementOf(registers, first, width, index) {
  * @param {number} bits
  */
 export function memoryElement(rows, address, bits) {
-  let bytes = "";
-  for (let place = 0n; place < BigInt(bits / 8); place += 1n) {
-    const byte = BigInt.asUintN(64, address + place);
-    const row = byte - (byte % 16n);
-    const listed = rows?.[row.toString(16)] ?? (hasPage(rows, byte) ? "0".repeat(32) : null);
-    if (listed === null) return null;
-    bytes += listed.slice(Number(byte - row) * 2, Number(byte - row) * 2 + 2);
-  }
-  return littleEndian(bytes);
+  const bytes = Array.from({ length: bits / 8 }, (_, place) => byteAt(rows ?? {}, BigInt.asUintN(64, address + BigInt(place))));
+  return bytes.includes("") ? null : littleEndian(bytes.join(""));
 }
 
 /**
- * Whether some row of an address's page is listed.
- * @param {Record<string, string> | undefined} rows
+ * Returns the two digits of a byte; "" where no row of its page is listed.
+ * @param {Record<string, string>} rows
  * @param {bigint} address
  */
-const hasPage = (rows, address) => Object.keys(rows ?? {}).some((each) => BigInt("0x" + each) >> 12n === address >> 12n);
+function byteAt(rows, address) {
+  const [row, place] = [(address - (address % 16n)).toString(16), 2 * Number(address % 16n)];
+  if (rows[row]) return rows[row].slice(place, place + 2);
+  return Object.keys(rows).some((each) => BigInt("0x" + each) >> 12n === address >> 12n) ? "00" : "";
+}
 
 /**
  * Returns a number of `width` bits as text, with a true minus sign; a bit of a mask is 0 or 1 in all forms.

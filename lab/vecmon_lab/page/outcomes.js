@@ -10,23 +10,18 @@ import { textOf } from "./texts.js";
  * @typedef {"active" | "masked" | "tail" | "prestart" | "fault" | "pending" | "kept" | "idle"} Outcome
  */
 
-/** @type {Record<Outcome, string>} */
+/** @type {Record<Outcome | "changed", string>} */
 export const OUTCOMES = {
-  active: textOf("outcome.active"),
-  masked: textOf("outcome.masked"),
-  tail: textOf("outcome.tail"),
-  prestart: textOf("outcome.prestart"),
-  fault: textOf("outcome.fault"),
-  pending: textOf("outcome.pending"),
-  kept: textOf("outcome.kept"),
-  idle: textOf("outcome.idle"),
+  active: textOf("outcome.active"), masked: textOf("outcome.masked"), tail: textOf("outcome.tail"),
+  prestart: textOf("outcome.prestart"), fault: textOf("outcome.fault"), pending: textOf("outcome.pending"),
+  kept: textOf("outcome.kept"), idle: textOf("outcome.idle"), changed: textOf("outcome.changed"),
 };
 
 /**
  * Returns the number of elements that an instruction works on; of a reduction that of its source.
  * @param {Executed} executed
  */
-export function bodyOf({ isWhole, elements, access, earlier, meaning, destination }) {
+function bodyOf({ isWhole, elements, access, earlier, meaning, destination }) {
   if (isWhole) return elements;
   if (access?.width === 1) return Math.min(elements, 8 * Math.ceil(earlier.vl / 8)); // masks are loaded and stored by bytes
   const isSingle = destination?.isWhole && destination.width > 1; // element 0 alone is written
@@ -41,13 +36,11 @@ export function bodyOf({ isWhole, elements, access, earlier, meaning, destinatio
  * @returns {Outcome}
  */
 export function outcomeOf(state, executed, element) {
-  const { earlier, access, isMasked, name } = executed;
+  const { earlier, isIllegal, isMasked, name } = executed;
   if (element >= bodyOf(executed)) return "tail";
-  const isAccess = access !== undefined && !/illegal/i.test(state.stop ?? "");
-  if (state.faulted && !isAccess) return "pending"; // an illegal instruction changes nothing
-  const start = state.faulted ? state.vstart : earlier.vstart;
-  if (element < start) return "prestart";
-  if (state.faulted) return element === start ? "fault" : "pending";
+  if (isIllegal) return "pending";
+  if (element < (state.faulted ? state.vstart : earlier.vstart)) return "prestart";
+  if (state.faulted) return element === state.vstart ? "fault" : "pending";
   if (isMasked && !bitOf(earlier.v[0], element)) return "masked";
   return name.endsWith("ff.v") && element >= state.vl ? "pending" : "active";
 }
@@ -73,7 +66,5 @@ export function resultOutcome(executed, outcomes, element) {
  * @param {Executed} executed
  * @param {Outcome[]} outcomes
  */
-export function chosenOf({ word, earlier }, outcomes) {
-  const mask = earlier.v[(word >> 15) & 31];
-  return outcomes.flatMap((outcome, element) => (outcome === "active" && bitOf(mask, element) ? [element] : []));
-}
+export const chosenOf = ({ rs1, earlier }, outcomes) =>
+  outcomes.flatMap((outcome, element) => (outcome === "active" && bitOf(earlier.v[rs1], element) ? [element] : []));

@@ -111,18 +111,11 @@ export class RowTable {
     if (this.made === `${first} ${count}`) return;
     this.made = `${first} ${count}`;
     const rows = places.slice(first, first + count).map((place, at) => {
-      const row = place.address ? this.makeRow(place.address) : this.otherRow(place.text ?? "", place.kind ?? "");
-      return Object.assign(row, { ariaRowIndex: `${first + at + 1}` });
+      const other = () => make("tr", "", Object.assign(make("td", place.kind ?? "", place.text ?? ""), { colSpan: this.columns }));
+      return Object.assign(place.address ? this.makeRow(place.address) : other(), { ariaRowIndex: `${first + at + 1}` });
     });
-    renew(this.body, [this.space(first), ...rows, this.space(places.length - first - rows.length)]);
-  }
-
-  otherRow(/** @type {string} */ text, /** @type {string} */ kind) {
-    return make("tr", "", Object.assign(make("td", kind, text), { colSpan: this.columns }));
-  }
-
-  /** The room of a number of rows that aren't made. */
-  space(/** @type {number} */ count) {
-    return Object.assign(make("tr", ""), { hidden: count === 0, style: `height: ${count * this.height}px` });
+    const [above, below] = [first, places.length - first - rows.length].map((unmade) =>
+      Object.assign(make("tr", ""), { hidden: unmade === 0, style: `height: ${unmade * height}px` }));
+    renew(this.body, [above, ...rows, below]);
   }
 }

@@ -29,10 +29,9 @@ export function knownVariables(/** @type {MachineState} */ { variables = [], pc,
     const sum = kind === "vector" ? 0n : BigInt.asUintN(64, number(x[register]) + number(offset));
     const at = kind === "memory" ? sum : null;
     const isNumber = element && !counts.length;
-    /** @type {Record<string, bigint | null>} */
-    const values = { register: sum, value: sum, memory: isNumber ? memoryElement(memory, sum, Number(element.slice(1))) : null };
-    const value = values[kind];
-    const text = isNumber && typeof value === "bigint" ? numberText(element, value) : "";
+    const isValue = kind === "register" || kind === "value";
+    const value = isValue ? sum : isNumber && kind === "memory" ? memoryElement(memory, sum, Number(element.slice(1))) : null;
+    const text = isNumber && value !== null ? numberText(element, value) : "";
     /** @type {Record<string, string>} */
     const places = { register: `x${register}`, vector: `v${register}`, memory: textOf("variables.at", { address: sum.toString(16) }),
       value: "", untold: textOf("variables.unsupported"), gone: textOf("variables.gone") };
@@ -40,23 +39,16 @@ export function knownVariables(/** @type {MachineState} */ { variables = [], pc,
   });
 }
 
-/** The variables of a machine's program. */
-export class VariablePanel {
-  constructor(/** @type {ParentNode} */ root) {
-    this.tab = part(root, "show-variables");
-    this.list = part(root, "variables");
-    this.names = part(root, "names");
-  }
-
-  paint(/** @type {MachineState} */ state, /** @type {MachineState} */ before) {
-    this.tab.hidden = !state.variables?.length;
-    const known = knownVariables({ ...before, variables: state.variables });
-    const texts = new Map(known.map(({ declaration, text }) => [declaration, text]));
-    const rows = knownVariables(state).map(({ declaration, text, where }) => {
-      const kind = text !== (texts.get(declaration) ?? text) ? "changed" : "";
-      const place = withNames(where, this.names.value === "abi");
-      return make("tr", "", header("row", declaration), make("td", kind, text), make("td", "where", place));
-    });
-    this.list.replaceChildren(table(textOf("variables"), make("tbody", "", ...rows)));
-  }
+/** Shows the variables of a machine's program below the root of its panels. */
+/** @type {(root: ParentNode, state: MachineState, before: MachineState) => void} */
+export function paintVariables(root, state, before) {
+  part(root, "show-variables").hidden = !state.variables?.length;
+  const known = knownVariables({ ...before, variables: state.variables });
+  const texts = new Map(known.map(({ declaration, text }) => [declaration, text]));
+  const rows = knownVariables(state).map(({ declaration, text, where }) => {
+    const kind = text !== (texts.get(declaration) ?? text) ? "changed" : "";
+    const place = withNames(where, part(root, "names").value === "abi");
+    return make("tr", "", header("row", declaration), make("td", kind, text), make("td", "where", place));
+  });
+  part(root, "variables").replaceChildren(table(textOf("variables"), make("tbody", "", ...rows)));
 }

@@ -4,9 +4,9 @@ import { make, part, prose, put } from "./elements.js";
 import { Lanes } from "./lanes.js";
 import { ListingPanel } from "./listing.js";
 import { MemoryPanel, OutputPanel } from "./memory.js";
-import { RegisterPanel } from "./scalars.js";
+import { paintRegisters } from "./scalars.js";
 import { textOf } from "./texts.js";
-import { VariablePanel } from "./variables.js";
+import { paintVariables } from "./variables.js";
 import { saysMore, withNames } from "./words.js";
 
 /** @typedef {import("./messages").State} State */
@@ -29,8 +29,8 @@ export class MachineView {
     this.stop = part(root, "stop");
     this.output = new OutputPanel(root);
     this.lanes = new Lanes(part(root, "vectors"));
-    const panels = [ListingPanel, VariablePanel, RegisterPanel, MemoryPanel];
-    this.panels = panels.map((Panel) => new Panel(root));
+    const panels = [new ListingPanel(root), new MemoryPanel(root)].map((panel) => panel.paint.bind(panel));
+    this.paints = [...panels, paintVariables.bind(null, root), paintRegisters.bind(null, root)];
   }
 
   /** The command, which its page knows, and the instruction that executed last, or that faulted. */
@@ -65,6 +65,6 @@ export class MachineView {
     if (!shown) return;
     this.output.paint(shown); // first, since it asks how the page is laid out
     this.lanes.show({ state: shown, before: machineOf(step) ?? shown, used });
-    for (const panel of this.panels) panel.paint(shown, machineOf(previous) ?? shown);
+    for (const paint of this.paints) paint(shown, machineOf(previous) ?? shown);
   }
 }

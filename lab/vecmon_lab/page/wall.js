@@ -19,8 +19,8 @@ export class Wall {
   show({ seat, state, trouble }, logs, isAnew) {
     const isOther = isAnew || seat !== this.seat;
     this.seat = seat;
-    const seatText = () => (state.run === "running" ? textOf("wall.running", { seat }) : textOf("wall.seat", { seat }));
-    put(part(this.root, "who"), seat ? seatText() : textOf("wall.none"));
+    const seatText = state?.run === "running" ? textOf("wall.running", { seat }) : textOf("wall.seat", { seat });
+    put(part(this.root, "who"), seat ? seatText : textOf("wall.none"));
     say("trouble", trouble);
     part(this.root, "desk").hidden = !seat;
     if (seat) this.desk.show(seat, state, [], isOther);

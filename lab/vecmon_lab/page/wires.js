@@ -11,12 +11,11 @@ const HEIGHT = 50; // units of a curve's picture, which is as high as its style 
 
 /**
  * Returns the pairs of elements of a gather, a slide, a compression or a reduction; none of other instructions.
- * @param {import("./executed.js").State} state
  * @param {Executed} executed
  * @param {import("./outcomes.js").Outcome[]} outcomes
  * @returns {Pair[]}
  */
-export function pairsOf(state, executed, outcomes) {
+export function pairsOf(executed, outcomes) {
   const { meaning, access, destination, elements } = executed;
   if (access || !destination) return [];
   const active = outcomes.flatMap((outcome, element) => (outcome === "active" ? [element] : []));
@@ -25,31 +24,25 @@ export function pairsOf(state, executed, outcomes) {
   const source = { gather: gathered, slide: slid }[meaning.layout];
   if (!source) return [];
   return active.flatMap((element) => {
-    const from = source(state, executed, element);
+    const from = source(executed, element);
     return from >= 0n && from < BigInt(elements) ? [[Number(from), element]] : [];
   });
 }
 
 /**
  * Returns the element of the source that a gather reads.
- * @param {import("./executed.js").State} state
  * @param {Executed} executed
  * @param {number} element
  */
-function gathered(state, { name, word, sources, earlier }, element) {
-  const rs1 = (word >> 15) & 31;
-  if (name.endsWith(".vi")) return BigInt(rs1);
-  if (name.endsWith(".vx")) return BigInt("0x" + state.x[rs1]);
-  return elementOf(earlier.v, rs1, sources[1].width, element);
-}
+const gathered = ({ rs1, scalar, sources: [, indices], earlier }, element) =>
+  indices ? elementOf(earlier.v, rs1, indices.width, element) : scalar;
 
 /**
  * Returns the element of the source that a slide reads; -1n where it reads none.
- * @param {import("./executed.js").State} state
  * @param {Executed} executed
  * @param {number} element
  */
-function slid(state, { name, offset, earlier }, element) {
+function slid({ name, offset, earlier }, element) {
   const place = BigInt(element);
   if (name.startsWith("vslide1down") && element === earlier.vl - 1) return -1n; // the scalar goes there
   return /^vslide1?up/.test(name) ? place - offset : place + offset;
@@ -77,28 +70,16 @@ export function curvesOf(pairs, first, columns) {
  * @param {number} columns
  */
 export function wiresPicture(pairs, first, columns) {
-  const picture = document.createElementNS(SVG, "svg");
-  picture.setAttribute("viewBox", `0 0 ${columns} ${HEIGHT}`);
-  picture.setAttribute("preserveAspectRatio", "none");
-  picture.setAttribute("aria-hidden", "true");
-  for (const { pair, path } of curvesOf(pairs, first, columns)) {
-    const curve = document.createElementNS(SVG, "path");
-    curve.setAttribute("d", path);
-    curve.dataset.from = `${pair[0]}`;
-    curve.dataset.to = `${pair[1]}`;
-    picture.append(curve);
-  }
+  const curves = curvesOf(pairs, first, columns).map(({ pair: [from, to], path }) =>
+    drawn("path", { d: path, "data-from": from, "data-to": to }));
+  const picture = drawn("svg", { viewBox: `0 0 ${columns} ${HEIGHT}`, preserveAspectRatio: "none", "aria-hidden": true });
+  picture.append(...curves);
   return picture;
 }
 
-/**
- * Marks the curves that end at the chosen element.
- * @param {ParentNode} root
- * @param {number} chosen
- */
-export function markWires(root, chosen) {
-  for (const curve of root.querySelectorAll("path[data-to]")) {
-    const { to } = /** @type {SVGPathElement} */ (curve).dataset;
-    curve.classList.toggle("chosen", Number(to) === chosen);
-  }
+/** @type {(tag: string, attributes: Record<string, unknown>) => Element} */
+function drawn(tag, attributes) {
+  const element = document.createElementNS(SVG, tag);
+  for (const [name, value] of Object.entries(attributes)) element.setAttribute(name, `${value}`);
+  return element;
 }

@@ -32,8 +32,8 @@ export function typeWords(/** @type {VectorType} */ type) {
   /** @type {Record<number, string>} */
   const parts = { 0.5: textOf("vtype.half"), 0.25: textOf("vtype.quarter"), 0.125: textOf("vtype.eighth") };
   const group = parts[type.lmul] ?? textOf("vtype.group", { count: type.lmul });
-  const rest = (/** @type {bigint} */ agnostic) => (agnostic ? textOf("vtype.agnostic") : textOf("vtype.undisturbed"));
-  return textOf("vtype.elements", { count: type.most, bits: type.sew, group, tail: rest(type.tail), mask: rest(type.mask) });
+  const [tail, mask] = [type.tail, type.mask].map((bit) => (bit ? textOf("vtype.agnostic") : textOf("vtype.undisturbed")));
+  return textOf("vtype.elements", { count: type.most, bits: type.sew, group, tail, mask });
 }
 
 /** A 64-bit number, in hexadecimal without leading zeros, as a signed decimal one. */
