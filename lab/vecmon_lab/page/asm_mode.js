@@ -5,13 +5,9 @@ import { FORMS, REGISTERS } from "./hints.js";
 
 /** @typedef {{ isFirst: boolean, indent: number, hasLabel: boolean }} State of a line; isFirst: up to its mnemonic */
 
-const COMMENT = /^(?:#|\/\/).*/;
-const STRING = /^"(?:[^"\\]|\\.)*"?/;
+/** @type {Record<string, RegExp>} */
+const PATTERNS = { comment: /^(?:#|\/\/).*/, string: /^"(?:[^"\\]|\\.)*"?/, number: /^-?\d\w*/ }; // by CodeMirror's names of kinds
 const NAME = /^[A-Za-z_.$][\w.$]*/;
-const NUMBER = /^-?\d\w*/;
-
-/** The kind of a statement's first word, by CodeMirror's names of kinds. */
-const firstKind = (/** @type {string} */ name) => (!FORMS.has(name) ? "error" : name[0] === "." ? "meta" : "keyword");
 
 /** The kind of a name; the line's state goes on behind it. */
 /** @type {(name: string, stream: import("./codemirror.js").Stream, state: State) => string | null} */
@@ -22,20 +18,18 @@ function nameKind(name, stream, state) {
     return "def";
   }
   state.isFirst = false;
-  if (isFirst) return firstKind(name);
-  return REGISTERS.has(name) ? "variable-2" : null;
+  if (!isFirst) return REGISTERS.has(name) ? "variable-2" : null;
+  return !FORMS.has(name) ? "error" : name[0] === "." ? "meta" : "keyword";
 }
 
 /** @type {import("./codemirror.js").Mode<State>["token"]} */
 function token(stream, state) {
   if (stream.sol()) Object.assign(state, { isFirst: true, hasLabel: false, indent: stream.indentation() });
   if (stream.eatSpace()) return null;
-  if (stream.match(COMMENT)) return "comment";
-  if (stream.match(STRING)) return "string";
-  if (stream.match(NUMBER)) return "number";
-  if (stream.match(NAME)) return nameKind(stream.current(), stream, state);
-  stream.next();
-  return null;
+  const kind = Object.keys(PATTERNS).find((each) => stream.match(PATTERNS[each]));
+  if (!kind && stream.match(NAME)) return nameKind(stream.current(), stream, state);
+  if (!kind) stream.next();
+  return kind ?? null;
 }
 
 CodeMirror.defineMode("riscv", ({ indentUnit }) => ({

@@ -1,14 +1,14 @@
 // One person's work at a machine: buttons, the command line, values to change, the source and the reference become requests.
 
-import { Cursor } from "./cursor.js";
+import { followCursor } from "./cursor.js";
 import { Desk } from "./desk.js";
-import { EditDialog, editOf, lineOf } from "./edits.js";
+import { editDialog, editOf, lineOf } from "./edits.js";
 import { Editor } from "./editor.js";
-import { ask, part, put } from "./elements.js";
+import { ask, part, parts, put } from "./elements.js";
 import { goToPane } from "./keys.js";
 import { LineLinks } from "./line_links.js";
 import { offerLanguages } from "./languages.js";
-import { LineField, requestsOf, unfitLines } from "./lines.js";
+import { listenToLines, requestsOf, unfitLines } from "./lines.js";
 import { linkOf, sourceOf } from "./links.js";
 import { Panes } from "./panes.js";
 import { Problems } from "./problems.js";
@@ -23,12 +23,11 @@ import { textOf } from "./texts.js";
 /** @typedef {import("./messages").State} State */
 /** @typedef {import("./messages").StudentView} View */
 /** @typedef {import("./types").Request} Request */
+/** @typedef {import("./types").SourceAction | import("./types").RunAction & { number?: number }} BuildAction */
 
 const MOST_BREAKPOINTS = 16;
 const PAUSE = 600; // ms in which nothing is typed, and then problems are asked for
 const NEW_MACHINE = ["map 10000 1 rwx", "map 20000 1 rw", "setpc 10000"];
-const LOSS = textOf("machine.loss");
-const NO_BREAKPOINTS = textOf("breakpoints.no-program");
 const MOST_LINES = 1000; // that a program is stepped through up to a line
 const LEAVING = { absent: [], stopped: ["leave"], running: ["stop", "leave"] };
 
@@ -38,9 +37,8 @@ const isBlank = (/** @type {State} */ { run, x, v, memory, code }) =>
 
 /** The refusals of a request, in words. */
 function refusals(/** @type {Request} */ request, /** @type {Message | null} */ answer) {
-  const lines = request.ask === "lines" ? (request.do ?? []) : [];
-  const told = (answer?.words ?? []).map((why, place) => why && `\`${lines[place]}\`: ${why}.`);
-  return [...told, answer?.error].filter(Boolean).join(" ");
+  const told = (answer?.words ?? []).map((why, place) => why && `\`${"do" in request && request.do?.[place]}\`: ${why}.`);
+  return [...told, answer?.error];
 }
 
 /** A machine with its source, below a root that has the parts of both. */
@@ -55,19 +53,15 @@ export class Bench {
     this.root = root;
     this.connection = connection;
     this.desk = new Desk(root);
-    this.bar = new RunBar(root, () => this.standing());
-    this.desk.past.told = () => this.bar.paint();
-    this.desk.painted = (state) => this.mark(state);
-    this.line = /** @type {HTMLTextAreaElement} */ (part(root, "line"));
-    this.images = part(root, "images");
-    this.against = part(root, "against");
-    this.find = part(root, "find");
+    this.bar = new RunBar(root, this);
+    this.desk.painted = (state) => (this.mark(state), this.bar.paint());
+    this.parts = parts(root, "images", "against", "find", "entries", "entry", "hint", "run-place", "by", "numbers");
     this.panes = new Panes(root, root.matches(".alone") ? "author" : "student");
     this.editor = new Editor(part(root, "source"), () => this.typed(), part(root, "language"));
     this.source = new Source(root, this.editor, connection);
     this.links = new LineLinks(root, this.editor);
     this.problems = new Problems(root, this.editor, (panel) => this.panes.show(panel));
-    this.dialog = new EditDialog(root, (edit, text) => this.change(edit, text));
+    this.askValue = editDialog(root, (edit, text) => this.change(edit, text));
     this.listen();
   }
 
@@ -80,12 +74,6 @@ export class Bench {
     this.timer = setTimeout(() => this.findProblems(), PAUSE);
   }
 
-  /** The page's state for the run bar. */
-  standing() {
-    const isBlank = !this.editor.source.text.trim();
-    return { isConnected: this.connection.isReady, isPast: this.desk.past.moment !== undefined, isBlank, hasChanged: this.hasChanged };
-  }
-
   /**
    * Asks for the problems of an assembler source, and lists them unless it has changed or others have come meanwhile.
    * Not of C: a compiler that is at work would refuse the next source.
@@ -96,10 +84,12 @@ export class Bench {
     const { timer } = this;
     const { mistakes, warnings } = (await this.connection.ask({ ask: "problems", text, language })) ?? {};
     if (!mistakes || this.timer !== timer) return;
-    this.listProblems(mistakes.filter(({ line }) => line), warnings); // those of a linker may be of text that is still to come
+    this.showMistakes(mistakes.filter(({ line }) => line), warnings, false); // those of a linker may be of text that is still to come
   }
 
   listen() {
+    const { images, against, find, entry, hint } = this.parts;
+    const line = /** @type {HTMLTextAreaElement} */ (part(this.root, "line"));
     /** @type {(id: keyof import("./parts").Parts, event: string, heard: () => unknown) => void} */
     const on = (id, event, heard) => part(this.root, id).addEventListener(event, heard);
     on("go", "click", () => this.run());
@@ -112,26 +102,23 @@ export class Bench {
     on("break-here", "click", () => this.breakAt(this.editor.caretLine));
     on("next-pane", "click", () => goToPane(this.root, 1));
     on("previous-pane", "click", () => goToPane(this.root, -1));
-    new LineField(this.line, (lines) => this.enter(lines));
-    new Cursor(this.root, (place) => this.edit(place));
+    listenToLines(line, (lines) => this.enter(lines));
+    followCursor(this.root, (place) => this.edit(place));
     on("slice", "click", () => this.request({ ask: "lines", slices: 100 }));
     on("again", "click", () => this.restart());
     on("new", "click", () => this.beginAnew(textOf("run.empty-machine"), NEW_MACHINE));
-    on("images", "change", () => this.beginAnew(textOf("run.load"), [`load ${this.images.value}`]));
+    on("images", "change", () => this.beginAnew(textOf("run.load"), [`load ${images.value}`]));
     on("assemble", "click", () => this.write());
-    on("against", "change", () => this.write({ ask: "listings", other: this.against.selectedIndex - 1 }));
+    on("against", "change", () => this.write({ ask: "listings", other: against.selectedIndex - 1 }));
     on("link", "click", () => this.link());
     on("show-reference", "click", () => this.refer(""));
-    on("find", "input", () => showReference(part(this.root, "entries"), this.find.value));
+    on("find", "input", () => showReference(this.parts.entries, find.value));
     this.desk.view.machine.addEventListener("click", ({ target }) => this.edit(/** @type {Element} */ (target)));
     this.desk.view.machine.addEventListener("explain", (event) => this.explain(/** @type {CustomEvent} */ (event).detail));
     this.editor.toggleBreakpoint = (line) => this.breakAt(line);
-    this.editor.caretMoved = (line, place) => {
-      tellName(part(this.root, "entry"), line, place);
-      this.links.mark(this.editor.caretLine);
-    };
+    this.editor.caretMoved = (text, place) => (tellName(entry, text, place), this.links.mark(this.editor.caretLine));
     document.addEventListener("selectionchange", () => {
-      if (document.activeElement === this.line) tellName(part(this.root, "hint"), this.line.value, this.line.selectionStart);
+      if (document.activeElement === line) tellName(hint, line.value, line.selectionStart);
     });
   }
 
@@ -142,10 +129,12 @@ export class Bench {
     if (instruction) this.panes.makeRoom();
     this.desk.show(view.seat, view.state, entries, isAnew);
     this.askForRead(view.state);
-    this.chooseSide(run !== "absent", view.source);
+    const { stands, text } = view.source;
+    if ((run !== "absent") !== this.hasMachine) this.panes.show(run === "absent" || (stands && text) ? "editor" : "listing");
+    this.hasMachine = run !== "absent";
     offerLanguages(this.editor.language, view);
-    this.offer(this.images, textOf("run.load-image"), view.images);
-    this.offer(this.against, textOf("source.side-by-side"), view.against);
+    this.offer(this.parts.images, textOf("run.load-image"), view.images);
+    this.offer(this.parts.against, textOf("source.side-by-side"), view.against);
     this.showSource(view);
     this.bar.show(view, entries);
   }
@@ -160,15 +149,7 @@ export class Bench {
   /** Offers names in a list, if there are any. */
   offer(/** @type {HTMLSelectElement} */ list, /** @type {string} */ title, /** @type {string[]} */ names) {
     offerLanguages(list, { languages: [title, ...names], no_c: "" });
-    list.hidden = !names.length;
-    if (list.selectedIndex) list.selectedIndex = 0;
-  }
-
-  /** Shows the listing of a machine that has just begun without a source, and otherwise the editor, also once it has gone. */
-  chooseSide(/** @type {boolean} */ hasMachine, /** @type {import("./messages").SourceView} */ { stands, text }) {
-    if (hasMachine === this.hasMachine) return;
-    this.hasMachine = hasMachine;
-    this.panes.show(hasMachine && !(stands && text) ? "listing" : "editor");
+    Object.assign(list, { hidden: !names.length, selectedIndex: 0 });
   }
 
   /**
@@ -195,7 +176,7 @@ export class Bench {
 
   /** Steps the program: into calls, over them, or out of a function. */
   step(/** @type {"into" | "over" | "out"} */ kind, count = 1) {
-    const chosen = /** @type {"" | "instruction" | "line"} */ (part(this.root, "by").value);
+    const chosen = /** @type {"" | "instruction" | "line"} */ (this.parts.by.value);
     const by = chosen || (this.editor.isC ? "line" : "instruction");
     return this.execute({ ask: "step", kind, by, count });
   }
@@ -207,7 +188,7 @@ export class Bench {
       const answer = await this.execute({ ask: "step", kind: "into", by: "line" });
       const { pc, run, stop } = this.desk.state;
       if (!answer || answer.error || answer.mistakes?.length || stop || run !== "stopped" || pc === before.pc) return undefined;
-      if (this.source.nextLine(this.desk.state) === line) return undefined;
+      if (this.source.mark(this.desk.state).next === line) return undefined;
     }
     return this.refuse(textOf("run.not-reached", { lines: MOST_LINES.toLocaleString(textOf("language")), line }));
   }
@@ -215,32 +196,27 @@ export class Bench {
   /** Runs or steps the program; a source that has changed is built first. With problems it leads to the first one. */
   async execute(/** @type {import("./types").RunAction} */ request) {
     if (!this.hasChanged) return this.request(request);
-    const answer = await this.build({ ...request, ...this.editor.source, number: this.source.told?.number });
+    const answer = await this.build({ ...request, number: this.source.told?.number });
     if (answer?.mistakes?.length) this.problems.goOn(1);
     return answer;
   }
 
-  /** Sends a request with the source, and shows its problems. Returns the answer; null where the source is too long. */
-  async build(/** @type {Request} */ request) {
-    if (this.isTooMuch()) return null;
-    const answer = await this.source.bring(this.editor.source, () => this.bar.building(this.request(request)));
+  /** Sends a request with the source, and shows its problems. Returns the answer; none where the source is too long. */
+  async build(/** @type {BuildAction} */ action) {
+    const { source } = this.editor;
+    const [size, most] = [source.text.length, MOST_LETTERS].map((each) => each.toLocaleString(textOf("language")));
+    if (this.source.isTooLong) return this.refuse(textOf("source.not-sent", { size, most }));
+    const request = /** @type {Request} */ ({ ...action, ...source });
+    const answer = await this.source.bring(source, () => this.bar.building(this.request(request)));
     this.showMistakes(answer?.mistakes, answer?.warnings);
     return answer;
-  }
-
-  /** Whether the source is too long to be sent; says so. */
-  isTooMuch() {
-    const { length } = this.editor.source.text;
-    const [size, most] = [length, MOST_LETTERS].map((each) => each.toLocaleString(textOf("language")));
-    if (length > MOST_LETTERS) this.refuse(textOf("source.not-sent", { size, most }));
-    return length > MOST_LETTERS;
   }
 
   /** Sends requests one after the other; reports refusals in words. Returns the answer to the first one. */
   async request(/** @type {Request[]} */ ...requests) {
     this.desk.past.show(Infinity);
     const answers = await Promise.all(requests.map((request) => this.connection.ask(request)));
-    this.refuse(requests.map((request, place) => refusals(request, answers[place])).filter(Boolean).join(" "));
+    this.refuse(requests.flatMap((request, place) => refusals(request, answers[place])).filter(Boolean).join(" "));
     return answers[0];
   }
 
@@ -269,9 +245,9 @@ export class Bench {
   /** Begins a new machine with lines, and asks before where something would be lost. */
   beginAnew(/** @type {string} */ name, /** @type {string[]} */ lines) {
     const begin = () => this.send([...LEAVING[this.desk.state.run], "enter", ...lines]);
-    this.images.selectedIndex = 0;
+    this.parts.images.selectedIndex = 0;
     if (isBlank(this.desk.state)) begin();
-    else ask(LOSS, name, begin);
+    else ask(textOf("machine.loss"), name, begin);
   }
 
   /** Sets or removes a breakpoint, or asks for another value. */
@@ -281,7 +257,7 @@ export class Bench {
     if (!edit || run !== "stopped" || this.desk.past.moment) return undefined;
     if (edit.of === "breakpoint") return this.send([`${breaks.includes(edit.address) ? "un" : ""}break ${edit.address}`]);
     const shown = /** @type {HTMLElement | null} */ (place.closest("[data-edit]"));
-    return this.dialog.ask(edit, (shown?.dataset.value ?? shown?.firstChild?.nodeValue ?? "").replace("−", "-"));
+    return this.askValue(edit, (shown?.dataset.value ?? shown?.firstChild?.nodeValue ?? "").replace("−", "-"));
   }
 
   /** Gives the calculation of an element of the present state, if there is one. */
@@ -292,37 +268,34 @@ export class Bench {
 
   /** Sets all breakpoints of a line of the source in the machine, or removes those that are there. */
   breakAt(/** @type {number} */ line) {
-    const { state } = this.desk;
-    const { breaks = [] } = state;
-    if (!this.source.stands) return this.refuse(NO_BREAKPOINTS);
-    const addresses = stopsOf(state)[line] ?? [];
+    const { breaks = [] } = this.desk.state;
+    if (!this.source.stands) return this.refuse(textOf("breakpoints.no-program"));
+    const addresses = stopsOf(this.desk.state)[line] ?? [];
     const there = addresses.filter((address) => breaks.includes(address));
-    const left = MOST_BREAKPOINTS - breaks.length;
-    const much = textOf("breakpoints.too-many", { line, needed: addresses.length, left, most: MOST_BREAKPOINTS });
+    const [needed, left, most] = [addresses.length, MOST_BREAKPOINTS - breaks.length, MOST_BREAKPOINTS];
     if (there.length) return this.send(there.map((address) => `unbreak ${address}`));
-    if (addresses.length > left) return this.refuse(much);
-    if (!addresses.length) return this.refuse(textOf("breakpoints.no-instruction", { line }));
+    if (needed > left) return this.refuse(textOf("breakpoints.too-many", { line, needed, left, most }));
+    if (!needed) return this.refuse(textOf("breakpoints.no-instruction", { line }));
     return this.send(addresses.map((address) => `break ${address}`));
   }
 
   /** Sends the line that writes a value, which is decimal where decimal ones are shown. */
   change(/** @type {import("./edits.js").ValueEdit} */ edit, /** @type {string} */ text) {
-    const isDecimal = part(this.root, "numbers").value === "signed";
-    const { line, error = "" } = lineOf(edit, text, isDecimal, this.desk.state.v ?? {});
+    const { line, error = "" } = lineOf(edit, text, this.parts.numbers.value === "signed", this.desk.state.v ?? {});
     return line === undefined ? this.refuse(error) : this.send([line]);
   }
 
   /** Shows the reference, or what is found in it. */
   refer(/** @type {string} */ find) {
-    this.find.value = find;
-    showReference(part(this.root, "entries"), find);
-    this.find.focus();
+    this.parts.find.value = find;
+    showReference(this.parts.entries, find);
+    this.parts.find.focus();
   }
 
   /** Shows the seat's source; one that the teacher has just given is opened. */
   showSource(/** @type {View} */ { seat, state, source, share, exercises }) {
-    const isOther = this.source.told && this.source.told.versions !== source.versions;
-    const isGiven = isOther && source.versions[source.versions.length - 1]?.why === "given";
+    const { told } = this.source;
+    const isGiven = told && told.versions !== source.versions && source.versions.at(-1)?.why === "given";
     this.source.show(seat, source, exercises);
     this.mark(this.desk.past.moment?.state ?? state);
     this.source.showLanguage(share);
@@ -336,17 +309,16 @@ export class Bench {
   mark(/** @type {State} */ state) {
     const { last, next } = this.source.mark(state);
     this.links.show(this.source.stands ? state.starts : undefined);
-    const done = state.faulted ? textOf("run.at-line", { line: last ?? 0 }) : textOf("run.after-line", { line: last ?? 0 });
+    const done = state.faulted ? textOf("run.at-line", { line: last }) : textOf("run.after-line", { line: last });
     const texts = [last && done, next && state.run === "stopped" && textOf("run.next-line", { line: next })];
-    put(part(this.root, "run-place"), texts.filter(Boolean).join(" · "));
+    put(this.parts["run-place"], texts.filter(Boolean).join(" · "));
   }
 
   /** Puts the source into the page's address. */
   link() {
     const hash = linkOf(this.editor.source, this.editor.language);
-    if (!hash) return this.refuse(textOf("link.too-long"));
-    history.replaceState(null, "", hash);
-    return this.refuse(textOf("link.in-address"));
+    if (hash) history.replaceState(null, "", hash);
+    this.refuse(hash ? textOf("link.in-address") : textOf("link.too-long"));
   }
 
   /** Puts a source into the editor that a link has brought; it is compiled only where that is asked for. */
@@ -355,30 +327,23 @@ export class Bench {
     sessionStorage.removeItem("linked");
     if (!hash) return;
     const linked = sourceOf(hash, this.editor.language);
-    if (!linked) return void this.refuse(textOf("link.damaged"));
-    this.source.replace(linked);
-    this.panes.show("editor");
-    this.refuse(textOf("link.brought"));
+    if (linked) this.source.replace(linked);
+    if (linked) this.panes.show("editor");
+    this.refuse(linked ? textOf("link.brought") : textOf("link.damaged"));
   }
 
   /** Loads the source into a new machine, whose text becomes a version if it is another one; or does what another request says. */
-  async write(/** @type {import("./types").SourceAction} */ request = { ask: "source" }) {
-    const number = request.ask === "source" ? { number: this.source.told?.number } : {};
-    const answer = await this.build(/** @type {Request} */ ({ ...request, ...this.editor.source, ...number }));
+  async write(/** @type {import("./types").SourceAction} */ request = { ask: "source", number: this.source.told?.number }) {
+    const answer = await this.build(request);
     if (answer?.listings) open(`listings/${answer.listings}`);
     if (answer?.mistakes) this.panes.show(answer.mistakes.length ? "editor" : "listing");
   }
 
-  /** Lists the problems of the source, and shows them at its lines, until it changes. */
-  showMistakes(/** @type {Mistake[]} */ mistakes = [], /** @type {Mistake[]} */ warnings = []) {
-    this.listProblems(mistakes, warnings);
-    if (mistakes.length) this.panes.show("problems");
-  }
-
-  /** Lists problems, and asks for no others until the source changes. */
-  listProblems(/** @type {Mistake[]} */ mistakes, /** @type {Mistake[]} */ warnings = []) {
+  /** Lists the problems of the source, and shows them at its lines, until it changes. isAsked: whether the list comes into sight */
+  showMistakes(/** @type {Mistake[]} */ mistakes = [], /** @type {Mistake[]} */ warnings = [], isAsked = true) {
     clearTimeout(this.timer);
-    this.timer = 0;
+    this.timer = 0; // asks for no others until it changes
     this.problems.show([...mistakes, ...warnings]);
+    if (isAsked && mistakes.length) this.panes.show("problems");
   }
 }

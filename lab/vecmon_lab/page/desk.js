@@ -47,7 +47,8 @@ export class Desk {
     this.seat = seat;
     this.entries.add(entries);
     if (entries.some((entry) => /^>. go$/.test(entry))) this.past.hasRun = true;
-    if (entries.length) this.frame ||= requestAnimationFrame(() => this.paint()); // once, for all messages before it
+    // once, for all messages before it
+    if (entries.length || state !== this.state) this.frame ||= requestAnimationFrame(() => this.paint());
     if (state === this.state) return;
     const isNew = entries.some((entry) => /^>. enter$/.test(entry));
     if (isAnew || isNew || !isAlike(state, this.state)) this.before = isAnew ? state : isNew ? newMachine(state) : this.state;
@@ -55,7 +56,6 @@ export class Desk {
     if (isAnew || isNew || !state.v) this.used = new Set();
     usedIn(state).forEach((number) => this.used.add(number));
     this.past.add({ state, before: this.before, used: this.used, entry: this.log.lastElementChild });
-    this.frame ||= requestAnimationFrame(() => this.paint());
   }
 
   /** Called with each state that is painted. */

@@ -49,9 +49,8 @@ export class Editor {
     field.replaceWith(this.box);
     this.box.append(field);
     this.code = CodeMirror.fromTextArea(field, this.options(field));
-    const input = this.code.getInputField();
-    for (const [name, value] of [["role", "textbox"], ["aria-multiline", "true"]]) input.setAttribute(name, value);
-    if (field.readOnly) input.setAttribute("aria-readonly", "true");
+    const ariaReadOnly = field.readOnly ? "true" : null;
+    Object.assign(this.code.getInputField(), { role: "textbox", ariaMultiLine: "true", ariaReadOnly });
     this.problems = new ProblemMarks(this.code, !field.readOnly);
     this.machineMarks = new LineMarks(this.code);
     this.tints = new LineMarks(this.code);
@@ -65,11 +64,9 @@ export class Editor {
       Tab: () => (this.code.somethingSelected() ? this.indent("add") : this.code.execCommand("insertSoftTab")),
       "Shift-Tab": () => this.indent("subtract"),
       Esc: false, // Escape, then Tab leaves the editor
-      "Ctrl-/": "toggleComment",
-      "Cmd-/": "toggleComment",
+      "Ctrl-/": "toggleComment", "Cmd-/": "toggleComment",
       "Ctrl-Space": () => this.suggest(true),
-      "Ctrl-.": () => this.problems.fix(),
-      "Cmd-.": () => this.problems.fix(),
+      "Ctrl-.": () => this.problems.fix(), "Cmd-.": () => this.problems.fix(),
     };
     return {
       mode: ASSEMBLER, lineNumbers: true, gutters: ["marks", "CodeMirror-linenumbers", "problems"], inputStyle: "contenteditable",
@@ -108,8 +105,7 @@ export class Editor {
 
   /** Puts in another source, which can be undone. */
   put(/** @type {SourceText} */ { text, language }) {
-    const own = this.source;
-    if (text === own.text && language === own.language) return;
+    if (text === this.source.text && language === this.source.language) return;
     this.language.selectedIndex = language;
     this.code.setValue(text);
   }
@@ -150,8 +146,7 @@ export class Editor {
     const mode = this.isC ? "text/x-csrc" : ASSEMBLER;
     if (this.code.getOption("mode") === mode) return;
     const indent = this.isC ? INDENT_OF_C : INDENT;
-    this.code.setOption("mode", mode);
-    for (const name of ["indentUnit", "tabSize"]) this.code.setOption(name, indent);
+    for (const [name, value] of Object.entries({ mode, indentUnit: indent, tabSize: indent })) this.code.setOption(name, value);
   }
 
   /** Follows the caret: behind a typed letter it offers names. */
@@ -179,9 +174,8 @@ export class Editor {
     const text = this.code.getLine(line);
     const { word, names } = namesAt(text.slice(0, ch), text.slice(ch), this.source.text, isAsked);
     if (!names.length) return;
-    const render = (/** @type {HTMLElement} */ item, /** @type {string} */ name, /** @type {string} */ form) =>
-      item.append(make("b", "", name), form.slice(name.length));
-    const list = names.map(([name, form]) => ({ text: name, render: (/** @type {HTMLElement} */ item) => render(item, name, form) }));
+    const list = names.map(([name, form]) =>
+      ({ text: name, render: (/** @type {HTMLElement} */ item) => item.append(make("b", "", name), form.slice(name.length)) }));
     const hints = { list, from: { line, ch: ch - word.length }, to: { line, ch }, selectedHint: isAsked ? 0 : -1 };
     let isChosen = isAsked;
     CodeMirror.on(hints, "select", (hint) => (isChosen ||= hint !== undefined));
@@ -200,20 +194,17 @@ export class Editor {
     if (JSON.stringify(marks) === JSON.stringify(this.marks)) return;
     this.unseen = marks.next === this.marks.next ? this.unseen : marks.next;
     this.marks = marks;
+    const { last, next, stops } = marks;
+    const breakpoint = (/** @type {number} */ line) => (stops.includes(line) ? [make("span", "breakpoint", "●")] : []);
+    const arrow = (/** @type {number} */ line) => (line === next ? [make("span", "arrow", "▶")] : []);
     this.code.operation(() => {
       this.machineMarks.clear();
-      this.machineMarks.style(marks.last, "executed");
-      this.machineMarks.style(marks.next, "next");
-      for (const line of new Set([...marks.stops, ...(marks.next ? [marks.next] : [])])) this.signLine(line);
+      this.machineMarks.style(last, "executed");
+      this.machineMarks.style(next, "next");
+      for (const line of new Set([...stops, next]))
+        this.machineMarks.sign(line, "marks", make("span", "", ...breakpoint(line), ...arrow(line)));
     });
     this.bringIntoSight();
-  }
-
-  /** Shows in the gutter of a line whether it has a breakpoint, and whether it is the next one. */
-  signLine(/** @type {number} */ line) {
-    const breakpoint = this.marks.stops.includes(line) ? [make("span", "breakpoint", "●")] : [];
-    const arrow = line === this.marks.next ? [make("span", "arrow", "▶")] : [];
-    this.machineMarks.sign(line, "marks", make("span", "", ...breakpoint, ...arrow));
   }
 
   /** Gives lines grounds in turn, in place of those before. */

@@ -1,7 +1,7 @@
 // Edits: the change that a press on an element makes to a breakpoint, a register, bytes of memory, or an element of a vector register;
 // and the dialog that asks for a new value.
 
-import { part } from "./elements.js";
+import { part, parts } from "./elements.js";
 
 /**
  * @typedef {{ of: "breakpoint", address: string }
@@ -44,10 +44,7 @@ export function editable(element, edit) {
 
 /** The edit of an element, or of the nearest one around it. */
 /** @type {(element: Element | null) => Edit | undefined} */
-export const editOf = (element) => {
-  const place = element?.closest("[data-edit]");
-  return place ? edits.get(place) : undefined;
-};
+export const editOf = (element) => edits.get(/** @type {Element} */ (element?.closest("[data-edit]")));
 
 /** The bytes of a register with another element; all bytes in hexadecimal, the least first. */
 /** @type {(bytes: string, width: number, place: number, value: bigint) => string} */
@@ -76,28 +73,18 @@ export function lineOf(edit, text, isDecimal, v) {
   return { line: `vset v${edit.register} ${withElement(v[edit.register], bits, edit.index, value)}` };
 }
 
-/** The dialog that asks for a new value. */
-export class EditDialog {
-  /** @type {ValueEdit | null} */ edit = null; // the open one
-
-  /** @param {ParentNode} root @param {(edit: ValueEdit, text: string) => unknown} write receives what was typed */
-  constructor(root, write) {
-    this.dialog = part(root, "edit");
-    this.title = part(root, "edit-name");
-    this.value = part(root, "value");
-    part(root, "edit-close").addEventListener("click", () => this.dialog.close());
-    part(root, "change").addEventListener("submit", () => {
-      this.dialog.close();
-      if (this.edit) write(this.edit, this.value.value.trim());
-    });
-  }
-
-  /** Asks for a value, starting with the one that is shown. */
-  ask(/** @type {ValueEdit} */ edit, /** @type {string} */ value) {
-    this.edit = edit;
-    this.title.textContent = titleOf(edit);
-    this.value.value = value;
-    this.dialog.showModal();
-    this.value.select();
-  }
+/**
+ * The dialog that asks for a new value: a function that opens it with the value that is shown.
+ * @param {ParentNode} root @param {(edit: ValueEdit, text: string) => unknown} write receives what was typed
+ */
+export function editDialog(root, write) {
+  const { edit: dialog, "edit-name": title, change, value } = parts(root, "edit", "edit-name", "change", "value");
+  part(root, "edit-close").addEventListener("click", () => dialog.close());
+  return (/** @type {ValueEdit} */ edit, /** @type {string} */ shown) => {
+    change.onsubmit = () => (dialog.close(), write(edit, value.value.trim()));
+    title.textContent = titleOf(edit);
+    value.value = shown;
+    dialog.showModal();
+    value.select();
+  };
 }

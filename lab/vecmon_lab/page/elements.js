@@ -13,6 +13,12 @@ export const part = (root, id) => /** @type {any} a test compares the kinds with
 /** @type {<Id extends keyof Parts>(id: Id) => Parts[Id]} */
 export const byId = (id) => part(document, id);
 
+/**
+ * Several parts of a panel, by their ids.
+ * @type {<Id extends keyof Parts>(root: ParentNode, ...ids: Id[]) => Pick<Parts, Id>}
+ */
+export const parts = (root, ...ids) => /** @type {any} */ (Object.fromEntries(ids.map((id) => [id, part(root, id)])));
+
 /** The elements below a root that a selector finds. */
 /** @type {(root: ParentNode, selector: string) => HTMLElement[]} */
 export const elementsIn = (root, selector) => [.../** @type {NodeListOf<HTMLElement>} */ (root.querySelectorAll(selector))];

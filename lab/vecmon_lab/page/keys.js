@@ -22,18 +22,9 @@ export const keyText = (/** @type {string} */ key) =>
 
 const keysOf = (/** @type {Element} */ button) => button.getAttribute("aria-keyshortcuts")?.split(" ") ?? [];
 
-/** Whether an element itself is shown, wherever it is. */
-const isShown = (/** @type {HTMLElement} */ element) => getComputedStyle(element).display !== "none";
-
 /** Whether the page offers a button, perhaps in a menu or on a tab that is out of sight. */
 const isOffered = (/** @type {HTMLElement} */ button) =>
-  isShown(button) && (button.closest(PANELS)?.parentElement ?? button).checkVisibility();
-
-/** The keys of a button, and what they do, as a row of a list. */
-function keyRow(/** @type {Element} */ button, /** @type {string} */ does) {
-  const keys = keysOf(button).flatMap((key, place) => [place ? ` ${textOf("keys.or")} ` : "", make("kbd", "", keyText(key))]);
-  return [make("dt", "", ...keys), make("dd", "", does)];
-}
+  getComputedStyle(button).display !== "none" && (button.closest(PANELS)?.parentElement ?? button).checkVisibility();
 
 export class Keys {
   usesLetters = () => true; // whether keys of one letter or digit press their buttons, outside of fields
@@ -53,9 +44,12 @@ export class Keys {
     document.addEventListener("keydown", (event) => this.pressed(event));
   }
 
-  /** The keys of the buttons that the page offers. */
+  /** The keys of the buttons that the page offers, each row with what they do. */
   list() {
-    return [...this.does].filter(([button]) => isOffered(button)).flatMap(([button, does]) => keyRow(button, does));
+    return [...this.does].filter(([button]) => isOffered(button)).flatMap(([button, does]) => {
+      const keys = keysOf(button).flatMap((key, place) => [place ? ` ${textOf("keys.or")} ` : "", make("kbd", "", keyText(key))]);
+      return [make("dt", "", ...keys), make("dd", "", does)];
+    });
   }
 
   /** The button of a key that the page offers, the one in sight first. */

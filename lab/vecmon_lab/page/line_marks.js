@@ -21,7 +21,7 @@ export class LineMarks {
 
   /** Shows a sign in a gutter of a line. */
   sign(/** @type {number} */ line, /** @type {string} */ gutter, /** @type {HTMLElement} */ sign) {
-    if (line > this.code.lineCount()) return;
+    if (line < 1 || line > this.code.lineCount()) return;
     const handle = this.code.setGutterMarker(line - 1, gutter, sign);
     this.removers.push(() => this.code.setGutterMarker(handle, gutter, null));
   }

@@ -26,41 +26,34 @@ export function requestsOf(lines) {
   return parts.map((first) => ({ ask: "lines", do: lines.slice(first, first + MOST_TOGETHER) }));
 }
 
-export class LineField {
-  /** @type {string[]} */ past = []; // entries of before
-  place = 0; // among them
-
-  /**
-   * @param {HTMLTextAreaElement} field in a form
-   * @param {(lines: string[]) => unknown} execute is given lines that aren't empty, without those that begin with `#`
-   */
-  constructor(field, execute) {
-    this.field = field;
-    this.execute = execute;
-    this.field.form?.addEventListener("submit", () => this.enter());
-    this.field.addEventListener("keydown", (event) => this.pressed(event));
-  }
-
-  enter() {
-    const entry = this.field.value.trim();
+/**
+ * Executes the lines of a field in a form, and brings back earlier ones.
+ * @param {HTMLTextAreaElement} field
+ * @param {(lines: string[]) => unknown} execute is given lines that aren't empty, without those that begin with `#`
+ */
+export function listenToLines(field, execute) {
+  /** @type {string[]} */
+  let past = []; // entries of before
+  let place = 0; // among them
+  field.form?.addEventListener("submit", () => {
+    const entry = field.value.trim();
     const own = entry.split("\n").map((line) => line.trim()).filter((line) => line && !line.startsWith("#"));
-    this.field.value = "";
+    field.value = "";
     if (!own.length) return;
-    this.past = [...this.past.filter((each) => each !== entry), entry];
-    this.place = this.past.length;
-    this.execute(own);
-  }
-
-  pressed(/** @type {KeyboardEvent} */ event) {
-    const { value, selectionStart: at } = this.field;
+    past = [...past.filter((each) => each !== entry), entry];
+    place = past.length;
+    execute(own);
+  });
+  field.addEventListener("keydown", (event) => {
+    const { value, selectionStart: at } = field;
     if (event.key === "Enter" && !event.shiftKey && !event.isComposing) {
       event.preventDefault();
-      this.field.form?.requestSubmit();
+      field.form?.requestSubmit();
     }
     const step = STEPS[event.key];
     if (!step || (step < 0 ? value.slice(0, at) : value.slice(at)).includes("\n")) return;
     event.preventDefault();
-    this.place = Math.min(this.past.length, Math.max(0, this.place + step));
-    this.field.value = this.past[this.place] ?? "";
-  }
+    place = Math.min(past.length, Math.max(0, place + step));
+    field.value = past[place] ?? "";
+  });
 }

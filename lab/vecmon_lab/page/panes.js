@@ -10,8 +10,6 @@ import { store, stored } from "./preferences.js";
 const VERSION = 1; // of what the browser keeps
 const STEP = 16; // px that an arrow key moves a splitter
 const [LOW, NARROW] = [860, 1440]; // px of a window in which panes fold to make room for the elements
-/** @type {Record<string, number>} */
-const ARROWS = { ArrowRight: 1, ArrowDown: 1, ArrowLeft: -1, ArrowUp: -1 };
 
 /** The entries of an object whose values are of a type; none of anything else. */
 /** @type {<Kind>(it: unknown, isFit: (value: unknown) => boolean) => Record<string, Kind>} */
@@ -48,9 +46,9 @@ export class Panes {
     return elementsIn(this.root, selector);
   }
 
-  /** The pane or the panel of an id, if the page has it. */
-  find(/** @type {string} */ id) {
-    return this.all(`[id="${id}"]`)[0];
+  /** The pane or the panel of a tab, a splitter or a button. */
+  paneOf(/** @type {HTMLElement} */ control) {
+    return part(this.root, /** @type {keyof Parts} */ (control.getAttribute("aria-controls")));
   }
 
   keep() {
@@ -59,72 +57,68 @@ export class Panes {
 
   /** Brings a pane or a panel into sight: selects its tab, and unfolds its pane. */
   show(/** @type {keyof Parts} */ id) {
-    const pane = this.find(id)?.closest(".pane");
-    for (const name of new Set([id, pane?.id ?? id])) {
-      const tab = this.all(`[role="tab"][aria-controls="${name}"]`)[0];
-      if (tab) this.select(tab);
-    }
+    const pane = part(this.root, id).closest(".pane");
+    for (const name of new Set([id, pane?.id ?? id])) this.all(`[role="tab"][aria-controls="${name}"]`).forEach((tab) => this.select(tab));
     if (pane?.matches(".folded")) this.fold(pane.id, false);
   }
 
   /** Selects a tab of a list: its panel is shown in place of the others', or, of the list of panes, its pane. */
   select(/** @type {HTMLElement} */ tab) {
     const list = /** @type {HTMLElement} */ (tab.closest('[role="tablist"]'));
-    for (const each of list.querySelectorAll('[role="tab"]')) {
+    for (const each of elementsIn(list, '[role="tab"]')) {
       const isShown = each === tab;
-      each.ariaSelected = `${isShown}`;
-      Object.assign(each, { tabIndex: isShown ? 0 : -1 });
-      const panel = this.find(each.getAttribute("aria-controls") ?? "");
-      if (list.matches(".panebar")) panel?.classList.toggle("shown", isShown);
-      else if (panel) panel.hidden = !isShown;
+      Object.assign(each, { ariaSelected: `${isShown}`, tabIndex: isShown ? 0 : -1 });
+      const panel = this.paneOf(each);
+      if (list.matches(".panebar")) panel.classList.toggle("shown", isShown);
+      else panel.hidden = !isShown;
     }
   }
 
   listenToTabs(/** @type {HTMLElement} */ list) {
-    const all = () => elementsIn(list, '[role="tab"]');
+    const tabs = elementsIn(list, '[role="tab"]');
     list.addEventListener("click", ({ target }) => {
-      const tab = target instanceof Element && target.closest('[role="tab"]');
-      if (tab instanceof HTMLElement) this.show(/** @type {keyof Parts} */ (tab.getAttribute("aria-controls")));
+      const tab = tabs.find((each) => each.contains(/** @type {Node} */ (target)));
+      if (tab) this.show(/** @type {keyof Parts} */ (tab.getAttribute("aria-controls")));
     });
     list.addEventListener("keydown", (event) => {
       const step = { ArrowRight: 1, ArrowLeft: -1 }[event.key];
-      const shown = all().filter((each) => each.checkVisibility());
+      const shown = tabs.filter((each) => each.checkVisibility());
       const next = step && shown[(shown.findIndex((each) => each === event.target) + step + shown.length) % shown.length];
       if (!next) return;
       event.preventDefault();
       next.focus();
       next.click();
     });
-    const first = all().find((each) => each.ariaSelected === "true") ?? all().find((each) => !each.hidden);
+    const first = tabs.find((each) => each.ariaSelected === "true") ?? tabs.find((each) => !each.hidden);
     if (first) this.select(first);
   }
 
   /** A splitter: dragged, moved by arrow keys, and back at its first size with Enter or a double click. */
   listenToSplitter(/** @type {HTMLElement} */ bar) {
-    const pane = this.find(bar.getAttribute("aria-controls") ?? "");
+    const pane = this.paneOf(bar);
     const isBelow = bar.matches(".rows"); // the pane is below the splitter, otherwise to the left of it
+    /** @type {Record<string, number>} */
+    const steps = isBelow ? { ArrowUp: STEP, ArrowDown: -STEP } : { ArrowRight: STEP, ArrowLeft: -STEP };
+    const [least, most] = [Number(bar.dataset.least), Number(bar.dataset.most)];
     const pixels = () => pane.getBoundingClientRect()[isBelow ? "height" : "width"];
+    const placeOf = (/** @type {PointerEvent} */ { clientX, clientY }) => (isBelow ? -clientY : clientX);
     const move = (/** @type {number} */ size) => {
-      const [least, most] = [Number(bar.dataset.least), Number(bar.dataset.most)];
-      this.kept.sizes[pane.id] = Math.min(most, Math.max(least, size / remPixels()));
       if (pane.matches(".folded")) this.fold(pane.id, false);
-      this.resize(pane.id, this.kept.sizes[pane.id]);
+      this.resize(pane.id, Math.min(most, Math.max(least, size / remPixels())));
       this.keep();
     };
-    const reset = () => (delete this.kept.sizes[pane.id], this.resize(pane.id), this.keep());
+    const reset = () => (this.resize(pane.id), this.keep());
     new ResizeObserver(() => (bar.ariaValueNow = `${Math.round(pixels())}`)).observe(pane);
-    const sign = isBelow ? -1 : 1;
     bar.addEventListener("pointerdown", (event) => {
-      const [size, start] = [pixels(), isBelow ? event.clientY : event.clientX];
+      const start = pixels() - placeOf(event);
       bar.setPointerCapture(event.pointerId);
-      bar.onpointermove = ({ clientX, clientY }) => move(size + sign * ((isBelow ? clientY : clientX) - start));
+      bar.onpointermove = (moved) => move(start + placeOf(moved));
     });
     bar.addEventListener("lostpointercapture", () => (bar.onpointermove = null));
     bar.addEventListener("dblclick", reset);
     bar.addEventListener("keydown", (event) => {
-      const isOwn = isBelow ? ["ArrowUp", "ArrowDown"] : ["ArrowLeft", "ArrowRight"];
       if (event.key === "Enter") reset();
-      else if (isOwn.includes(event.key)) move(pixels() + sign * ARROWS[event.key] * STEP);
+      else if (steps[event.key]) move(pixels() + steps[event.key]);
       else return;
       event.preventDefault();
     });
@@ -132,19 +126,21 @@ export class Panes {
 
   /** Gives a pane a size in rem, or without one its first. */
   resize(/** @type {string} */ id, /** @type {number | undefined} */ size = undefined) {
+    if (size === undefined) delete this.kept.sizes[id];
+    else this.kept.sizes[id] = size;
     this.root.style.setProperty(`--${id}`, size === undefined ? "" : `${size}rem`);
   }
 
   /** Folds a pane to its head or its rail, or unfolds it. */
   fold(/** @type {string} */ id, /** @type {boolean} */ isFolded) {
-    this.find(id)?.classList.toggle("folded", isFolded);
+    elementsIn(this.root, `[id="${id}"]`)[0]?.classList.toggle("folded", isFolded);
     for (const button of this.all(`:is(.fold, .rail button)[aria-controls="${id}"]`)) button.ariaExpanded = `${!isFolded}`;
   }
 
   /** Folds or unfolds the pane of a button, and keeps that. */
   toggle(/** @type {HTMLElement} */ button) {
-    const id = button.getAttribute("aria-controls") ?? "";
-    this.kept.folded[id] = !this.find(id)?.matches(".folded");
+    const { id, classList } = this.paneOf(button);
+    this.kept.folded[id] = !classList.contains("folded");
     this.fold(id, this.kept.folded[id]);
     this.keep();
   }

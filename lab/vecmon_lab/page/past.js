@@ -1,6 +1,6 @@
 // The past of a machine: states of it that the tab saw, to go back and forth through as through a lesson's frames.
 
-import { part, put } from "./elements.js";
+import { part, parts, put, say } from "./elements.js";
 import { textOf } from "./texts.js";
 
 /** @typedef {import("./messages").State} State */
@@ -20,8 +20,8 @@ export const isAlike = (one, other) => {
 /** Places the controls of a student's page: in the bar, and on a phone in the pane of elements. */
 export function placePast(/** @type {HTMLElement} */ root) {
   const phone = matchMedia("(max-width: 43.74em)");
-  const [bar, pane] = [part(root, "menu"), part(root, "vectors-title")];
-  const place = () => (phone.matches ? pane.after(part(root, "past")) : bar.before(part(root, "past")));
+  const { past, menu, "vectors-title": title } = parts(root, "past", "menu", "vectors-title");
+  const place = () => (phone.matches ? title.after(past) : menu.before(past));
   phone.addEventListener("change", place);
   place();
 }
@@ -30,7 +30,7 @@ export class Past {
   /** @type {Moment[]} */ moments = [];
   isStill = false;
   hasRun = false; // whether the program has run since the last moment
-  /** @type {number | null} */ place = null; // null: the present is shown
+  place = Infinity; // of the moment that is shown; Infinity: the present is shown
 
   /**
    * @param {HTMLElement} root has the controls; while the past is shown its class is `past`
@@ -39,21 +39,17 @@ export class Past {
   constructor(root, shown) {
     this.root = root;
     this.shown = shown;
-    this.backward = part(root, "backward");
-    this.forth = part(root, "forth");
-    this.now = part(root, "now");
-    this.slider = part(root, "moment");
-    this.says = part(root, "says-past");
-    this.count = part(root, "moment-count");
-    this.backward.addEventListener("click", () => this.show(this.shownPlace - 1));
-    this.forth.addEventListener("click", () => this.show(this.shownPlace + 1));
-    this.now.addEventListener("click", () => this.show(this.end));
-    this.slider.addEventListener("input", () => this.show(Number(this.slider.value)));
+    this.parts = parts(root, "backward", "forth", "now", "moment", "moment-count");
+    const { backward, forth, now, moment } = this.parts;
+    backward.addEventListener("click", () => this.show(this.shownPlace - 1));
+    forth.addEventListener("click", () => this.show(this.shownPlace + 1));
+    now.addEventListener("click", () => this.show(Infinity));
+    moment.addEventListener("input", () => this.show(Number(moment.value)));
   }
 
   /** The moment that is shown; undefined now. */
   get moment() {
-    return this.place === null ? undefined : this.moments[this.place];
+    return /** @type {Moment | undefined} */ (this.moments[this.place]);
   }
 
   /** How many moments lie before the present. */
@@ -63,56 +59,49 @@ export class Past {
 
   /** The number of the moment that is shown. */
   get shownPlace() {
-    return this.place ?? this.end;
+    return Math.min(this.place, this.end);
   }
-
-  /** Called when another moment is shown, or their number has changed. */
-  told = () => {};
 
   /** Adds a moment: its state, the state before, and their explanation. Moments of a running program aren't kept. */
   add(/** @type {Moment} */ moment) {
     const last = this.moments.at(-1);
+    this.isStill = moment.state.run === "stopped";
     if (last && isAlike(last.state, moment.state)) last.state = moment.state;
-    else if (moment.state.run === "stopped") {
+    else if (this.isStill) {
       this.moments.push({ ...moment, hasRun: this.hasRun });
       this.hasRun = false;
     }
-    this.isStill = moment.state.run === "stopped";
     if (this.moments.length > MOST_MOMENTS) {
       this.moments.shift();
-      if (this.place !== null) this.show(this.place - 1);
+      this.show(this.place - 1);
     }
     this.tell();
   }
 
   forget() {
-    this.moments = [];
-    Object.assign(this, { isStill: false, hasRun: false, place: null });
+    Object.assign(this, { moments: [], isStill: false, hasRun: false, place: Infinity });
     this.tell();
   }
 
   /** Shows the moment of this number, or the nearest one; the present from the last one on. */
-  show(/** @type {number} */ place) {
-    const before = this.place;
-    this.place = place >= this.end ? null : Math.max(0, place);
-    if (this.place === before) return;
+  show(/** @type {number} */ wanted) {
+    const place = wanted >= this.end ? Infinity : Math.max(0, wanted);
+    if (this.place === place) return;
+    this.place = place;
     this.tell();
     this.shown();
   }
 
   tell() {
-    const place = this.shownPlace;
-    const isPast = this.place !== null;
-    this.backward.disabled = place === 0;
-    this.forth.disabled = this.now.disabled = !isPast;
-    const count = isPast ? textOf("past.step", { step: place, last: this.end }) : textOf("past.at-now", { step: this.end });
-    Object.assign(this.slider, { max: this.end, value: place, disabled: this.end === 0, ariaValueText: count });
-    put(this.count, count);
-    const next = this.moments[place + 1];
-    const said = [textOf("past.shown", { count }), next?.hasRun ? textOf("past.gap") : ""].filter(Boolean).join(" ");
-    put(this.says, isPast ? said : "");
-    this.says.hidden = !isPast;
+    const { backward, forth, now, moment, "moment-count": counted } = this.parts;
+    const [step, last, isPast] = [this.shownPlace, this.end, this.place < Infinity];
+    const count = isPast ? textOf("past.step", { step, last }) : textOf("past.at-now", { step: last });
+    const gap = this.moments[step + 1]?.hasRun ? ` ${textOf("past.gap")}` : "";
+    backward.disabled = step === 0;
+    forth.disabled = now.disabled = !isPast;
+    Object.assign(moment, { max: last, value: step, disabled: last === 0, ariaValueText: count });
+    put(counted, count);
+    say("says-past", isPast ? textOf("past.shown", { count }) + gap : "");
     this.root.classList.toggle("past", isPast);
-    this.told();
   }
 }

@@ -14,7 +14,6 @@ const placeOf = (/** @type {string} */ text, /** @type {number} */ column) => [.
 
 export class ProblemMarks {
   /** @type {Mistake[]} */ problems = [];
-  /** @type {import("./codemirror.js").Clearable[]} */ ranges = []; // that are underlined
   /** @type {import("./codemirror.js").Clearable | undefined} */ below;
   line = 0; // of the problems that are shown below
 
@@ -38,7 +37,6 @@ export class ProblemMarks {
     if (!problems.length && !this.problems.length) return;
     this.code.operation(() => {
       this.marks.clear();
-      this.ranges.splice(0).forEach((range) => range.clear());
       this.problems = problems.filter(({ line }) => line > 0 && line <= this.code.lineCount());
       for (const problem of [...this.problems].reverse()) this.mark(problem); // so that the first one of a line is in the gutter
       this.line = -1; // so that what was below a line goes
@@ -47,10 +45,11 @@ export class ProblemMarks {
   }
 
   mark(/** @type {Mistake} */ problem) {
-    const { severity, message, line } = problem;
+    const { severity, message: title, line } = problem;
     const { from, to } = this.rangeOf(problem);
-    this.ranges.push(this.code.markText(from, to, { className: `problem ${severity}`, attributes: { title: message } }));
-    const sign = Object.assign(make("span", `problem-sign ${severity}`, severity === "error" ? "✖" : "▲"), { title: message });
+    const range = this.code.markText(from, to, { className: `problem ${severity}`, attributes: { title } });
+    this.marks.removers.push(() => range.clear());
+    const sign = Object.assign(make("span", `problem-sign ${severity}`, severity === "error" ? "✖" : "▲"), { title });
     this.marks.sign(line, "problems", sign);
     this.marks.style(line, `problem-line-${severity}`, "gutter");
   }
@@ -68,17 +67,13 @@ export class ProblemMarks {
     this.line = line;
     this.below?.clear();
     if (!line) return;
-    const box = make("div", "problems-below", ...this.here.map((problem) => this.item(problem)));
-    this.below = this.code.addLineWidget(line - 1, box, { noHScroll: true });
+    const items = this.here.map((problem) => make("p", problem.severity, problem.message, " ", ...this.fixes(problem)));
+    this.below = this.code.addLineWidget(line - 1, make("div", "problems-below", ...items), { noHScroll: true });
   }
 
-  item(/** @type {Mistake} */ problem) {
-    return make("p", problem.severity, problem.message, " ", ...(this.canFix ? this.fixes(problem) : []));
-  }
-
-  /** Buttons that replace a problem's word. */
+  /** Buttons that replace a problem's word, where the text can be edited. */
   fixes(/** @type {Mistake} */ problem) {
-    return (problem.fix ?? []).map((text, place) => {
+    return ((this.canFix && problem.fix) || []).map((text, place) => {
       const title = `${textOf("problems.replace.title")}${place ? "" : " (Ctrl .)"}`;
       return Object.assign(button(text, textOf("problems.replace", { text }), () => this.replace(problem, text)), { title });
     });
@@ -99,11 +94,9 @@ export class ProblemMarks {
     this.code.focus();
   }
 
-  /** Replaces the word of the caret line's first problem that has a fix; whether there is one. */
+  /** Replaces the word of the caret line's first problem that has a fix. */
   fix() {
     const problem = this.here.find(({ fix }) => fix?.length);
-    if (!problem?.fix || !this.canFix) return false;
-    this.replace(problem, problem.fix[0]);
-    return true;
+    if (problem?.fix) this.replace(problem, problem.fix[0]);
   }
 }

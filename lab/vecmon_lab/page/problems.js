@@ -1,6 +1,6 @@
 // The problems of a source: a list whose entries lead to their places, with texts that may replace a word.
 
-import { button, make, part, put } from "./elements.js";
+import { button, make, parts, put } from "./elements.js";
 import { textOf } from "./texts.js";
 
 /** @typedef {import("./messages").Mistake} Problem */
@@ -21,33 +21,29 @@ export class Problems {
   constructor(root, editor, show) {
     this.editor = editor;
     this.showPanel = show;
-    this.list = part(root, "mistakes");
-    this.none = part(root, "no-problems");
-    this.count = part(root, "problems-count");
-    this.buttons = [part(root, "next-problem"), part(root, "previous-problem")];
-    this.buttons.forEach((each, place) => each.addEventListener("click", () => this.goOn(place ? -1 : 1)));
+    this.parts = parts(root, "mistakes", "no-problems", "problems-count", "next-problem", "previous-problem");
+    this.parts["next-problem"].addEventListener("click", () => this.goOn(1));
+    this.parts["previous-problem"].addEventListener("click", () => this.goOn(-1));
     this.show([]);
   }
 
   /** Lists problems, and shows them at their lines. */
   show(/** @type {Problem[]} */ problems) {
+    const { mistakes, "no-problems": none, "problems-count": count, "next-problem": next, "previous-problem": previous } = this.parts;
+    const item = (/** @type {string} */ text, /** @type {number} */ place) =>
+      make("li", problems[place].severity, button(text, text, () => this.go(place)), ...this.editor.problems.fixes(problems[place]));
     Object.assign(this, { all: problems, place: -1 });
-    this.list.replaceChildren(...problems.map((problem, place) => this.item(problem, place)));
-    this.none.hidden = problems.length > 0;
-    put(this.count, problems.length ? `${problems.length}` : "");
-    for (const each of this.buttons) each.disabled = !problems.length;
+    mistakes.replaceChildren(...problems.map(problemText).map(item));
+    put(count, problems.length ? `${problems.length}` : "");
+    none.hidden = problems.length > 0;
+    next.disabled = previous.disabled = !problems.length;
     this.editor.problems.show(problems.map((problem) => ({ ...problem, message: problemText({ ...problem, line: 0 }) })));
-  }
-
-  item(/** @type {Problem} */ problem, /** @type {number} */ place) {
-    const text = problemText(problem);
-    return make("li", problem.severity, button(text, text, () => this.go(place)), ...this.editor.problems.fixes(problem));
   }
 
   /** Goes to the next problem, or with -1 to the one before; after the last one to the first. */
   goOn(/** @type {number} */ step) {
-    const number = this.all.length;
-    if (number) this.go((Math.max(this.place, step < 0 ? 0 : -1) + step + number) % number);
+    const { length } = this.all;
+    if (length) this.go((Math.max(this.place, step < 0 ? 0 : -1) + step + length) % length);
   }
 
   /** Selects the word of a problem in the editor. */

@@ -38,10 +38,9 @@ export function showReference(/** @type {HTMLElement} */ box, /** @type {string}
   const words = wanted.split(/\s+/).filter((word) => !["with", "a", "an", "the", "of", "to", "in"].includes(word));
   const shown = { ...KNOWN, "Not supported": wanted ? absentEntry(wanted) : [] };
   const parts = Object.entries(shown).flatMap(([section, entries]) => {
-    const has = (/** @type {Entry} */ entry) => words.every((word) => entry.join(" ").toLowerCase().includes(word));
-    const found = entries.filter(has);
-    const exactFirst = [...found.filter(([name]) => name === wanted), ...found.filter(([name]) => name !== wanted)];
-    return found.length ? [make("h3", "", section), make("ul", "", ...exactFirst.map(entryItem))] : [];
+    const found = entries.filter((entry) => words.every((word) => entry.join(" ").toLowerCase().includes(word)));
+    found.sort(([one], [other]) => Number(other === wanted) - Number(one === wanted)); // exactly this name first
+    return found.length ? [make("h3", "", section), make("ul", "", ...found.map(entryItem))] : [];
   });
   box.replaceChildren(...(parts.length ? parts : [make("p", "empty", textOf("reference.none"))]));
 }

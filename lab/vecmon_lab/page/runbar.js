@@ -15,28 +15,22 @@ const STARTING = ["go", "one", "many", "until-go", "step-over", "step-out"]; // 
 /** @type {Name[]} */
 const NAMES = [...STARTING, "halt", "slice", "again", "assemble", "new", "images"];
 /** @type {Record<Condition, string>} */
-const CONDITIONS = {
-  "Not begun": textOf("condition.not-begun"),
-  Ready: textOf("condition.ready"),
-  Assembling: textOf("condition.assembling"),
-  Running: textOf("condition.running"),
-  Paused: textOf("condition.paused"),
-  Ended: textOf("condition.ended"),
-  Fault: textOf("condition.fault"),
-  "No connection": textOf("condition.no-connection"),
+const CONDITIONS = { // in words
+  "Not begun": textOf("condition.not-begun"), "No connection": textOf("condition.no-connection"),
+  Ready: textOf("condition.ready"), Assembling: textOf("condition.assembling"), Running: textOf("condition.running"),
+  Paused: textOf("condition.paused"), Ended: textOf("condition.ended"), Fault: textOf("condition.fault"),
 };
+/** @type {Record<string, Condition>} */
+const STOPS = { fault: "Fault", exit: "Ended", ebreak: "Ended" }; // that aren't pauses
 
 /**
  * The condition of a machine.
  * @type {(view: View, isStarted: boolean) => Condition} isStarted: whether its program has executed anything
  */
 export function conditionOf({ state, stop }, isStarted) {
-  if (state.run === "absent") return "Not begun";
-  if (state.run === "running") return "Running";
+  if (state.run !== "stopped") return state.run === "absent" ? "Not begun" : "Running";
   const [why] = state.stop ? stop.split(" ") : [""];
-  if (why === "fault") return "Fault";
-  if (why === "exit" || why === "ebreak") return "Ended";
-  return isStarted ? "Paused" : "Ready";
+  return STOPS[why] ?? (isStarted ? "Paused" : "Ready");
 }
 
 export class RunBar {
@@ -44,21 +38,14 @@ export class RunBar {
   isBuilding = false; // whether a source is being assembled or compiled
   /** @type {Condition} */ condition = "Not begun";
   /** @type {View | null} */ view = null;
-  /** @type {Map<Name, string> | null} */ titles = null; // of what is on
 
-  /**
-   * @param {HTMLElement} root has the buttons
-   * @param {() => { isConnected: boolean, isPast: boolean, isBlank: boolean, hasChanged: boolean }} ask
-   *   isBlank: whether there is no source to build; hasChanged: whether it is built before the program goes on
-   */
-  constructor(root, ask) {
+  /** @param {HTMLElement} root has the buttons @param {import("./bench.js").Bench} bench whose program is run */
+  constructor(root, bench) {
     this.root = root;
-    this.ask = ask;
-    this.run = part(root, "run");
+    this.bench = bench;
     const menus = /** @type {NodeListOf<HTMLDetailsElement>} */ (root.querySelectorAll("details.menu"));
-    const close = (/** @type {Event} */ { target }) => menus.forEach((menu) => (menu.open &&= menu.contains(/** @type {Node} */ (target))));
-    document.addEventListener("pointerdown", close);
     for (const menu of menus) {
+      document.addEventListener("pointerdown", ({ target }) => (menu.open &&= menu.contains(/** @type {Node} */ (target))));
       menu.addEventListener("click", ({ target }) => target instanceof HTMLButtonElement && (menu.open = false));
       menu.addEventListener("keydown", (event) => event.key === "Escape" && (event.preventDefault(), (menu.open = false)));
     }
@@ -86,23 +73,22 @@ export class RunBar {
 
   paint() {
     if (!this.view) return;
-    this.titles ??= new Map(NAMES.map((id) => [id, part(this.root, id).title]));
-    const { isConnected, isPast } = this.ask();
-    this.condition = !isConnected ? "No connection" : this.isBuilding ? "Assembling" : conditionOf(this.view, this.isStarted);
-    put(this.run, CONDITIONS[this.condition]);
-    this.run.dataset.condition = this.condition;
+    const present = this.isBuilding ? "Assembling" : conditionOf(this.view, this.isStarted);
+    this.condition = this.bench.connection.isReady ? present : "No connection";
+    put(part(this.root, "run"), CONDITIONS[this.condition]);
+    part(this.root, "run").dataset.condition = this.condition;
     put(part(this.root, "go"), this.condition === "Paused" ? textOf("run.continue") : textOf("run"));
     part(this.root, "slice").hidden = !this.view.own_slices;
     for (const id of NAMES) {
-      const why = isPast ? textOf("off.past") : this.whyOff(id);
-      const [button, title] = [part(this.root, id), why || (this.titles.get(id) ?? "")];
-      if (button.title !== title) Object.assign(button, { disabled: why !== "", title });
+      const [button, why] = [part(this.root, id), this.whyOff(id, this.view)];
+      const titleOn = (button.dataset.title ??= button.title);
+      if (button.title !== (why || titleOn)) Object.assign(button, { disabled: why !== "", title: why || titleOn });
     }
   }
 
   /** Why a button is off; "" where it is on. */
-  whyOff(/** @type {Name} */ id) {
-    const { state, ready = false, again = false } = this.view ?? { state: { run: "absent" } };
+  whyOff(/** @type {Name} */ id, /** @type {View} */ { state, ready, again }) {
+    if (this.bench.desk.past.moment) return textOf("off.past");
     if (this.condition === "No connection") return textOf("off.no-connection");
     if (this.condition === "Assembling") return textOf("off.building");
     if (!ready) return textOf("off.not-ready");
@@ -110,7 +96,7 @@ export class RunBar {
     if (id === "halt" || id === "slice") return state.run === "running" ? "" : textOf("off.not-running");
     if (id === "again") return again ? "" : textOf("off.no-source");
     if (state.run === "running") return textOf("off.running");
-    if (this.condition === "Ended" && id !== "go" && again && !this.ask().hasChanged) return textOf("off.ended");
-    return state.run === "absent" && this.ask().isBlank ? textOf("off.no-program") : "";
+    if (this.condition === "Ended" && id !== "go" && again && !this.bench.hasChanged) return textOf("off.ended");
+    return state.run === "absent" && !this.bench.editor.source.text.trim() ? textOf("off.no-program") : "";
   }
 }

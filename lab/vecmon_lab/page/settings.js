@@ -1,7 +1,7 @@
 // The settings of a class: exercises, clocks and rights of all machines, their scripts, and the operator's lines.
 
 import { elementsIn, header, make, part, put, table, timeText } from "./elements.js";
-import { LineField, requestsOf, unfitLines } from "./lines.js";
+import { listenToLines, requestsOf, unfitLines } from "./lines.js";
 import { textOf } from "./texts.js";
 import { Log } from "./transcript.js";
 
@@ -24,7 +24,7 @@ export class Settings {
     this.log = new Log(part(root, "operator-log"), false);
     this.form = part(root, "clocks");
     this.form.onchange = ({ target }) => this.set(/** @type {HTMLInputElement} */ (target));
-    new LineField(part(root, "operator-line"), (lines) => this.operate(lines));
+    listenToLines(part(root, "operator-line"), (lines) => this.operate(lines));
   }
 
   field(/** @type {string} */ name) {

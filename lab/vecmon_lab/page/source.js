@@ -1,7 +1,7 @@
 // The source of a seat: what is typed goes to the server, and what others write there comes; versions; a file to save.
 
 import { NO_MARKS } from "./editor.js";
-import { make, offerFile, part, put, timeText } from "./elements.js";
+import { make, offerFile, part, parts, put, timeText } from "./elements.js";
 import { languageOf, suffixOf } from "./links.js";
 import { lineOf, stoppedLines, stopsOf } from "./source_lines.js";
 import { textOf } from "./texts.js";
@@ -13,8 +13,7 @@ import { textOf } from "./texts.js";
 /** @typedef {Record<string, { title: string }>} Exercises */
 
 export const MOST_LETTERS = 65536;
-const MOST = MOST_LETTERS.toLocaleString("en");
-const TOO_LONG = textOf("source.too-long", { most: MOST });
+const TOO_LONG = textOf("source.too-long", { most: MOST_LETTERS.toLocaleString("en") });
 const PAUSE = 700; // ms in which nothing is typed, and then it is sent
 /** @type {Record<string, string>} */
 const REASONS = { typed: textOf("source.typed"), written: textOf("source.assembled"), given: textOf("source.given") };
@@ -42,12 +41,11 @@ export class Source {
   constructor(root, editor, connection) {
     this.editor = editor;
     this.connection = connection;
-    this.versions = part(root, "versions");
-    this.assemble = part(root, "assemble");
-    this.left = part(root, "left");
     this.file = part(root, "open");
+    this.parts = parts(root, "versions", "assemble", "left");
+    const { versions } = this.parts;
     document.addEventListener("visibilitychange", () => this.send());
-    this.versions.addEventListener("change", () => this.showVersion(Number(this.versions.value)));
+    versions.addEventListener("change", () => this.showVersion(Number(versions.value)));
     part(root, "save").addEventListener("click", () => this.save());
     part(root, "open-file").addEventListener("click", () => this.file.click());
     this.file.addEventListener("change", () => this.open(this.file.files?.[0]));
@@ -83,25 +81,22 @@ export class Source {
     const { source } = this.editor;
     if (!this.told || keyOf(source) === keyOf(this.told)) return;
     if (!this.isTyped || this.isTooLong || !this.connection.isReady) return;
-    if (this.sent.size) return void this.sendLater();
-    const { number, exercise } = this.told;
-    await this.bring(source, () => this.connection.ask({ ask: "draft", ...source, number, exercise, line: this.editor.caretLine }));
+    if (this.sent.size) this.sendLater();
+    else await this.bringOwn({ line: this.editor.caretLine });
   }
 
   /** Does what brings a source to the server; the answer. */
   /** @type {<Answer>(source: SourceText, carryOut: () => Promise<Answer>) => Promise<Answer>} */
-  async bring(source, carryOut) {
+  bring(source, carryOut) {
     this.sent.add(keyOf(source));
-    const answer = await carryOut();
-    this.sent.delete(keyOf(source));
-    return answer;
+    return carryOut().finally(() => this.sent.delete(keyOf(source)));
   }
 
-  /** Sends the editor's text to the server, with its exercise; a text to keep becomes a version. */
-  bringOwn(/** @type {boolean} */ keep) {
-    const own = this.editor.source;
+  /** Sends the editor's text to the server, with its exercise; a text to keep becomes a version. line: the caret's */
+  bringOwn(/** @type {{ keep?: boolean, line?: number }} */ more) {
+    const { source } = this.editor;
     const { number = 0, exercise } = this.told ?? {};
-    return this.bring(own, () => this.connection.ask({ ask: "draft", ...own, number, exercise, keep }));
+    return this.bring(source, () => this.connection.ask({ ask: "draft", ...source, number, exercise, ...more }));
   }
 
   /** Whether the text is too long to become a version. */
@@ -115,7 +110,7 @@ export class Source {
     const own = this.editor.source;
     const isOwn = own.text.trim() && !this.editor.isReadOnly && (this.isTyped || keyOf(own) === this.key);
     const isKept = isOwn && keyOf(own) !== keyOf(source);
-    const answer = isKept ? await this.bringOwn(true) : { error: "" };
+    const answer = isKept ? await this.bringOwn({ keep: true }) : { error: "" };
     if (answer && !answer.error) this.editor.put(source);
   }
 
@@ -128,7 +123,7 @@ export class Source {
   async openExercise(/** @type {string} */ exercise) {
     clearTimeout(this.timer);
     if (this.isTooLong) return false;
-    if (this.isTyped && keyOf(this.editor.source) !== this.key) this.bringOwn(false);
+    if (this.isTyped && keyOf(this.editor.source) !== this.key) this.bringOwn({ keep: false });
     const answer = await this.connection.ask({ ask: "open", exercise });
     return Boolean(answer && !answer.error);
   }
@@ -139,8 +134,8 @@ export class Source {
     const isCompiled = this.editor.source.language > 0;
     const bytes = share && (share.of - share.used).toLocaleString("en");
     const left = bytes && isCompiled ? textOf("source.room", { bytes }) : "";
-    put(this.assemble, isCompiled ? textOf("source.compile") : textOf("source.assemble"));
-    put(this.left, this.isTooLong ? TOO_LONG : left);
+    put(this.parts.assemble, isCompiled ? textOf("source.compile") : textOf("source.assemble"));
+    put(this.parts.left, this.isTooLong ? TOO_LONG : left);
   }
 
   /** Shows what the server has, unless it is what was typed here. Versions are listed with the titles of exercises. */
@@ -168,11 +163,6 @@ export class Source {
     return Boolean(this.told?.stands) && this.key === keyOf(this.editor.source);
   }
 
-  /** The number of the line that the machine executes next, in a state with the loaded source; 0 for none. */
-  nextLine(/** @type {import("./messages").State} */ state) {
-    return lineOf(state, state.pc);
-  }
-
   /** Marks the lines that the machine executed last and executes next, and those with breakpoints; returns them. */
   mark(/** @type {import("./messages").State} */ state) {
     const { breaks = [], pc, instruction } = state;
@@ -185,14 +175,13 @@ export class Source {
   listVersions(/** @type {Version[]} */ versions, /** @type {Exercises} */ exercises) {
     const option = (/** @type {Version} */ version) =>
       Object.assign(make("option", "", versionText(version, exercises)), { value: version.number });
-    const options = versions.map(option);
-    this.versions.replaceChildren(make("option", "", textOf("source.versions")), ...options.reverse());
-    this.versions.hidden = !versions.length;
+    this.parts.versions.replaceChildren(make("option", "", textOf("source.versions")), ...versions.map(option).reverse());
+    this.parts.versions.hidden = !versions.length;
   }
 
   /** Puts an earlier version into the editor, where undo takes it back. */
   async showVersion(/** @type {number} */ number) {
-    this.versions.selectedIndex = 0;
+    this.parts.versions.selectedIndex = 0;
     const answer = await this.connection.ask({ ask: "version", number });
     if (answer?.text !== undefined) await this.replace({ text: answer.text, language: answer.language ?? 0 });
   }

@@ -23,17 +23,8 @@ export function logEntry(/** @type {string} */ entry, isOnly = false, place = ""
   const [text, words] = entryParts(entry);
   const stopped = entry[0] === "!" || (entry[0] === "<" && (STOP_LINE.test(text) || words));
   const kind = KINDS[entry[0]];
-  const item = make("li", stopped ? `${kind} stopped` : kind);
-  item.textContent = place + (entry[0] === ">" ? "> " : "") + (isOnly && entry[0] !== "!" ? text.slice(2) : text);
-  return item;
-}
-
-/** An entry as `logEntry` makes it; below a refusal is its meaning. */
-export function toldEntry(/** @type {string} */ entry, /** @type {boolean} */ isOnly, place = "") {
-  const item = logEntry(entry, isOnly, place);
-  const [, words] = entryParts(entry);
-  if (words) item.append(make("small", "", ...prose(words.replace(/^E\d\d.*?: /m, ""))));
-  return item;
+  const shown = isOnly && entry[0] !== "!" ? text.slice(2) : text;
+  return make("li", stopped ? `${kind} stopped` : kind, `${place}${entry[0] === ">" ? "> " : ""}${shown}`);
 }
 
 /** A log, whose groups are one item each: `+` and a text starts a group, and `-` ends it. */
@@ -52,9 +43,9 @@ export class Log {
     this.box.replaceChildren();
   }
 
-  /** Adds entries in one batch. `place` comes before all. */
+  /** Adds entries. `place` comes before all. */
   add(/** @type {string[]} */ entries, place = "") {
-    this.box.append(...entries.flatMap((entry) => this.items(entry, place)));
+    for (const entry of entries) this.addEntry(entry, place);
     while (this.box.childElementCount > LOG_LENGTH) this.box.firstChild?.remove();
     this.isNew ||= entries.length > 0;
   }
@@ -65,19 +56,19 @@ export class Log {
     this.isNew = false;
   }
 
-  /** The item that an entry adds to the log, if it isn't part of a group. A stop or a refusal unfolds its group. */
-  /** @type {(entry: string, place: string) => HTMLElement[]} */
-  items(entry, place) {
+  /** Adds an entry to its group, or to the log. A stop or a refusal unfolds its group; the meaning of a refusal is below it. */
+  /** @type {(entry: string, place: string) => void} */
+  addEntry(entry, place) {
     if (entry[0] === "-") this.group = null;
-    if (entry[0] === "-") return [];
-    if (entry[0] === "+") {
+    else if (entry[0] === "+") {
       this.group = make("ol", "");
-      return [make("li", "group", make("details", "", make("summary", "", place + entry.slice(1)), this.group))];
+      this.box.append(make("li", "group", make("details", "", make("summary", "", place + entry.slice(1)), this.group)));
+    } else {
+      const [item, [, words]] = [logEntry(entry, this.isOnly, place), entryParts(entry)];
+      if (words) item.append(make("small", "", ...prose(words.replace(/^E\d\d.*?: /m, ""))));
+      (this.group ?? this.box).append(item);
+      const group = item.closest("details");
+      if (group && item.matches(".stopped")) group.open = true;
     }
-    const item = toldEntry(entry, this.isOnly, place);
-    if (!this.group) return [item];
-    this.group.append(item);
-    if (item.matches(".stopped")) /** @type {HTMLDetailsElement} */ (this.group.parentElement).open = true;
-    return [];
   }
 }

@@ -1,6 +1,6 @@
 // Paints the state of one user: from an object, and the one before, for the changes.
 
-import { make, part, prose, put } from "./elements.js";
+import { make, part, parts, prose, put } from "./elements.js";
 import { Lanes } from "./lanes.js";
 import { ListingPanel } from "./listing.js";
 import { MemoryPanel, OutputPanel } from "./memory.js";
@@ -24,9 +24,7 @@ export const machineOf = (state) => (state && state.run !== "absent" && state.x 
 export class MachineView {
   constructor(/** @type {ParentNode} */ root) {
     this.machine = part(root, "machine");
-    this.names = part(root, "names");
-    this.step = part(root, "step");
-    this.stop = part(root, "stop");
+    this.parts = parts(root, "names", "step", "stop");
     this.output = new OutputPanel(root);
     this.lanes = new Lanes(part(root, "vectors"));
     const panels = [new ListingPanel(root), new MemoryPanel(root)].map((panel) => panel.paint.bind(panel));
@@ -38,19 +36,18 @@ export class MachineView {
     if (state.run === "running") done.push(make("small", "", textOf("step.running")));
     if (state.instruction) {
       const line = (state.code?.[state.instruction] ?? "").slice(9);
-      const text = withNames(line, this.names.value === "abi") || `0x${state.instruction}`; // nothing is mapped there
+      const text = withNames(line, this.parts.names.value === "abi") || `0x${state.instruction}`; // nothing is mapped there
       const said = saysMore(state.lines?.[state.instruction] ?? "", line); // which the listing may cut
       const label = state.faulted ? textOf("step.stopped") : textOf("step.executed");
-      done.push(make("span", "instruction", make("small", "", label), " ", text));
-      done.push(make("small", "", ...prose(said)));
+      done.push(make("span", "instruction", make("small", "", label), " ", text), make("small", "", ...prose(said)));
     }
-    this.step.replaceChildren(...done);
+    this.parts.step.replaceChildren(...done);
   }
 
   /** Why something stopped or was refused. */
   showStop(/** @type {string} */ words) {
-    put(this.stop, words, prose(words));
-    this.stop.classList.toggle("said", words !== "");
+    put(this.parts.stop, words, prose(words));
+    this.parts.stop.classList.toggle("said", words !== "");
   }
 
   /**
