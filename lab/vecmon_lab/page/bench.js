@@ -27,7 +27,6 @@ import { textOf } from "./texts.js";
 
 const MOST_BREAKPOINTS = 16;
 const PAUSE = 600; // ms in which nothing is typed, and then problems are asked for
-const NEW_MACHINE = ["map 10000 1 rwx", "map 20000 1 rw", "setpc 10000"];
 const MOST_LINES = 1000; // that a program is stepped through up to a line
 const LEAVING = { absent: [], stopped: ["leave"], running: ["stop", "leave"] };
 
@@ -61,7 +60,10 @@ export class Bench {
     this.source = new Source(root, this.editor, connection);
     this.links = new LineLinks(root, this.editor);
     this.problems = new Problems(root, this.editor, (panel) => this.panes.show(panel));
-    this.askValue = editDialog(root, (edit, text) => this.change(edit, text));
+    this.askValue = editDialog(root, (edit, text) => {
+      const { line, error = "" } = lineOf(edit, text, this.parts.numbers.value === "signed", this.desk.state.v ?? {});
+      return line === undefined ? this.refuse(error) : this.send([line]);
+    });
     this.listen();
   }
 
@@ -106,7 +108,7 @@ export class Bench {
     followCursor(this.root, (place) => this.edit(place));
     on("slice", "click", () => this.request({ ask: "lines", slices: 100 }));
     on("again", "click", () => this.restart());
-    on("new", "click", () => this.beginAnew(textOf("run.empty-machine"), NEW_MACHINE));
+    on("new", "click", () => this.beginAnew(textOf("run.empty-machine"), ["map 10000 1 rwx", "map 20000 1 rw", "setpc 10000"]));
     on("images", "change", () => this.beginAnew(textOf("run.load"), [`load ${images.value}`]));
     on("assemble", "click", () => this.write());
     on("against", "change", () => this.write({ ask: "listings", other: against.selectedIndex - 1 }));
@@ -277,12 +279,6 @@ export class Bench {
     if (needed > left) return this.refuse(textOf("breakpoints.too-many", { line, needed, left, most }));
     if (!needed) return this.refuse(textOf("breakpoints.no-instruction", { line }));
     return this.send(addresses.map((address) => `break ${address}`));
-  }
-
-  /** Sends the line that writes a value, which is decimal where decimal ones are shown. */
-  change(/** @type {import("./edits.js").ValueEdit} */ edit, /** @type {string} */ text) {
-    const { line, error = "" } = lineOf(edit, text, this.parts.numbers.value === "signed", this.desk.state.v ?? {});
-    return line === undefined ? this.refuse(error) : this.send([line]);
   }
 
   /** Shows the reference, or what is found in it. */

@@ -4,12 +4,10 @@ import { make, part } from "./elements.js";
 import { Past, isAlike } from "./past.js";
 import { textOf } from "./texts.js";
 import { Log } from "./transcript.js";
-import { MachineView, machineOf, usedIn } from "./view.js";
+import { MachineView, usedIn } from "./view.js";
 
 /** @typedef {import("./messages").State} State */
 
-/** @type {State} */
-const ABSENT = { run: "absent" };
 const BLANK = { vtype: "8000000000000000", vl: 0, vstart: 0, vxrm: 0, vxsat: 0 }; // vtype is vill
 const STACK_POINTER = 2; // which the lab may set before the program starts
 
@@ -25,8 +23,8 @@ const newMachine = (state) => {
 /** A machine's state, painted where it changed: at its seat, and for a teacher who looks over the shoulder. */
 export class Desk {
   seat = "";
-  state = ABSENT;
-  before = ABSENT;
+  /** @type {State} */ state = { run: "absent" };
+  before = this.state;
   /** @type {Set<number>} */ used = new Set(); // vector registers that weren't zero since the machine began
   refusal = ""; // of what was sent last
   frame = 0; // in which it is painted
@@ -66,7 +64,7 @@ export class Desk {
     cancelAnimationFrame(this.frame);
     this.frame = 0;
     const { state, before, used } = this.past.moment ?? this;
-    this.view.paint(machineOf(state) ?? ABSENT, before, used);
+    this.view.paint(state, before, used);
     this.painted(state);
     this.log.querySelector(".until")?.classList.remove("until");
     this.past.moment?.entry?.classList.add("until");

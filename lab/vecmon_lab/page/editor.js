@@ -5,10 +5,10 @@ import { CodeMirror } from "./codemirror.js";
 import { make } from "./elements.js";
 import { namesAt } from "./hints.js";
 import { LineMarks } from "./line_marks.js";
-import { MARGIN, ProblemMarks } from "./problem_marks.js";
 import { TINTS } from "./source_lines.js";
 import { textOf } from "./texts.js";
 
+export const MARGIN = 60; // px around a line that is scrolled into sight
 const [INDENT, INDENT_OF_C] = [8, 4]; // columns
 const TOGETHER = 1000; // ms: what is typed without a longer pause is undone at once
 const MOST_CHANGES = 300; // that undo goes back to
@@ -30,6 +30,7 @@ const PHRASES = { // of CodeMirror's dialogs
 export class Editor {
   /** @type {(line: number) => void} */ toggleBreakpoint = () => {};
   /** @type {(line: string, place: number) => void} */ caretMoved = () => {};
+  /** @type {import("./problems.js").Problems | undefined} */ problems; // of the text, which mark themselves in it
   marks = NO_MARKS;
   unseen = 0; // a line that comes into sight when the editor does
   isLetter = false; // whether the last change was a typed letter
@@ -51,7 +52,6 @@ export class Editor {
     this.code = CodeMirror.fromTextArea(field, this.options(field));
     const ariaReadOnly = field.readOnly ? "true" : null;
     Object.assign(this.code.getInputField(), { role: "textbox", ariaMultiLine: "true", ariaReadOnly });
-    this.problems = new ProblemMarks(this.code, !field.readOnly);
     this.machineMarks = new LineMarks(this.code);
     this.tints = new LineMarks(this.code);
     this.links = new LineMarks(this.code);
@@ -66,7 +66,7 @@ export class Editor {
       Esc: false, // Escape, then Tab leaves the editor
       "Ctrl-/": "toggleComment", "Cmd-/": "toggleComment",
       "Ctrl-Space": () => this.suggest(true),
-      "Ctrl-.": () => this.problems.fix(), "Cmd-.": () => this.problems.fix(),
+      "Ctrl-.": () => this.problems?.fix(), "Cmd-.": () => this.problems?.fix(),
     };
     return {
       mode: ASSEMBLER, lineNumbers: true, gutters: ["marks", "CodeMirror-linenumbers", "problems"], inputStyle: "contenteditable",
@@ -90,18 +90,12 @@ export class Editor {
   }
 
   /** The source: its text and the number of its language. */
-  get source() {
-    return { text: this.code.getValue(), language: Math.max(0, this.language.selectedIndex) };
-  }
+  get source() { return { text: this.code.getValue(), language: Math.max(0, this.language.selectedIndex) }; }
 
-  get isC() {
-    return this.language.selectedOptions[0]?.text.startsWith("C") ?? false;
-  }
+  get isC() { return this.language.selectedOptions[0]?.text.startsWith("C") ?? false; }
 
   /** Whether undo has something to take back. */
-  get hasPast() {
-    return this.code.historySize().undo > 0;
-  }
+  get hasPast() { return this.code.historySize().undo > 0; }
 
   /** Puts in another source, which can be undone. */
   put(/** @type {SourceText} */ { text, language }) {
@@ -125,9 +119,7 @@ export class Editor {
   }
 
   /** The number of the caret's line. */
-  get caretLine() {
-    return this.code.getCursor().line + 1;
-  }
+  get caretLine() { return this.code.getCursor().line + 1; }
 
   /** Takes up the text as it has become. isTurned: by undo or redo, which bring back the language of then */
   took(/** @type {boolean} */ isTurned) {
@@ -136,7 +128,7 @@ export class Editor {
     if (isTurned && language !== undefined) this.language.selectedIndex = language;
     this.languages.set(number, this.source.language);
     this.showLanguage();
-    this.problems.show([]);
+    this.problems?.mark([]);
     this.mark(NO_MARKS);
     this.changed();
   }
@@ -155,7 +147,7 @@ export class Editor {
     if (this.isLetter) this.suggest(false);
     else this.code.closeHint();
     this.isLetter = false;
-    this.problems.showBelow();
+    this.problems?.showBelow();
     this.caretMoved(this.code.getLine(line), ch);
   }
 

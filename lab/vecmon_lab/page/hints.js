@@ -15,9 +15,6 @@ export const REGISTERS = new Set([...ABI_NAMES, "fp", ...Array.from({ length: 32
 
 /** @typedef {{ word: string, names: [name: string, form: string][] }} Names that go on from a word, with their forms */
 
-/** The labels of a text, and the names that `.equ` and `.set` define. */
-const labelsOf = (/** @type {string} */ text) => [...text.matchAll(LABEL)].map(([, label, equal]) => label ?? equal);
-
 /**
  * Names that go on from the word before the caret: of mnemonics and directives, or of an operand.
  * before, after: the caret's line up to the caret, and from it on; text: the source; isAsked: whether all operands are wanted, also
@@ -29,8 +26,9 @@ export function namesAt(before, after, text, isAsked) {
   const head = before.slice(0, before.length - word.length);
   const isFirst = /^\s*([\w.$]+:\s*)*$/.test(head);
   if ((!isAsked && word.length < 2) || /#|\/\/|"/.test(head) || /^[\w.$]/.test(after)) return { word, names: [] };
-  const operands = () => [...labelsOf(text).sort(), ...(isAsked ? [...REGISTERS, ...(/^\s*vset/.test(head) ? VTYPE : [])] : [])];
-  const known = isFirst ? [...FORMS.keys()].sort() : [...new Set(operands())];
+  const labels = [...text.matchAll(LABEL)].map(([, label, equal]) => label ?? equal).sort(); // and names of `.equ` and `.set`
+  const operands = isAsked ? [...labels, ...REGISTERS, ...(/^\s*vset/.test(head) ? VTYPE : [])] : labels;
+  const known = isFirst ? [...FORMS.keys()].sort() : [...new Set(operands)];
   const names = known.filter((name) => name !== word && name.startsWith(word));
   return { word, names: names.slice(0, isAsked ? names.length : MOST_HINTS).map((name) => [name, FORMS.get(name) ?? ""]) };
 }

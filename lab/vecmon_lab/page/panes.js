@@ -27,12 +27,9 @@ export function keptArrangement(key) {
 }
 
 export class Panes {
-  hasRoom = false; // for the elements
-
   /** @param {HTMLElement} root of a machine @param {string} kind of the page */
   constructor(root, kind) {
     this.root = root;
-    this.machine = part(root, "machine");
     this.key = `vecmon-panes-${kind}`;
     this.kept = keptArrangement(this.key);
     for (const list of this.all('[role="tablist"]')) this.listenToTabs(list);
@@ -147,9 +144,9 @@ export class Panes {
 
   /** Makes room for the elements when a program is stepped, once, by folding those panes that the reader hasn't arranged. */
   makeRoom() {
-    if (this.hasRoom) return;
-    this.hasRoom = true;
-    this.machine.classList.add("stepped");
+    const { classList } = part(this.root, "machine");
+    if (classList.contains("stepped")) return;
+    classList.add("stepped");
     const folding = { dock: innerHeight < LOW, exercise: innerWidth < NARROW };
     for (const [id, isFolded] of Object.entries(folding)) if (isFolded && !(id in this.kept.folded)) this.fold(id, true);
   }

@@ -12,10 +12,8 @@ const BESIDES = ["accessed", "breaks", "labels", "lines", "outputs", "read"];
 
 /** Whether two states have the same values. */
 /** @type {(one: State, other: State) => boolean} */
-export const isAlike = (one, other) => {
-  const keys = /** @type {(keyof State)[]} */ (Object.keys({ ...one, ...other }));
-  return keys.every((key) => BESIDES.includes(key) || one[key] === other[key]);
-};
+export const isAlike = (one, other) =>
+  /** @type {(keyof State)[]} */ (Object.keys({ ...one, ...other })).every((key) => BESIDES.includes(key) || one[key] === other[key]);
 
 /** Places the controls of a student's page: in the bar, and on a phone in the pane of elements. */
 export function placePast(/** @type {HTMLElement} */ root) {
@@ -48,19 +46,13 @@ export class Past {
   }
 
   /** The moment that is shown; undefined now. */
-  get moment() {
-    return /** @type {Moment | undefined} */ (this.moments[this.place]);
-  }
+  get moment() { return /** @type {Moment | undefined} */ (this.moments[this.place]); }
 
   /** How many moments lie before the present. */
-  get end() {
-    return this.moments.length - Number(this.isStill);
-  }
+  get end() { return this.moments.length - Number(this.isStill); }
 
   /** The number of the moment that is shown. */
-  get shownPlace() {
-    return Math.min(this.place, this.end);
-  }
+  get shownPlace() { return Math.min(this.place, this.end); }
 
   /** Adds a moment: its state, the state before, and their explanation. Moments of a running program aren't kept. */
   add(/** @type {Moment} */ moment) {

@@ -11,9 +11,7 @@ import { textOf } from "./texts.js";
  */
 
 /** @type {Name[]} */
-const STARTING = ["go", "one", "many", "until-go", "step-over", "step-out"]; // buttons that let a stopped program go on
-/** @type {Name[]} */
-const NAMES = [...STARTING, "halt", "slice", "again", "assemble", "new", "images"];
+const NAMES = ["go", "one", "many", "until-go", "step-over", "step-out", "halt", "slice", "again", "assemble", "new", "images"];
 /** @type {Record<Condition, string>} */
 const CONDITIONS = { // in words
   "Not begun": textOf("condition.not-begun"), "No connection": textOf("condition.no-connection"),
@@ -62,13 +60,10 @@ export class RunBar {
 
   /** Shows while `work` goes on that a source is being built. */
   /** @type {<Result>(work: Promise<Result>) => Promise<Result>} */
-  async building(work) {
-    this.isBuilding = true;
-    this.paint();
-    const result = await work;
-    this.isBuilding = false;
-    this.paint();
-    return result;
+  building(work) {
+    const paint = (/** @type {boolean} */ isBuilding) => Object.assign(this, { isBuilding }).paint();
+    paint(true);
+    return work.finally(() => paint(false));
   }
 
   paint() {

@@ -18,7 +18,8 @@ const PAUSE = 700; // ms in which nothing is typed, and then it is sent
 /** @type {Record<string, string>} */
 const REASONS = { typed: textOf("source.typed"), written: textOf("source.assembled"), given: textOf("source.given") };
 
-const keyOf = (/** @type {SourceText} */ { text, language }) => `${language} ${text}`;
+/** Equal for equal sources; "" for none. */
+const keyOf = (/** @type {SourceText | null} */ source) => (source ? `${source.language} ${source.text}` : "");
 
 /** A version in words, as `14:05 given, Doubles`; exercises have their titles. */
 /** @type {(version: Version, exercises: Exercises) => string} */
@@ -100,30 +101,23 @@ export class Source {
   }
 
   /** Whether the text is too long to become a version. */
-  get isTooLong() {
-    return !this.editor.isReadOnly && this.editor.source.text.length > MOST_LETTERS;
-  }
+  get isTooLong() { return !this.editor.isReadOnly && this.editor.source.text.length > MOST_LETTERS; }
 
   /** Puts another source into the editor, where undo takes it back; what is there becomes a version first, or stays. */
   async replace(/** @type {SourceText} */ source) {
     if (this.isTooLong) return;
     const own = this.editor.source;
-    const isOwn = own.text.trim() && !this.editor.isReadOnly && (this.isTyped || keyOf(own) === this.key);
+    const isOwn = own.text.trim() && !this.editor.isReadOnly && (this.isTyped || keyOf(own) === keyOf(this.told));
     const isKept = isOwn && keyOf(own) !== keyOf(source);
     const answer = isKept ? await this.bringOwn({ keep: true }) : { error: "" };
     if (answer && !answer.error) this.editor.put(source);
-  }
-
-  /** The key of the source that the server has. */
-  get key() {
-    return this.told && keyOf(this.told);
   }
 
   /** Opens an exercise, whose source comes from the server; returns whether that had the source of the one before. */
   async openExercise(/** @type {string} */ exercise) {
     clearTimeout(this.timer);
     if (this.isTooLong) return false;
-    if (this.isTyped && keyOf(this.editor.source) !== this.key) this.bringOwn({ keep: false });
+    if (this.isTyped && keyOf(this.editor.source) !== keyOf(this.told)) this.bringOwn({ keep: false });
     const answer = await this.connection.ask({ ask: "open", exercise });
     return Boolean(answer && !answer.error);
   }
@@ -143,7 +137,7 @@ export class Source {
   show(seat, source, exercises) {
     const { editor, told } = this;
     const isNew = seat !== this.seat || !told;
-    const isOwn = (/** @type {SourceText} */ each) => (told && keyOf(each) === keyOf(told)) || this.sent.has(keyOf(each));
+    const isOwn = (/** @type {SourceText} */ each) => keyOf(each) === keyOf(told) || this.sent.has(keyOf(each));
     const isOther = !isNew && (source.exercise !== told.exercise || (source.number > told.number && !isOwn(source)));
     if (told?.versions !== source.versions) this.listVersions(source.versions, exercises);
     if (isOther && this.isTooLong) return;
@@ -159,9 +153,7 @@ export class Source {
   }
 
   /** Whether the machine has the source as it is here. */
-  get stands() {
-    return Boolean(this.told?.stands) && this.key === keyOf(this.editor.source);
-  }
+  get stands() { return Boolean(this.told?.stands) && keyOf(this.told) === keyOf(this.editor.source); }
 
   /** Marks the lines that the machine executed last and executes next, and those with breakpoints; returns them. */
   mark(/** @type {import("./messages").State} */ state) {

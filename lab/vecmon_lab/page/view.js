@@ -18,7 +18,7 @@ export const usedIn = (/** @type {State | undefined} */ { v = {} } = { run: "abs
 
 /** The state of a machine; null of none, or of one that runs and was never looked at. */
 /** @type {(state: State | undefined) => MachineState | null} */
-export const machineOf = (state) => (state && state.run !== "absent" && state.x ? /** @type {MachineState} */ (state) : null);
+const machineOf = (state) => (state && state.run !== "absent" && state.x ? /** @type {MachineState} */ (state) : null);
 
 /** The panels of a machine, and the stage above them, below a root that has both. */
 export class MachineView {
