@@ -10,28 +10,22 @@ import { Teacher } from "./teacher.js";
 import { textOf } from "./texts.js";
 import { Wall } from "./wall.js";
 
-/** @type {("head" | "teacher" | "desk")[]} */
-const PARTS = ["head", "teacher", "desk"];
-const LEAVING = textOf("class.leaving");
-
 /** Begins anew with a code, or with none, that is kept for this tab's session alone, and not in the address. */
 function sitDown(/** @type {string} */ code) {
   if (![code, null].includes(sessionStorage.getItem("code"))) sessionStorage.clear(); // it was somebody else's
   if (code) sessionStorage.setItem("code", code);
-  history.replaceState(null, "", location.pathname);
 }
 
 /** Takes the part of the address after #: a source, which waits for a seat, or a code. */
 function takeHash() {
-  const { hash } = location;
-  if (!isLink(hash)) return sitDown(hash.slice(1));
-  sessionStorage.setItem("linked", hash);
-  return history.replaceState(null, "", location.pathname);
+  if (isLink(location.hash)) sessionStorage.setItem("linked", location.hash);
+  else sitDown(location.hash.slice(1));
+  history.replaceState(null, "", location.pathname);
 }
 
 /** Asks for a code in place of one that opens nothing, which stays in the field for a correction. */
 function askForCode(words = "", wrong = "") {
-  for (const id of PARTS) byId(id).hidden = true;
+  byId("head").hidden = byId("teacher").hidden = byId("desk").hidden = true;
   byId("join").hidden = false;
   say("gone", "");
   put(byId("join-says"), words);
@@ -80,13 +74,13 @@ class ClassTab {
 }
 
 window.addEventListener("hashchange", () => (takeHash(), location.reload()));
-byId("forget").addEventListener("click", () => ask(LEAVING, textOf("menu.leave"), () => (sitDown(""), location.reload())));
+byId("forget").onclick = () => ask(textOf("class.leaving"), textOf("menu.leave"), () => (sitDown(""), location.reload()));
 document.addEventListener("submit", (event) => event.preventDefault());
-byId("join").addEventListener("submit", () => {
+byId("join").onsubmit = () => {
   sitDown(byId("code").value.toLowerCase().replace(/[\s-]/g, ""));
   if (byId("called").value) sessionStorage.setItem("name", byId("called").value);
   location.reload();
-});
+};
 if (location.hash) takeHash();
 const code = sessionStorage.getItem("code");
 if (code) new ClassTab(code);

@@ -19,10 +19,7 @@ const NAMES = {
   step: textOf("request.step"), draft: "", "last-instruction": "", read: "", shoulder: "", wall: "",
 };
 /** @type {Record<number, string>} */
-const ENDINGS = {
-  4403: textOf("connection.invalid-code"),
-  4429: textOf("connection.too-many-tabs"),
-};
+const ENDINGS = { 4403: textOf("connection.invalid-code"), 4429: textOf("connection.too-many-tabs") }; // by the code of a closed socket
 
 /** The name of a lost request in a message; "" if its sender repeats it. */
 export function nameOf(/** @type {Request} */ request) {
@@ -51,10 +48,6 @@ export class Connection {
     this.listener = listener;
     this.open();
     setInterval(() => this.beat(), BEAT);
-  }
-
-  get waiting() {
-    return this.pending.size;
   }
 
   open() {
@@ -98,7 +91,7 @@ export class Connection {
   }
 
   /** @type {Channel["ask"]} */
-  async ask(request) {
+  ask(request) {
     const { answer } = this.pending.add(request);
     if (!this.isReady) this.tell();
     else if (this.lost && nameOf(request)) this.listener.gone((this.lost = ""));
@@ -117,10 +110,9 @@ export class Connection {
 
   /** Sends the first request that waits, unless one is under way. */
   next() {
-    const { first } = this.pending;
-    if (!this.isReady || this.isUnderWay || !first) return;
+    if (!this.isReady || this.isUnderWay || !this.pending.size) return;
     this.isUnderWay = true;
-    this.send(first);
+    this.send(this.pending.requests[0]);
   }
 
   closed(reason = 0) {

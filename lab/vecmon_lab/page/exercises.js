@@ -1,7 +1,7 @@
 // The exercises of a class, at a seat: their order with marks, a text, its cases, hints that are due, and the last result.
 
 import { blocks } from "./blocks.js";
-import { elementsIn, link, make, part, prose, put } from "./elements.js";
+import { byId, elementsIn, link, make, prose, put, renew } from "./elements.js";
 import { contentOf, textOf } from "./texts.js";
 import { caseTable, verdict } from "./verdict.js";
 
@@ -12,32 +12,29 @@ import { caseTable, verdict } from "./verdict.js";
 const MARKS = { passed: "✓", tried: "◐", open: "" };
 const STATES = { passed: textOf("exercises.passed"), tried: textOf("exercises.tried"), open: "" };
 
-/** A paragraph with the lesson before an exercise, if it has one. */
-const lessonBefore = (/** @type {string} */ href) =>
-  href ? [make("p", "", ...contentOf("exercises.lesson-before", { lesson: link(href, textOf("exercises.the-lesson")) }))] : [];
+/** Offers the tries of an exercise in a list, below its other entries; without tries it is hidden. */
+/** @type {(list: HTMLSelectElement, tries: number, ...others: string[]) => void} */
+export function offerTries(list, tries, ...others) {
+  const names = Array.from({ length: tries }, (_, place) => textOf("exercises.try", { number: place + 1 }));
+  renew(list, [...others, ...names].map((name) => make("option", "", name)));
+  list.hidden = !tries;
+}
 
 export class Exercises {
   /** @type {All} */ all = {};
   /** @type {string[]} */ names = []; // in the course's order
   name = ""; // of the exercise whose source the seat has
   isOpen = false; // whether one is open; at a first visit they are listed
-  /** @type {Partial<ExerciseView>} */ shown = {};
   awaited = ""; // the exercise that is being checked
 
-  /** @param {HTMLElement} root @param {import("./bench.js").Bench} bench whose source is checked */
-  constructor(root, bench) {
-    this.root = root;
+  constructor(/** @type {import("./bench.js").Bench} */ bench) {
     this.bench = bench;
-    this.editor = bench.editor;
     this.sample = bench.editor.source.text;
-    this.panel = part(root, "exercise");
-    this.list = part(root, "course-list");
-    this.answers = part(root, "own-answers");
-    this.check = part(root, "check");
-    this.check.addEventListener("click", () => this.checkSource());
-    this.answers.addEventListener("change", () => this.takeAnswer());
-    part(root, "start-over").addEventListener("click", () => (this.takeStart(), bench.panes.show("editor")));
-    this.editor.language.addEventListener("change", () => this.changeStart());
+    byId("check").onclick = () => this.checkSource();
+    byId("own-answers").onchange = () => this.takeAnswer();
+    byId("start-over").onclick = () => (this.takeStart(), bench.panes.show("editor"));
+    byId("reading").onclick = ({ target }) => this.tryCase(/** @type {Element} */ (target));
+    bench.editor.language.addEventListener("change", () => this.changeStart());
   }
 
   /** Shows the server's data of all exercises, at a seat that has this source. */
@@ -48,14 +45,14 @@ export class Exercises {
     const isOpen = this.isOpen || isOther || this.hasBegun(all, source);
     if (all === this.all && !isOther && isOpen === this.isOpen) return;
     const item = (/** @type {string} */ own) => make("li", "", Object.assign(make("button", ""), { onclick: () => this.choose(own) }));
-    if (`${names}` !== `${this.names}`) this.list.replaceChildren(...names.map(item));
+    if (`${names}` !== `${this.names}`) byId("course-list").replaceChildren(...names.map(item));
     Object.assign(this, { all, names, name, isOpen });
-    part(this.root, "tab-exercise").hidden = this.panel.hidden = !names.length;
-    this.root.classList.toggle("exercising", names.length > 0);
+    byId("tab-exercise").hidden = byId("exercise").hidden = !names.length;
+    document.body.classList.toggle("exercising", names.length > 0);
     if (!names.length) return;
-    if (isOther) part(this.root, "reading").scrollTop = 0;
+    if (isOther) byId("reading").scrollTop = 0;
     this.paint();
-    if (isOpen && !source.text && this.all[name].starts.length && (isOther || !this.editor.hasPast)) this.takeStart();
+    if (isOpen && !source.text && this.all[name].starts.length && (isOther || !this.bench.editor.hasPast)) this.takeStart();
   }
 
   /** Whether somebody has worked at the seat: there was a try, or its source isn't the sample of a first visit. */
@@ -69,11 +66,11 @@ export class Exercises {
   async choose(/** @type {string} */ name) {
     const isListed = !this.isOpen && name === this.name; // the seat has it already
     this.isOpen = true;
-    this.bench.panes.select(part(this.root, "show-source"));
+    this.bench.panes.select(byId("show-source"));
     if (isListed) return this.paint(), this.takeStart();
-    this.list.inert = true; // one at a time
+    byId("course-list").inert = true; // one at a time
     const isOpen = await this.bench.source.openExercise(name);
-    this.list.inert = false;
+    byId("course-list").inert = false;
     return isOpen || this.bench.refuse(textOf("exercises.not-open"));
   }
 
@@ -85,8 +82,8 @@ export class Exercises {
 
   /** Puts an earlier answer into the editor, where undo takes it back. */
   async takeAnswer() {
-    const number = this.answers.selectedIndex;
-    this.answers.selectedIndex = 0;
+    const number = byId("own-answers").selectedIndex;
+    byId("own-answers").selectedIndex = 0;
     const answer = await this.bench.request({ ask: "answer", exercise: this.name, number });
     if (answer?.text === undefined) return;
     await this.bench.source.replace({ text: answer.text, language: answer.language ?? 0 });
@@ -95,37 +92,34 @@ export class Exercises {
 
   /** The source to begin with: of two, the one of the language that is chosen, be it C by whatever options. */
   get start() {
-    const [{ starts }, { language }] = [this.all[this.name], this.editor.source];
-    const own = starts.find((start) => start.language > 0 === this.editor.isC);
+    const [{ starts }, { language }] = [this.all[this.name], this.bench.editor.source];
+    const own = starts.find((start) => start.language > 0 === this.bench.editor.isC);
     return own ? { ...own, language } : (starts[0] ?? { text: "", language: 0 });
   }
 
-  /** Paints the list, and what is another than before of the exercise that is open. */
+  /** Paints the list, and the exercise that is open. */
   paint() {
-    const [it, before] = [this.all[this.name], this.shown];
-    this.panel.classList.toggle("choosing", !this.isOpen);
+    const it = this.all[this.name];
+    byId("exercise").classList.toggle("choosing", !this.isOpen);
     this.paintList();
-    this.check.disabled = it.checking || !this.isOpen;
-    if (it === before) return;
-    this.shown = it;
-    const title = make("h3", "", `${it.number} ${it.title}`);
-    if (it.text !== before.text) part(this.root, "exercise-text").replaceChildren(title, ...lessonBefore(it.before), ...blocks(it.text));
-    part(this.root, "start-over").hidden = !it.starts.length;
+    byId("check").disabled = it.checking || !this.isOpen;
+    byId("start-over").hidden = !it.starts.length;
+    const lesson = it.before && link(it.before, textOf("exercises.the-lesson"));
+    const before = lesson ? [make("p", "", ...contentOf("exercises.lesson-before", { lesson }))] : [];
+    renew(byId("exercise-text"), [make("h3", "", `${it.number} ${it.title}`), ...before, ...blocks(it.text)]);
     this.paintTries(it);
-    const start = (/** @type {number | undefined} */ place) => this.tryCase(place);
-    if (it.told !== before.told || it.lesson !== before.lesson) part(this.root, "verdict").replaceChildren(...verdict(it, start));
-    if (it.told !== before.told || it.cases !== before.cases) part(this.root, "cases").replaceChildren(...caseTable(it, start));
+    renew(byId("verdict"), verdict(it));
+    renew(byId("cases"), caseTable(it));
     const hints = it.hints.map((hint) => make("li", "", ...prose(hint)));
     const count = textOf("exercises.hints", { number: hints.length, all: it.hint_count });
-    part(this.root, "hints").replaceChildren(...(hints.length ? [make("h3", "", count), make("ol", "", ...hints)] : []));
-    const isTold = this.awaited === this.name && !it.checking;
+    renew(byId("hints"), hints.length ? [make("h3", "", count), make("ol", "", ...hints)] : []);
     if (it.checking) this.awaited = this.name;
-    if (isTold) this.tell(it.told);
+    else if (this.awaited === this.name) this.tell(it.told);
   }
 
   /** Paints the marks of the exercises: which are passed, tried, or not begun, and which one is open. */
   paintList() {
-    elementsIn(this.list, "button").forEach((own, place) => {
+    elementsIn(byId("course-list"), "button").forEach((own, place) => {
       const name = this.names[place];
       const { number, title, tries, passed } = this.all[name];
       const state = passed ? "passed" : tries ? "tried" : "open";
@@ -138,39 +132,39 @@ export class Exercises {
 
   /** Paints what there is of tries: earlier answers, and the best result. */
   paintTries(/** @type {ExerciseView} */ { tries, best, cases, passed, checking }) {
-    const answers = Array.from({ length: tries }, (_, place) => make("option", "", textOf("exercises.try", { number: place + 1 })));
-    if (this.answers.length !== tries + 1) this.answers.replaceChildren(make("option", "", textOf("exercises.answers")), ...answers);
-    this.answers.hidden = !tries;
+    offerTries(byId("own-answers"), tries, textOf("exercises.answers"));
     const result = passed ? textOf("exercises.passed") : textOf("exercises.best", { best, all: cases.length });
     const words = textOf("exercises.tries", { count: tries, result });
-    put(part(this.root, "try-count"), checking ? textOf("exercises.checking") : tries ? words : "");
+    put(byId("try-count"), checking ? textOf("exercises.checking") : tries ? words : "");
   }
 
   /** Brings the last result into sight: the panel, and in it the result. */
   tell(/** @type {ExerciseView["told"]} */ { mistakes, warnings }) {
     this.awaited = "";
     this.bench.panes.show("exercise");
-    part(this.root, "reading").scrollTop = part(this.root, "verdict").offsetTop - 8;
+    byId("reading").scrollTop = byId("verdict").offsetTop - 8;
     this.bench.showMistakes(mistakes, warnings);
     if (mistakes) this.bench.panes.show("editor");
   }
 
   /** Sends the source in the editor. */
   async checkSource() {
-    this.check.disabled = true; // so that a click more checks nothing
-    await this.bench.request({ ask: "check", exercise: this.name, ...this.editor.source });
-    this.check.disabled = this.all[this.name].checking;
+    byId("check").disabled = true; // so that a click more checks nothing
+    await this.bench.request({ ask: "check", exercise: this.name, ...this.bench.editor.source });
+    byId("check").disabled = this.all[this.name].checking;
   }
 
-  /** Starts a machine with the source in the editor, and with what a case gives. */
-  tryCase(/** @type {number | undefined} */ place) {
+  /** Starts a machine with the source in the editor, and with what the case of a button gives. */
+  tryCase(/** @type {Element} */ target) {
+    if (!(target instanceof HTMLButtonElement)) return;
     this.bench.panes.makeRoom();
-    return this.bench.write({ ask: "case", exercise: this.name, case: place });
+    this.bench.write({ ask: "case", exercise: this.name, case: Number(target.value) });
   }
 
   /** Another language was chosen: where nothing was written yet, one begins with its source. */
   changeStart() {
-    if (this.all[this.name]?.starts.some(({ text }) => text === this.editor.source.text)) this.editor.put(this.start);
+    const { editor } = this.bench;
+    if (this.all[this.name]?.starts.some(({ text }) => text === editor.source.text)) editor.put(this.start);
   }
 
   /** Puts the source to begin with into the editor. */

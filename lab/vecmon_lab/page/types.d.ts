@@ -36,7 +36,7 @@ export type Message = Pick<Messages.Message, "kind"> & { [Key in KeyOf<Messages.
 export interface Connection {
   readonly isReady: boolean;
   /** Requests without an answer yet. */
-  readonly waiting: number;
+  readonly pending: { readonly size: number };
   /** Seconds that the server's clock is ahead of this one. */
   readonly ahead: number;
   /** The answer to a request; null without one, which is then reported. */

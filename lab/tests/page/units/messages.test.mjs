@@ -38,7 +38,7 @@ test("answers reach their requests by number, in any order", async () => {
   const pending = new Pending();
   const [one, two] = [{ ask: "open" }, { ask: "lines", do: ["regs"] }].map((request) => pending.add(request));
   assert.deepEqual([one.request, two.request], [{ id: 1, ask: "open" }, { id: 2, ask: "lines", do: ["regs"] }]);
-  assert.equal(pending.first, one.request);
+  assert.equal(pending.requests[0], one.request);
   assert.equal(pending.settle({ kind: "answer", id: 2, text: "second" }), true);
   assert.equal(pending.settle({ kind: "answer", id: 2, text: "again" }), false);
   assert.equal(pending.settle({ kind: "answer", id: 1, text: "first" }), true);
@@ -51,7 +51,7 @@ test("dropped requests have no answer, and the others stay", async () => {
   assert.deepEqual(pending.drop(1), [one.request]);
   assert.equal(await one.answer, null);
   assert.deepEqual(pending.requests, [two.request]);
-  assert.deepEqual([pending.drop(), pending.size, pending.first], [[two.request], 0, undefined]);
+  assert.deepEqual([pending.drop(), pending.size], [[two.request], 0]);
   assert.equal(await two.answer, null);
 });
 

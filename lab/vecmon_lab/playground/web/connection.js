@@ -72,10 +72,6 @@ export class Connection {
     this.work.open().then(() => this.begin());
   }
 
-  get waiting() {
-    return this.pending.size;
-  }
-
   send(/** @type {import("./playground").ToWorker} */ message) {
     this.worker?.postMessage(message);
   }
