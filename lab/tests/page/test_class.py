@@ -374,7 +374,7 @@ def test_teacher_page_changes_settings(sit: Sit, tmp_path: pathlib.Path, served:
     tab.wait("!id('join').hidden && id('head').hidden")
     assert "isn't valid" in tab.text("#join-says") and tab.run("sessionStorage.getItem('code')") is None
     assert served.codes["A5"] != old
-    teacher.wait("one(\"[data-code='A5'] a\").hash === '#' + arguments[0]", served.codes["A5"])
+    teacher.wait("one(\"[data-code='A5'] a\")?.hash === '#' + arguments[0]", served.codes["A5"])
     tab.keys("#code", served.codes["A5"] + "\n")
     tab.wait("id('who').textContent === 'Seat A5'")
     served.check_replay(digest_of(teacher))

@@ -44,7 +44,7 @@ def test_codes_are_shown_and_printed(sit: Sit, served: Served) -> None:
     teacher.click("[data-dialog='join-class']")
     for _ in range(2):
         teacher.click("[aria-label='Code for seat A3']")
-        teacher.wait("one(\"[data-code='A3'] a\").href === arguments[0]", f"{ADDRESS}#{codes['A3']}")
+        teacher.wait("one(\"[data-code='A3'] a\")?.href === arguments[0]", f"{ADDRESS}#{codes['A3']}")
         assert seen() == ["A3"]
         teacher.click("[aria-label='Code for seat A3']")
         assert seen() == []
@@ -111,7 +111,7 @@ def test_wall_shows_seat_without_codes(tabs: "Chrome", served: Served) -> None:
         teacher.click("#show-codes")
         teacher.click("[aria-label='New code for seat A2']")
         teacher.click("#yes")
-        shown = "one(\"[data-code='A2'] a\").hash"
+        shown = "one(\"[data-code='A2'] a\")?.hash"
         teacher.wait(f"{shown} && {shown} !== '#' + arguments[0]", codes["A2"])
     tab.click("#one")
     wall.wait("one('#listing .told')?.dataset.address === '10030'")

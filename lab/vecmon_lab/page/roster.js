@@ -1,12 +1,11 @@
 // The teacher's list: a row for each seat, those who need help first, with a column for each exercise.
 
-import { header, make, part, put } from "./elements.js";
+import { byId, header, make, put, renew } from "./elements.js";
 import { textOf } from "./texts.js";
 
 /** @typedef {import("./messages").SeatView} SeatView */
 /** @typedef {import("./messages").SeatStatus} SeatStatus */
 /** @typedef {Record<string, import("./messages").ExerciseTable>} Exercises by name */
-/** @typedef {import("./teacher.js").Teacher} Teacher */
 
 const HEADS = [textOf("teacher.student"), textOf("teacher.status"), textOf("teacher.for")];
 const AGES_EVERY = 5000; // ms
@@ -65,21 +64,26 @@ function columnButton(exercise, title, ...contents) {
   return box;
 }
 
+/** The head of an exercise's column, which shows the answers of the seat that is looked at. */
+function columnHead(/** @type {string} */ name, /** @type {string} */ exercise, /** @type {number} */ place) {
+  const contents = [`${place + 1}`, make("span", "title", ` ${exercise}`)];
+  const head = columnButton(name, textOf("teacher.column.title", { exercise }), ...contents);
+  if (place < 9) head.setAttribute("aria-keyshortcuts", `${place + 1}`);
+  return head;
+}
+
+/** A row, whose checkbox and button stay, since they may have the focus. */
 class Row {
   told = /** @type {SeatView} */ ({});
   /** @type {Exercises} */ exercises = {};
 
-  constructor(/** @type {string} */ seat, /** @type {Teacher} */ teacher) {
+  constructor(/** @type {string} */ seat) {
     this.seat = seat;
-    this.teacher = teacher;
     this.box = Object.assign(make("input", ""), { type: "checkbox", ariaLabel: textOf("teacher.choose-seat.label", { seat }) });
-    this.name = make("span", "");
-    this.look = make("button", "look", make("span", "seat", seat), " ", this.name);
-    this.sign = Object.assign(make("span", "sign"), { ariaHidden: "true" });
-    this.words = make("span", "");
+    this.look = make("button", "look");
+    this.kept = [make("td", "", this.box), header("row", this.look)];
     this.minutes = make("td", "minutes");
-    const condition = make("td", "condition", this.sign, this.words);
-    this.row = make("tr", "", make("td", "", this.box), header("row", this.look), condition, this.minutes);
+    this.row = make("tr", "");
     this.row.dataset.seat = seat;
   }
 
@@ -89,19 +93,14 @@ class Row {
     return [hand, stuck, run !== "absent", tabs || name, true].findIndex(Boolean);
   }
 
-  /** @type {(told: SeatView, exercises: Exercises, isChosen: boolean) => void} */
-  show(told, exercises, isChosen) {
-    this.row.ariaCurrent = `${isChosen}`;
-    if (exercises !== this.exercises) {
-      [...this.row.children].slice(4).forEach((cell) => cell.remove());
-      this.row.append(...Object.keys(exercises).map((name) => this.cell(name, exercises[name])));
-    }
+  show(/** @type {SeatView} */ told, /** @type {Exercises} */ exercises) {
+    if (told === this.told && exercises === this.exercises) return;
     Object.assign(this, { told, exercises });
-    const [sign, words] = statusOf(told);
-    put(this.name, told.name);
-    put(this.sign, sign);
-    put(this.words, words);
-    this.words.title = `${words}\n${told.line} → ${told.answer}`;
+    const [sign, text] = statusOf(told);
+    const words = Object.assign(make("span", "", text), { title: `${text}\n${told.line} → ${told.answer}` });
+    const condition = make("td", "condition", Object.assign(make("span", "sign", sign), { ariaHidden: "true" }), words);
+    renew(this.row, [...this.kept, condition, this.minutes, ...Object.keys(exercises).map((name) => this.cell(name, exercises[name]))]);
+    put(this.look, `${this.seat} ${told.name}`, [make("span", "seat", this.seat), " ", make("span", "", told.name)]);
     this.row.className = GROUPS[this.group];
   }
 
@@ -113,10 +112,6 @@ class Row {
     const mark = passed ? ["✓", make("small", "", passed > 1 ? `${passed}` : "")] : [`${best}`, make("small", "", `/${of}`)];
     return make("td", passed ? "passed" : "tried", columnButton(exercise, `${title}: ${workText(result, of)}`, ...mark));
   }
-
-  age() {
-    put(this.minutes, this.group < 3 ? forHow(this.teacher.now - waitOf(this.told)) : "");
-  }
 }
 
 export class Roster {
@@ -125,41 +120,36 @@ export class Roster {
   /** @type {Exercises | undefined} */ results;
   /** @type {import("./messages").OfferedExercise[] | undefined} */ course;
 
-  constructor(/** @type {HTMLElement} */ root, /** @type {Teacher} */ teacher) {
+  constructor(/** @type {import("./teacher.js").Teacher} */ teacher) {
     this.teacher = teacher;
-    this.head = part(root, "columns");
-    this.body = part(root, "seats");
-    this.body.addEventListener("mouseleave", () => this.sort());
-    part(root, "roster").addEventListener("click", ({ target }) => this.clicked(/** @type {HTMLElement} */ (target)));
+    byId("seats").onmouseleave = () => this.sort();
+    byId("roster").onclick = ({ target }) => this.clicked(/** @type {HTMLElement} */ (target));
     document.addEventListener("keydown", (event) => this.pressed(event));
-    part(root, "next-help").onclick = () => this.goOn(1);
-    part(root, "previous-help").onclick = () => this.goOn(-1);
-    setInterval(() => this.rows.forEach((row) => row.age()), AGES_EVERY);
+    byId("next-help").onclick = () => this.goOn(1);
+    byId("previous-help").onclick = () => this.goOn(-1);
+    setInterval(() => this.age(), AGES_EVERY);
   }
 
   /** Shows the seats of machines, which may be more than before. */
   show(/** @type {import("./messages").TeacherView} */ { machines, course, exercises: results, shoulder }) {
     const seats = Object.keys(machines).flatMap((letter) => Object.keys(machines[letter].seats).map((digit) => letter + digit));
-    if (seats.length > this.rows.length) this.rows = seats.map((seat) => new Row(seat, this.teacher));
+    if (seats.length > this.rows.length) this.rows = seats.map((seat) => new Row(seat));
     if (results !== this.results || course !== this.course) {
       const names = course.map(({ name }) => name).filter((name) => name in results);
       Object.assign(this, { results, course, exercises: Object.fromEntries(names.map((name) => [name, results[name]])) });
-      this.showColumns();
     }
-    for (const row of this.rows) row.show(machines[row.seat[0]].seats[row.seat[1]], this.exercises, row.seat === shoulder);
-    this.rows.forEach((row) => row.age());
+    const heads = [...HEADS, ...Object.entries(this.exercises).map(([name, { title }], place) => columnHead(name, title, place))];
+    renew(byId("columns"), [make("td", ""), ...heads.map((head) => header("col", head))]);
+    for (const row of this.rows) {
+      row.show(this.teacher.seatOf(row.seat), this.exercises);
+      row.row.ariaCurrent = `${row.seat === shoulder}`;
+    }
+    this.age();
     this.sort();
   }
 
-  /** The heads of exercises, which show the answers of the seat that is looked at. */
-  showColumns() {
-    const heads = Object.entries(this.exercises).map(([name, { title }], place) => {
-      const contents = [`${place + 1}`, make("span", "title", ` ${title}`)];
-      const head = columnButton(name, textOf("teacher.column.title", { exercise: title }), ...contents);
-      if (place < 9) head.setAttribute("aria-keyshortcuts", `${place + 1}`);
-      return header("col", head);
-    });
-    this.head.replaceChildren(make("td", ""), ...HEADS.map((name) => header("col", name)), ...heads);
+  age() {
+    for (const row of this.rows) put(row.minutes, row.group < 3 ? forHow(this.teacher.now - waitOf(row.told)) : "");
   }
 
   /** The rows of those who need help. */
@@ -187,7 +177,7 @@ export class Roster {
   pressed(/** @type {KeyboardEvent} */ event) {
     const step = { ArrowDown: 1, ArrowUp: -1 }[event.key];
     const target = /** @type {Element} */ (event.target);
-    if (!step || event.defaultPrevented || (target !== document.body && !this.body.contains(target))) return;
+    if (!step || event.defaultPrevented || (target !== document.body && !target.closest("#seats"))) return;
     event.preventDefault();
     const seat = target.closest("tr")?.dataset.seat ?? this.teacher.shoulder.seat;
     const place = this.rows.findIndex((row) => row.seat === seat) + step;
@@ -196,13 +186,13 @@ export class Roster {
 
   /** Puts those who need help above; not while somebody points at a row. */
   sort() {
-    const { body, rows } = this;
+    const [body, rows] = [byId("seats"), this.rows];
     if (body.childElementCount === rows.length && body.matches(":hover")) return;
     const keyOf = (/** @type {Row} */ { group, told, seat }) => `${group} ${group < 2 ? waitOf(told) : ""} ${seat}`;
     rows.sort((one, other) => (keyOf(one) < keyOf(other) ? -1 : 1));
     if (rows.every(({ row }, place) => row === body.children[place])) return;
     const focused = /** @type {HTMLElement} */ (document.activeElement);
-    body.append(...rows.map(({ row }) => row));
+    body.replaceChildren(...rows.map(({ row }) => row));
     if (body.contains(focused)) focused.focus({ preventScroll: true });
   }
 }

@@ -1,7 +1,7 @@
 // What the teacher sends: a message, or a source that is offered or replaces others; to one seat, some, or all.
 
 import { Editor } from "./editor.js";
-import { button, elementsIn, make, part, put, timeText } from "./elements.js";
+import { button, byId, elementsIn, make, put, timeText } from "./elements.js";
 import { offerLanguages } from "./languages.js";
 import { MOST_LETTERS } from "./source.js";
 import { textOf } from "./texts.js";
@@ -17,25 +17,28 @@ const KINDS = {
   replace: [(to) => textOf("send.replace", { to }), (to) => textOf("send.replace.preview", { to })],
 };
 
+/** The radio buttons of a group, whose value is that of the chosen one. */
+const group = (/** @type {"to" | "how"} */ name) => /** @type {RadioNodeList} */ (byId("sending").elements.namedItem(name));
+
+/** A button that takes back what was sent. */
+/** @type {(what: string, takeBack: () => unknown) => HTMLElement} */
+const backButton = (what, takeBack) => button(textOf("teacher.take-back"), textOf("send.take-back.label", { what }), takeBack);
+
 export class Send {
   /** @type {TeacherView["sent"] | null} */ sent = null;
   /** @type {TeacherView["given"]} */ gift;
 
-  constructor(/** @type {HTMLElement} */ root, /** @type {import("./teacher.js").Teacher} */ teacher) {
-    this.root = root;
+  constructor(/** @type {import("./teacher.js").Teacher} */ teacher) {
     this.teacher = teacher;
-    this.form = part(root, "sending");
-    this.words = part(root, "words");
-    this.says = part(root, "sent-says");
-    part(root, "given").value = sessionStorage.getItem("given") ?? ""; // as before a reload
+    byId("given").value = sessionStorage.getItem("given") ?? ""; // as before a reload
     /** @type {Editor} */
-    this.given = new Editor(part(root, "given"), () => this.typed(), part(root, "given-language"));
-    part(root, "show-message").onclick = () => this.opened(this.words);
-    part(root, "show-gift").onclick = () => this.opened(this.given.code);
-    part(root, "take").onclick = () => (this.given.put(teacher.shoulder.source.editor.source), teacher.shoulder.panes.show("gift"));
-    part(root, "seats").addEventListener("change", () => this.choose(this.choices.chosen.length ? "chosen" : "one"));
-    this.form.oninput = () => this.paint();
-    this.form.onsubmit = () => this.submit();
+    this.given = new Editor(byId("given"), () => this.typed(), byId("given-language"));
+    byId("show-message").onclick = () => this.opened(byId("words"));
+    byId("show-gift").onclick = () => this.opened(this.given.code);
+    byId("take").onclick = () => (this.given.put(teacher.shoulder.source.editor.source), teacher.shoulder.panes.show("gift"));
+    byId("seats").onchange = () => this.choose(this.choices.chosen.length ? "chosen" : "one");
+    byId("sending").oninput = () => this.paint();
+    byId("sending").onsubmit = () => this.submit();
   }
 
   /** Keeps the source to give, until the tab is closed. */
@@ -52,13 +55,8 @@ export class Send {
     this.paint();
   }
 
-  /** The radio buttons of a group, whose value is that of the chosen one. */
-  group(/** @type {string} */ name) {
-    return /** @type {RadioNodeList} */ (this.form.elements.namedItem(name));
-  }
-
   choose(/** @type {string} */ to) {
-    this.group("to").value = to;
+    group("to").value = to;
     this.paint();
   }
 
@@ -71,65 +69,64 @@ export class Send {
     return { one: shoulder.seat ? [shoulder.seat] : [], chosen, waiting, all };
   }
 
-  /** Names of seats in a sentence. */
+  /** Names of seats in a sentence; none stand for all. */
   names(/** @type {string[]} */ seats) {
-    if (seats.length === this.teacher.roster.rows.length) return textOf("teacher.all-seats");
+    if ([0, this.teacher.roster.rows.length].includes(seats.length)) return textOf("teacher.all-seats");
     const [more, names] = [seats.length - SHOWN, seats.slice(0, SHOWN).map((seat) => this.teacher.withName(seat)).join(", ")];
     return more > 0 ? textOf("send.more", { names, more }) : names;
   }
 
   /** What is sent: a message, or a source that is offered or replaces others. */
   get kind() {
-    return part(this.root, "gift").hidden ? "message" : /** @type {"offer" | "replace"} */ (this.group("how").value);
+    return byId("gift").hidden ? "message" : /** @type {"offer" | "replace"} */ (group("how").value);
   }
 
   /** Shows the receivers, what happens there, and on the button how many they are. */
   paint() {
     const { choices, kind } = this;
-    const seats = choices[this.group("to").value];
+    const seats = choices[group("to").value];
     const { one, chosen, waiting, all } = choices;
     const looked = one.length ? this.names(one) : textOf("teacher.no-seat");
     const [some, needy] = [textOf("send.chosen", { number: chosen.length }), textOf("send.waiting", { number: waiting.length })];
     const labels = [looked, some, needy, textOf("send.all", { number: all.length })];
-    elementsIn(this.form, "#receivers span").forEach((label, place) => put(label, labels[place]));
+    elementsIn(byId("receivers"), "span").forEach((label, place) => put(label, labels[place]));
     const [button, preview] = KINDS[kind];
     const changed = seats.filter((seat) => this.teacher.seatOf(seat).changed).length;
     const loss = kind === "replace" && changed ? ` ${textOf("send.changed", { count: changed })}` : "";
-    put(part(this.root, "preview"), seats.length ? `${preview(this.names(seats))}${loss}` : textOf("send.nobody"));
-    put(part(this.root, "send-it"), button(seats.length === 1 ? this.names(seats) : textOf("send.students", { count: seats.length })));
-    part(this.root, "send-it").disabled = !seats.length || !(kind === "message" ? this.words.value : this.given.source.text).trim();
+    put(byId("preview"), seats.length ? `${preview(this.names(seats))}${loss}` : textOf("send.nobody"));
+    put(byId("send-it"), button(seats.length === 1 ? this.names(seats) : textOf("send.students", { count: seats.length })));
+    byId("send-it").disabled = !seats.length || !(kind === "message" ? byId("words").value : this.given.source.text).trim();
   }
 
   async submit() {
     const { kind: how } = this;
-    const to = this.group("to").value;
+    const to = group("to").value;
     const receivers = to === "all" ? { seat: "" } : { seats: this.choices[to] };
-    const title = how === "offer" ? { title: part(this.root, "gift-title").value } : {};
+    const title = how === "offer" ? byId("gift-title").value : undefined;
     const answer = await this.teacher.request(
       how === "message"
-        ? { ask: "write", ...receivers, text: this.words.value }
-        : { ask: "give", ...receivers, ...this.given.source, how, ...title },
+        ? { ask: "write", ...receivers, text: byId("words").value }
+        : { ask: "give", ...receivers, ...this.given.source, how, title },
     );
     if (!answer || answer.error) return;
-    if (how === "message") this.words.value = "";
-    put(this.says, "");
+    if (how === "message") byId("words").value = "";
+    put(byId("sent-says"), "");
     this.paint();
   }
 
   /** Shows the messages that were sent last, with those who have read them, and the source that was given last. */
   show(/** @type {TeacherView} */ view) {
     const { sent, given } = view;
-    offerLanguages(part(this.root, "given-language"), view);
+    offerLanguages(byId("given-language"), view);
     this.paint();
     if (sent === this.sent && given === this.gift) return;
     Object.assign(this, { sent, gift: given });
     const items = Object.keys(sent).slice(-SHOWN).reverse().map((number) => this.item(Number(number), sent[number]));
     if (given) {
-      const names = given.seats.length ? this.names(given.seats) : textOf("teacher.all-seats");
-      const words = textOf("send.replaced", { count: given.replaced, names });
-      items.unshift(make("li", "given", words, this.backButton(words, () => this.takeBack())));
+      const words = textOf("send.replaced", { count: given.replaced, names: this.names(given.seats) });
+      items.unshift(make("li", "given", words, backButton(words, () => this.takeBack(given.seats))));
     }
-    part(this.root, "sent").replaceChildren(...items);
+    byId("sent").replaceChildren(...items);
   }
 
   item(/** @type {number} */ number, /** @type {import("./messages").SentNotice} */ { time, text, offer, to, read, opened }) {
@@ -137,23 +134,17 @@ export class Send {
     const [what, numbers] = [text ? `“${text}”` : offered, { read: read.length, all: to.length }];
     const seen = offer ? textOf("send.opened", { ...numbers, opened: opened.length }) : textOf("send.read", numbers);
     const words = Object.assign(make("span", "", `${timeText(time)} ${this.names(to)}: ${what}, ${seen}`), { title: read.join(", ") });
-    return make("li", "", words, ...(read.length < to.length ? [this.backButton(what, () => this.unsend(number))] : []));
-  }
-
-  /** @param {string} what was sent @param {() => unknown} takeBack */
-  backButton(what, takeBack) {
-    return button(textOf("teacher.take-back"), textOf("send.take-back.label", { what }), takeBack);
+    return make("li", "", words, read.length < to.length ? backButton(what, () => this.unsend(number)) : "");
   }
 
   async unsend(/** @type {number} */ number) {
     const { read } = (await this.teacher.request({ ask: "unsend", number })) ?? {};
-    if (read) put(this.says, read.length ? textOf("send.read-before", { names: this.names(read) }) : textOf("send.taken-back"));
+    if (read) put(byId("sent-says"), read.length ? textOf("send.read-before", { names: this.names(read) }) : textOf("send.taken-back"));
   }
 
   /** Takes back the source that was given last, where no student has changed it since. */
-  async takeBack() {
-    const seats = this.gift?.seats ?? [];
+  async takeBack(/** @type {string[]} */ seats) {
     const answer = await this.teacher.request({ ask: "take-back", ...(seats.length ? { seats } : { seat: "" }) });
-    if (answer && !answer.error) put(this.says, textOf("send.restored", { count: answer.replaced ?? 0 }));
+    if (answer && !answer.error) put(byId("sent-says"), textOf("send.restored", { count: answer.replaced ?? 0 }));
   }
 }

@@ -1,6 +1,6 @@
 // The settings of a class: exercises, clocks and rights of all machines, their scripts, and the operator's lines.
 
-import { elementsIn, header, make, part, put, table, timeText } from "./elements.js";
+import { byId, elementsIn, header, make, put, table, timeText } from "./elements.js";
 import { listenToLines, requestsOf, unfitLines } from "./lines.js";
 import { textOf } from "./texts.js";
 import { Log } from "./transcript.js";
@@ -18,17 +18,15 @@ export class Settings {
   /** @type {TeacherView["exercises"]} */ exercises = {};
   /** @type {TeacherView["failures"]} */ failures = [];
 
-  constructor(/** @type {HTMLElement} */ root, /** @type {import("./teacher.js").Teacher} */ teacher) {
-    this.root = root;
+  constructor(/** @type {import("./teacher.js").Teacher} */ teacher) {
     this.teacher = teacher;
-    this.log = new Log(part(root, "operator-log"), false);
-    this.form = part(root, "clocks");
-    this.form.onchange = ({ target }) => this.set(/** @type {HTMLInputElement} */ (target));
-    listenToLines(part(root, "operator-line"), (lines) => this.operate(lines));
+    this.log = new Log(byId("operator-log"), false);
+    byId("clocks").onchange = ({ target }) => this.set(/** @type {HTMLInputElement} */ (target));
+    listenToLines(byId("operator-line"), (lines) => this.operate(lines));
   }
 
   field(/** @type {string} */ name) {
-    return /** @type {HTMLInputElement} */ (this.form.elements.namedItem(name));
+    return /** @type {HTMLInputElement} */ (byId("clocks").elements.namedItem(name));
   }
 
   /** @type {(view: TeacherView, logs: Record<string, string[]>, isAnew: boolean) => void} */
@@ -36,14 +34,14 @@ export class Settings {
     this.showExercises(view);
     const { machines } = view;
     const letters = Object.keys(machines);
-    part(this.root, "operated").hidden = letters.length === 1;
+    byId("operated").hidden = letters.length === 1;
     if (isAnew) this.log.clear();
     for (const letter of letters) {
       put((this.figures[letter] ??= this.add(letter)), this.figuresOf(machines[letter]));
       this.log.add(logs[letter] ?? [], letters.length > 1 ? `${letter} ` : "");
     }
     this.log.showEnd();
-    part(this.root, "operator-log").ariaLive = "polite";
+    byId("operator-log").ariaLive = "polite";
     this.showClocks(Object.values(machines));
   }
 
@@ -52,25 +50,24 @@ export class Settings {
     if (exercises === this.exercises && failures === this.failures && course === this.course) return;
     Object.assign(this, { course, exercises, failures });
     const focused = document.activeElement?.closest(".course input")?.getAttribute("name");
-    for (const box of elementsIn(this.root, ".course")) {
-      box.replaceChildren(table(textOf("exercises"), make("tbody", "", ...course.map((_, place) => this.exerciseRow(place)))));
+    for (const box of elementsIn(document, ".course")) {
+      box.replaceChildren(table(textOf("exercises"), make("tbody", "", ...course.map((each) => this.exerciseRow(each)))));
       if (focused && box.checkVisibility()) elementsIn(box, `[name="${focused}"]`)[0].focus();
     }
     const items = failures.map(({ seat, exercise, time, cause }) => {
       const what = `${timeText(time)} ${this.teacher.withName(seat)}, ${exercises[exercise].title}`;
       return make("li", "", textOf("settings.failed", { what, cause }));
     });
-    part(this.root, "failures").replaceChildren(...items.reverse());
+    byId("failures").replaceChildren(...items.reverse());
   }
 
   /** An exercise that can be turned on and off. */
-  exerciseRow(/** @type {number} */ place) {
-    const { name, title, minutes, on } = this.course[place];
+  exerciseRow(/** @type {TeacherView["course"][0]} */ { name, title, minutes, on: checked }) {
     const results = Object.values(this.exercises[name]?.seats ?? {});
     const passed = results.filter((each) => each.passed).length;
-    const names = this.course.filter((each) => each.on !== (each.name === name)).map((each) => each.name);
-    const onchange = () => this.teacher.request({ ask: "exercises", on: names });
-    const box = Object.assign(make("input", ""), { type: "checkbox", name, checked: on, onchange });
+    const on = this.course.filter((each) => each.on !== (each.name === name)).map((each) => each.name);
+    const onchange = () => this.teacher.request({ ask: "exercises", on });
+    const box = Object.assign(make("input", ""), { type: "checkbox", name, checked, onchange });
     const counts = results.length ? textOf("settings.counts", { passed, trying: results.length - passed }) : "";
     const cells = [minutes ? textOf("time.minutes", { minutes }) : "", counts].map((text) => make("td", "", text));
     return make("tr", "", header("row", make("label", "", box, ` ${title}`)), ...cells);
@@ -85,22 +82,21 @@ export class Settings {
 
   /** Adds a machine, with buttons that save its script and transcript. */
   add(/** @type {string} */ letter) {
-    const saves = /** @type {("script" | "transcript")[]} */ (["script", "transcript"]).map((name) =>
-      Object.assign(make("button", "", SAVES[name]), { name, onclick: () => this.download(letter, name) }));
+    const saves = Object.entries(SAVES).map(([name, text]) =>
+      Object.assign(make("button", "", text), { name, onclick: () => this.download(letter, name) }));
     const figures = make("p", "figures");
-    part(this.root, "machines").append(make("div", "top", make("h3", "", textOf("settings.machine", { letter })), ...saves), figures);
-    part(this.root, "operated").append(make("option", "", letter));
+    byId("machines").append(make("div", "top", make("h3", "", textOf("settings.machine", { letter })), ...saves), figures);
+    byId("operated").append(make("option", "", letter));
     return figures;
   }
 
   /** Sets what was changed at all machines: rights, or the clock. */
   set(/** @type {HTMLInputElement} */ { name, checked }) {
-    const numbers = NUMBERS.map((each) => [each, Number(this.field(each).value)]);
+    if (!byId("clocks").reportValidity()) return;
+    const numbers = Object.fromEntries(NUMBERS.map((each) => [each, Number(this.field(each).value)]));
     /** @type {import("./types").MachineAction} */
-    const clock = { ask: "clock", on: this.field("on").checked, ...Object.fromEntries(numbers) };
-    /** @type {import("./types").MachineAction} */
-    const request = name === "own" ? { ask: "rights", own_slices: checked } : clock;
-    if (this.form.reportValidity()) Object.keys(this.figures).forEach((machine) => this.teacher.request({ machine, ...request }));
+    const request = name === "own" ? { ask: "rights", own_slices: checked } : { ask: "clock", on: this.field("on").checked, ...numbers };
+    for (const machine of Object.keys(this.figures)) this.teacher.request({ machine, ...request });
   }
 
   /** Shows the clock of all machines: the first one's numbers, and whether only some are on. */
@@ -112,7 +108,7 @@ export class Settings {
   }
 
   operate(/** @type {string[]} */ lines) {
-    const [unfit, machine] = [unfitLines(lines), part(this.root, "operated").value];
+    const [unfit, machine] = [unfitLines(lines), byId("operated").value];
     if (unfit) return this.log.add([`!${unfit}`]);
     return requestsOf(lines).forEach((request) => this.teacher.request({ machine, ...request }));
   }

@@ -2,7 +2,8 @@
 
 import { Desk } from "./desk.js";
 import { Editor } from "./editor.js";
-import { ask, make, part, put } from "./elements.js";
+import { ask, byId, put } from "./elements.js";
+import { offerTries } from "./exercises.js";
 import { offerLanguages } from "./languages.js";
 import { Panes } from "./panes.js";
 import { Problems } from "./problems.js";
@@ -18,27 +19,25 @@ export class Shoulder {
   caret = 0; // the line in which the student typed last
   answered = { seat: "", exercise: "" }; // whose answers are shown
 
-  constructor(/** @type {HTMLElement} */ root, /** @type {import("./teacher.js").Teacher} */ teacher) {
-    this.root = root;
+  /** @param {HTMLElement} root of all its parts @param {import("./teacher.js").Teacher} teacher */
+  constructor(root, teacher) {
     this.teacher = teacher;
-    part(root, "shoulder").append(part(root, "desk"));
-    part(root, "machine").append(part(root, "seat-answers"));
-    part(root, "tab-dock").after(part(root, "tab-answers"));
-    part(root, "vectors-title").after(part(root, "past"));
+    byId("shoulder").append(byId("desk"));
+    byId("machine").append(byId("seat-answers"));
+    byId("tab-dock").after(byId("tab-answers"));
+    byId("vectors-title").after(byId("past"));
     this.desk = new Desk(root);
-    part(root, "source").readOnly = part(root, "language").disabled = true;
-    this.editor = new Editor(part(root, "source"), undefined, part(root, "language"));
+    byId("source").readOnly = byId("language").disabled = true;
+    this.editor = new Editor(byId("source"), undefined, byId("language"));
     this.source = new Source(root, this.editor, teacher.connection);
     this.problems = new Problems(root, this.editor, () => this.panes.show("editor"));
-    part(root, "show-problems").remove(); // they are below the source
-    part(root, "editor").append(part(root, "problems"));
+    byId("show-problems").remove(); // they are below the source
+    byId("editor").append(byId("problems"));
     this.panes = new Panes(root, "teacher");
-    this.tries = part(root, "answer-try");
-    this.tries.onchange = () => this.read(this.tries.selectedIndex + 1);
-    this.wall = part(root, "on-wall");
-    this.wall.onclick = () => teacher.request({ ask: "wall", seat: this.wall.ariaPressed === "true" ? "" : this.seat });
-    part(root, "lower-hand").onclick = () => teacher.request({ ask: "hand", seat: this.seat });
-    part(root, "reset").onclick = () => this.reset();
+    byId("answer-try").onchange = () => this.read(byId("answer-try").selectedIndex + 1);
+    byId("on-wall").onclick = () => teacher.request({ ask: "wall", seat: teacher.view.wall === this.seat ? "" : this.seat });
+    byId("lower-hand").onclick = () => teacher.request({ ask: "hand", seat: this.seat });
+    byId("reset").onclick = () => this.reset();
   }
 
   /** @type {(view: TeacherView, log: string[], isAnew: boolean) => void} */
@@ -46,16 +45,16 @@ export class Shoulder {
     const { shoulder: seat, source, state = { run: "absent" } } = view;
     const isOther = isAnew || seat !== this.seat;
     this.seat = seat;
-    part(this.root, "shoulder").classList.toggle("looks", Boolean(seat));
+    byId("shoulder").classList.toggle("looks", Boolean(seat));
     if (!source) return;
-    offerLanguages(part(this.root, "language"), view);
-    const told = view.machines[seat[0]].seats[seat[1]];
+    offerLanguages(byId("language"), view);
+    const told = this.teacher.seatOf(seat);
     const open = view.exercises[told.exercise];
     const work = open ? ` · ${open.title}: ${workText(open.seats[seat], open.of)}` : "";
-    put(part(this.root, "shoulder-title"), this.teacher.withName(seat));
-    put(part(this.root, "shoulder-says"), `${statusOf(told)[1]}, ${forHow(this.teacher.now - waitOf(told))}${work}`);
-    part(this.root, "lower-hand").hidden = !told.hand;
-    this.wall.ariaPressed = `${view.wall === seat}`;
+    put(byId("shoulder-title"), this.teacher.withName(seat));
+    put(byId("shoulder-says"), `${statusOf(told)[1]}, ${forHow(this.teacher.now - waitOf(told))}${work}`);
+    byId("lower-hand").hidden = !told.hand;
+    byId("on-wall").ariaPressed = `${view.wall === seat}`;
     this.desk.show(seat, state, log, isOther);
     this.source.show(seat, source, view.exercises);
     this.source.mark(state);
@@ -73,8 +72,7 @@ export class Shoulder {
 
   reset() {
     const { seat } = this;
-    const loss = textOf("shoulder.loss", { seat });
-    ask(loss, textOf("run.reset"), () => this.teacher.request({ ask: "reset", seat }));
+    ask(textOf("shoulder.loss", { seat }), textOf("run.reset"), () => this.teacher.request({ ask: "reset", seat }));
   }
 
   /** Shows a seat's answers to an exercise, the last one first. */
@@ -82,20 +80,18 @@ export class Shoulder {
     const { title, seats } = this.teacher.view.exercises[exercise];
     const { tries = 0 } = seats[seat] ?? {};
     this.answered = { seat, exercise };
-    const option = (/** @type {number} */ number) => make("option", "", textOf("exercises.try", { number }));
-    this.tries.replaceChildren(...Array.from({ length: tries }, (_, place) => option(place + 1)));
-    this.tries.hidden = !tries;
-    this.tries.selectedIndex = tries - 1;
+    offerTries(byId("answer-try"), tries);
+    byId("answer-try").selectedIndex = tries - 1;
     this.panes.show("seat-answers");
-    put(part(this.root, "answer-title"), `${this.teacher.withName(seat)}: ${title}`);
-    put(part(this.root, "answer"), tries ? "" : textOf("shoulder.no-answer"));
+    put(byId("answer-title"), `${this.teacher.withName(seat)}: ${title}`);
+    put(byId("answer"), tries ? "" : textOf("shoulder.no-answer"));
     return tries && this.read(tries);
   }
 
   async read(/** @type {number} */ number) {
     const answer = await this.teacher.request({ ask: "answer", ...this.answered, number });
-    put(part(this.root, "answer"), answer?.text ?? "");
-    put(part(this.root, "answer-says"), answer?.told?.reason ?? "");
-    this.tries.title = this.teacher.view.languages[answer?.language ?? 0];
+    put(byId("answer"), answer?.text ?? "");
+    put(byId("answer-says"), answer?.told?.reason ?? "");
+    byId("answer-try").title = this.teacher.view.languages[answer?.language ?? 0];
   }
 }

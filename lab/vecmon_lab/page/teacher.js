@@ -1,6 +1,6 @@
 // The teacher's page: the list of seats, the seat that is looked at, what is sent, and the dialogs of the class.
 
-import { elementsIn, part, put, say } from "./elements.js";
+import { byId, put, say } from "./elements.js";
 import { JoinDialog } from "./join_dialog.js";
 import { Keys } from "./keys.js";
 import { store, stored } from "./preferences.js";
@@ -19,36 +19,29 @@ export class Teacher {
 
   /** @param {HTMLElement} root of all its parts @param {import("./types").Connection} connection */
   constructor(root, connection) {
-    this.root = root;
     this.connection = connection;
     this.shoulder = new Shoulder(root, this);
-    this.roster = new Roster(root, this);
-    this.send = new Send(root, this);
-    this.join = new JoinDialog(root, this);
-    this.settings = new Settings(root, this);
+    this.roster = new Roster(this);
+    this.send = new Send(this);
+    this.join = new JoinDialog(this);
+    this.settings = new Settings(this);
     document.title = textOf("page.named", { name: textOf("teacher.page") });
-    part(root, "teacher").hidden = false;
-    part(root, "read").onclick = () => (sessionStorage.setItem("unencrypted", "read"), this.warn());
-    this.listenToKeys();
-    for (const each of elementsIn(root, "[data-dialog]")) {
-      const dialog = /** @type {HTMLDialogElement} */ (root.querySelector(`#${each.dataset.dialog}`));
-      each.addEventListener("click", () => dialog.showModal());
-      dialog.addEventListener("click", ({ target }) => /** @type {Element} */ (target).matches(".done") && dialog.close());
-    }
-    for (const each of elementsIn(root, "[data-save]")) {
-      const name = `${each.dataset.save}.csv`;
-      each.onclick = () => connection.download(name, name);
-    }
+    byId("teacher").hidden = false;
+    byId("read").onclick = () => (sessionStorage.setItem("unencrypted", "read"), (byId("unencrypted").hidden = true));
+    byId("letters").checked = stored(LETTERS) !== "off";
+    byId("letters").onchange = () => store(LETTERS, byId("letters").checked ? "on" : "off");
+    const keys = new Keys(root, () => true, () => {});
+    keys.usesLetters = () => byId("letters").checked;
+    byId("show-keys").onclick = () => byId("teacher-keys").replaceChildren(...keys.list());
+    root.addEventListener("click", ({ target }) => this.clicked(/** @type {Element} */ (target)));
   }
 
-  /** Listens to keys. Those of one letter or digit can be turned off. */
-  listenToKeys() {
-    const [letters, list] = [part(this.root, "letters"), part(this.root, "teacher-keys")];
-    letters.checked = stored(LETTERS) !== "off";
-    letters.onchange = () => store(LETTERS, letters.checked ? "on" : "off");
-    const keys = new Keys(this.root, () => true, () => {});
-    keys.usesLetters = () => letters.checked;
-    part(this.root, "show-keys").addEventListener("click", () => list.replaceChildren(...keys.list()));
+  /** Opens or closes a dialog, or saves a table, if a button does that. */
+  clicked(/** @type {Element} */ target) {
+    const { dialog, save } = target.closest("button")?.dataset ?? {};
+    if (dialog) byId(/** @type {"settings"} or another dialog */ (dialog)).showModal();
+    if (save) this.connection.download(`${save}.csv`, `${save}.csv`);
+    if (target.matches(".done")) target.closest("dialog")?.close();
   }
 
   /** The server's time in seconds since 1970. */
@@ -62,9 +55,9 @@ export class Teacher {
     if (isAnew && seat) this.request({ ask: "shoulder", seat }); // as before the connection broke
     if (isAnew && wall && !view.wall) this.request({ ask: "wall", seat: wall });
     this.view = view;
-    put(part(this.root, "who"), view.class_title);
+    put(byId("who"), view.class_title);
     say("trouble", view.trouble);
-    this.warn();
+    byId("unencrypted").hidden = !view.unencrypted || sessionStorage.getItem("unencrypted") === "read";
     this.roster.show(view);
     this.shoulder.show(view, logs[view.shoulder] ?? [], isAnew);
     this.send.show(view);
@@ -80,23 +73,18 @@ export class Teacher {
     const isRunning = Object.values(machines).some(({ clock }) => clock.on);
     const words = [textOf("teacher.used", { used, all: rows.length }), isRunning ? textOf("teacher.running") : textOf("teacher.clock-off")];
     if (wall) words.push(textOf("teacher.on-wall", { seat: this.withName(wall) }));
-    put(part(this.root, "summary-says"), words.join(" · "));
-    put(part(this.root, "help-count"), waiting.length ? `${waiting.length}` : "");
+    put(byId("summary-says"), words.join(" · "));
+    put(byId("help-count"), waiting.length ? `${waiting.length}` : "");
     const isStart = !used && !shoulder;
-    if (isStart === part(this.root, "opening").hidden) this.send.choose(isStart ? "all" : "one");
-    part(this.root, "opening").hidden = !isStart;
-    for (const id of /** @type {const} */ (["roster", "shoulder"])) part(this.root, id).hidden = isStart;
-  }
-
-  /** Warns that codes travel unencrypted, where they do, until that is read in this tab. */
-  warn() {
-    part(this.root, "unencrypted").hidden = !this.view.unencrypted || sessionStorage.getItem("unencrypted") === "read";
+    if (isStart === byId("opening").hidden) this.send.choose(isStart ? "all" : "one");
+    byId("opening").hidden = !isStart;
+    byId("roster").hidden = byId("shoulder").hidden = isStart;
   }
 
   /** Looks at a seat, which comes into sight. */
   async lookAt(/** @type {string} */ seat) {
     await this.request({ ask: "shoulder", seat });
-    part(this.root, "shoulder").scrollIntoView({ block: "nearest" });
+    byId("shoulder").scrollIntoView({ block: "nearest" });
   }
 
   seatOf(/** @type {string} */ seat) {
