@@ -24,7 +24,7 @@ IN_SIGHT = """((panel, shown) => shown.every(({ top, bottom }) => top >= panel.t
     [one("#verdict h3"), ...all("#verdict .strip"), one("#verdict button")].slice(0, 5).map((each) => each.getBoundingClientRect()))"""
 BOXES = "[...one(arguments[0]).querySelectorAll('.strip span[title]')].map((box) => box.firstChild.data)"
 
-ANSWERS = "#seats [data-seat='A3'] button[data-exercise='doubles']"
+ANSWERS = "#seats [data-seat='A3'] button[value='doubles']"
 
 
 @pytest.fixture(scope="module")

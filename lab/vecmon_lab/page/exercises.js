@@ -3,7 +3,7 @@
 import { blocks } from "./blocks.js";
 import { byId, elementsIn, link, make, prose, put, renew } from "./elements.js";
 import { contentOf, textOf } from "./texts.js";
-import { caseTable, verdict } from "./verdict.js";
+import { caseRows, verdict } from "./verdict.js";
 
 /** @typedef {import("./messages").ExerciseView} ExerciseView */
 /** @typedef {import("./messages").SourceView} SourceView */
@@ -107,9 +107,12 @@ export class Exercises {
     const lesson = it.before && link(it.before, textOf("exercises.the-lesson"));
     const before = lesson ? [make("p", "", ...contentOf("exercises.lesson-before", { lesson }))] : [];
     renew(byId("exercise-text"), [make("h3", "", `${it.number} ${it.title}`), ...before, ...blocks(it.text)]);
-    this.paintTries(it);
+    offerTries(byId("own-answers"), it.tries, textOf("exercises.answers"));
+    const result = it.passed ? textOf("exercises.passed") : textOf("exercises.best", { best: it.best, all: it.cases.length });
+    const words = it.tries ? textOf("exercises.tries", { count: it.tries, result }) : "";
+    put(byId("try-count"), it.checking ? textOf("exercises.checking") : words);
     renew(byId("verdict"), verdict(it));
-    renew(byId("cases"), caseTable(it));
+    renew(byId("case-rows"), caseRows(it));
     const hints = it.hints.map((hint) => make("li", "", ...prose(hint)));
     const count = textOf("exercises.hints", { number: hints.length, all: it.hint_count });
     renew(byId("hints"), hints.length ? [make("h3", "", count), make("ol", "", ...hints)] : []);
@@ -128,14 +131,6 @@ export class Exercises {
       Object.assign(own, { className: state, title, ariaLabel: [`${number} ${title}`, STATES[state]].filter(Boolean).join(", ") });
       own.ariaCurrent = `${this.isOpen && name === this.name}`;
     });
-  }
-
-  /** Paints what there is of tries: earlier answers, and the best result. */
-  paintTries(/** @type {ExerciseView} */ { tries, best, cases, passed, checking }) {
-    offerTries(byId("own-answers"), tries, textOf("exercises.answers"));
-    const result = passed ? textOf("exercises.passed") : textOf("exercises.best", { best, all: cases.length });
-    const words = textOf("exercises.tries", { count: tries, result });
-    put(byId("try-count"), checking ? textOf("exercises.checking") : tries ? words : "");
   }
 
   /** Brings the last result into sight: the panel, and in it the result. */
@@ -168,7 +163,5 @@ export class Exercises {
   }
 
   /** Puts the source to begin with into the editor. */
-  takeStart() {
-    this.bench.source.replace(this.start);
-  }
+  takeStart = () => this.bench.source.replace(this.start);
 }

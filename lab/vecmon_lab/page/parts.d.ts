@@ -35,7 +35,7 @@ export type Parts =
     | "own-answers" | "text-size" | "versions" | "view" | "width"
   > &
   Ids<HTMLTableElement, "lengths" | "rows"> &
-  Ids<HTMLTableSectionElement, "codes" | "seats"> &
+  Ids<HTMLTableSectionElement, "case-rows" | "codes" | "seats"> &
   Ids<HTMLTextAreaElement, "given" | "operator-line" | "source" | "words"> &
   Ids<HTMLTableRowElement, "columns"> &
   Ids<HTMLUListElement, "failures" | "in-memory" | "notices" | "points" | "sent"> &

@@ -12,16 +12,11 @@ const AGES_EVERY = 5000; // ms
 const GROUPS = ["hand", "help", "work", "waits", "free"]; // of seats, from above
 /** @type {Record<SeatStatus["kind"], [sign: string, words: string]>} */
 const STATUSES = {
-  none: ["", textOf("status.not-begun")],
-  running: ["▶", textOf("status.running")],
-  paused: ["•", textOf("status.paused")],
-  breakpoint: ["•", textOf("status.breakpoint")],
-  problems: ["⊗", textOf("status.some-problems")],
-  fault: ["↯", textOf("status.fault")],
-  limit: ["↻", textOf("status.limit")],
-  output: ["…", textOf("status.output")],
-  ebreak: ["✓", textOf("status.ended")],
-  ended: ["✓", textOf("status.ended")],
+  none: ["", textOf("status.not-begun")], running: ["▶", textOf("status.running")],
+  paused: ["•", textOf("status.paused")], breakpoint: ["•", textOf("status.breakpoint")],
+  problems: ["⊗", textOf("status.some-problems")], fault: ["↯", textOf("status.fault")],
+  limit: ["↻", textOf("status.limit")], output: ["…", textOf("status.output")],
+  ebreak: ["✓", textOf("status.ended")], ended: ["✓", textOf("status.ended")],
 };
 
 /** For how long, in words, of seconds. */
@@ -56,20 +51,13 @@ export function workText(result, most) {
   return passed ? textOf("work.passed", { number: passed }) : textOf("work.tries", { best, most, count: tries });
 }
 
-/** A button that shows answers to an exercise, at the top of its column or at a seat. */
-/** @type {(exercise: string, title: string, ...contents: (string | Node)[]) => HTMLButtonElement} */
-function columnButton(exercise, title, ...contents) {
-  const box = Object.assign(make("button", "", ...contents), { title });
-  box.dataset.exercise = exercise;
-  return box;
-}
-
-/** The head of an exercise's column, which shows the answers of the seat that is looked at. */
-function columnHead(/** @type {string} */ name, /** @type {string} */ exercise, /** @type {number} */ place) {
-  const contents = [`${place + 1}`, make("span", "title", ` ${exercise}`)];
-  const head = columnButton(name, textOf("teacher.column.title", { exercise }), ...contents);
-  if (place < 9) head.setAttribute("aria-keyshortcuts", `${place + 1}`);
-  return head;
+/** The head of an exercise's column, whose button shows the answers of the seat that is looked at. */
+/** @type {(exercise: [name: string, table: Exercises[string]], place: number) => HTMLElement} */
+function columnHead([value, { title: exercise }], place) {
+  const names = { value, title: textOf("teacher.column.title", { exercise }) };
+  const button = Object.assign(make("button", "", `${place + 1}`, make("span", "title", ` ${exercise}`)), names);
+  if (place < 9) button.setAttribute("aria-keyshortcuts", `${place + 1}`);
+  return header("col", button);
 }
 
 /** A row, whose checkbox and button stay, since they may have the focus. */
@@ -105,12 +93,13 @@ class Row {
   }
 
   /** The cell of an exercise: a tick with the number of the try, the most cases that passed, or a dot. */
-  cell(/** @type {string} */ exercise, /** @type {Exercises[string]} */ { title, of, seats }) {
+  cell(/** @type {string} */ value, /** @type {Exercises[string]} */ { title, of, seats }) {
     const result = seats[this.seat];
     if (!result) return make("td", "untried", "·");
     const { passed, best } = result;
     const mark = passed ? ["✓", make("small", "", passed > 1 ? `${passed}` : "")] : [`${best}`, make("small", "", `/${of}`)];
-    return make("td", passed ? "passed" : "tried", columnButton(exercise, `${title}: ${workText(result, of)}`, ...mark));
+    const names = { value, title: `${title}: ${workText(result, of)}` };
+    return make("td", passed ? "passed" : "tried", Object.assign(make("button", "", ...mark), names));
   }
 }
 
@@ -138,8 +127,8 @@ export class Roster {
       const names = course.map(({ name }) => name).filter((name) => name in results);
       Object.assign(this, { results, course, exercises: Object.fromEntries(names.map((name) => [name, results[name]])) });
     }
-    const heads = [...HEADS, ...Object.entries(this.exercises).map(([name, { title }], place) => columnHead(name, title, place))];
-    renew(byId("columns"), [make("td", ""), ...heads.map((head) => header("col", head))]);
+    const heads = HEADS.map((name) => header("col", name));
+    renew(byId("columns"), [make("td", ""), ...heads, ...Object.entries(this.exercises).map(columnHead)]);
     for (const row of this.rows) {
       row.show(this.teacher.seatOf(row.seat), this.exercises);
       row.row.ariaCurrent = `${row.seat === shoulder}`;
@@ -149,7 +138,7 @@ export class Roster {
   }
 
   age() {
-    for (const row of this.rows) put(row.minutes, row.group < 3 ? forHow(this.teacher.now - waitOf(row.told)) : "");
+    for (const row of this.rows) put(row.minutes, row.group < 3 ? forHow(this.teacher.now() - waitOf(row.told)) : "");
   }
 
   /** The rows of those who need help. */
@@ -167,7 +156,7 @@ export class Roster {
   }
 
   clicked(/** @type {HTMLElement} */ target) {
-    const exercise = /** @type {HTMLElement | null} */ (target.closest("[data-exercise]"))?.dataset.exercise;
+    const exercise = target.closest("button")?.value;
     const seat = target.closest("tr")?.dataset.seat ?? this.teacher.shoulder.seat;
     if (!seat || target.matches("input")) return undefined;
     return exercise ? this.teacher.shoulder.open(seat, exercise) : this.teacher.lookAt(seat);

@@ -103,11 +103,9 @@ export class Send {
     const to = group("to").value;
     const receivers = to === "all" ? { seat: "" } : { seats: this.choices[to] };
     const title = how === "offer" ? byId("gift-title").value : undefined;
-    const answer = await this.teacher.request(
-      how === "message"
-        ? { ask: "write", ...receivers, text: byId("words").value }
-        : { ask: "give", ...receivers, ...this.given.source, how, title },
-    );
+    /** @type {import("./types").Request} */
+    const what = how === "message" ? { ask: "write", text: byId("words").value } : { ask: "give", ...this.given.source, how, title };
+    const answer = await this.teacher.request({ ...what, ...receivers });
     if (!answer || answer.error) return;
     if (how === "message") byId("words").value = "";
     put(byId("sent-says"), "");

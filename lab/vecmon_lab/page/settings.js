@@ -25,9 +25,7 @@ export class Settings {
     listenToLines(byId("operator-line"), (lines) => this.operate(lines));
   }
 
-  field(/** @type {string} */ name) {
-    return /** @type {HTMLInputElement} */ (byId("clocks").elements.namedItem(name));
-  }
+  field = (/** @type {string} */ name) => /** @type {HTMLInputElement} */ (byId("clocks").elements.namedItem(name));
 
   /** @type {(view: TeacherView, logs: Record<string, string[]>, isAnew: boolean) => void} */
   show(view, logs, isAnew) {

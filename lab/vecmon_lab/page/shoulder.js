@@ -15,7 +15,7 @@ import { textOf } from "./texts.js";
 
 export class Shoulder {
   seat = "";
-  told = ""; // whose problems, and which
+  key = ""; // whose problems, and which
   caret = 0; // the line in which the student typed last
   answered = { seat: "", exercise: "" }; // whose answers are shown
 
@@ -42,7 +42,7 @@ export class Shoulder {
 
   /** @type {(view: TeacherView, log: string[], isAnew: boolean) => void} */
   show(view, log, isAnew) {
-    const { shoulder: seat, source, state = { run: "absent" } } = view;
+    const { shoulder: seat, source, state = { run: "absent" }, problems, caret = 0 } = view;
     const isOther = isAnew || seat !== this.seat;
     this.seat = seat;
     byId("shoulder").classList.toggle("looks", Boolean(seat));
@@ -52,22 +52,17 @@ export class Shoulder {
     const open = view.exercises[told.exercise];
     const work = open ? ` · ${open.title}: ${workText(open.seats[seat], open.of)}` : "";
     put(byId("shoulder-title"), this.teacher.withName(seat));
-    put(byId("shoulder-says"), `${statusOf(told)[1]}, ${forHow(this.teacher.now - waitOf(told))}${work}`);
+    put(byId("shoulder-says"), `${statusOf(told)[1]}, ${forHow(this.teacher.now() - waitOf(told))}${work}`);
     byId("lower-hand").hidden = !told.hand;
     byId("on-wall").ariaPressed = `${view.wall === seat}`;
     this.desk.show(seat, state, log, isOther);
     this.source.show(seat, source, view.exercises);
     this.source.mark(state);
-    this.showPlaces(view);
-  }
-
-  /** Shows problems of the last assembly, without replacements, and goes to the line in which the student types. */
-  showPlaces(/** @type {TeacherView} */ { problems, caret = 0 }) {
-    const told = JSON.stringify([this.seat, problems]);
+    const key = JSON.stringify([seat, problems]); // those of the last assembly
     const found = problems ? [...problems.mistakes, ...problems.warnings] : [];
-    if (told !== this.told) this.problems.show(found.map((each) => ({ ...each, fix: [] })));
+    if (key !== this.key) this.problems.show(found.map((each) => ({ ...each, fix: [] })));
     if (caret && caret !== this.caret) this.editor.code.setCursor({ line: caret - 1, ch: 0 });
-    Object.assign(this, { told, caret });
+    Object.assign(this, { key, caret });
   }
 
   reset() {

@@ -77,9 +77,7 @@ export class Student {
     byId("log").ariaLive = "polite";
   }
 
-  showConnection() {
-    this.bench.bar.paint();
-  }
+  showConnection = () => this.bench.bar.paint();
 
   /** Shows what to do first in place of the elements, or the elements again. */
   welcome(/** @type {boolean} */ isShown) {

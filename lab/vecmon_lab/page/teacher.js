@@ -44,11 +44,6 @@ export class Teacher {
     if (target.matches(".done")) target.closest("dialog")?.close();
   }
 
-  /** The server's time in seconds since 1970. */
-  get now() {
-    return Date.now() / 1000 + this.connection.ahead;
-  }
-
   /** @type {import("./types").RolePage["show"]} */
   show(view, logs, isAnew) {
     const { shoulder: seat, wall } = this.view;
@@ -87,9 +82,10 @@ export class Teacher {
     byId("shoulder").scrollIntoView({ block: "nearest" });
   }
 
-  seatOf(/** @type {string} */ seat) {
-    return this.view.machines[seat[0]].seats[seat[1]];
-  }
+  /** The server's time in seconds since 1970. */
+  now = () => Date.now() / 1000 + this.connection.ahead;
+
+  seatOf = (/** @type {string} */ seat) => this.view.machines[seat[0]].seats[seat[1]];
 
   /** A student's name with the seat, as `Nora (B6)`. */
   withName(/** @type {string} */ seat) {

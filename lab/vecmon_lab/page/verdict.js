@@ -1,6 +1,6 @@
-// The cases of an exercise as a table, and the result of an answer: the first case that fails, with the numbers that are wrong.
+// The cases of an exercise as rows of a table, and the result of an answer: the first case that fails, with the numbers that are wrong.
 
-import { header, link, make, prose, table, unseen } from "./elements.js";
+import { header, link, make, prose, unseen } from "./elements.js";
 import { textOf } from "./texts.js";
 
 /** @typedef {import("./messages").ExerciseView} ExerciseView */
@@ -39,9 +39,9 @@ function rowsOf(rows = [], most = Infinity) {
   return registers.length ? [make("p", "", registers.join(", ")), ...strips] : strips;
 }
 
-/** The cases of an exercise as a table; those that are hidden have a number alone. The button that starts a case has its place. */
-export function caseTable(/** @type {ExerciseView} */ { cases, told }) {
-  const row = (/** @type {ExerciseView["cases"][0]} */ { name, shown }, /** @type {number} */ place) => {
+/** The rows of a table of cases; those that are hidden have a number alone. The button that starts a case has its place. */
+export function caseRows(/** @type {ExerciseView} */ { cases, told }) {
+  return cases.map(({ name, shown }, place) => {
     const passed = told.cases?.[place]?.passed;
     const kind = passed === undefined ? "" : passed ? "passes" : "fails";
     const head = header("row", MARKS[kind], shown ? name : textOf("cases.hidden", { number: place + 1 }), unseen(RESULTS[kind]));
@@ -50,11 +50,7 @@ export function caseTable(/** @type {ExerciseView} */ { cases, told }) {
     const names = { value: `${place}`, ariaLabel: textOf("cases.try.label", { name }) };
     const start = make("td", "", shown ? Object.assign(make("button", "", textOf("cases.try")), names) : "");
     return Object.assign(make("tr", kind, head, ...cells, start), { ariaCurrent: `${told.number === place}` });
-  };
-  const names = [textOf("cases.case"), GIVEN, EXPECTED, ""].map((name) => header("col", name));
-  const parts = [make("thead", "", make("tr", "", ...names)), make("tbody", "", ...cases.map(row))];
-  const use = make("small", "", ` ${textOf("cases.use")}`);
-  return [make("h3", "", textOf("cases"), use), table(textOf("cases"), ...parts)];
+  });
 }
 
 /** The result of the last check of an exercise; of a case that fails with a button to start it, which has its place. */
