@@ -164,7 +164,7 @@ def test_every_user_has_tab(opened: Callable[[str], "Chrome"], program: pathlib.
     press(browser, Keys.END)
     assert "user 2: stopped" in text_of(browser, "#users")
     assert "3 step 1" in text_of(browser, "#step") and "x5" in text_of(browser, "#registers")
-    browser.find_element(By.CSS_SELECTOR, "#users [data-user='2']").click()
+    browser.find_element(By.CSS_SELECTOR, "#users [value='2']").click()
     assert "addi t0, t0, 1" in text_of(browser, "#listing") and "200" in text_of(browser, "#registers")
     press(browser, Keys.ARROW_LEFT)
     assert "addi t0, t0, 1" in text_of(browser, "#listing")

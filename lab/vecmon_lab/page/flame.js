@@ -10,10 +10,8 @@ const percent = (/** @type {Frame} */ frame, /** @type {number} */ whole) => `${
 const number = (/** @type {number} */ value) => value.toLocaleString(textOf("language"));
 
 /** A list of frames, each as wide as its share of the one above. */
-const list = (/** @type {Drawn[]} */ frames, /** @type {number} */ above) => {
-  const item = (/** @type {Drawn} */ frame) => Object.assign(frame.item, { style: `flex: 0 0 ${(100 * frame.total) / above}%` });
-  return make("ul", "", ...frames.map(item));
-};
+const list = (/** @type {Drawn[]} */ frames, /** @type {number} */ above) =>
+  make("ul", "", ...frames.map(({ item, total }) => Object.assign(item, { style: `flex: 0 0 ${(100 * total) / above}%` })));
 
 /** A bar with the list below it; a click on it chooses its frame. */
 /** @type {(frame: Frame, callees: Drawn[], whole: number, choose: () => void) => Drawn} */

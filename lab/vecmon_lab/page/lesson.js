@@ -1,8 +1,8 @@
 // A lesson: frames made beforehand, stepped back and forth. Each has what changed of the states.
 
-import { byId, elementsIn, make, part, prose, put, unseen } from "./elements.js";
+import { byId, elementsIn, make, prose, put, unseen } from "./elements.js";
 import { Panes } from "./panes.js";
-import { patched } from "./patches.js";
+import { afterEach } from "./patches.js";
 import { keepRead, lessonsRead } from "./progress.js";
 import { lineBegins } from "./source_lines.js";
 import { textOf } from "./texts.js";
@@ -13,46 +13,43 @@ import { MachineView, usedIn } from "./view.js";
 /** @typedef {Record<string, State>} States by user */
 /** @typedef {import("./messages").FrameData} Frame */
 
-/** @type {("first" | "begin" | "back" | "next" | "last")[]} */
-const MOVES = ["first", "begin", "back", "next", "last"];
+/** @type {[id: "first" | "begin" | "back" | "next" | "last", frames: number][]} buttons; `begin` is in the first frame */
+const MOVES = [["first", -Infinity], ["begin", 1], ["back", -1], ["next", 1], ["last", Infinity]];
 /** @type {Record<string, number>} */
 const LINE_KEYS = { ArrowDown: 1, ArrowUp: -1 };
 /** @type {Record<string, number>} */
-const FRAME_KEYS = { ArrowRight: 1, ArrowLeft: -1 };
+const FRAME_KEYS = { ArrowRight: 1, ArrowLeft: -1, Home: -Infinity, End: Infinity };
 const RUNS = { absent: textOf("lesson.absent"), running: textOf("lesson.running"), stopped: textOf("lesson.stopped") };
 const ADDRESS_DELAY = 300; // ms: a browser limits the rate of new addresses
 
-/** A lesson below a root, which has all of its page. */
+/** The lesson of this page. */
 class Lesson {
-  /** @type {States[]} */ states = []; // by frame
   user = ""; // chosen to be shown; "" for the line's
   place = 0;
   address = 0; // a timer
 
-  /** @param {HTMLElement} root @param {import("./messages").LessonData} data */
-  constructor(root, { frames, about, series, ...source }) {
-    this.root = root;
+  constructor(/** @type {import("./messages").LessonData} */ { frames, about, series, ...source }) {
     this.frames = frames;
     this.source = source;
     this.name = series && `${series.name}/${series.lessons[series.place].name}`; // of what is read
     this.isIntroduced = Boolean(about);
-    this.view = new MachineView(root);
-    this.log = part(root, "log");
-    new Panes(root, "lesson");
+    this.view = new MachineView(document);
+    new Panes(document.body, "lesson");
     this.view.machine.addEventListener("change", () => this.show(this.place));
-    /** @type {States} */
-    let states = {};
-    for (const frame of frames) this.states.push((states = patched(states, frame.states)));
-    this.entries = frames.flatMap((frame) => frame.log);
-    this.users = Object.keys(states);
+    /** @type {States[]} */
+    this.states = afterEach(frames.map((frame) => frame.states));
+    this.users = Object.keys(this.states[frames.length - 1]);
     const usedBy = (/** @type {string} */ user) => new Set(this.states.flatMap((states) => usedIn(states[user]))); // in some frame
     this.used = Object.fromEntries(this.users.map((user) => [user, usedBy(user)]));
-    part(root, "sentence").hidden = !frames.some((frame) => frame.note);
-    this.buttons = ["", ...this.users].map((user) => this.userButton(user));
+    byId("sentence").hidden = !frames.some((frame) => frame.note);
+    this.buttons = ["", ...this.users].map((user) => {
+      const text = user ? textOf("lesson.user", { user }) : textOf("lesson.line-user");
+      return Object.assign(make("button", "", text), { value: user, onclick: () => ((this.user = user), this.show(this.place)) });
+    });
     this.listen();
     this.begins = lineBegins(source.starts ?? {}, this.states.map((states) => states[1]?.pc));
     this.listenToLines();
-    put(elementsIn(part(root, "vectors"), ".missing")[0], textOf("lesson.no-machine"));
+    put(elementsIn(byId("vectors"), ".missing")[0], textOf("lesson.no-machine"));
     if (about) this.introduce(about);
     if (series) this.showSeries(series);
     this.show(Number(location.hash.slice(1) || 1) - 1);
@@ -60,70 +57,55 @@ class Lesson {
 
   /** Puts what the lesson shows, and what is in memory, into the first frame. */
   introduce(/** @type {import("./messages").About} */ { points, memory }) {
-    const fill = (/** @type {"points" | "in-memory"} */ id, /** @type {string[]} */ texts) => {
-      part(this.root, id).append(...texts.map((text) => make("li", "", ...prose(text))));
-      if (!texts.length) part(this.root, id).previousElementSibling?.remove();
-    };
-    fill("points", points);
-    fill("in-memory", memory);
+    const items = (/** @type {string[]} */ texts) => texts.map((text) => make("li", "", ...prose(text)));
+    byId("points").append(...items(points));
+    byId("in-memory").append(...items(memory));
   }
 
   /** Shows the lesson's place in a tour or a course, and links to the others, with marks at those that were read. */
   showSeries(/** @type {import("./messages").Series} */ { name, lessons, place }) {
-    const link = (/** @type {number} */ to, /** @type {import("./elements.js").Content} */ content) =>
-      Object.assign(make("a", "", content), { href: `${lessons[to].name}.html`, title: lessons[to].title });
-    const read = lessons.map((each) => lessonsRead().has(`${name}/${each.name}`));
-    const nameOf = (/** @type {{ number: number, title: string }} */ names, /** @type {boolean} */ isRead) =>
-      isRead ? textOf("lesson.mark-read", names) : textOf("lesson.mark", names);
-    const marks = lessons.map(({ title }, to) => link(to, unseen(nameOf({ number: to + 1, title }, read[to]))));
-    marks.forEach((mark, to) => mark.classList.toggle("read", read[to]));
-    marks[place].ariaCurrent = "page";
-    put(part(this.root, "series-place"), textOf("lesson.series-place", { number: place + 1, all: lessons.length }));
-    part(this.root, "progress").append(...marks.map((mark) => make("li", "", mark)));
-    if (place > 0) part(this.root, "links").append(" ", link(place - 1, textOf("lesson.previous")));
-    if (place + 1 < lessons.length) part(this.root, "links").append(" ", link(place + 1, textOf("lesson.following")));
-    part(this.root, "links").hidden = false;
+    const read = lessonsRead();
+    const link = (/** @type {number} */ to, /** @type {import("./elements.js").Content} */ content, kind = "") =>
+      Object.assign(make("a", kind, content), { href: `${lessons[to].name}.html`, title: lessons[to].title });
+    const marks = lessons.map((each, to) => {
+      const [isRead, names] = [read.has(`${name}/${each.name}`), { number: to + 1, title: each.title }];
+      const mark = link(to, unseen(isRead ? textOf("lesson.mark-read", names) : textOf("lesson.mark", names)), isRead ? "read" : "");
+      return make("li", "", Object.assign(mark, { ariaCurrent: to === place ? "page" : null }));
+    });
+    put(byId("series-place"), textOf("lesson.series-place", { number: place + 1, all: lessons.length }));
+    byId("progress").append(...marks);
+    if (place > 0) byId("links").append(" ", link(place - 1, textOf("lesson.previous")));
+    if (place + 1 < lessons.length) byId("links").append(" ", link(place + 1, textOf("lesson.following")));
+    byId("links").hidden = false;
   }
 
   listen() {
-    const places = { first: () => 0, begin: () => 1, back: () => this.place - 1, next: () => this.place + 1, last: () => Infinity };
-    for (const id of MOVES) part(this.root, id).addEventListener("click", () => this.show(places[id]()));
-    const slider = part(this.root, "place");
-    slider.max = `${this.frames.length - 1}`;
-    slider.addEventListener("input", () => this.show(Number(slider.value)));
+    for (const [id, step] of MOVES) byId(id).addEventListener("click", () => this.show(this.place + step));
+    byId("place").max = `${this.frames.length - 1}`;
+    byId("place").addEventListener("input", () => this.show(byId("place").valueAsNumber));
     document.addEventListener("keydown", (event) => this.pressed(event));
-    part(this.root, "users").hidden = this.users.length < 2;
-    part(this.root, "users").append(...this.buttons);
-  }
-
-  userButton(/** @type {string} */ user) {
-    const button = make("button", "", user ? textOf("lesson.user", { user }) : textOf("lesson.line-user"));
-    button.dataset.user = user;
-    button.addEventListener("click", () => ((this.user = user), this.show(this.place)));
-    return button;
+    byId("users").hidden = this.users.length < 2;
+    byId("users").append(...this.buttons);
   }
 
   /** The ways from line to line of a source in C, which has as many frames as instructions. */
   listenToLines() {
-    const [root, ways, list] = [this.root, part(this.root, "line-ways"), part(this.root, "line")];
-    ways.hidden = !this.begins.length;
-    part(root, "program-title").after(ways);
+    byId("line-ways").hidden = !this.begins.length;
     const texts = new Map(Object.values(this.source.lines).map((text) => [parseInt(text), text]));
     const numbers = [...new Set(this.begins.map(({ line }) => line))].sort((one, other) => one - other);
-    list.append(...numbers.map((line) => Object.assign(make("option", "", texts.get(line) ?? ""), { value: line })));
-    part(root, "line-back").addEventListener("click", () => this.stepLine(-1));
-    part(root, "line-next").addEventListener("click", () => this.stepLine(1));
-    part(root, "line-go").addEventListener("click", () => {
-      const own = this.begins.filter(({ line }) => line === Number(list.value));
+    byId("line").append(...numbers.map((line) => Object.assign(make("option", "", texts.get(line) ?? ""), { value: line })));
+    byId("line-back").addEventListener("click", () => this.stepLine(-1));
+    byId("line-next").addEventListener("click", () => this.stepLine(1));
+    byId("line-go").addEventListener("click", () => {
+      const own = this.begins.filter(({ line }) => line === Number(byId("line").value));
       this.show((own.find(({ place }) => place > this.place) ?? own[0]).place);
     });
   }
 
   /** Shows the frame where the next line begins, or this one or the one before. */
   stepLine(/** @type {number} */ step) {
-    const isBeyond = (/** @type {{ place: number }} */ { place }) => (step > 0 ? place > this.place : place < this.place);
-    const begin = step > 0 ? this.begins.find(isBeyond) : this.begins.findLast(isBeyond);
-    if (begin) this.show(begin.place);
+    const places = this.begins.map(({ place }) => place);
+    this.show((step > 0 ? places.find((place) => place > this.place) : places.findLast((place) => place < this.place)) ?? this.place);
   }
 
   pressed(/** @type {KeyboardEvent} */ event) {
@@ -134,14 +116,11 @@ class Lesson {
     const line = LINE_KEYS[event.key];
     if (line && this.begins.length && !box) return void (event.preventDefault(), this.stepLine(line));
     const step = FRAME_KEYS[event.key];
-    /** @type {Record<string, number>} */
-    const ends = event.shiftKey ? {} : { Home: 0, End: this.frames.length - 1 };
-    const end = ends[event.key];
-    if (!step && end === undefined) return;
+    if (!step || (event.shiftKey && !Number.isFinite(step))) return;
     event.preventDefault();
-    let place = end ?? this.place + step;
+    let place = this.place + step;
     while (event.shiftKey && this.frames[place] && !this.frames[place].note) place += step; // to the next sentence
-    if (this.frames[place]) this.show(place);
+    if (this.frames[place] || !event.shiftKey) this.show(place);
   }
 
   /** Shows a frame, the nearest one where there is none of this number. */
@@ -155,27 +134,26 @@ class Lesson {
     this.showPlace(user, states);
     this.showStage(frame, state, user, states);
     this.showLog(frame.log.length);
-    part(this.root, "introduction").hidden = !this.isIntroduced || this.place > 0;
+    byId("introduction").hidden = !this.isIntroduced || this.place > 0;
     if (this.name && this.place === this.frames.length - 1) keepRead(this.name);
     const earlier = this.states.slice(0, this.place).map((each) => each[user]);
     const step = earlier.findLast((each) => each !== state); // before what was done last, which frames that only look leave
     this.view.paint({ ...state, ...this.source }, earlier.at(-1), this.used[user], step);
-    this.log.scrollTop = this.log.scrollHeight;
+    byId("log").scrollTop = byId("log").scrollHeight;
     clearTimeout(this.address);
     this.address = setTimeout(() => history.replaceState(null, "", `#${this.place + 1}`), ADDRESS_DELAY);
   }
 
   showPlace(/** @type {string} */ user, /** @type {States} */ states) {
     const numbers = { number: this.place + 1, all: this.frames.length };
-    part(this.root, "count").textContent = textOf("lesson.place", numbers);
-    Object.assign(part(this.root, "place"), { value: this.place, ariaValueText: textOf("lesson.place.value.label", numbers) });
-    const [isFirst, isLast] = [this.place === 0, this.place === this.frames.length - 1];
-    for (const id of MOVES) part(this.root, id).disabled = id === "first" || id === "back" ? isFirst : isLast;
+    byId("count").textContent = textOf("lesson.place", numbers);
+    Object.assign(byId("place"), { value: this.place, ariaValueText: textOf("lesson.place.value.label", numbers) });
+    for (const [id, step] of MOVES) byId(id).disabled = this.place === (step < 0 ? 0 : this.frames.length - 1);
     for (const button of this.buttons) {
-      const own = button.dataset.user;
-      button.ariaPressed = `${own === this.user}`;
-      button.classList.toggle("shown", own === user);
-      if (own) button.textContent = textOf("lesson.user-state", { user: own, state: RUNS[states[own]?.run ?? "absent"] });
+      const { value } = button;
+      button.ariaPressed = `${value === this.user}`;
+      button.classList.toggle("shown", value === user);
+      if (value) button.textContent = textOf("lesson.user-state", { user: value, state: RUNS[states[value]?.run ?? "absent"] });
     }
   }
 
@@ -183,7 +161,7 @@ class Lesson {
   /** @type {(frame: Frame, state: State, user: string, states: States) => void} */
   showStage(frame, state, user, states) {
     const note = this.frames.slice(0, this.place + 1).findLast((each) => each.note)?.note ?? "";
-    put(part(this.root, "sentence"), note, prose(note));
+    put(byId("sentence"), note, prose(note));
     this.view.showStop(frame.log.map((_, place) => this.entryWords(frame.log, place, states)).filter(Boolean).join(" "));
     const more = frame.more ? textOf("lesson.more", { count: frame.more }) : "";
     const parts = frame.line ? [make("span", "", frame.line, make("small", "", more))] : [];
@@ -207,12 +185,12 @@ class Lesson {
 
   /** The transcript up to this frame, whose own entries are `current`. Those that are there already stay. */
   showLog(/** @type {number} */ current) {
-    const { log } = this;
-    const end = this.frames.slice(0, this.place + 1).reduce((sum, frame) => sum + frame.log.length, 0);
-    while (log.childElementCount > end) log.lastChild?.remove();
-    log.append(...this.entries.slice(log.childElementCount, end).map((entry) => logEntry(entry)));
-    [...log.children].forEach((item, place) => item.classList.toggle("current", place >= end - current));
+    const log = byId("log");
+    const entries = this.frames.slice(0, this.place + 1).flatMap((frame) => frame.log);
+    while (log.childElementCount > entries.length) log.lastChild?.remove();
+    log.append(...entries.slice(log.childElementCount).map((entry) => logEntry(entry)));
+    [...log.children].forEach((item, place) => item.classList.toggle("current", place >= entries.length - current));
   }
 }
 
-new Lesson(document.body, JSON.parse(byId("lesson").text));
+new Lesson(JSON.parse(byId("lesson").text));

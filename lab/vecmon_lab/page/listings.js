@@ -11,14 +11,13 @@ import { textOf } from "./texts.js";
 
 /** The instructions of a line in one listing, with a gap where others lie between. */
 function listingOf(/** @type {Row[]} */ rows, /** @type {number} */ line) {
-  let end = "";
+  let end = 0;
   const own = rows.filter((row) => row[1] === line).flatMap(([address, , inlined, text, times, ...elements]) => {
-    const isApart = end && end !== address;
-    end = (parseInt(address, 16) + 4).toString(16);
+    const gap = end && end !== parseInt(address, 16) ? [make("tr", "", make("td", "gap", "⋯"))] : [];
+    end = parseInt(address, 16) + 4;
     const name = inlined ? make("small", "", ` ${inlined}`) : "";
-    const row = make("tr", times ? "" : "unused", make("td", "number", times.toLocaleString(textOf("language"))), make("th", "", address),
-      make("td", "text", text, name), elementsBar(elements));
-    return isApart ? [make("tr", "", make("td", "gap", "⋯")), row] : [row];
+    return [...gap, make("tr", times ? "" : "unused", make("td", "number", times.toLocaleString(textOf("language"))),
+      make("th", "", address), make("td", "text", text, name), elementsBar(elements))];
   });
   return make("td", "", own.length ? table(textOf("listings.instructions"), make("tbody", "", ...own)) : "");
 }

@@ -22,3 +22,7 @@ declare class DecompressionStream {
 declare namespace WebAssembly {
   function compileStreaming(source: Response | PromiseLike<Response>): Promise<Module>;
 }
+
+interface ObjectConstructor {
+  groupBy<Key extends PropertyKey, T>(items: Iterable<T>, keyOf: (item: T) => Key): Partial<Record<Key, T[]>>;
+}

@@ -16,3 +16,9 @@ export function patched(value, patch) {
   }
   return result;
 }
+
+/** The values after each of several patches in turn. */
+export function afterEach(/** @type {unknown[]} */ patches) {
+  /** @type {any} */ let value; // none before the first one
+  return patches.map((patch) => (value = patched(value, patch)));
+}

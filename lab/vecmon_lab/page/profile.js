@@ -18,11 +18,6 @@ import { textOf } from "./texts.js";
 const ORDERS = { "by-address": () => 0, "by-ticks": (one, other) => other.ticks - one.ticks };
 const number = (/** @type {string | number} */ value, kind = "number") => make("td", kind, value.toLocaleString(textOf("language")));
 
-const HEADS = [
-  ...[textOf("profile.address"), textOf("profile.instruction"), textOf("profile.source"), textOf("profile.times")],
-  ...[textOf("profile.ticks"), "", textOf("outcome.active"), textOf("outcome.masked"), textOf("outcome.tail"), textOf("profile.work"), ""],
-];
-
 /** A row of the table of instructions. */
 function instructionRow(/** @type {Row} */ row, /** @type {number} */ most) {
   const elements = [row.active, row.masked, row.tail];
@@ -46,8 +41,7 @@ function show(/** @type {Row[]} */ rows, /** @type {Order} */ id) {
     symbol = name;
     body.append(instructionRow(row, most));
   }
-  const head = HEADS.map((text, place) => make("th", place > 2 ? "number" : "", text));
-  byId("rows").replaceChildren(make("thead", "", make("tr", "", ...head)), body);
+  byId("rows").tBodies[0].replaceWith(body);
   for (const order of CHOICES) byId(order).ariaPressed = `${order === id}`;
 }
 
@@ -56,15 +50,12 @@ function tableSection(/** @type {Table} */ { name, texts, head, rows }) {
   const cells = (/** @type {(string | number)[]} */ row) =>
     row.map((cell, place) => (place < texts ? make("td", "", `${cell}`) : number(cell)));
   const heads = head.map((text, place) => make("th", place < texts ? "" : "number", text));
-  const table = make("table", "");
-  table.append(make("thead", "", make("tr", "", ...heads)), make("tbody", "", ...rows.map((row) => make("tr", "", ...cells(row)))));
-  const section = make("section", "", make("h2", "", name), make("div", "scroll", table));
-  section.setAttribute("aria-label", name);
-  return section;
+  const body = make("tbody", "", ...rows.map((row) => make("tr", "", ...cells(row))));
+  const table = make("table", "", make("thead", "", make("tr", "", ...heads)), body);
+  return Object.assign(make("section", "", make("h2", "", name), make("div", "scroll", table)), { ariaLabel: name });
 }
 
-/** @type {Order[]} */
-const CHOICES = ["by-address", "by-ticks"];
+const CHOICES = /** @type {Order[]} */ (Object.keys(ORDERS));
 /** @type {Profile} */
 const data = JSON.parse(byId("data").text);
 const NAMES = ["address", "place", "source", "text", "times", "ticks", "active", "masked", "tail", "work"];

@@ -11,10 +11,6 @@ import { textOf } from "./texts.js";
 const [KEY, MOST] = ["vecmon-recent", 6];
 const NAME = "begun"; // in the tab's storage: the name of the source in the editor
 
-/** The sources that this browser has kept, the last one first. */
-/** @type {() => (NamedSource & { time: number })[]} */
-const recentSources = () => keptList(KEY);
-
 /** The heading of choices, and the choices in columns; nothing without choices. */
 /** @type {(heading: string, tiles: HTMLElement[]) => HTMLElement[]} */
 const group = (heading, tiles) => (tiles.length ? [make("h3", "", heading), make("div", "tiles", ...tiles)] : []);
@@ -26,12 +22,10 @@ export class StartPage {
     this.bench = bench;
     this.view = view;
     const { editor, source } = bench;
-    const initial = part(root, "source").defaultValue;
-    part(root, "new-program").addEventListener("click", () => this.begin({ name: "program.s", text: initial, language: 0 }));
-    part(root, "new-in-c").addEventListener("click", () => {
-      const text = part(root, "c-start").textContent ?? "";
-      this.begin({ name: "program.c", text, language: languageOf("program.c", editor.language) });
-    });
+    /** @type {(name: string, text: string | null) => () => unknown} */
+    const beginner = (name, text) => () => this.begin({ name, text: text ?? "", language: languageOf(name, editor.language) });
+    part(root, "new-program").addEventListener("click", beginner("program.s", part(root, "source").defaultValue));
+    part(root, "new-in-c").addEventListener("click", beginner("program.c", part(root, "c-start").textContent));
     part(root, "open-source").addEventListener("click", () => source.file.click());
     source.file.addEventListener("change", () => (this.keep(), this.leave(source.file.files?.[0]?.name)));
     part(root, "to-start").addEventListener("click", () => this.open());
@@ -41,9 +35,7 @@ export class StartPage {
     put(part(root, "why-no-c"), why, prose(why));
     addEventListener("pagehide", () => this.keep());
     document.addEventListener("drop", () => this.toggle(false)); // an image, whose refusal is in the console
-    const examples = view.examples ?? [];
-    for (const heading of new Set(examples.map((example) => example.group))) {
-      const own = examples.filter((example) => example.group === heading);
+    for (const [heading, own = []] of Object.entries(Object.groupBy(view.examples ?? [], (example) => example.group))) {
       part(root, "examples").append(...group(heading, own.map((each) => this.tile(each.title, each.about, each.name, each))));
     }
     part(root, "to-exercises").addEventListener("click", () => this.leave());
@@ -63,14 +55,19 @@ export class StartPage {
   /** @type {(title: string, about: string, note: string, source: NamedSource) => HTMLElement} */
   tile(title, about, note, source) {
     const words = [make("b", "", title), make("span", "", ...prose(about)), make("small", "", note)];
-    const tile = Object.assign(make("button", "tile", ...words), { disabled: source.language > 0 && this.view.no_c !== "" });
-    tile.addEventListener("click", () => this.begin(source));
-    return tile;
+    const disabled = source.language > 0 && this.view.no_c !== "";
+    return Object.assign(make("button", "tile", ...words), { disabled, onclick: () => this.begin(source) });
+  }
+
+  /** The sources that this browser has kept, the last one first. */
+  /** @type {(NamedSource & { time: number })[]} */
+  get recent() {
+    return keptList(KEY);
   }
 
   open() {
     this.keep();
-    const tiles = recentSources().map(({ time, ...source }) => {
+    const tiles = this.recent.map(({ time, ...source }) => {
       const saved = new Date(time).toLocaleString("en-GB", { dateStyle: "medium", timeStyle: "short" });
       return this.tile(source.name, /[^\s/#].*/.exec(source.text)?.[0] ?? "", saved, source);
     });
@@ -102,7 +99,7 @@ export class StartPage {
   keep() {
     const name = sessionStorage.getItem(NAME);
     if (!name) return;
-    const others = recentSources().filter((each) => each.name !== name);
+    const others = this.recent.filter((each) => each.name !== name);
     keepList(KEY, [{ name, ...this.bench.editor.source, time: Date.now() }, ...others].slice(0, MOST));
   }
 }
