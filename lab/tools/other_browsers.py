@@ -151,7 +151,7 @@ def work(page: Page) -> list[str]:
     open_lesson(page)
     page.run(DROP, base64.b64encode(SUM.read_bytes()).decode())
     page.wait("document.getElementById('log').textContent.includes('The image sum has')")
-    memory = json.loads(page.run("return document.body.dataset.times"))["memory"]
+    memory = int(page.run("return document.body.dataset.memory"))
     times = (cold, warm, sorted(steps)[len(steps) // 2], went)
     return [*(f"{1000 * each:.0f}" for each in times), f"{memory / 1e6:.1f} MB"]
 

@@ -1,7 +1,7 @@
 // The way to the lab, which is in this page: a worker with Python and the machine, one message for each request.
 
 import { ask, byId, button, make, offerFile, put } from "./elements.js";
-import { KeptWork, fileOf, textsOf } from "./kept_work.js";
+import { KeptWork, fileOf, jsonFile, textsOf } from "./kept_work.js";
 import { Pending } from "./pending.js";
 import { textOf } from "./texts.js";
 
@@ -10,8 +10,6 @@ import { textOf } from "./texts.js";
 /** @typedef {import("./playground").Texts} Texts */
 /** @typedef {import("./types").Connection} Channel */
 
-const WORK_FILE = "vecmon-work.json";
-const [REPLACED, FILE_LABEL] = [textOf("playground.replaces"), textOf("playground.file.label")];
 const MOST_IMAGE_BYTES = 1 << 20;
 const elementText = (/** @type {string} */ id) => document.getElementById(id)?.textContent ?? "";
 /** @type {() => PageData} */
@@ -52,10 +50,10 @@ export class Connection {
   isReady = false;
   ahead = 0;
   pending = new Pending();
-  /** @type {Record<string, number>} */ times = { page: performance.now() };
   /** @type {Worker | null} */ worker = null;
   /** @type {Window | null} */ tab = null; // for a lesson
-  damaged = button(textOf("playground.damaged"), textOf("playground.damaged.label"), () => this.saveRest());
+  saveRest = () => offerFile("vecmon-damaged.json", jsonFile(this.work.rest));
+  damaged = button(textOf("playground.damaged"), textOf("playground.damaged.label"), this.saveRest);
   words = Object.assign(make("p", ""), { id: "stored", hidden: true });
 
   /** @param {string} code of the only seat @param {import("./types").Listener} listener */
@@ -79,7 +77,7 @@ export class Connection {
   /** Adds what a page without a server has: work from a file, a sentence on storage, and one on checks. */
   addElements() {
     byId("home").title = textOf("playground.take-home.title");
-    const choose = Object.assign(make("input", ""), { type: "file", accept: ".json", ariaLabel: FILE_LABEL, hidden: true });
+    const choose = Object.assign(make("input", ""), { type: "file", accept: ".json", ariaLabel: textOf("playground.file.label"), hidden: true });
     choose.addEventListener("change", () => (this.bring(choose.files?.[0]), (choose.value = "")));
     this.damaged.hidden = true;
     byId("home").after(button(textOf("playground.bring"), textOf("playground.bring.label"), () => choose.click()), choose, this.damaged);
@@ -123,21 +121,15 @@ export class Connection {
   }
 
   hear(/** @type {FromWorker} */ message) {
-    switch (message.kind) {
-      case "keep":
-        return this.work.keep(.../** @type {[name: string, text: string | null, time: number]} */ (JSON.parse(message.entry)));
-      case "times":
-        Object.assign(this.times, message.times, { ready: performance.now() });
-        return void (document.body.dataset.times = JSON.stringify(this.times)); // for lab/tools/other_browsers.py
-      case "failed":
-        return this.fail(message.text);
-      case "lesson":
-        return this.showLesson(message);
-      case "hello":
-        this.isReady = true;
-        Object.assign(message.patch ?? {}, { examples: pageData().examples });
-        this.listener.gone("");
-        if (message.lost.length) this.say([this.work.trouble, ...message.lost.map((words) => `${words}.`)].join(" "));
+    if (message.kind === "keep") return this.work.keep(...message.entry);
+    if (message.kind === "memory") return void (document.body.dataset.memory = `${message.bytes}`); // for lab/tools/other_browsers.py
+    if (message.kind === "failed") return this.fail(message.text);
+    if (message.kind === "lesson") return this.showLesson(message);
+    if (message.kind === "hello") {
+      this.isReady = true;
+      Object.assign(message.patch ?? {}, { examples: pageData().examples });
+      this.listener.gone("");
+      if (message.lost.length) this.say([this.work.trouble, ...message.lost.map((words) => `${words}.`)].join(" "));
     }
     this.listener.told(message);
     if (message.kind === "answer") this.pending.settle(message);
@@ -162,7 +154,7 @@ export class Connection {
   /** Saves all work as a file; true. */
   async download() {
     await this.ask({ ask: "lines", do: [], look: [] }, { keep: true });
-    offerFile(WORK_FILE, fileOf(this.work.texts));
+    offerFile("vecmon-work.json", fileOf(this.work.texts));
     return true;
   }
 
@@ -171,22 +163,18 @@ export class Connection {
     if (!file) return;
     try {
       const texts = await textsOf(file);
-      ask(REPLACED, textOf("playground.bring"), () => this.restart(texts));
+      ask(textOf("playground.replaces"), textOf("playground.bring"), () => this.restart(texts));
     } catch (error) {
       this.say(/** @type {Error} */ (error).message);
     }
-  }
-
-  saveRest() {
-    offerFile("vecmon-damaged.json", new Blob([JSON.stringify(this.work.rest, null, 1)], { type: "application/json" }));
   }
 
   /** Loads an image that was dropped on the page, or brings work from a file. */
   async drop(/** @type {File | undefined} */ file) {
     if (!file || !this.isReady) return undefined;
     if (file.name.endsWith(".json")) return this.bring(file);
-    const start = await file.slice(0, MOST_IMAGE_BYTES + 1).arrayBuffer(); // what is larger is refused by its size
-    return this.send({ image: file.name, content: start });
+    const content = await file.slice(0, MOST_IMAGE_BYTES + 1).arrayBuffer(); // what is larger is refused by its size
+    return this.send({ image: file.name, path: "/dropped", content });
   }
 
   /** Opens a lesson in a tab of its own; it is made now. */

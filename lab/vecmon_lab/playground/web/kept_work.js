@@ -5,11 +5,9 @@ import { textOf } from "./texts.js";
 /** @typedef {import("./playground").Entry} Entry */
 /** @typedef {import("./playground").Texts} Texts */
 
-const [DATABASE, STORE] = ["vecmon playground", "texts"];
-const FORMAT_VERSION = 1;
-const LOCK = "vecmon playground"; // held by the tab that saves
-const FORMAT = "vecmon work";
-const [ELSEWHERE, NEWER] = [textOf("playground.elsewhere"), textOf("playground.newer")];
+const [DATABASE, STORE] = ["vecmon playground", "texts"]; // the tab that saves holds a lock of the database's name
+const [FORMAT, FORMAT_VERSION] = ["vecmon work", 1];
+const NEWER = textOf("playground.newer");
 const [MOST_FILE_BYTES, MOST_TEXTS] = [64 << 20, 20000];
 const NAME = /^[\w.@-]+(\/[\w.@-]+)?$/; // of a text, with one folder at most
 
@@ -30,10 +28,13 @@ export const isEntry = (entry) =>
 /** @type {(entries: Entry[]) => Texts} */
 export const byName = (entries) => Object.fromEntries(entries.map(({ name, text, time }) => [name, [text, time]]));
 
+/** A file in JSON. */
+export const jsonFile = (/** @type {object} */ content) => new Blob([JSON.stringify(content, null, 1)], { type: "application/json" });
+
 /** A file with all texts. */
 export function fileOf(/** @type {Texts} */ texts) {
   const entries = Object.entries(texts).map(([name, [text, time]]) => ({ name, text, time }));
-  return new Blob([JSON.stringify({ format: FORMAT, version: FORMAT_VERSION, texts: entries }, null, 1)], { type: "application/json" });
+  return jsonFile({ format: FORMAT, version: FORMAT_VERSION, texts: entries });
 }
 
 /** The texts of a file, by name; raises an error with a sentence if it is none of these. */
@@ -67,16 +68,16 @@ export class KeptWork {
 
   /** Opens the storage, and reads what it has. */
   async open() {
-    if (!(await this.holdLock())) this.readOnly = ELSEWHERE;
+    if (!(await this.holdLock())) this.readOnly = textOf("playground.elsewhere");
     try {
       const database = (this.database = await this.openDatabase());
-      database.onversionchange = () => this.leave(database);
+      database.onversionchange = () => (database.close(), this.say((this.readOnly = NEWER))); // a newer page opens it
       /** @type {Partial<Entry>[]} */
       const entries = await resultOf(database.transaction(STORE).objectStore(STORE).getAll());
       this.texts = byName(entries.filter(isEntry));
       this.rest = entries.filter((entry) => !isEntry(entry));
-      const damaged = textOf("playground.unreadable", { count: this.rest.length });
-      this.say([this.rest.length ? damaged : "", this.readOnly].join(" ").trim());
+      const damaged = this.rest.length ? textOf("playground.unreadable", { count: this.rest.length }) : "";
+      this.say(`${damaged} ${this.readOnly}`.trim());
     } catch (error) {
       this.database = null;
       this.say(textOf("playground.no-storage", { cause: /** @type {Error} */ (error).name }));
@@ -85,21 +86,12 @@ export class KeptWork {
 
   openDatabase() {
     const request = indexedDB.open(DATABASE, FORMAT_VERSION);
-    request.onupgradeneeded = () => {
-      if (!request.result.objectStoreNames.contains(STORE)) request.result.createObjectStore(STORE, { keyPath: "name" });
-    };
+    request.onupgradeneeded = ({ oldVersion }) => oldVersion || request.result.createObjectStore(STORE, { keyPath: "name" });
     return resultOf(request).catch((error) => {
       if (error.name !== "VersionError") throw error;
       this.readOnly = NEWER;
       return resultOf(indexedDB.open(DATABASE));
     });
-  }
-
-  /** Leave the database to the page of a newer version that opens it. */
-  leave(/** @type {IDBDatabase} */ database) {
-    database.close();
-    this.readOnly = NEWER;
-    this.say(NEWER);
   }
 
   /** Whether this tab gets the lock, and so is the one that saves. */
@@ -108,7 +100,7 @@ export class KeptWork {
     return new Promise((done) => {
       const hold = (/** @type {unknown} */ lock) => (done(Boolean(lock)), lock && new Promise(() => {}));
       if (!navigator.locks) return done(true);
-      return navigator.locks.request(LOCK, { ifAvailable: true }, hold).catch(() => done(true)); // of a page without an origin
+      return navigator.locks.request(DATABASE, { ifAvailable: true }, hold).catch(() => done(true)); // of a page without an origin
     });
   }
 
@@ -144,8 +136,7 @@ export class KeptWork {
     } catch (error) {
       for (const [name, entry] of entries) if (!this.due.has(name)) this.due.set(name, entry); // for the next transaction
       const { name = "" } = /** @type {Partial<Error>} */ (error ?? {});
-      this.isFull = textOf("playground.full", { cause: name });
-      this.say(this.isFull);
+      this.say((this.isFull = textOf("playground.full", { cause: name })));
     }
   }
 

@@ -23,8 +23,7 @@ export class Machine {
   constructor(module, words, files) {
     this.files = files;
     this.words = ["vecmon", ...words].map((word) => new TextEncoder().encode(word));
-    const { argument, open, read, write, close, seek, stat } = this;
-    const { exports } = new WebAssembly.Instance(module, { host: { argument, open, read, write, close, seek, stat } });
+    const { exports } = new WebAssembly.Instance(module, { host: /** @type {any} its functions, by name */ (this) });
     this.program = /** @type {import("./playground").MachineExports} */ (/** @type {unknown} */ (exports));
     this.run(); // to its first read
   }
@@ -36,7 +35,6 @@ export class Machine {
     this.output = [];
     this.program.asyncify_start_rewind(this.stack);
     this.run();
-    if (this.output.length === 1) return this.output[0];
     const all = new Uint8Array(this.output.reduce((size, part) => size + part.length, 0));
     this.output.reduce((place, part) => (all.set(part, place), place + part.length), 0);
     return all;
@@ -69,8 +67,8 @@ export class Machine {
   };
 
   open = (/** @type {number} */ address) => {
-    const memory = new Uint8Array(this.program.memory.buffer);
-    const path = new TextDecoder().decode(memory.slice(address >>> 0, memory.indexOf(0, address >>> 0)));
+    const memory = new Uint8Array(this.program.memory.buffer, address >>> 0);
+    const path = new TextDecoder().decode(memory.slice(0, memory.indexOf(0)));
     if (path === INPUT_PATH) return INPUT;
     if (!this.files[path]) return NO_FILE;
     const descriptor = FIRST_FILE + this.opened.size;
@@ -99,6 +97,4 @@ export class Machine {
     file.place = Number(offset) + [0, file.place, file.content.length][whence];
     return BigInt(file.place);
   };
-
-  stat = () => NO_FILE;
 }

@@ -46,8 +46,8 @@ export interface ToWorker {
 
 /** A message of the worker to the page: one of the class, or one of these kinds. */
 export type FromWorker =
-  | { kind: "keep"; entry: string }
-  | { kind: "times"; times: Record<string, number> }
+  | { kind: "keep"; entry: [name: string, text: string | null, time: number] }
+  | { kind: "memory"; bytes: number }
   | { kind: "failed"; text: string }
   | { kind: "lesson"; page?: string; error?: string }
   | (Message & { kind: "hello"; lost: string[] })

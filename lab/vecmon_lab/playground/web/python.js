@@ -31,14 +31,10 @@ export class Python {
     const { exports } = new WebAssembly.Instance(module, { wasi_snapshot_preview1: wasi.imports(module), host: own });
     this.program = /** @type {import("./playground").PythonExports} */ (/** @type {unknown} */ (exports));
     this.memory = wasi.memory = this.program.memory;
-    if (snapshot) this.restore(snapshot);
-    else this.program._initialize();
-  }
-
-  restore(/** @type {Uint8Array} */ snapshot) {
-    const missing = Math.ceil((snapshot.length - this.memory.buffer.byteLength) / PAGE_BYTES);
-    if (missing > 0) this.memory.grow(missing);
-    new Uint8Array(this.memory.buffer).set(snapshot);
+    if (!snapshot) this.program._initialize();
+    const missing = Math.ceil(((snapshot?.length ?? 0) - this.memory.buffer.byteLength) / PAGE_BYTES);
+    this.memory.grow(Math.max(0, missing));
+    new Uint8Array(this.memory.buffer).set(snapshot ?? []);
   }
 
   /** Starts Python with a program; raises an error if it fails. Not for one from a snapshot. */

@@ -2,7 +2,8 @@
 
 import { byId, make, prose, put } from "./elements.js";
 import { Lanes } from "./lanes.js";
-import { patched } from "./patches.js";
+import { afterEach } from "./patches.js";
+import { inOrder } from "./rows.js";
 import { textOf } from "./texts.js";
 import { withNames } from "./words.js";
 
@@ -11,10 +12,9 @@ import { withNames } from "./words.js";
 /** @type {{ about: string, notes: string[], states: object[], used: number[] }} states: each a merge patch of the one before */
 const { about, notes, ...data } = JSON.parse(byId("data").text);
 /** @type {MachineState[]} */
-const states = [];
-for (const patch of data.states) states.push(patched(/** @type {any} none before the first */ (states.at(-1) ?? {}), patch));
+const states = afterEach(data.states);
 const lanes = new Lanes(byId("vectors"));
-const addresses = Object.keys(states[0].code).sort((one, other) => parseInt(one, 16) - parseInt(other, 16));
+const addresses = inOrder(Object.keys(states[0].code));
 const lines = addresses.map((address) => make("li", "", withNames(states[0].code[address].slice(9), true)));
 let place = 0;
 

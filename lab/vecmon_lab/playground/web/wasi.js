@@ -70,14 +70,16 @@ export class Wasi {
   /** @type {(path: string) => number | null} */
   kind = (path) => (this.files[path] ? FILE : this.names(path) && FOLDER);
 
-  /** @type {(path: string, address: number) => number} */
-  status(path, address) {
-    const kind = this.kind(path);
+  /** The kind of what is open; undefined for a descriptor of nothing. */
+  openKind = (/** @type {number} */ descriptor) =>
+    descriptor < ROOT ? DEVICE : this.opened.has(descriptor) && this.kind(this.pathOf(descriptor));
+
+  /** @type {(kind: number | false | null, path: string, address: number) => number} */
+  status(kind, path, address) {
     if (!kind) return NO_FILE;
     this.bytes(address, 64).fill(0);
     this.data.setUint8(address + 16, kind);
-    this.large(address + 24, 1);
-    return this.large(address + 32, this.files[path]?.length ?? 0);
+    return this.large(address + 24, 1) || this.large(address + 32, this.files[path]?.length ?? 0);
   }
 
   /** Parts of memory that a list names: an address and a size each. */
@@ -86,23 +88,6 @@ export class Wasi {
     const place = (/** @type {number} */ number) => this.data.getUint32(address + 4 * number, true);
     return Array.from({ length: count }, (_, part) => this.bytes(place(2 * part), place(2 * part + 1)));
   }
-
-  /** Fills parts of memory from a place of a file on; how many bytes. */
-  /** @type {(content: Uint8Array, place: number, address: number, count: number) => number} */
-  fill(content, place, address, count) {
-    let done = 0;
-    for (const part of this.parts(address, count)) {
-      const given = content.subarray(place + done, place + done + part.length);
-      part.set(given);
-      done += given.length;
-    }
-    return done;
-  }
-
-  /** @type {(count: number, size: number) => number} */
-  args_sizes_get = (count, size) => this.number(count, 0) || this.number(size, 0);
-
-  args_get = () => OK;
 
   /** @type {(count: number, size: number) => number} */
   environ_sizes_get = (count, size) => this.number(count, 0) || this.number(size, 0);
@@ -118,22 +103,22 @@ export class Wasi {
 
   /** @type {(descriptor: number, address: number) => number} */
   fd_fdstat_get = (descriptor, address) => {
-    if (descriptor >= ROOT && !this.opened.has(descriptor)) return BAD_FILE;
+    const kind = this.openKind(descriptor);
+    if (!kind) return BAD_FILE;
     this.bytes(address, 24).fill(0);
-    this.data.setUint8(address, descriptor < ROOT ? DEVICE : (this.kind(this.pathOf(descriptor)) ?? 0));
+    this.data.setUint8(address, kind);
     return this.large(address + 8, ALL_RIGHTS) || this.large(address + 16, ALL_RIGHTS);
   };
 
   /** @type {(descriptor: number, address: number) => number} */
-  fd_filestat_get = (descriptor, address) => {
-    if (descriptor >= ROOT) return this.opened.has(descriptor) ? this.status(this.pathOf(descriptor), address) : BAD_FILE;
-    this.bytes(address, 64).fill(0);
-    this.data.setUint8(address + 16, DEVICE);
-    return OK;
-  };
+  fd_filestat_get = (descriptor, address) =>
+    this.openKind(descriptor) ? this.status(this.openKind(descriptor), this.pathOf(descriptor), address) : BAD_FILE;
 
   /** @type {(folder: number, flags: number, address: number, size: number, to: number) => number} */
-  path_filestat_get = (folder, flags, address, size, to) => this.status(this.path(folder, address, size), to);
+  path_filestat_get = (folder, flags, address, size, to) => {
+    const path = this.path(folder, address, size);
+    return this.status(this.kind(path), path, to);
+  };
 
   /** @param {number[]} values the folder, how to look up, address and size of the path, three kinds of rights and flags, and a place */
   path_open = (...values) => {
@@ -148,14 +133,14 @@ export class Wasi {
   fd_read = (descriptor, address, count, to) => {
     const file = this.opened.get(descriptor);
     if (!file) return this.number(to, 0);
-    const done = this.fill(this.files[file.path], file.place, address, count);
-    file.place += done;
-    return this.number(to, done);
+    const start = file.place;
+    for (const part of this.parts(address, count)) {
+      const given = this.files[file.path].subarray(file.place, file.place + part.length);
+      part.set(given);
+      file.place += given.length;
+    }
+    return this.number(to, file.place - start);
   };
-
-  /** @type {(descriptor: number, address: number, count: number, place: bigint, to: number) => number} */
-  fd_pread = (descriptor, address, count, place, to) =>
-    this.number(to, this.fill(this.files[this.pathOf(descriptor)], Number(place), address, count));
 
   /** @type {(descriptor: number, address: number, count: number, to: number) => number} */
   fd_write = (descriptor, address, count, to) => {

@@ -32,7 +32,7 @@ const host = {
   machine: (number, lines) => machines.get(number)?.ask(lines) ?? null,
   end: (number) => machines.delete(number),
   file: (path, content) => (files[path] = pythonFiles[path.slice(1)] = content),
-  keep: (entry) => send({ kind: "keep", entry }),
+  keep: (entry) => send({ kind: "keep", entry: JSON.parse(entry) }),
   complain: (text) => console.error(text),
   now: () => Date.now(),
   ticks: () => performance.now(),
@@ -50,10 +50,9 @@ function give(/** @type {ToWorker} */ message) {
 }
 
 /** A part of the page, from an address or in base64; both are compressed by gzip. */
-async function load(/** @type {Part} */ part, type = "") {
-  const within = () => new Response(Uint8Array.from(atob(part.base64 ?? ""), (letter) => letter.charCodeAt(0)));
-  const compressed = part.url ? await fetch(part.url) : within();
-  if (!compressed.ok) throw new Error(`${part.url}: ${compressed.status}`);
+async function load(/** @type {Part} */ { url, base64 = "" }, type = "") {
+  const compressed = url ? await fetch(url) : new Response(Uint8Array.from(atob(base64), (letter) => letter.charCodeAt(0)));
+  if (!compressed.ok) throw new Error(`${url}: ${compressed.status}`);
   return new Response(compressed.body?.pipeThrough(new DecompressionStream("gzip")), { headers: { "Content-Type": type } });
 }
 
@@ -64,37 +63,31 @@ const hexadecimal = (/** @type {Uint8Array} */ bytes) => Array.from(bytes, (byte
 const loadLater = async () => (pythonFiles["later.zip"] ??= await bytesOf(parts.later));
 
 async function begin(/** @type {Texts} */ texts) {
-  /** @type {Record<string, number>} */
-  const times = { start: performance.now() };
   const compiled = (/** @type {Part} */ part) => WebAssembly.compileStreaming(load(part, "application/wasm"));
   const modules = Promise.all([compiled(parts.python), compiled(parts.machine)]);
   const contents = Promise.all([bytesOf(parts.memory), bytesOf(parts.lessons)]);
   const [[code, machine], [memory, lessons]] = await Promise.all([modules, contents]);
   if (hexadecimal(memory.subarray(0, DIGEST_BYTES)) !== parts.python.digest) throw new Error("its parts don't belong together");
-  times.loaded = performance.now();
   module = machine;
-  /** @type {Record<string, string>} */
-  const lessonFiles = JSON.parse(new TextDecoder().decode(lessons));
-  for (const [path, text] of Object.entries(lessonFiles)) pythonFiles[path] = new TextEncoder().encode(text);
+  for (const [path, text] of Object.entries(JSON.parse(new TextDecoder().decode(lessons)))) {
+    pythonFiles[path] = new TextEncoder().encode(text);
+  }
   if (texts["A1.image"]) await loadLater();
   python = new Python(code, host, pythonFiles, memory.subarray(DIGEST_BYTES));
-  times.python = performance.now();
   give({ begin: texts });
-  times.hello = performance.now();
-  send({ kind: "times", times: { ...times, memory: python.memory.buffer.byteLength } });
+  send({ kind: "memory", bytes: python.memory.buffer.byteLength });
 }
 
 /** Takes a message of the page. */
 async function take(/** @type {ToWorker} */ message) {
-  if (message.begin && message.parts) {
-    parts = message.parts;
-    return begin(message.begin);
-  }
-  if (message.image) {
+  if (message.parts) parts = message.parts;
+  if (message.begin) return begin(message.begin);
+  const { content, ...request } = message;
+  if (content) {
     await loadLater();
-    pythonFiles.dropped = new Uint8Array(message.content ?? []);
-    give({ image: message.image, path: "/dropped" });
-  } else give(message);
+    pythonFiles.dropped = new Uint8Array(content);
+  }
+  give(request);
   clearTimeout(timer);
   timer = setTimeout(() => attempt(() => give({ keep: true })), KEEP_PAUSE);
   return undefined;
@@ -109,8 +102,5 @@ async function attempt(/** @type {() => unknown} */ something) {
   }
 }
 
-rung.onmessage = () => {
-  isRinging = false;
-  attempt(() => give({ turn: true }));
-};
+rung.onmessage = () => attempt(() => ((isRinging = false), give({ turn: true })));
 onmessage = ({ data }) => attempt(() => take(data));
