@@ -207,7 +207,8 @@ def look_at(
     assert isinstance(scalar, ScalarRegisters) and isinstance(control, ControlRegisters)
     assert isinstance(breaks, Addresses) and isinstance(traced, Addresses)
     set_registers(state, scalar, control)
-    state["breaks"], state["policy"] = [f"{address:x}" for address in breaks.addresses], guest.session.policy[guest.user]
+    state["breaks"] = [f"{address:x}" for address in breaks.addresses]
+    state["policy"] = guest.session.policy[guest.user]
     if has_vectors:
         set_vectors(state, [each for each in vectors if isinstance(each, VectorRegister)])
     trace, may_store = traced.addresses, opcode in (None, STORE, STORE_FP)
@@ -240,7 +241,9 @@ def _set_position(state: State, place: Position, answers: Sequence[Answer]) -> N
             state["output"] = state.get("output", "") + answer.data.hex()
 
 
-def _set_memory(guest: Guest, watch_set: WatchSet, state: State, scalar: ScalarRegisters, text: str, may_store: bool) -> None:
+def _set_memory(
+    guest: Guest, watch_set: WatchSet, state: State, scalar: ScalarRegisters, text: str, may_store: bool
+) -> None:
     """Set the shown memory of a state, if it may have changed or a page is new. text: the line of the listing at the program counter"""
     pages = len(watch_set.pages)
     if text:
