@@ -2,10 +2,8 @@
 
 import ast
 import pathlib
-import re
 from collections.abc import Sequence
 
-import vecmon_lab
 from support.architecture import names_in
 from support.places import TOP
 
@@ -38,13 +36,3 @@ def test_class_modules_import_only_modules_above() -> None:
     assert sorted(CORE + SERVER) == sorted(path.stem for path in (LAB / "classes").glob("[a-z]*.py"))
     assert misplaced(CORE + SERVER) == []
     assert misplaced([*CORE[:-2], CORE[-1], CORE[-2]]) == [CORE[-1]]
-
-
-def test_version_equals_changelog() -> None:
-    changelog = (TOP / "CHANGELOG.md").read_text("utf-8")
-    headings = re.findall(r"^## (.*)$", changelog, re.MULTILINE)
-    dated = [re.fullmatch(r"\[([0-9.]+)\] - (\d{4}-\d\d-\d\d)", it) for it in headings if it != "[Unreleased]"]
-    newest = dated[0]
-    assert all(dated) and newest and newest[1] == vecmon_lab.__version__
-    citation = (TOP / "CITATION.cff").read_text("utf-8")
-    assert f"\nversion: {newest[1]}\ndate-released: {newest[2]}\n" in citation

@@ -9,7 +9,7 @@ if TYPE_CHECKING:
     from .kernels.kernel import CallStopped, Kernel, Placed, PoliciesDiffer, Result
 
 __all__ = ["CallStopped", "Kernel", "LabError", "Placed", "PoliciesDiffer", "Result"]
-__version__ = "1.0.0"  # of program, lab and packages; the newest one in CHANGELOG.md
+__version__ = "2.0.0"  # of the programs, the lab and the packages; tests/test_version.py lists the files that state it
 
 
 class LabError(Exception):
