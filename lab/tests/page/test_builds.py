@@ -177,7 +177,7 @@ def test_class_without_c_explains_why(tabs: "Chrome", program: pathlib.Path, tmp
     if not why:
         pytest.skip("this class takes C")
     assert why.startswith("This class takes no C: ") and tab.run("id('language').title") == why
-    assert tab.run("[...id('language').options].map((option) => option.disabled)").count(False) == 1
+    assert tab.run("[...id('language').options].map((option) => option.disabled && option.hidden)").count(False) == 1
     served.end()
 
 

@@ -1,5 +1,6 @@
 """The desk of a page, on the program behind its pipes: what is kept comes back, damaged or not, and images are dropped on it."""
 
+import base64
 import json
 import pathlib
 from collections.abc import Mapping
@@ -195,6 +196,53 @@ def test_an_image_is_loaded_and_comes_back(program: pathlib.Path, tmp_path: path
     again = Page(program, tmp_path, page.close())
     assert again.do("regs") == registers and again.view["images"] == ["my-sum"] and again.desk.lost == []
     again.close()
+
+
+def test_image_with_damaged_sections_is_loaded(program: pathlib.Path, tmp_path: pathlib.Path) -> None:
+    """The machine needs no section headers: the page shows the image without symbols, also when it is opened again."""
+    content = bytearray(SUM.read_bytes())
+    content[0x28:0x30] = (1 << 62).to_bytes(8, "little")  # e_shoff, far behind the file's end
+    page = Page(program, tmp_path)
+    said = page.desk.drop("sum", bytes(content))["logs"]["A1"]
+    assert said[-1] == "!sum: its headers are damaged: compile it again"
+    page.do("step 5")
+    registers = page.do("regs")
+    again = Page(program, tmp_path, page.close())
+    assert again.do("regs") == registers and again.view["images"] == ["sum"] and again.desk.lost == []
+    again.close()
+
+
+@pytest.mark.parametrize("name", ["..", "-x", "@x", "x" * 33], ids=["folder", "option", "sign", "long"])
+def test_image_with_a_name_that_no_machine_takes_is_set_aside(
+    name: str, program: pathlib.Path, tmp_path: pathlib.Path
+) -> None:
+    """As of an archive that was changed: the page opens, and has the other image."""
+    content = base64.b64encode(SUM.read_bytes()).decode("ascii")
+    page = Page(program, tmp_path, {f"images/{name}": [content, 1.0], "images/sum": [content, 1.0]})
+    assert page.desk.lost == [f"the image {name} is damaged, so no machine loads it"]
+    assert page.view["images"] == ["sum"] and page.kept[f"damaged/images-{name}"][0] == content
+    assert page.do("enter", "load sum")[1].startswith("loaded")
+    page.close()
+
+
+def test_excess_images_are_set_aside(program: pathlib.Path, tmp_path: pathlib.Path) -> None:
+    """The program takes 16, of 4 MB at most."""
+    small, large = (base64.b64encode(data).decode("ascii") for data in (SUM.read_bytes(), bytes((4 << 20) + 1)))
+    kept = {f"images/i{number:02}": [small, 1.0] for number in range(17)} | {"images/big": [large, 1.0]}
+    page = Page(program, tmp_path, kept)
+    assert page.view["images"] == [f"i{number:02}" for number in range(16)]
+    assert [sentence.split()[2] for sentence in page.desk.lost] == ["big", "i16"]
+    page.close()
+
+
+@pytest.mark.parametrize("file, name", [("--help.elf", "help"), ("...elf", "image"), (".elf", "image")])
+def test_file_name_is_no_option_and_no_folder(
+    file: str, name: str, program: pathlib.Path, tmp_path: pathlib.Path
+) -> None:
+    page = Page(program, tmp_path)
+    page.desk.drop(file, SUM.read_bytes())
+    assert [*page.desk.machine.session.images] == [name]
+    page.close()
 
 
 @pytest.mark.parametrize(

@@ -1,7 +1,7 @@
 """The parts of an image, as JSON: its segments, symbols, the source line of each instruction, and its variables."""
 
 import pathlib
-from collections.abc import Iterator
+from collections.abc import Iterator, Sequence
 from itertools import islice
 from typing import TYPE_CHECKING, NamedTuple, TypedDict
 
@@ -54,7 +54,7 @@ class Image(TypedDict):
 
 
 def image_of(path: pathlib.Path) -> Image:
-    """The parts of an image, as far as its debug data can be read. Raises ValueError if it has too many.
+    """The parts of an image, as far as its debug data can be read. Raises ValueError if it has too many, or its headers are damaged.
 
     An image without an entry begins at `_start`, or at its first code.
     """
@@ -62,17 +62,26 @@ def image_of(path: pathlib.Path) -> Image:
 
     symbols = list(Symbols.read(path).addresses.items())
     with path.open("rb") as file:
-        elf = ELFFile(file)
-        rows, stops = _rows(elf)
-        code = [section["sh_addr"] for section in elf.iter_sections() if section["sh_flags"] & _CODE]
-        return {
-            "entry": elf.header["e_entry"] or dict(symbols).get("_start", min(code, default=0)),
-            "segments": list(_segments(elf)),
-            "symbols": {name[:NAME_LETTERS]: address for name, address in symbols[:MAX_SYMBOLS]},
-            "rows": rows,
-            "stops": stops,
-            "variables": variables_of(elf),
-        }
+        try:
+            return _parts(ELFFile(file), symbols)
+        except (ValueError, MemoryError, RecursionError):
+            raise
+        except Exception as error:  # pylint: disable=broad-except  # pyelftools raises what its parts do
+            raise ValueError("its headers are damaged: compile it again") from error
+
+
+def _parts(elf: "ELFFile", symbols: Sequence[tuple[str, int]]) -> Image:
+    """The parts of an open image with these symbols."""
+    rows, stops = _rows(elf)
+    code = [section["sh_addr"] for section in elf.iter_sections() if section["sh_flags"] & _CODE]
+    return {
+        "entry": elf.header["e_entry"] or dict(symbols).get("_start", min(code, default=0)),
+        "segments": list(_segments(elf)),
+        "symbols": {name[:NAME_LETTERS]: address for name, address in symbols[:MAX_SYMBOLS]},
+        "rows": rows,
+        "stops": stops,
+        "variables": variables_of(elf),
+    }
 
 
 def _segments(elf: "ELFFile") -> Iterator[Segment]:

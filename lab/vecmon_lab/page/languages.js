@@ -3,12 +3,12 @@
 import { make } from "./elements.js";
 import { textOf } from "./texts.js";
 
-/** Offers languages once; C can't be chosen in a class that takes none, and the choice says why. */
+/** Offers languages once; C is hidden in a class or page that takes none, and the list's title says why. */
 /** @type {(select: HTMLSelectElement, view: { languages: string[], no_c: string }) => void} */
 export function offerLanguages(select, { languages, no_c: why }) {
   if (select.length === languages.length) return;
   select.replaceChildren(...languages.map((name) => make("option", "", name)));
-  [...select.options].forEach((option, number) => (option.disabled = number > 0 && why !== ""));
+  [...select.options].forEach((option, number) => (option.hidden = option.disabled = number > 0 && why !== ""));
   select.title = why ? textOf("languages.no-c", { why }) : "";
   select.selectedIndex = Number(sessionStorage.getItem(select.id)); // as before a reload
 }

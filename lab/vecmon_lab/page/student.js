@@ -73,7 +73,8 @@ export class Student {
     this.bench.show(view, logs[view.seat] ?? [], isAnew);
     this.exercises.show(view.exercises, view.source);
     const wanted = this.connection.takeWanted?.() ?? "";
-    if (view.exercises[wanted]) this.exercises.open(wanted);
+    if (Object.hasOwn(view.exercises, wanted)) this.exercises.open(wanted);
+    else if (wanted) this.bench.refuse(textOf("exercises.unknown", { name: wanted }));
     byId("log").ariaLive = "polite";
   }
 

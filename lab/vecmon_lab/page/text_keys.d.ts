@@ -177,6 +177,7 @@ export interface Places {
   "exercises.lesson-before": "lesson";
   "exercises.the-lesson": never;
   "exercises.not-open": never;
+  "exercises.unknown": "name";
   "exercises.hints": "all" | "number";
   "exercises.passed": never;
   "exercises.tried": never;

@@ -33,6 +33,8 @@ SCRIPT, SET_UP = "A.script", "A.set_up"  # the machine's lines, and how many of 
 QUANTUM = "A.quantum"  # ticks of a slice, where a class had another number than this page
 IMAGES, IMAGE, ANSWERS = "images", "A1.image", "answers"
 IMAGE_BYTES, MOST_IMAGES = 1 << 20, 8
+IMAGE_NAME = re.compile(r"(?![.-])[A-Za-z0-9._-]{1,32}")  # a NAME for the program that is no option and no folder
+MACHINE_IMAGE_BYTES, MACHINE_IMAGES = 4 << 20, 16  # that the program takes: an archive of a class may have them
 ROOM = pathlib.Path("/images")  # where machines and pyelftools find images
 C_ADVICE = (
     "this page has no compiler; compile it elsewhere, with "
@@ -118,20 +120,26 @@ class PageDesk(Desk):
 
     def _kept_images(self, texts: TextStore) -> dict[str, pathlib.Path]:
         """The images that were kept, by name, as files."""
-        images = {}
+        images = dict[str, pathlib.Path]()
         for file in sorted(file for file, _ in texts.files(f"{IMAGES}/*")):
             name = file.removeprefix(f"{IMAGES}/")
             try:
-                self._put_file(ROOM / name, base64.b64decode(texts.read_text(file), validate=True))
-                images[name] = ROOM / name
+                content = base64.b64decode(texts.read_text(file), validate=True)
+                is_excess = len(content) > MACHINE_IMAGE_BYTES or len(images) == MACHINE_IMAGES
+                if is_excess or not IMAGE_NAME.fullmatch(name):
+                    raise ValueError("no machine takes it")
             except ValueError:
                 _set_aside(texts, file)
                 self.lost.append(f"the image {name} is damaged, so no machine loads it")
+            else:
+                self._put_file(ROOM / name, content)
+                images[name] = ROOM / name
         return images
 
     def _add_image(self, file: str, content: bytes) -> str:
         """Makes an image one of those that machines can load; its name there. Raises LabError."""
-        name = re.sub(r"[^A-Za-z0-9._-]+", "-", pathlib.PurePath(file).name.removesuffix(".elf"))[-32:] or "image"
+        name = re.sub(r"[^A-Za-z0-9._-]+", "-", pathlib.PurePath(file).name.removesuffix(".elf"))[-32:]
+        name = name.lstrip("-.") or "image"
         session = self.machine.session
         if file.endswith(".c"):
             raise LabError(C_ADVICE)

@@ -29,7 +29,7 @@ sessionStorage.setItem("code", "A1"); // the only seat
 
 /** The exercise that the address names behind its #, which is taken out of it; "" for none. */
 function takeExercise() {
-  const [, name = ""] = /^#exercise=([\w-]{1,40})$/.exec(location.hash) ?? [];
+  const [, name = ""] = /^#exercise=(.{1,40})/.exec(location.hash) ?? [];
   if (!name) return "";
   history.replaceState(null, "", location.pathname);
   sessionStorage.setItem("begun", ""); // in place of the start page
