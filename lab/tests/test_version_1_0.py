@@ -14,7 +14,6 @@ from support.class_tabs import Served, served
 from support.places import DATA
 from vecmon_lab.classes.solo import solo
 from vecmon_lab.classes.store import Store
-from vecmon_lab.machine.program import digest_of
 
 WRITTEN = DATA / "version_1_0"
 COURSE = [path.stem for path in (WRITTEN / "course").glob("*.html") if path.stem != "index"]
@@ -27,13 +26,9 @@ SUM_OF_SQUARES = f"{sum(i * i for i in range(100)).to_bytes(4, 'little').hex()}"
 
 
 @pytest.fixture
-def folder(tmp_path: pathlib.Path, program: pathlib.Path) -> pathlib.Path:
-    """A copy of the class's folder, which names the present program: a class goes on with the program of its start alone."""
-    copy = tmp_path / "class"
-    shutil.copytree(WRITTEN / "class", copy)
-    facts = json.loads((copy / "class.json").read_text())
-    (copy / "class.json").write_text(json.dumps(facts | {"program": digest_of(program)}))
-    return copy
+def folder(tmp_path: pathlib.Path) -> pathlib.Path:
+    """A copy of the class's folder, which names the program of version 1.0.0."""
+    return pathlib.Path(shutil.copytree(WRITTEN / "class", tmp_path / "class"))
 
 
 def data_of(page: str) -> Any:

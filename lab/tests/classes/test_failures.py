@@ -105,12 +105,19 @@ async def test_replaced_program_file_is_reported(tmp_path: pathlib.Path) -> None
             await tab.do("step 1")  # no new program executes this
         assert await asyncio.wait_for(room.server.wait(), SECONDS) == 2
         errors = (await room.server.stderr.read()).decode()
-    assert errors == f"vecmon-lab: the class has ended, since {program} is another program now\n"
+    assert errors == f"vecmon-lab: the class has ended, since {program} is another program now: start the class again\n"
     assert (tmp_path / "class" / "A.script").read_text().count("step") == 1
     async with process(tmp_path / "class", env=environment | {"VECMON": str(old)}) as room:
         tab = await room.sit("A1")
         assert await tab.do("step 1") == [["stepped 1 pc=0000000000010000"]]
         assert await room.end() == 0
+    async with process(tmp_path / "class", env=environment, stderr=asyncio.subprocess.PIPE) as room:
+        tab = await room.sit("A1")
+        assert await tab.do("step 1") == [["stepped 1 pc=0000000000010004"]]
+        assert await room.end() == 0 and room.server and room.server.stderr
+        note = (await room.server.stderr.read()).decode()
+    news = "isn't the program that served this class before; its answers are the same"
+    assert note == f"vecmon-lab: {program} {news}\n"
 
 
 async def test_missing_program_file_is_reported(tmp_path: pathlib.Path) -> None:

@@ -136,6 +136,9 @@ def _serve(arguments: argparse.Namespace) -> None:
     builds = builds_by(arguments.cc, arguments.image_size << 10)
     exercises = with_course(arguments.exercise) if arguments.course else arguments.exercise
     members = Class(store, arguments.patience, _tell, not arguments.no_clock, arguments.spare, exercises, builds)
+    if store.has_new_program:
+        news = "isn't the program that served this class before; its answers are the same"
+        print(f"vecmon-lab: {store.program} {news}", file=sys.stderr)
     for sentence in store.lost:
         print(f"vecmon-lab: warning: {sentence}", file=sys.stderr)
     members.address = arguments.address or ""

@@ -30,9 +30,12 @@ def folder_report(folder: pathlib.Path, program: pathlib.Path) -> tuple[Sequence
         except LabError as error:
             store.lose(str(error))
     answers, versions = len(list(found_answers(store))), len(list(store.files("sources/*")))
+    changed = f"program: {program} isn't the one that served the class before: the next start compares its answers"
+    changes = [changed] if store.has_new_program else []
     lines = [
         f"class: --quantum {store.quantum}; images: {', '.join(store.images) or 'none'}",
         *machines,
+        *changes,
         f"exercises: {', '.join(exercises) or 'none'}; {ANSWERS}: {answers}; versions of sources: {versions}; names: {len(names)}; "
         f"unread messages: {unread}",
         *(f"lost: {sentence}" for sentence in store.lost),

@@ -1,6 +1,7 @@
 """The folder of a class: its program and images, its codes, and each machine's script with its notes.
 
-class.json: the digest (SHA-256) of the program, the quantum, the images by name with their digests, the machines
+class.json: the digest (SHA-256) of the program that served the class last, the quantum, the images by name with their
+    digests, the machines
 codes.json: the code of each seat and of the teacher; names.json: names of those who sit there
 A3.s, A3.written.s, sources/: a seat's source now, the one in its machine, and versions of it
 A.script, A.2.script ..: a machine's scripts; each begins where the one before ended
@@ -49,12 +50,21 @@ class ScriptFile:
     `sync`, which another thread may call.
     """
 
-    def __init__(self, folder: pathlib.Path, machine: str, number: int = 1, flusher: Flusher | None = None) -> None:
+    def __init__(
+        self,
+        folder: pathlib.Path,
+        machine: str,
+        number: int = 1,
+        flusher: Flusher | None = None,
+        new_program: pathlib.Path | None = None,
+    ) -> None:
         """Opens a machine's script of this number, and cuts off what no session recorded; `kept` has the lines before.
 
         flusher: calls `sync` after changes; without one nothing does but `close`
+        new_program: the program, if another one answered the lines before
         """
         self._folder, self._machine, self._flusher = folder, machine, flusher
+        self._new_program = new_program
         self._sync_turn, self._is_open, self._is_named = threading.Lock(), True, False
         path = folder / script_name(machine, number)
         self._file = os.open(path, os.O_RDWR | os.O_CREAT, 0o600)
@@ -65,8 +75,9 @@ class ScriptFile:
         os.ftruncate(self._file, self._saved)
 
     def replay(self, session: Session, notes: Notes, lose: Callable[[str], object]) -> Iterator[Block]:
-        """Executes the lines that were kept: these and their answers. Raises BadFolder where they can't be.
+        """Executes the lines that were kept: these and their answers.
 
+        Raises BadFolder if a line can't be executed, or if another program than before gives other answers.
         Notes have the digest of the first answers; lines behind them were written shortly before a server was killed.
         lose: is called with a sentence where lines are missing, or are answered otherwise than before
         """
@@ -79,6 +90,12 @@ class ScriptFile:
         try:
             yield from session.do_blocks(self.kept[: len(self.kept) - len(later)])
             if notes.answers and len(answered) == notes.lines and session.digest != notes.answers:
+                if self._new_program:
+                    raise BadFolder(
+                        f"{self._new_program} isn't the program that served {self._folder} before, and machine "
+                        f"{self._machine}'s script has other answers now: continue with the earlier program: "
+                        f"VECMON=PATH vecmon-lab class {self._folder}"
+                    )
                 lose(
                     f"its first {notes.lines:,} lines are answered otherwise than before: it, or an image, was changed"
                 )
@@ -174,8 +191,9 @@ class Store:
     ) -> None:
         """Opens a class, or begins one in a folder that is empty or isn't there; to read, one that may be served now.
 
-        A class that is there has to have this program, and those images, quantum and machines that are named; there may
-        be more machines than before. Raises BadFolder, OSError, and ProgramGone where the program refuses the images.
+        A class that is there has to have those images, quantum and machines that are named; there may be more machines
+        than before. Another program than before may continue it: `replay` compares its answers, then `accept_program`
+        saves its digest. Raises BadFolder, OSError, and ProgramGone where the program refuses the images.
         """
         self.folder, self.program = folder, program
         self.lost: list[str] = []  # sentences on damaged files
@@ -205,9 +223,12 @@ class Store:
         if self._is_reading and not stored.program:
             raise BadFolder(f"{self.folder} has no class")
         facts = (
-            self._facts(stored, images, quantum, machines) if stored.program else self._begin(images, quantum, machines)
+            _continued(self.folder, stored, images, quantum, machines)
+            if stored.program
+            else self._begin(images, quantum, machines)
         )
-        self._program_digest = facts.program
+        self._facts, self._program_digest = facts, digest_of(self.program)
+        self.has_new_program = facts.program != self._program_digest
         self.quantum = facts.quantum
         self.machines = LETTERS[: facts.machines]
         restored = (
@@ -217,6 +238,12 @@ class Store:
         self.codes = Codes(self.machines, self.read("codes.json", codes, "all seats and the teacher have new codes"))
         started: dict[str, Mapping[str, object]] = {"codes.json": self.codes.codes, "class.json": asdict(facts)}
         if not self._is_reading and not all(self.write_now(name, value) for name, value in started.items()):
+            raise BadFolder(self.warning)
+
+    def accept_program(self) -> None:
+        """Save the digest of the present program, whose answers `replay` has compared, in class.json. Raises BadFolder."""
+        facts = replace(self._facts, program=self._program_digest)
+        if self.has_new_program and not self.write_now("class.json", asdict(facts)):
             raise BadFolder(self.warning)
 
     def close(self) -> None:
@@ -233,7 +260,8 @@ class Store:
     def script_file(self, machine: str, number: int) -> ScriptFile:
         """A machine's script of this number, to append to; of a damaged one the lines before the damage."""
         self.check_script(machine, number)
-        return ScriptFile(self.folder, machine, number, self._flusher)
+        new_program = self.program if self.has_new_program else None
+        return ScriptFile(self.folder, machine, number, self._flusher, new_program)
 
     def notes(self, machine: str) -> Notes:
         """A machine's notes, whose last script is there with the lines that set the machine up."""
@@ -293,7 +321,7 @@ class Store:
                 return True
         except FileNotFoundError:
             return False
-        raise BadFolder(f"the class has ended, since {self.program} is another program now")
+        raise BadFolder(f"the class has ended, since {self.program} is another program now: start the class again")
 
     def read(self, name: str, kind: Callable[..., Kept], loss: str = "") -> Kept:
         """The saved data of this kind; without any, an empty value.
@@ -467,17 +495,20 @@ class Store:
         self.lose(f"images/{path.name} was {state}: it is a copy of {image} now")
         return True
 
-    def _facts(
-        self, stored: Facts, images: Mapping[str, pathlib.Path], quantum: int | None, machines: int | None
-    ) -> Facts:
-        """The start of the class, compared with the options now."""
-        if digest_of(self.program) != stored.program:
-            raise BadFolder(f"{self.folder} was begun with another program than {self.program}")
-        if images and {name: digest_of(path) for name, path in images.items()} != stored.images:
-            raise BadFolder(f"{self.folder} was begun with other images")
-        if quantum not in (None, stored.quantum):
-            raise BadFolder(f"{self.folder} was begun with --quantum {stored.quantum}")
-        return replace(stored, machines=max(stored.machines, machines or 1))
+
+def _continued(
+    folder: pathlib.Path,
+    stored: Facts,
+    images: Mapping[str, pathlib.Path],
+    quantum: int | None,
+    machines: int | None,
+) -> Facts:
+    """The start of a class, compared with the options now. Raises BadFolder."""
+    if images and {name: digest_of(path) for name, path in images.items()} != stored.images:
+        raise BadFolder(f"{folder} was begun with other images")
+    if quantum not in (None, stored.quantum):
+        raise BadFolder(f"{folder} was begun with --quantum {stored.quantum}")
+    return replace(stored, machines=max(stored.machines, machines or 1))
 
 
 def forget(folder: pathlib.Path, name: str) -> None:

@@ -91,6 +91,7 @@ class Class:
             self.checks = Checks(store, exercises, self.tell, self.builds)
             for letter in store.machines:
                 self._open_room(letter, patience, progress, clock, makers)
+            store.accept_program()
         except BaseException:
             self.end()
             raise
