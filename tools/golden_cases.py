@@ -112,6 +112,20 @@ def golden_vectors() -> Sequence[Vector]:
     return found
 
 
+def changed_files(folder: Path = FOLDER) -> list[Path]:
+    """The files of vectors in a folder whose lines don't have the SHA-256 that its README.md names, or can't be read."""
+    digests = (folder / "README.md").read_text(encoding="utf-8")
+    found = list[Path]()
+    for path in (folder / "keep.jsonl.xz", folder / "ones.jsonl.xz"):
+        try:
+            digest = hashlib.sha256(lzma.decompress(path.read_bytes())).hexdigest()
+        except (OSError, lzma.LZMAError):
+            digest = "unreadable"
+        if f"| `{path.name}` | {digest} |" not in digests:
+            found.append(path)
+    return found
+
+
 def family_of(vector: Vector) -> str:
     """The module of a vector's theorem."""
     if vector.end == "ill":

@@ -311,6 +311,19 @@ def test_killed_build_is_repeated(clone: Clone) -> None:
     assert [name.split(".")[0] for name in clone.folders()] == [(clone.unproved / "current").read_text().strip()]
 
 
+def test_folder_without_a_whole_program_is_replaced(clone: Clone) -> None:
+    """As after a power cut, or where a file was deleted."""
+    assert clone.run().returncode == 0
+    (name,) = clone.folders()
+    recorder, program = (clone.unproved / name / each for each in ("vecmon-record", "vecmon"))
+    recorder.unlink()
+    assert clone.run().returncode == 0 and recorder.stat().st_size
+    program.write_bytes(b"")
+    ran = clone.run()
+    assert (ran.returncode, ran.stdout) == (0, check.first_script()[1]) and clone.folders() == [name]
+    assert len(clone.builds()) == 6
+
+
 def test_concurrent_starts_build_once(clone: Clone) -> None:
     one, other = clone.start(), clone.start()
     time.sleep(0.5)
