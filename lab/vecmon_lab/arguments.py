@@ -1,10 +1,12 @@
 """Words of the command line that several commands take."""
 
 import argparse
+import os
 import pathlib
 import re
 import sys
-from collections.abc import Callable, Sequence
+from collections.abc import Callable, Iterable, Sequence
+from itertools import combinations
 from typing import Any
 
 from . import LabError
@@ -71,6 +73,17 @@ def check_output(output: pathlib.Path | None, *inputs: pathlib.Path) -> None:
     """Raises LabError where an output, if there is one, is one of the inputs, which it would overwrite."""
     if output and any(output.exists() and path.exists() and output.samefile(path) for path in inputs):
         raise LabError(f"{output} would be overwritten, and it is read here: name another file")
+
+
+def check_outputs(outputs: Iterable[pathlib.Path | None], *inputs: pathlib.Path) -> None:
+    """Raises LabError where one of the outputs is one of the inputs, or the same file as another output. Devices may be named twice."""
+    named = [output for output in outputs if output]
+    for output in named:
+        check_output(output, *inputs)
+    for one, other in combinations(named, 2):
+        is_linked = one.exists() and other.exists() and one.samefile(other)
+        if (is_linked or os.path.realpath(one) == os.path.realpath(other)) and not one.is_char_device():
+            raise LabError(f"{one} and {other} are one file: name another one for an output")
 
 
 def between(minimum: int, maximum: int) -> Callable[[str], int]:

@@ -3,6 +3,7 @@
 import argparse
 import pathlib
 import re
+import shutil
 import subprocess
 import sys
 import types
@@ -12,8 +13,11 @@ import pytest
 from support.places import SUM, TOP
 from vecmon_lab import LabError
 from vecmon_lab import __main__ as start
+from vecmon_lab.exercises.exercise import OURS
 from vecmon_lab.machine import program as places
 from vecmon_lab.machine.program import NoProgram, find_program, find_recorder
+
+GOOD = OURS / "doubles" / "good.s"
 
 
 def executable(file: pathlib.Path) -> pathlib.Path:
@@ -146,6 +150,50 @@ def test_profile_csv_equal_to_input_is_refused(monkeypatch: pytest.MonkeyPatch, 
     arguments = start.arguments_of(["profile", "-o", str(tmp_path / "sum.html"), str(tmp_path / "sum.csv")])
     with pytest.raises(LabError, match="sum.csv would be overwritten"):
         arguments.run(arguments)
+
+
+@pytest.mark.parametrize("name", ["one", "./one", "hard", "symbolic", "missing"])
+def test_outputs_to_one_file_are_refused(
+    monkeypatch: pytest.MonkeyPatch, capsys: pytest.CaptureFixture[str], tmp_path: pathlib.Path, name: str
+) -> None:
+    """By its path, a hard link, a symbolic one, and one to a file that isn't there; each command says so, and writes nothing."""
+    monkeypatch.chdir(tmp_path)
+    (tmp_path / "one").write_text("kept\n")
+    (tmp_path / "hard").hardlink_to("one")
+    (tmp_path / "symbolic").symlink_to("one")
+    (tmp_path / "missing").symlink_to("none")
+    other = "none" if name == "missing" else "one"
+    for words in (
+        ["run", "--trace", name, "--log", other, "--to", "3", str(SUM)],
+        ["grade", "--junit", name, "--gradescope", other, "doubles", str(GOOD)],
+    ):
+        monkeypatch.setattr(sys, "argv", ["vecmon-lab", *words])
+        expected = f"vecmon-lab: {pathlib.Path(name)} and {other} are one file: name another one for an output\n"
+        assert (start.main(), *capsys.readouterr()) == (2, "", expected)
+    assert (tmp_path / "one").read_text() == "kept\n" and not (tmp_path / "none").exists()
+
+
+def test_symbolic_links_in_a_circle_are_refused(
+    monkeypatch: pytest.MonkeyPatch, capsys: pytest.CaptureFixture[str], tmp_path: pathlib.Path
+) -> None:
+    monkeypatch.chdir(tmp_path)
+    for one, other in (("a", "b"), ("b", "a")):
+        (tmp_path / one).symlink_to(other)
+    monkeypatch.setattr(sys, "argv", ["vecmon-lab", "run", "--trace", "a", "--log", "c", "--to", "3", str(SUM)])
+    assert (start.main(), *capsys.readouterr()) == (2, "", "vecmon-lab: a: Too many levels of symbolic links\n")
+
+
+def test_file_of_an_exercise_is_no_report(
+    monkeypatch: pytest.MonkeyPatch, capsys: pytest.CaptureFixture[str], tmp_path: pathlib.Path
+) -> None:
+    shutil.copytree(GOOD.parent, tmp_path / "doubles")
+    monkeypatch.chdir(tmp_path)
+    for name in ("exercise.toml", "good.s", "start.s"):
+        file = tmp_path / "doubles" / name
+        before = file.read_bytes()
+        monkeypatch.setattr(sys, "argv", ["vecmon-lab", "grade", "--junit", f"doubles/{name}", "doubles", str(GOOD)])
+        expected = f"vecmon-lab: doubles/{name} would be overwritten, and it is read here: name another file\n"
+        assert (start.main(), *capsys.readouterr()) == (2, "", expected) and file.read_bytes() == before
 
 
 @pytest.mark.parametrize(

@@ -68,7 +68,7 @@ def test_log_is_truncated_when_recording_starts(lab: Lab, tmp_path: pathlib.Path
         ),
         (["--log", "log", "--from", "3", "--to", "2"], "from instruction 3 to 2 there is none"),
         (["--log", "log", "--from", "251", "--to", "300"], "the run has 250 instructions, and none from 251 on"),
-        (["--log", "log", "--trace", "./log", "--to", "2"], "--trace and --log both name log"),
+        (["--log", "log", "--trace", "./log", "--to", "2"], "log and log are one file: name another one for an output"),
         (["--log", SUM, "--to", "2"], f"{SUM} would be overwritten, and it is read here: name another file"),
         (["--log", STOCK, "--to", "2"], f"{STOCK}: Is a directory"),
         (["--log", "/dev/full"], "cannot write log"),

@@ -11,7 +11,7 @@ from concurrent.futures import ThreadPoolExecutor
 from functools import partial
 
 from .. import LabError
-from ..arguments import check_output
+from ..arguments import check_outputs
 from ..compilers.compiled import Isolation
 from ..compilers.compiler import find_compiler
 from ..compilers.container import answer_as_nobody, check_container
@@ -62,9 +62,9 @@ def run(arguments: argparse.Namespace) -> int:
     if len(arguments.answers) > 1 and (arguments.gradescope or arguments.no_sandbox):
         option = "--gradescope" if arguments.gradescope else "--no-sandbox"
         raise LabError(f"{option} is for one answer, and here are several")
-    for report in (arguments.junit, arguments.gradescope):
-        check_output(report, *arguments.answers)
     exercise = read_exercise(arguments.exercise)
+    sources = [*arguments.answers, exercise.folder / "exercise.toml", *exercise.files.values()]
+    check_outputs([arguments.junit, arguments.gradescope], *sources)
     isolation = _isolation(arguments, exercise)
     program = find_program()
     exercise = settled(program, exercise)

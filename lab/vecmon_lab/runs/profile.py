@@ -8,7 +8,7 @@ from collections.abc import Iterator
 from dataclasses import asdict
 
 from .. import LabError
-from ..arguments import add_image, check_output, image_path
+from ..arguments import add_image, check_outputs, image_path
 from ..guest.symbols import Symbols
 from ..page.pages import lone_page
 from ..page.texts import page_text
@@ -37,8 +37,7 @@ def run(arguments: argparse.Namespace) -> int:
     image, page, other = arguments.image, arguments.page, arguments.against
     if page and page.suffix != ".html":
         raise LabError(f"-o names a page, FILE.html, and {page} is none")
-    for output in (page, page and page.with_suffix(".csv")):
-        check_output(output, image, *filter(None, [arguments.input, other]))
+    check_outputs([page, page and page.with_suffix(".csv")], image, *filter(None, [arguments.input, other]))
     counts, symbols, ticks_spent, summary = _profiled(arguments, image)
     tables = [table for table in ticks_spent.tables() if table.rows]
     if other:

@@ -11,7 +11,7 @@ from contextlib import AbstractContextManager
 from typing import Any
 
 from .. import LabError
-from ..arguments import add_image, between, check_output
+from ..arguments import add_image, between, check_outputs
 from ..guest.guest import QUANTUM, Guest, started
 from ..guest.calls import unshown_calls
 from ..guest.runner import Report, Reporter, unreported
@@ -54,8 +54,7 @@ def run(arguments: argparse.Namespace) -> int:
     """Runs the image; its status, or one that says how it stopped. Raises LabError and OSError for bad input."""
     named, symbols = arguments.named, Symbols.read(arguments.image)
     _check_window(arguments)
-    for output in (arguments.trace, arguments.log):
-        check_output(output, named, *filter(None, [arguments.input]))
+    check_outputs([arguments.trace, arguments.log], named, *filter(None, [arguments.input]))
     with arguments.trace.open("w", encoding="utf-8") if arguments.trace else contextlib.nullcontext() as file:
         counts = counted(arguments, write_out, [*_logs(arguments)])
         report_calls(arguments, counts, symbols)
@@ -142,10 +141,8 @@ def _begun(arguments: argparse.Namespace, report: Report = unreported) -> Abstra
 
 
 def _check_window(arguments: argparse.Namespace) -> None:
-    """Raises LabError where a window has neither a trace nor a log, or no instruction, or both go to one file."""
+    """Raises LabError where a window has neither a trace nor a log, or no instruction."""
     trace, log = arguments.trace, arguments.log
-    if trace and log and trace.resolve() == log.resolve():
-        raise LabError(f"--trace and --log both name {trace}")
     if log and not (arguments.ticks or arguments.last or f"{log}".startswith("/dev/")):
         raise LabError("a log needs --ticks or --to, so that it has an end, unless FILE begins with /dev/")
     if arguments.first or arguments.last:
