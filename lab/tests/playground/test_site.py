@@ -1,6 +1,7 @@
 """The built site in Chromium: the whole page, reload, exercises, lessons, images, work as files, links, and no request."""
 
 import base64
+import hashlib
 import json
 import pathlib
 from collections.abc import Iterator
@@ -40,6 +41,14 @@ document.dispatchEvent(new DragEvent("drop", {dataTransfer: data, cancelable: tr
 def site() -> pathlib.Path:
     """The folder of the site."""
     return built_site()
+
+
+def test_sums_have_all_files(site: pathlib.Path) -> None:
+    """SHA256SUMS has the digests of all other files."""
+    listed = [line.split("  ", 1) for line in (site / "SHA256SUMS").read_text("utf-8").splitlines()]
+    files = [path for path in sorted(site.rglob("*")) if path.is_file() and path.name != "SHA256SUMS"]
+    digests = {path.relative_to(site).as_posix(): hashlib.sha256(path.read_bytes()).hexdigest() for path in files}
+    assert {name: digest for digest, name in listed} == digests and len(listed) == len(digests) > 50
 
 
 @pytest.fixture(scope="module")
