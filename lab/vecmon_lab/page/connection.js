@@ -53,10 +53,9 @@ export class Connection {
   open() {
     const socket = new WebSocket(`${location.protocol.replace("http", "ws")}//${location.host}/socket`);
     Object.assign(this, { socket, unanswered: 0 });
-    const isOwn = () => this.socket === socket;
-    socket.addEventListener("open", () => isOwn() && socket.send(JSON.stringify({ code: this.code, page: this.page })));
-    socket.addEventListener("message", (event) => isOwn() && this.hear(JSON.parse(event.data)));
-    socket.addEventListener("close", (event) => isOwn() && this.closed(event.code));
+    socket.addEventListener("open", () => this.send({ code: this.code, page: this.page }));
+    socket.addEventListener("message", ({ data }) => this.socket === socket && this.hear(JSON.parse(data)));
+    socket.addEventListener("close", ({ code }) => this.socket === socket && this.closed(code));
   }
 
   /** Asks whether the connection works; one that doesn't answer is closed, since a browser may not see for minutes that it broke. */

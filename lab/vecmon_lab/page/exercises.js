@@ -9,8 +9,7 @@ import { caseRows, verdict } from "./verdict.js";
 /** @typedef {import("./messages").SourceView} SourceView */
 /** @typedef {Record<string, ExerciseView>} All exercises by name */
 
-const MARKS = { passed: "✓", tried: "◐", open: "" };
-const STATES = { passed: textOf("exercises.passed"), tried: textOf("exercises.tried"), open: "" };
+const STATES = { passed: ["✓", textOf("exercises.passed")], tried: ["◐", textOf("exercises.tried")], open: ["", ""] };
 
 /** Offers the tries of an exercise in a list, below its other entries; without tries it is hidden. */
 /** @type {(list: HTMLSelectElement, tries: number, ...others: string[]) => void} */
@@ -19,6 +18,10 @@ export function offerTries(list, tries, ...others) {
   renew(list, [...others, ...names].map((name) => make("option", "", name)));
   list.hidden = !tries;
 }
+
+/** Whether a text is one that an exercise starts with. */
+/** @type {(exercise: ExerciseView | undefined, text: string) => boolean} */
+const isStart = (exercise, text) => Boolean(exercise?.starts.some((start) => start.text === text));
 
 export class Exercises {
   /** @type {All} */ all = {};
@@ -34,7 +37,9 @@ export class Exercises {
     byId("own-answers").onchange = () => this.takeAnswer();
     byId("start-over").onclick = () => (this.takeStart(), bench.panes.show("editor"));
     byId("reading").onclick = ({ target }) => this.tryCase(/** @type {Element} */ (target));
-    bench.editor.language.addEventListener("change", () => this.changeStart());
+    bench.editor.language.addEventListener("change", () => {
+      if (isStart(this.all[this.name], bench.editor.source.text)) bench.editor.put(this.start); // nothing was written yet
+    });
   }
 
   /** Shows the server's data of all exercises, at a seat that has this source. */
@@ -57,9 +62,8 @@ export class Exercises {
 
   /** Whether somebody has worked at the seat: there was a try, or its source isn't the sample of a first visit. */
   hasBegun(/** @type {All} */ all, /** @type {SourceView} */ { text, exercise }) {
-    const isStart = all[exercise]?.starts.some((start) => start.text === text);
     const isOwn = !this.name && ![this.sample, ""].includes(text);
-    return isStart || isOwn || Object.values(all).some(({ tries }) => tries > 0);
+    return isOwn || isStart(all[exercise], text) || Object.values(all).some(({ tries }) => tries > 0);
   }
 
   /** Opens an exercise, in all tabs of the seat: each has a source, which is the one to begin with at first. */
@@ -125,11 +129,11 @@ export class Exercises {
     elementsIn(byId("course-list"), "button").forEach((own, place) => {
       const name = this.names[place];
       const { number, title, tries, passed } = this.all[name];
-      const state = passed ? "passed" : tries ? "tried" : "open";
-      const [text, mark] = [`${number}`, MARKS[state]];
-      put(own, `${text}${title}${mark}`, [text, make("span", "title", title), make("span", "mark", mark)]);
-      Object.assign(own, { className: state, title, ariaLabel: [`${number} ${title}`, STATES[state]].filter(Boolean).join(", ") });
-      own.ariaCurrent = `${this.isOpen && name === this.name}`;
+      const className = passed ? "passed" : tries ? "tried" : "open";
+      const [mark, state] = STATES[className];
+      put(own, `${number}${title}${mark}`, [`${number}`, make("span", "title", title), make("span", "mark", mark)]);
+      const ariaLabel = [`${number} ${title}`, state].filter(Boolean).join(", ");
+      Object.assign(own, { className, title, ariaLabel, ariaCurrent: `${this.isOpen && name === this.name}` });
     });
   }
 
@@ -154,12 +158,6 @@ export class Exercises {
     if (!(target instanceof HTMLButtonElement)) return;
     this.bench.panes.makeRoom();
     this.bench.write({ ask: "case", exercise: this.name, case: Number(target.value) });
-  }
-
-  /** Another language was chosen: where nothing was written yet, one begins with its source. */
-  changeStart() {
-    const { editor } = this.bench;
-    if (this.all[this.name]?.starts.some(({ text }) => text === editor.source.text)) editor.put(this.start);
   }
 
   /** Puts the source to begin with into the editor. */

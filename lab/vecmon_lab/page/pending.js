@@ -12,9 +12,7 @@ export class Pending extends Map {
   number = 0; // of the last request
 
   /** All requests, the oldest one first. */
-  get requests() {
-    return [...this.values()].map(({ request }) => request);
-  }
+  get requests() { return [...this.values()].map(({ request }) => request); }
 
   /** Numbers and adds a request; `answer` resolves to its answer, or to null if it is dropped. */
   add(/** @type {Request} */ request) {

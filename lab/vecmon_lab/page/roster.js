@@ -7,7 +7,7 @@ import { textOf } from "./texts.js";
 /** @typedef {import("./messages").SeatStatus} SeatStatus */
 /** @typedef {Record<string, import("./messages").ExerciseTable>} Exercises by name */
 
-const HEADS = [textOf("teacher.student"), textOf("teacher.status"), textOf("teacher.for")];
+const FIRST_EXERCISE = 4; // its column, from 0 on
 const AGES_EVERY = 5000; // ms
 const GROUPS = ["hand", "help", "work", "waits", "free"]; // of seats, from above
 /** @type {Record<SeatStatus["kind"], [sign: string, words: string]>} */
@@ -52,11 +52,11 @@ export function workText(result, most) {
 }
 
 /** The head of an exercise's column, whose button shows the answers of the seat that is looked at. */
-/** @type {(exercise: [name: string, table: Exercises[string]], place: number) => HTMLElement} */
-function columnHead([value, { title: exercise }], place) {
+/** @type {(value: string, exercise: string, number: number) => HTMLElement} */
+function columnHead(value, exercise, number) {
   const names = { value, title: textOf("teacher.column.title", { exercise }) };
-  const button = Object.assign(make("button", "", `${place + 1}`, make("span", "title", ` ${exercise}`)), names);
-  if (place < 9) button.setAttribute("aria-keyshortcuts", `${place + 1}`);
+  const button = Object.assign(make("button", "", `${number}`, make("span", "title", ` ${exercise}`)), names);
+  if (number < 10) button.setAttribute("aria-keyshortcuts", `${number}`);
   return header("col", button);
 }
 
@@ -69,9 +69,8 @@ class Row {
     this.seat = seat;
     this.box = Object.assign(make("input", ""), { type: "checkbox", ariaLabel: textOf("teacher.choose-seat.label", { seat }) });
     this.look = make("button", "look");
-    this.kept = [make("td", "", this.box), header("row", this.look)];
     this.minutes = make("td", "minutes");
-    this.row = make("tr", "");
+    this.row = make("tr", "", make("td", "", this.box), header("row", this.look));
     this.row.dataset.seat = seat;
   }
 
@@ -81,13 +80,15 @@ class Row {
     return [hand, stuck, run !== "absent", tabs || name, true].findIndex(Boolean);
   }
 
-  show(/** @type {SeatView} */ told, /** @type {Exercises} */ exercises) {
+  /** @type {(told: SeatView, exercises: Exercises, names: string[]) => void} names: of exercises, in their order */
+  show(told, exercises, names) {
     if (told === this.told && exercises === this.exercises) return;
     Object.assign(this, { told, exercises });
     const [sign, text] = statusOf(told);
     const words = Object.assign(make("span", "", text), { title: `${text}\n${told.line} → ${told.answer}` });
     const condition = make("td", "condition", Object.assign(make("span", "sign", sign), { ariaHidden: "true" }), words);
-    renew(this.row, [...this.kept, condition, this.minutes, ...Object.keys(exercises).map((name) => this.cell(name, exercises[name]))]);
+    const [box, look] = this.row.cells;
+    renew(this.row, [box, look, condition, this.minutes, ...names.map((name) => this.cell(name, exercises[name]))]);
     put(this.look, `${this.seat} ${told.name}`, [make("span", "seat", this.seat), " ", make("span", "", told.name)]);
     this.row.className = GROUPS[this.group];
   }
@@ -105,9 +106,6 @@ class Row {
 
 export class Roster {
   /** @type {Row[]} */ rows = []; // those who need help first, longest first
-  /** @type {Exercises} */ exercises = {}; // those of the table, in the order of the course
-  /** @type {Exercises | undefined} */ results;
-  /** @type {import("./messages").OfferedExercise[] | undefined} */ course;
 
   constructor(/** @type {import("./teacher.js").Teacher} */ teacher) {
     this.teacher = teacher;
@@ -120,17 +118,14 @@ export class Roster {
   }
 
   /** Shows the seats of machines, which may be more than before. */
-  show(/** @type {import("./messages").TeacherView} */ { machines, course, exercises: results, shoulder }) {
+  show(/** @type {import("./messages").TeacherView} */ { machines, course, exercises, shoulder }) {
     const seats = Object.keys(machines).flatMap((letter) => Object.keys(machines[letter].seats).map((digit) => letter + digit));
     if (seats.length > this.rows.length) this.rows = seats.map((seat) => new Row(seat));
-    if (results !== this.results || course !== this.course) {
-      const names = course.map(({ name }) => name).filter((name) => name in results);
-      Object.assign(this, { results, course, exercises: Object.fromEntries(names.map((name) => [name, results[name]])) });
-    }
-    const heads = HEADS.map((name) => header("col", name));
-    renew(byId("columns"), [make("td", ""), ...heads, ...Object.entries(this.exercises).map(columnHead)]);
+    const names = course.map(({ name }) => name).filter((name) => name in exercises);
+    const heads = [...byId("columns").children].slice(0, FIRST_EXERCISE);
+    renew(byId("columns"), [...heads, ...names.map((name, place) => columnHead(name, exercises[name].title, place + 1))]);
     for (const row of this.rows) {
-      row.show(this.teacher.seatOf(row.seat), this.exercises);
+      row.show(this.teacher.seatOf(row.seat), exercises, names);
       row.row.ariaCurrent = `${row.seat === shoulder}`;
     }
     this.age();
@@ -142,9 +137,7 @@ export class Roster {
   }
 
   /** The rows of those who need help. */
-  get waiting() {
-    return this.rows.filter(({ group }) => group < 2);
-  }
+  get waiting() { return this.rows.filter(({ group }) => group < 2); }
 
   /** Looks at the next student who needs help, or with -1 at the one before. */
   goOn(/** @type {number} */ step) {

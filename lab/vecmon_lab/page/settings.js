@@ -1,6 +1,6 @@
 // The settings of a class: exercises, clocks and rights of all machines, their scripts, and the operator's lines.
 
-import { byId, elementsIn, header, make, put, table, timeText } from "./elements.js";
+import { byId, elementsIn, header, make, renew, timeText } from "./elements.js";
 import { listenToLines, requestsOf, unfitLines } from "./lines.js";
 import { textOf } from "./texts.js";
 import { Log } from "./transcript.js";
@@ -13,11 +13,6 @@ const NUMBERS = ["slices", "ms", "limit"]; // of a clock
 const SAVES = { script: textOf("settings.save-script"), transcript: textOf("settings.save-transcript") };
 
 export class Settings {
-  /** @type {Record<string, HTMLElement>} */ figures = {}; // by machine
-  /** @type {TeacherView["course"]} */ course = [];
-  /** @type {TeacherView["exercises"]} */ exercises = {};
-  /** @type {TeacherView["failures"]} */ failures = [];
-
   constructor(/** @type {import("./teacher.js").Teacher} */ teacher) {
     this.teacher = teacher;
     this.log = new Log(byId("operator-log"), false);
@@ -30,62 +25,55 @@ export class Settings {
   /** @type {(view: TeacherView, logs: Record<string, string[]>, isAnew: boolean) => void} */
   show(view, logs, isAnew) {
     this.showExercises(view);
-    const { machines } = view;
-    const letters = Object.keys(machines);
-    byId("operated").hidden = letters.length === 1;
+    const machines = Object.entries(view.machines);
+    byId("operated").hidden = machines.length === 1;
+    renew(byId("operated"), machines.map(([letter]) => make("option", "", letter)));
+    renew(byId("machines"), machines.flatMap(([letter, machine]) => this.machine(letter, machine)));
     if (isAnew) this.log.clear();
-    for (const letter of letters) {
-      put((this.figures[letter] ??= this.add(letter)), this.figuresOf(machines[letter]));
-      this.log.add(logs[letter] ?? [], letters.length > 1 ? `${letter} ` : "");
-    }
+    for (const [letter] of machines) this.log.add(logs[letter] ?? [], machines.length > 1 ? `${letter} ` : "");
     this.log.showEnd();
     byId("operator-log").ariaLive = "polite";
-    this.showClocks(Object.values(machines));
+    this.showClocks(Object.values(view.machines));
   }
 
   /** Shows which exercises are on, how many seats have passed them, and checks that failed on the server's side, the last one first. */
   showExercises(/** @type {TeacherView} */ { course, exercises, failures }) {
-    if (exercises === this.exercises && failures === this.failures && course === this.course) return;
-    Object.assign(this, { course, exercises, failures });
-    const focused = document.activeElement?.closest(".course input")?.getAttribute("name");
-    for (const box of elementsIn(document, ".course")) {
-      box.replaceChildren(table(textOf("exercises"), make("tbody", "", ...course.map((each) => this.exerciseRow(each)))));
-      if (focused && box.checkVisibility()) elementsIn(box, `[name="${focused}"]`)[0].focus();
-    }
+    for (const table of /** @type {HTMLTableElement[]} */ (elementsIn(document, ".course table")))
+      course.forEach((each, place) => this.showExercise(table.rows[place] ?? table.insertRow(), each, exercises[each.name]?.seats));
     const items = failures.map(({ seat, exercise, time, cause }) => {
       const what = `${timeText(time)} ${this.teacher.withName(seat)}, ${exercises[exercise].title}`;
       return make("li", "", textOf("settings.failed", { what, cause }));
     });
-    byId("failures").replaceChildren(...items.reverse());
+    renew(byId("failures"), items.reverse());
   }
 
-  /** An exercise that can be turned on and off. */
-  exerciseRow(/** @type {TeacherView["course"][0]} */ { name, title, minutes, on: checked }) {
-    const results = Object.values(this.exercises[name]?.seats ?? {});
+  /** Shows an exercise that can be turned on and off. */
+  /** @type {(row: HTMLElement, exercise: TeacherView["course"][0], seats?: TeacherView["exercises"][string]["seats"]) => void} */
+  showExercise(row, { name, title, minutes, on: checked }, seats = {}) {
+    const results = Object.values(seats);
     const passed = results.filter((each) => each.passed).length;
-    const on = this.course.filter((each) => each.on !== (each.name === name)).map((each) => each.name);
-    const onchange = () => this.teacher.request({ ask: "exercises", on });
-    const box = Object.assign(make("input", ""), { type: "checkbox", name, checked, onchange });
+    const box = Object.assign(make("input", ""), { type: "checkbox", name, onchange: () => this.turn(name) });
     const counts = results.length ? textOf("settings.counts", { passed, trying: results.length - passed }) : "";
     const cells = [minutes ? textOf("time.minutes", { minutes }) : "", counts].map((text) => make("td", "", text));
-    return make("tr", "", header("row", make("label", "", box, ` ${title}`)), ...cells);
+    renew(row, [header("row", make("label", "", box, ` ${title}`)), ...cells]);
+    Object.assign(elementsIn(row, "input")[0], { checked });
   }
 
-  /** What is wrong with a machine, its script, and its answers. */
-  figuresOf(/** @type {MachineView} */ { lines, script, of, restarts, loss, digest, trouble }) {
-    const [number, bytes, most] = [lines, script, of].map((each) => each.toLocaleString(textOf("language")));
-    const replaced = restarts ? textOf("settings.replaced", { restarts, loss }) : "";
-    return `${trouble} ${textOf("settings.script", { lines: number, bytes, most, digest })} ${replaced}`.trim();
+  /** Turns an exercise on or off. */
+  turn(/** @type {string} */ name) {
+    const on = this.teacher.view.course.filter((each) => each.on !== (each.name === name)).map((each) => each.name);
+    this.teacher.request({ ask: "exercises", on });
   }
 
-  /** Adds a machine, with buttons that save its script and transcript. */
-  add(/** @type {string} */ letter) {
+  /** A machine: buttons that save its script and transcript; what is wrong with it, its script, and the digest of its answers. */
+  /** @type {(letter: string, machine: MachineView) => HTMLElement[]} */
+  machine(letter, { lines, script, of, restarts, loss, digest, trouble }) {
     const saves = Object.entries(SAVES).map(([name, text]) =>
       Object.assign(make("button", "", text), { name, onclick: () => this.download(letter, name) }));
-    const figures = make("p", "figures");
-    byId("machines").append(make("div", "top", make("h3", "", textOf("settings.machine", { letter })), ...saves), figures);
-    byId("operated").append(make("option", "", letter));
-    return figures;
+    const [number, bytes, most] = [lines, script, of].map((each) => each.toLocaleString(textOf("language")));
+    const replaced = restarts ? textOf("settings.replaced", { restarts, loss }) : "";
+    const figures = `${trouble} ${textOf("settings.script", { lines: number, bytes, most, digest })} ${replaced}`.trim();
+    return [make("div", "top", make("h3", "", textOf("settings.machine", { letter })), ...saves), make("p", "figures", figures)];
   }
 
   /** Sets what was changed at all machines: rights, or the clock. */
@@ -94,7 +82,7 @@ export class Settings {
     const numbers = Object.fromEntries(NUMBERS.map((each) => [each, Number(this.field(each).value)]));
     /** @type {import("./types").MachineAction} */
     const request = name === "own" ? { ask: "rights", own_slices: checked } : { ask: "clock", on: this.field("on").checked, ...numbers };
-    for (const machine of Object.keys(this.figures)) this.teacher.request({ machine, ...request });
+    for (const machine of Object.keys(this.teacher.view.machines)) this.teacher.request({ machine, ...request });
   }
 
   /** Shows the clock of all machines: the first one's numbers, and whether only some are on. */
