@@ -1,7 +1,7 @@
 // What the teacher sends: a message, or a source that is offered or replaces others; to one seat, some, or all.
 
 import { Editor } from "./editor.js";
-import { button, byId, elementsIn, make, put, timeText } from "./elements.js";
+import { byId, elementsIn, make, put, renew, timeText } from "./elements.js";
 import { offerLanguages } from "./languages.js";
 import { MOST_LETTERS } from "./source.js";
 import { textOf } from "./texts.js";
@@ -20,14 +20,12 @@ const KINDS = {
 /** The radio buttons of a group, whose value is that of the chosen one. */
 const group = (/** @type {"to" | "how"} */ name) => /** @type {RadioNodeList} */ (byId("sending").elements.namedItem(name));
 
-/** A button that takes back what was sent. */
-/** @type {(what: string, takeBack: () => unknown) => HTMLElement} */
-const backButton = (what, takeBack) => button(textOf("teacher.take-back"), textOf("send.take-back.label", { what }), takeBack);
+/** A button that takes back a message, by its number, or without one the source that was given. */
+/** @type {(what: string, value: string) => HTMLElement} */
+const backButton = (what, value) =>
+  Object.assign(make("button", "", textOf("teacher.take-back")), { ariaLabel: textOf("send.take-back.label", { what }), value });
 
 export class Send {
-  /** @type {TeacherView["sent"] | null} */ sent = null;
-  /** @type {TeacherView["given"]} */ gift;
-
   constructor(/** @type {import("./teacher.js").Teacher} */ teacher) {
     this.teacher = teacher;
     byId("given").value = sessionStorage.getItem("given") ?? ""; // as before a reload
@@ -39,6 +37,7 @@ export class Send {
     byId("seats").onchange = () => this.choose(this.choices.chosen.length ? "chosen" : "one");
     byId("sending").oninput = () => this.paint();
     byId("sending").onsubmit = () => this.submit();
+    byId("sent").onclick = ({ target }) => target instanceof HTMLButtonElement && this.takeBack(Number(target.value));
   }
 
   /** Keeps the source to give, until the tab is closed. */
@@ -77,9 +76,7 @@ export class Send {
   }
 
   /** What is sent: a message, or a source that is offered or replaces others. */
-  get kind() {
-    return byId("gift").hidden ? "message" : /** @type {"offer" | "replace"} */ (group("how").value);
-  }
+  get kind() { return byId("gift").hidden ? "message" : /** @type {"offer" | "replace"} */ (group("how").value); }
 
   /** Shows the receivers, what happens there, and on the button how many they are. */
   paint() {
@@ -117,32 +114,28 @@ export class Send {
     const { sent, given } = view;
     offerLanguages(byId("given-language"), view);
     this.paint();
-    if (sent === this.sent && given === this.gift) return;
-    Object.assign(this, { sent, gift: given });
-    const items = Object.keys(sent).slice(-SHOWN).reverse().map((number) => this.item(Number(number), sent[number]));
-    if (given) {
-      const words = textOf("send.replaced", { count: given.replaced, names: this.names(given.seats) });
-      items.unshift(make("li", "given", words, backButton(words, () => this.takeBack(given.seats))));
-    }
-    byId("sent").replaceChildren(...items);
+    const items = Object.keys(sent).slice(-SHOWN).reverse().map((number) => this.item(number, sent[number]));
+    const words = given ? textOf("send.replaced", { count: given.replaced, names: this.names(given.seats) }) : "";
+    renew(byId("sent"), given ? [make("li", "given", words, backButton(words, "")), ...items] : items);
   }
 
-  item(/** @type {number} */ number, /** @type {import("./messages").SentNotice} */ { time, text, offer, to, read, opened }) {
+  /** @type {(number: string, notice: import("./messages").SentNotice) => HTMLElement} */
+  item(number, { time, text, offer, to, read, opened }) {
     const offered = offer?.title ? textOf("send.offered-title", { title: offer.title }) : textOf("send.offered");
     const [what, numbers] = [text ? `“${text}”` : offered, { read: read.length, all: to.length }];
     const seen = offer ? textOf("send.opened", { ...numbers, opened: opened.length }) : textOf("send.read", numbers);
     const words = Object.assign(make("span", "", `${timeText(time)} ${this.names(to)}: ${what}, ${seen}`), { title: read.join(", ") });
-    return make("li", "", words, read.length < to.length ? backButton(what, () => this.unsend(number)) : "");
+    return make("li", "", words, read.length < to.length ? backButton(what, number) : "");
   }
 
-  async unsend(/** @type {number} */ number) {
-    const { read } = (await this.teacher.request({ ask: "unsend", number })) ?? {};
-    if (read) put(byId("sent-says"), read.length ? textOf("send.read-before", { names: this.names(read) }) : textOf("send.taken-back"));
-  }
-
-  /** Takes back the source that was given last, where no student has changed it since. */
-  async takeBack(/** @type {string[]} */ seats) {
-    const answer = await this.teacher.request({ ask: "take-back", ...(seats.length ? { seats } : { seat: "" }) });
-    if (answer && !answer.error) put(byId("sent-says"), textOf("send.restored", { count: answer.replaced ?? 0 }));
+  /** Takes back a message; or without a number the source that was given last, where no student has changed it since. */
+  async takeBack(/** @type {number} */ number) {
+    const seats = this.teacher.view.given?.seats ?? [];
+    const receivers = seats.length ? { seats } : { seat: "" };
+    const answer = await this.teacher.request(number ? { ask: "unsend", number } : { ask: "take-back", ...receivers });
+    if (!answer || answer.error) return;
+    const { replaced: count, read = [] } = answer;
+    const words = read.length ? textOf("send.read-before", { names: this.names(read) }) : textOf("send.taken-back");
+    put(byId("sent-says"), count === undefined ? words : textOf("send.restored", { count }));
   }
 }

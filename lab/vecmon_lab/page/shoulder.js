@@ -37,7 +37,8 @@ export class Shoulder {
     byId("answer-try").onchange = () => this.read(byId("answer-try").selectedIndex + 1);
     byId("on-wall").onclick = () => teacher.request({ ask: "wall", seat: teacher.view.wall === this.seat ? "" : this.seat });
     byId("lower-hand").onclick = () => teacher.request({ ask: "hand", seat: this.seat });
-    byId("reset").onclick = () => this.reset();
+    byId("reset").onclick = () =>
+      ask(textOf("shoulder.loss", { seat: this.seat }), textOf("run.reset"), () => teacher.request({ ask: "reset", seat: this.seat }));
   }
 
   /** @type {(view: TeacherView, log: string[], isAnew: boolean) => void} */
@@ -63,11 +64,6 @@ export class Shoulder {
     if (key !== this.key) this.problems.show(found.map((each) => ({ ...each, fix: [] })));
     if (caret && caret !== this.caret) this.editor.code.setCursor({ line: caret - 1, ch: 0 });
     Object.assign(this, { key, caret });
-  }
-
-  reset() {
-    const { seat } = this;
-    ask(textOf("shoulder.loss", { seat }), textOf("run.reset"), () => this.teacher.request({ ask: "reset", seat }));
   }
 
   /** Shows a seat's answers to an exercise, the last one first. */
