@@ -8,6 +8,7 @@ from ..assembler.mistakes import mistakes_json
 from ..assembler.source import Program
 from ..compilers.compiled import CompiledProgram
 from ..page.state import State
+from ..page.texts import page_text
 from .example_sources import ExampleSource
 from .languages import LANGUAGES, SourceText
 from .messages import Hand, Notice, Result, SourceResult, SourceView, TextResult, TryResult, shown, source_view
@@ -38,6 +39,7 @@ from .text_store import TextStore
 
 
 Checker = Callable[[str, str, SourceText], None]
+WARNING_PERCENT = 90  # of a seat's share of the script
 """Starts to check an answer of a seat to an exercise. Raises BadRequest."""
 
 
@@ -225,6 +227,12 @@ def problems_of(program: Program, source: SourceText) -> SourceResult:
     """The mistakes and warnings of a program with this source, as a message has them."""
     warnings = program.warnings if isinstance(program, CompiledProgram) else ()
     return problems_json(source, program.mistakes, warnings)
+
+
+def share_warning(seat: Seat) -> str:
+    """A sentence on the part of its share of the script that a seat has used; "" below 90 %."""
+    percent = 100 * seat.used // SEAT_BYTES
+    return page_text("student.share", share=percent) if percent >= WARNING_PERCENT else ""
 
 
 def problems_json(source: SourceText, mistakes: Mistakes, warnings: Mistakes) -> SourceResult:

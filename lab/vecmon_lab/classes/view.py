@@ -25,7 +25,7 @@ from .room import Room
 from .seats import Seat
 from .stored_files import Notes, texts
 from .store import Store, script_name
-from .student import ClassView, Student, StudentView
+from .student import ClassView, Student, StudentView, share_warning
 
 COUNTS_SECONDS = 1.0  # between notes of a machine that only count more lines
 
@@ -191,7 +191,7 @@ class Class:
             "no_c": self.builds.no_c,
             "against": self.comparisons.names,
             "ready": not room.thread.rebuilding,
-            "trouble": room.warning,
+            "trouble": " ".join(filter(None, [room.warning, share_warning(student.seat)])),
         }
         if hand := self.hands.of(student.seat.name):
             others["hand"] = hand

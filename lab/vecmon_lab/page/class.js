@@ -35,43 +35,34 @@ function askForCode(words = "", wrong = "") {
   byId("code").select();
 }
 
-/** Makes a page from the server's first message: a student's, or the teacher's. */
-class ClassTab {
-  /** @type {import("./types").RolePage | null} */ page = null;
-  view = /** @type {import("./types").View} */ ({});
+/** Begins the page of a role, which is the name of a seat for a student. */
+function begin(role = "") {
+  byId("head").hidden = byId("desk").hidden = false;
+  document.body.classList.add({ teacher: "teaching", wall: "watching" }[role] ?? "studying");
+  document.body.classList.toggle("alone", Boolean(view.title));
+  if (role !== "wall") offerTextSizes(byId("text-size"));
+  const Page = { teacher: Teacher, wall: Wall }[role] ?? Student;
+  return new Page(document.body, connection);
+}
 
-  constructor(/** @type {string} */ code) {
-    this.connection = new Connection(code, this);
-  }
-
-  /** @type {import("./types").Listener["told"]} */
+/** @type {import("./types").Listener} */
+const listener = {
   told({ kind, who, patch = {}, logs = {} }) {
     const isAnew = kind === "hello";
-    this.view = patched(isAnew ? {} : this.view, patch);
-    this.page ??= this.begin(who);
-    this.page.show(this.view, logs, isAnew);
-  }
-
-  gone(/** @type {string} */ words) {
+    view = patched(isAnew ? {} : view, patch);
+    say("trouble", view.trouble);
+    page ??= begin(who);
+    page.show(view, logs, isAnew);
+  },
+  gone(words) {
     say("gone", words);
-    this.page?.showConnection?.();
-  }
-
-  ended(/** @type {string} */ words) {
+    page?.showConnection?.();
+  },
+  ended(words) {
     sessionStorage.removeItem("code");
-    askForCode(words, this.connection.code);
-  }
-
-  /** Begins the page of a role, which is the name of a seat for a student. */
-  begin(role = "") {
-    byId("head").hidden = byId("desk").hidden = false;
-    document.body.classList.add({ teacher: "teaching", wall: "watching" }[role] ?? "studying");
-    document.body.classList.toggle("alone", Boolean(this.view.title));
-    if (role !== "wall") offerTextSizes(byId("text-size"));
-    const Page = { teacher: Teacher, wall: Wall }[role] ?? Student;
-    return new Page(document.body, this.connection);
-  }
-}
+    askForCode(words, code);
+  },
+};
 
 window.addEventListener("hashchange", () => (takeHash(), location.reload()));
 byId("forget").onclick = () => ask(textOf("class.leaving"), textOf("menu.leave"), () => (sitDown(""), location.reload()));
@@ -82,6 +73,9 @@ byId("join").onsubmit = () => {
   location.reload();
 };
 if (location.hash) takeHash();
-const code = sessionStorage.getItem("code");
-if (code) new ClassTab(code);
+const code = sessionStorage.getItem("code") ?? "";
+let view = /** @type {import("./types").View} */ ({});
+/** @type {import("./types").RolePage | undefined} */ let page;
+/** @type {import("./types").Connection} */ let connection;
+if (code) connection = new Connection(code, listener);
 else askForCode();

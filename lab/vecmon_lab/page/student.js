@@ -1,7 +1,7 @@
 // A student's page: the bench, and what a class adds: the seat, a name, messages of the teacher, exercises, and work to take home.
 
 import { Bench } from "./bench.js";
-import { button, byId, make, put, say, timeText } from "./elements.js";
+import { button, byId, make, put, timeText } from "./elements.js";
 import { Exercises } from "./exercises.js";
 import { Keys } from "./keys.js";
 import { placePast } from "./past.js";
@@ -66,9 +66,6 @@ export class Student {
     byId("hand").ariaPressed = `${Boolean(view.hand)}`;
     put(byId("hand"), view.hand ? textOf("hand.raised") : textOf("hand.raise"));
     if (document.activeElement !== byId("name")) byId("name").value = view.name;
-    const share = Math.floor((100 * view.share.used) / view.share.of);
-    const warning = share < 90 ? "" : textOf("student.share", { share });
-    say("trouble", [view.trouble, warning].join(" ").trim());
     if (view.examples) (this.start ??= new StartPage(this.root, this.bench, view)).show(view);
     this.bench.show(view, logs[view.seat] ?? [], isAnew);
     this.exercises.show(view.exercises, view.source);

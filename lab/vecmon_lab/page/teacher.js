@@ -51,7 +51,6 @@ export class Teacher {
     if (isAnew && wall && !view.wall) this.request({ ask: "wall", seat: wall });
     this.view = view;
     put(byId("who"), view.class_title);
-    say("trouble", view.trouble);
     byId("unencrypted").hidden = !view.unencrypted || sessionStorage.getItem("unencrypted") === "read";
     this.roster.show(view);
     this.shoulder.show(view, logs[view.shoulder] ?? [], isAnew);

@@ -1,7 +1,7 @@
 // A page for a projector: the vectors and the program of the seat that the teacher has put there.
 
 import { Desk } from "./desk.js";
-import { part, put, say } from "./elements.js";
+import { part, put } from "./elements.js";
 import { Panes } from "./panes.js";
 import { textOf } from "./texts.js";
 
@@ -16,12 +16,11 @@ export class Wall {
   }
 
   /** @type {import("./types").RolePage["show"]} */
-  show({ seat, state, trouble }, logs, isAnew) {
+  show({ seat, state }, logs, isAnew) {
     const isOther = isAnew || seat !== this.seat;
     this.seat = seat;
     const seatText = state?.run === "running" ? textOf("wall.running", { seat }) : textOf("wall.seat", { seat });
     put(part(this.root, "who"), seat ? seatText : textOf("wall.none"));
-    say("trouble", trouble);
     part(this.root, "desk").hidden = !seat;
     if (seat) this.desk.show(seat, state, [], isOther);
   }
