@@ -96,10 +96,9 @@ export class Send {
   }
 
   async submit() {
-    const { kind: how } = this;
-    const to = group("to").value;
-    const receivers = to === "all" ? { seat: "" } : { seats: this.choices[to] };
-    const title = how === "offer" ? byId("gift-title").value : undefined;
+    const how = this.kind;
+    const receivers = { seats: this.choices[group("to").value] };
+    const title = byId("gift-title").value;
     /** @type {import("./types").Request} */
     const what = how === "message" ? { ask: "write", text: byId("words").value } : { ask: "give", ...this.given.source, how, title };
     const answer = await this.teacher.request({ ...what, ...receivers });

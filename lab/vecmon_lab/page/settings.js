@@ -77,11 +77,11 @@ export class Settings {
   }
 
   /** Sets what was changed at all machines: rights, or the clock. */
-  set(/** @type {HTMLInputElement} */ { name, checked }) {
+  set(/** @type {HTMLInputElement} */ { name, type, checked, valueAsNumber }) {
     if (!byId("clocks").reportValidity()) return;
-    const numbers = Object.fromEntries(NUMBERS.map((each) => [each, Number(this.field(each).value)]));
+    const value = type === "checkbox" ? checked : valueAsNumber;
     /** @type {import("./types").MachineAction} */
-    const request = name === "own" ? { ask: "rights", own_slices: checked } : { ask: "clock", on: this.field("on").checked, ...numbers };
+    const request = name === "own" ? { ask: "rights", own_slices: checked } : { ask: "clock", [name]: value };
     for (const machine of Object.keys(this.teacher.view.machines)) this.teacher.request({ machine, ...request });
   }
 

@@ -14,9 +14,6 @@ import { textOf } from "./texts.js";
 /** @typedef {import("./messages").TeacherView} TeacherView */
 
 export class Shoulder {
-  seat = "";
-  key = ""; // whose problems, and which
-  caret = 0; // the line in which the student typed last
   answered = { seat: "", exercise: "" }; // whose answers are shown
 
   /** @param {HTMLElement} root of all its parts @param {import("./teacher.js").Teacher} teacher */
@@ -41,11 +38,10 @@ export class Shoulder {
       ask(textOf("shoulder.loss", { seat: this.seat }), textOf("run.reset"), () => teacher.request({ ask: "reset", seat: this.seat }));
   }
 
-  /** @type {(view: TeacherView, log: string[], isAnew: boolean) => void} */
-  show(view, log, isAnew) {
+  /** @type {(view: TeacherView, before: Partial<TeacherView>, log: string[]) => void} before: {} on a new connection */
+  show(view, before, log) {
     const { shoulder: seat, source, state = { run: "absent" }, problems, caret = 0 } = view;
-    const isOther = isAnew || seat !== this.seat;
-    this.seat = seat;
+    const isOther = seat !== before.shoulder;
     byId("shoulder").classList.toggle("looks", Boolean(seat));
     if (!source) return;
     offerLanguages(byId("language"), view);
@@ -59,12 +55,13 @@ export class Shoulder {
     this.desk.show(seat, state, log, isOther);
     this.source.show(seat, source, view.exercises);
     this.source.mark(state);
-    const key = JSON.stringify([seat, problems]); // those of the last assembly
-    const found = problems ? [...problems.mistakes, ...problems.warnings] : [];
-    if (key !== this.key) this.problems.show(found.map((each) => ({ ...each, fix: [] })));
-    if (caret && caret !== this.caret) this.editor.code.setCursor({ line: caret - 1, ch: 0 });
-    Object.assign(this, { key, caret });
+    const found = problems ? [...problems.mistakes, ...problems.warnings] : []; // by the last assembly
+    if (isOther || problems !== before.problems) this.problems.show(found.map((each) => ({ ...each, fix: [] })));
+    if (caret && caret !== before.caret) this.editor.code.setCursor({ line: caret - 1, ch: 0 }); // where the student typed last
   }
+
+  /** The name of the seat. */
+  get seat() { return this.teacher.view.shoulder; }
 
   /** Shows a seat's answers to an exercise, the last one first. */
   open(/** @type {string} */ seat, /** @type {string} */ exercise) {

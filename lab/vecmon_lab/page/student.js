@@ -62,7 +62,6 @@ export class Student {
     byId("welcome").hidden = Boolean(view.title);
     if (logs[view.seat]) this.welcome(false);
     if (isFirst && !view.title) this.bench.panes.show("vectors"); // which has what to do first
-    byId("hand").hidden = Boolean(view.title); // of a page without a teacher
     byId("hand").ariaPressed = `${Boolean(view.hand)}`;
     put(byId("hand"), view.hand ? textOf("hand.raised") : textOf("hand.raise"));
     if (document.activeElement !== byId("name")) byId("name").value = view.name;

@@ -46,14 +46,14 @@ export class Teacher {
 
   /** @type {import("./types").RolePage["show"]} */
   show(view, logs, isAnew) {
-    const { shoulder: seat, wall } = this.view;
-    if (isAnew && seat) this.request({ ask: "shoulder", seat }); // as before the connection broke
-    if (isAnew && wall && !view.wall) this.request({ ask: "wall", seat: wall });
+    const before = this.view;
+    if (isAnew && before.shoulder) this.request({ ask: "shoulder", seat: before.shoulder }); // as before the connection broke
+    if (isAnew && before.wall && !view.wall) this.request({ ask: "wall", seat: before.wall });
     this.view = view;
     put(byId("who"), view.class_title);
     byId("unencrypted").hidden = !view.unencrypted || sessionStorage.getItem("unencrypted") === "read";
     this.roster.show(view);
-    this.shoulder.show(view, logs[view.shoulder] ?? [], isAnew);
+    this.shoulder.show(view, isAnew ? {} : before, logs[view.shoulder] ?? []);
     this.send.show(view);
     this.join.show(view);
     this.settings.show(view, logs, isAnew);
