@@ -1,7 +1,7 @@
 """Pages with texts in brackets: what they show outside of brackets is data, and not in the table of texts (docs/ADDING.md)."""
 
 import pathlib
-from collections.abc import Callable, Iterator, Sequence
+from collections.abc import Callable, Iterator, Mapping, Sequence
 from typing import TYPE_CHECKING
 
 import pytest
@@ -11,9 +11,13 @@ from support.class_pages import Explored, Served, Tab
 from support.places import EXAMPLES
 from vecmon_lab.exercises.exercise import OURS
 from vecmon_lab.lessons.frames import make_frames
+from vecmon_lab.lessons.listings import CompiledListing, listings_page
 from vecmon_lab.lessons.page import Series, lesson_page
 from vecmon_lab.lessons.script import read_assembled
 from vecmon_lab.page import pages, texts
+from vecmon_lab.runs.callers import CallFrame
+from vecmon_lab.runs.profile_page import profile_page
+from vecmon_lab.runs.tick_profile import Table
 
 if TYPE_CHECKING:
     from selenium.webdriver import Chrome
@@ -40,25 +44,16 @@ SERIES: Series = {
     "lessons": [{"name": name, "title": f"⟦{name}⟧"} for name in ("one", "two", "three")],
     "place": 1,
 }
-ROW = ["10000", "main", "main.c:1", "vid.v v1", 1, 9, 8, 0, 0, 8]
-FRAMES = [{"name": "main", "own": 3, "total": 9, "callees": [{"name": "leaf", "own": 6, "total": 6, "callees": []}]}]
-TABLE = {"name": "Functions", "texts": 1, "head": ["function", "ticks"], "rows": [["main", 9]]}
-LONE = {  # the data of pages without a machine
-    "tour": [LESSON],
-    "course": [
-        {"minutes": 5, "title": "Title", "text": "A text.", "lesson": LESSON, "play": play} for play in ("", "play")
-    ],
-    "profile": {
-        "rows": [ROW],
-        "lengths": [["e8, m1", 8, 1]],
-        "summary": ["9 ticks"],
-        "frames": FRAMES,
-        "tables": [TABLE],
-    },
-    "listings": {
-        "lines": ["vid"],
-        "listings": [{"name": "gcc", "summary": ["1"], "rows": [["10000", 1, "", "vid", 1, 8, 0, 0]]}],
-    },
+ROW = ["10000", "main", "main.c:1", "vid.v v1", 1, 9, 8, 0, 0, "100 %"]
+FRAMES = [CallFrame("main", 3, 9, (CallFrame("leaf", 6, 6, ()),))]
+TABLE = Table("Functions", ["function", "ticks"], 1, [["main", 9]])
+LISTING = CompiledListing("gcc", ["1"], [["10000", 1, "", "vid", 1, 8, 0, 0]])
+COURSE = [{"minutes": 5, "title": "Title", "text": "A text.", "lesson": LESSON, "play": play} for play in ("", "play")]
+LONE: Mapping[str, Callable[[], str]] = {  # pages without a machine
+    "tour": lambda: pages.lone_page("tour", "⟦⟧", [LESSON]),
+    "course": lambda: pages.lone_page("course", "⟦⟧", COURSE),
+    "profile": lambda: profile_page("⟦⟧", ["9 ticks"], [TABLE], [("e8, m1", 8, 1)], FRAMES, [ROW]),
+    "listings": lambda: listings_page("⟦⟧", "line", [LISTING]),
 }
 
 
@@ -106,7 +101,7 @@ def test_text_outside_of_table_is_found(opened: Callable[[str], Sequence[str]]) 
 
 @pytest.mark.parametrize("name", LONE)
 def test_page_without_machine_shows_texts_of_table(opened: Callable[[str], Sequence[str]], name: str) -> None:
-    assert opened(pages.lone_page(name, "⟦⟧", LONE[name])) == []
+    assert opened(LONE[name]()) == []
 
 
 def test_lesson_shows_texts_of_table(

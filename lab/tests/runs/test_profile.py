@@ -30,7 +30,8 @@ loop:   addi t0, t0, -1
 """
 ROWS = "[...document.querySelectorAll('#rows tr')]"
 TEXTS = f"return {ROWS}.map((row) => [...row.cells].map((cell) => cell.textContent))"
-WIDTHS = "return [...document.querySelectorAll(arguments[0])].map((bar) => bar.getBoundingClientRect().width)"
+SHOWN = "[...document.querySelectorAll(arguments[0])].filter((each) => each.checkVisibility())"
+WIDTHS = f"return {SHOWN}.map((bar) => bar.getBoundingClientRect().width)"
 
 
 def cells(line: str) -> list[str]:
@@ -192,19 +193,19 @@ def test_flame_graph_has_frames(
     )
     browser.get((tmp_path / "page.html").as_uri())
     assert browser.get_log("browser") == [] and browser.execute_script(CONTRAST) == []
-    bars = "return [...document.querySelectorAll('.flame button')].map((bar) => bar.textContent)"
-    assert browser.execute_script(bars) == ["all 100 %", "10000 100 %", "1002c 62.2 %", "10018 44.6 %", "10018 29.7 %"]
+    bars = f"return {SHOWN}.map((bar) => bar.textContent)", ".flame button"
+    assert browser.execute_script(*bars) == ["all 100 %", "10000 100 %", "1002c 62.2 %", "10018 44.6 %", "10018 29.7 %"]
     whole, _, *widths = browser.execute_script(WIDTHS, ".flame li")
     assert all(abs(width - whole * ticks / 74) < 1 for width, ticks in zip(widths, (46, 33, 22)))
     title = browser.execute_script("return document.querySelectorAll('.flame button')[2].title")
     assert title == "1002c 62.2 %: 46 ticks, 13 of them its own"
-    browser.execute_script("document.querySelectorAll('.flame button')[2].click()")
-    assert browser.execute_script(bars) == ["all 100 %", "10000 100 %", "1002c 62.2 %", "10018 44.6 %"]
+    browser.find_elements("css selector", ".flame button")[2].click()
+    assert browser.execute_script(*bars) == ["all 100 %", "10000 100 %", "1002c 62.2 %", "10018 44.6 %"]
     *above, last = browser.execute_script(WIDTHS, ".flame li")
     assert all(abs(width - whole) < 1 for width in above) and abs(last - whole * 33 / 46) < 1
     assert browser.execute_script("return document.activeElement.textContent") == "1002c 62.2 %"
     browser.execute_script("document.querySelectorAll('.flame button')[0].click()")
-    assert len(browser.execute_script(bars)) == 5
+    assert len(browser.execute_script(*bars)) == 5
     browser.execute_cdp_cmd("Emulation.setEmulatedMedia", {"features": []})
 
 

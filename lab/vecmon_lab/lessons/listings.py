@@ -5,14 +5,16 @@ import json
 import os
 import pathlib
 import sys
-from collections.abc import Sequence
+from collections.abc import Iterator, Sequence
 from dataclasses import dataclass
 from itertools import islice, pairwise
 
 from ..compilers.compiled import CompiledProgram, read_compiled_program
 from ..guest.guest import Guest
 from ..machine.session import Session
-from ..page.pages import lone_page
+from ..page.html_elements import Html, cell, element, elements_bar, joined, legend
+from ..page.pages import filled_page
+from ..page.texts import page_text
 from ..runs.initial_state import initial_state_at
 from ..runs.counts import CountedWord
 from ..runs.profile import summary_of
@@ -60,7 +62,36 @@ def listing_of(program: CompiledProgram, name: str, machine: pathlib.Path) -> Co
 
 def listings_page(title: str, text: str, listings: Sequence[CompiledListing]) -> str:
     """The page of some listings of a source that has this text, in HTML."""
-    return lone_page("listings", title, {"lines": text.split("\n"), "listings": [vars(each) for each in listings]})
+    heads = [[element("h2", it.name), *(element("p", line) for line in it.summary)] for it in listings]
+    head = element("tr", *(element("th", *contents, scope="col") for contents in heads))
+    rows = [element("thead", head), element("tbody", *_source_lines(text.split("\n"), listings))]
+    return filled_page("listings", title, legend=legend(), rows=joined(rows))
+
+
+def _source_lines(lines: Sequence[str], listings: Sequence[CompiledListing]) -> Iterator[Html]:
+    """A row for each line of the source, and one below it with its instructions in each listing, if there are any."""
+    for number, text in enumerate(lines, 1):
+        tables = [_instructions_of(listing, number) for listing in listings]
+        head = element("span", f"{number}", class_="number")
+        line = element("th", head, " ", text, scope="rowgroup", colspan=len(listings))
+        yield element("tr", line, class_="made" * any(tables))
+        if any(tables):
+            yield element("tr", *(element("td", table) for table in tables), class_="made")
+
+
+def _instructions_of(listing: CompiledListing, line: int) -> Html:
+    """The table of the instructions of a line, with a gap where others are between; empty without any."""
+    made, end = list[Html](), 0
+    for place, _, inlined, text, times, *elements in (row for row in listing.rows if row[1] == line):
+        address = int(f"{place}", 16)
+        if made and address != end:
+            made.append(element("tr", cell("⋯", "gap")))
+        end = address + 4
+        name = [element("small", f" {inlined}")] if inlined else []
+        cells = [cell(times), cell(place, tag="th"), element("td", f"{text}", *name, class_="text")]
+        made.append(element("tr", *cells, elements_bar([int(it) for it in elements]), class_="" if times else "unused"))
+    caption = element("caption", page_text("listings.instructions"), class_="unseen")
+    return element("table", caption, element("tbody", *made)) if made else Html()
 
 
 if __name__ == "__main__":

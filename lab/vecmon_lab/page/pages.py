@@ -43,9 +43,13 @@ class Page:
         sources = f"style-src {self.style_source}; script-src {self.script_source}"
         self.policy = f"default-src 'none'; img-src data:; {sources}; base-uri 'none'; form-action 'none'"
 
-    def text(self, title: str, data: str = "", policy: str = "") -> str:
-        """The page in HTML, with what its script shows, and with its policy where no server sends it."""
-        return self._template.substitute(title=title, style=self._style, script=self._script, data=data, policy=policy)
+    def text(self, title: str, data: str = "", policy: str = "", **contents: str) -> str:
+        """The page in HTML, with what its script shows, and with its policy where no server sends it.
+
+        contents: HTML for the other places of the page; a place without any is empty
+        """
+        given = {"title": title, "style": self._style, "script": self._script, "data": data, "policy": policy}
+        return self._template.substitute(dict.fromkeys(self._template.get_identifiers(), "") | given | contents)
 
 
 @functools.cache
@@ -56,9 +60,13 @@ def _page(name: str) -> Page:
 
 def lone_page(name: str, title: str, data: object) -> str:
     """A page that loads nothing, with what its script shows."""
-    page, text = _page(name), json.dumps(data, separators=(",", ":")).replace("<", "\\u003c")
-    policy = f'<meta http-equiv="Content-Security-Policy" content="{page.policy}">'
-    return page.text(html.escape(title), text, policy)
+    return filled_page(name, title, data=json.dumps(data, separators=(",", ":")).replace("<", "\\u003c"))
+
+
+def filled_page(name: str, title: str, **contents: str) -> str:
+    """A page that loads nothing, with HTML for its places."""
+    policy = f'<meta http-equiv="Content-Security-Policy" content="{_page(name).policy}">'
+    return _page(name).text(html.escape(title), policy=policy, **contents)
 
 
 def write_pages(folder: pathlib.Path, pages: Iterable[tuple[str, str, str]]) -> None:

@@ -5,15 +5,14 @@ import csv
 import pathlib
 import sys
 from collections.abc import Iterator
-from dataclasses import asdict
 
 from .. import LabError
 from ..arguments import add_image, check_outputs, image_path
 from ..guest.symbols import Symbols
-from ..page.pages import lone_page
 from ..page.texts import page_text
 from ..tables.table import table_lines
 from .counts import Counts
+from .profile_page import profile_page
 from .tick_profile import ELEMENTS, TickProfile, Table, TableRow, compared, elements_row, share
 from .run import counted, ending, report_calls, status_of
 
@@ -50,10 +49,9 @@ def run(arguments: argparse.Namespace) -> int:
     if page:
         with page.with_suffix(".csv").open("w", newline="", encoding="utf-8") as file:
             csv.writer(file).writerows([HEAD, *rows])
-        data = {"summary": summary, "tables": [vars(table) for table in tables], "rows": rows}
         lengths = [(kind, vl, times) for (kind, vl), times in sorted(counts.lengths.items())]
-        data |= {"lengths": lengths, "frames": [asdict(frame) for frame in ticks_spent.callers.frames()]}
-        page.write_text(lone_page("profile", page_text("profile.page", image=image.name), data), "utf-8")
+        title, frames = page_text("profile.page", image=image.name), ticks_spent.callers.frames()
+        page.write_text(profile_page(title, summary, tables, lengths, frames, rows), "utf-8")
     return status_of(counts.stop)
 
 
