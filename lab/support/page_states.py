@@ -6,11 +6,11 @@ from collections.abc import Callable, Mapping
 from support.class_pages import Tab
 from support.commands import Lab
 from support.places import SUM
+from vecmon_lab.exercises.course import CourseEntry, course_page
 from vecmon_lab.exercises.exercise import OURS, read_exercise
 from vecmon_lab.lessons.listings import CompiledListing, listings_page
 from vecmon_lab.lessons.series import make_series
-from vecmon_lab.lessons.tour import tours
-from vecmon_lab.page.pages import lone_page
+from vecmon_lab.lessons.tour import tour_page, tours
 
 SOURCE = """# Half of the numbers below 0.
         la      a1, numbers             # a comment that is so long that it is wider than the pane of the source is on any screen
@@ -97,12 +97,11 @@ def write_pages(lab: Lab, program: pathlib.Path, folder: pathlib.Path) -> dict[s
     script = tours()["masks_and_tails"]
     pages, entries = make_series("tour", program, {"masks_and_tails": (script, "What masks and tails do.")})
     exercise = read_exercise(OURS / "doubles")
-    course = [{"title": exercise.title, "text": exercise.text, "minutes": 10, "lesson": entries[0], "play": ""}]
     listing = CompiledListing("C, O2", ["4 instructions"], [("10", 1, "f", "vadd.vv v1, v2, v3", 3, 12, 6, 6)])
     texts = {
         "lesson": pages[0][2],
-        "tour": lone_page("tour", "A tour", entries),
-        "course": lone_page("course", "A course", course),
+        "tour": tour_page("A tour", entries),
+        "course": course_page("A course", [CourseEntry(exercise, "10", entries[0])], ""),
         "listings": listings_page("Side by side", "a = 1;\nb();\n", [listing, listing]),
     }
     for name, text in texts.items():

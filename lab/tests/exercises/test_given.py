@@ -1,6 +1,5 @@
 """The exercises of the course: their answers, right and wrong, and their lessons."""
 
-import json
 import pathlib
 import re
 from random import Random
@@ -9,6 +8,7 @@ import pytest
 
 from support.commands import Lab
 from support.drawn_inputs import DRAWS, Drawn
+from support.made_html import links_in, strips_in
 from support.places import DOCS
 from vecmon_lab.compilers.compiling import compile_c
 from vecmon_lab.compilers.compiler import Compiler
@@ -122,11 +122,10 @@ def test_course_is_written(lab: Lab, tmp_path: pathlib.Path) -> None:
         frames = page.count('"line":"1 step')
         assert 5 < frames < 100 and '"stop":"Stopped at the ebreak at' in page, name
         assert not ('"faulted"' in page and name != "strlen")
-    [data] = re.findall('id="data">(.*)</script>', (tmp_path / "course" / "index.html").read_text("utf-8"))
-    lessons = [entry["lesson"] for entry in json.loads(data)]
-    assert [lesson["name"] for lesson in lessons] == COURSE and all(lesson["sentence"] for lesson in lessons)
-    (strip,) = (lesson["strip"] for lesson in lessons if lesson["name"] == "filter")  # of 4 7 1 8 9 2 5 6
-    assert [*map(tuple, strip["cells"])] == [(bit, "active") for bit in "01101010"] + 8 * [("0", "tail")]
+    index = (tmp_path / "course" / "index.html").read_text("utf-8")
+    assert [name for name, _ in links_in(index)] == COURSE
+    strip = strips_in(index)[COURSE.index("filter")]  # of 4 7 1 8 9 2 5 6
+    assert strip == [(bit, "active") for bit in "01101010"] + 8 * [("0", "tail")]
 
 
 @pytest.mark.by_command("exercise")

@@ -14,6 +14,7 @@ from hypothesis import given, settings
 from hypothesis import strategies as st
 
 from support.class_tabs import patched
+from support.made_html import links_in, strips_in
 from support.places import DOCS, EXAMPLES, SUM
 from vecmon_lab import LabError
 from vecmon_lab.exercises.check import script_before
@@ -305,13 +306,16 @@ def test_first_frame_introduces_lesson(program: pathlib.Path) -> None:
     """Three comments, each up to its first full stop, and the data of the source with its labels."""
     script = read_assembled(INTRODUCED, "x.s")
     frames = make_frames(script, program)
-    data = data_of(lesson_page("Halves", frames, script))
-    assert data["about"]["points"] == ["A type.", "A load?", "Shift by one: 200 becomes 100."]
-    numbers = ["`ages`: 4 numbers of 8 bits: 200, 8, 6, 4", "`word`: −5, a number of 64 bits"]
-    assert data["about"]["memory"] == [*numbers, '`name`: the text "Ada"', "`zeros`: 3 numbers of 16 bits, each 9"]
-    assert data["data"]["11000"] == {"type": "u8", "count": 4}
-    assert "about" not in data_of(lesson_page("Halves", frames, script, is_introduced=False))
-    assert "about" not in data_of(lesson_page("Empty", make_frames(read_script("1 enter\n"), program)))
+    page = lesson_page("Halves", frames, script)
+    points = "<li>A type.</li><li>A load?</li><li>Shift by one: 200 becomes 100.</li>"
+    numbers = "<code>ages</code>: 4 numbers of 8 bits: 200, 8, 6, 4", "<code>word</code>: −5, a number of 64 bits"
+    texts = "<code>name</code>: the text &quot;Ada&quot;", "<code>zeros</code>: 3 numbers of 16 bits, each 9"
+    memory = "".join(f"<li>{text}</li>" for text in (*numbers, *texts))
+    assert f'<ul id="points">{points}</ul>' in page and f'<ul id="in-memory">{memory}</ul>' in page
+    assert data_of(page)["data"]["11000"] == {"type": "u8", "count": 4}
+    empty = '<ul id="points"></ul>', '<ul id="in-memory"></ul>'
+    assert all(text in lesson_page("Halves", frames, script, is_introduced=False) for text in empty)
+    assert all(text in lesson_page("Empty", make_frames(read_script("1 enter\n"), program)) for text in empty)
 
 
 def test_lesson_page_is_written(tmp_path: pathlib.Path) -> None:
@@ -324,12 +328,14 @@ def test_lesson_page_is_written(tmp_path: pathlib.Path) -> None:
     assert lab("tour", str(tmp_path / "new" / "tour")).returncode == 0
     assert {path.stem for path in (tmp_path / "new" / "tour").iterdir()} == {"index", *tours()}
     index = (tmp_path / "new" / "tour" / "index.html").read_text("utf-8")
-    links = json.loads(index.partition('id="data">')[2].partition("</script>")[0])
     titles = re.findall("^## (.*)", (DOCS / "TOUR.md").read_text("utf-8"), re.MULTILINE)
-    assert [(each["name"], each["title"]) for each in links] == [*zip(tours(), titles, strict=True)]
-    assert all(each["sentence"].endswith(".") and each["strip"]["cells"] for each in links)
-    masked = next(each["strip"] for each in links if each["name"] == "masks_and_tails")
-    assert (masked["name"], masked["text"]) == ("v1", "vadd.vi v1, v2, 10, v0.t")  # as docs/TOUR.md prints v1 last
+    assert links_in(index) == [*zip(tours(), titles, strict=True)]
+    sentences, strips = re.findall(r'<p>([^\n]*?)</p><p class="picture">', index), strips_in(index)
+    assert (
+        len(sentences) == len(strips) == len(titles) and all(each.endswith(".") for each in sentences) and all(strips)
+    )
+    masked = strips[[*tours()].index("masks_and_tails")]
+    assert "<code>v1</code> after <code>vadd.vi v1, v2, 10, v0.t</code>" in index  # as docs/TOUR.md prints v1 last
     elements = [
         ("ee", "masked"),
         ("0b", "active"),
@@ -338,12 +344,11 @@ def test_lesson_page_is_written(tmp_path: pathlib.Path) -> None:
         ("ee", "masked"),
         ("0f", "active"),
     ]
-    assert [tuple(cell) for cell in masked["cells"]] == elements + 10 * [("ee", "tail")]
-    lessons = [{"name": name, "title": title} for name, title in zip(tours(), titles)]
-    for place, name in enumerate(tours()):
-        data = data_of((tmp_path / "new" / "tour" / f"{name}.html").read_text("utf-8"))
-        assert data["series"] == {"name": "tour", "lessons": lessons, "place": place}
-    assert "series" not in data_of(page)
+    assert masked == elements + 10 * [("ee", "tail")]
+    for place, name in enumerate(tours(), 1):
+        lesson = (tmp_path / "new" / "tour" / f"{name}.html").read_text("utf-8")
+        assert data_of(lesson)["name"] == f"tour/{name}" and f">lesson {place} of {len(titles)}</small>" in lesson
+    assert "name" not in data_of(page)
 
 
 def test_tour_is_complete_without_reader(tmp_path: pathlib.Path) -> None:

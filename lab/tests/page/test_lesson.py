@@ -11,11 +11,13 @@ from support.browser import CONTRAST, media, press
 from support.lesson_follower import PICTURE, Follower
 from support.places import EXAMPLES
 from vecmon_lab.lessons.frames import make_frames
-from vecmon_lab.lessons.page import Series, lesson_page
+from vecmon_lab.lessons.page import lesson_page
 from vecmon_lab.lessons.script import read_assembled, read_script
-from vecmon_lab.lessons.tour import tours
+from vecmon_lab.lessons.series import Entry
+from vecmon_lab.lessons.series_links import Series
+from vecmon_lab.lessons.strip import Strip
+from vecmon_lab.lessons.tour import tour_page, tours
 from vecmon_lab.machine.session import Session
-from vecmon_lab.page.pages import lone_page
 
 if TYPE_CHECKING:
     from selenium.webdriver import Chrome
@@ -284,10 +286,10 @@ def test_focus_is_visible_on_all_controls(opened: Callable[[str], "Chrome"], pro
 
 def test_tour_starts_with_introduction(opened: Callable[[str], "Chrome"], tmp_path: pathlib.Path) -> None:
     """Its links lead to the lessons in its folder; each has a sentence and a picture, which a screen reader names."""
-    strip = {"name": "v1", "text": "", "cells": [("0a", "active"), ("ff", "tail")]}
-    lessons = [{"name": name, "sentence": "Uses `v1`.", "strip": strip} for name in ("one", "two")]
-    titled = [each | {"title": title} for each, title in zip(lessons, ["Masks & tails", "A <class>"])]
-    browser = opened(lone_page("tour", "A tour", titled))
+    strip: Strip = {"name": "v1", "text": "", "cells": [("0a", "active"), ("ff", "tail")]}
+    titles = {"one": "Masks & tails", "two": "A <class>"}
+    entries = [Entry(name=name, title=title, sentence="Uses `v1`.", strip=strip) for name, title in titles.items()]
+    browser = opened(tour_page("A tour", entries))
     assert text_of(browser, "li p") == "Uses v1."
     label = browser.find_element("css selector", "li [role=img]").get_dom_attribute("aria-label")
     assert label == "v1: 0a active, ff tail"
@@ -349,8 +351,8 @@ def test_lessons_read_to_end_are_marked(
     """At the last frame the browser keeps that a lesson was read; its mark and the index show it later."""
     from selenium.webdriver.common.keys import Keys
 
-    strip = {"name": "v1", "text": "", "cells": [("0a", "active")]}
-    entries = [each | {"sentence": "It is short.", "strip": strip} for each in SERIES["lessons"]]
+    strip: Strip = {"name": "v1", "text": "", "cells": [("0a", "active")]}
+    entries = [Entry(**lesson, sentence="It is short.", strip=strip) for lesson in SERIES["lessons"]]
     lesson = lesson_page("x", make_frames(read_script("1 enter\n1 map 0 1 rw\n"), program), series=SERIES)
     marks = "return [...document.querySelectorAll('#progress a')].map((mark) => mark.textContent)"
     browser = opened(lesson)
@@ -363,7 +365,7 @@ def test_lessons_read_to_end_are_marked(
             browser, "#progress [aria-current]"
         )
         press(browser, Keys.ARROW_RIGHT)
-    (tmp_path / "index.html").write_text(lone_page("tour", "A tour", entries), "utf-8")
+    (tmp_path / "index.html").write_text(tour_page("A tour", entries), "utf-8")
     browser.find_element("link text", "All lessons").click()
     items = [item.text.split("\n")[0] for item in browser.find_elements("css selector", "#lessons li")]
     assert items == ["One", "Page ✓ read", "Two"]

@@ -10,7 +10,7 @@ import pytest
 
 from vecmon_lab import LabError
 from vecmon_lab.page.modules import join_modules
-from vecmon_lab.page.pages import FILES, PIECES, Page, lone_page, page_file
+from vecmon_lab.page.pages import FILES, PIECES, Page, page_with_data, page_file
 
 PAGES = sorted(
     path.stem for path in FILES.glob("*.html") if path.stem not in PIECES and path.with_suffix(".js").exists()
@@ -126,7 +126,7 @@ def test_missing_library_of_editor_is_reported(monkeypatch: pytest.MonkeyPatch, 
 @pytest.mark.parametrize("name", PAGES)
 def test_content_policy_names_one_script(name: str) -> None:
     page = Page(name)
-    texts = [page.text("x"), lone_page(name, "x", ["</script><script>alert(1)</script>"])]
+    texts = [page.text("x"), page_with_data(name, "x", ["</script><script>alert(1)</script>"])]
     for text, policies in zip(texts, ([], [page.policy])):
         found = Elements(text).found
         (script,) = (text for tag, words, text in found if tag == "script" and words.get("type") != "application/json")

@@ -57,7 +57,7 @@ console.log(JSON.stringify([counts, textOf("stop", { line: 7 }), pieces, textOf(
 def keys_in(path: pathlib.Path, text: str) -> list[str]:
     """The keys that a file names, with those of plural forms."""
     if path.suffix == ".py":
-        return re.findall(r'\bpage_text\(\s*"([\w.-]+)"', text)
+        return re.findall(r'\b(?:page_text|content_of)\(\s*"([\w.-]+)"', text)
     found = (
         texts.IN_HTML.findall(text) if path.suffix == ".html" else [key for _, key, _ in texts.IN_SCRIPT.findall(text)]
     )

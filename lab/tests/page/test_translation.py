@@ -2,6 +2,7 @@
 
 import pathlib
 from collections.abc import Callable, Iterator, Mapping, Sequence
+from dataclasses import replace
 from typing import TYPE_CHECKING
 
 import pytest
@@ -9,11 +10,16 @@ import pytest
 from support.bracketed_texts import IMPORT, UNBRACKETED, bracketed
 from support.class_pages import Explored, Served, Tab
 from support.places import EXAMPLES
-from vecmon_lab.exercises.exercise import OURS
+from vecmon_lab.exercises.course import CourseEntry, course_page
+from vecmon_lab.exercises.exercise import OURS, read_exercise
 from vecmon_lab.lessons.frames import make_frames
 from vecmon_lab.lessons.listings import CompiledListing, listings_page
-from vecmon_lab.lessons.page import Series, lesson_page
+from vecmon_lab.lessons.page import lesson_page
 from vecmon_lab.lessons.script import read_assembled
+from vecmon_lab.lessons.series import Entry
+from vecmon_lab.lessons.series_links import Series
+from vecmon_lab.lessons.strip import Strip
+from vecmon_lab.lessons.tour import tour_page
 from vecmon_lab.page import pages, texts
 from vecmon_lab.runs.callers import CallFrame
 from vecmon_lab.runs.profile_page import profile_page
@@ -37,21 +43,22 @@ DATA = ", ".join(
         "#lessons a, #lessons p, #course h2, #course a, #course > p, .strip",
     ]
 )
-STRIP = {"name": "v1", "text": "vid.v v1", "cells": [("0a", "active"), ("ff", "tail")]}
-LESSON = {"name": "one", "title": "Title", "sentence": "A sentence.", "strip": STRIP}
+STRIP: Strip = {"name": "v1", "text": "vid.v v1", "cells": [("0a", "active"), ("ff", "tail")]}
+LESSON: Entry = {"name": "one", "title": "Title", "sentence": "A sentence.", "strip": STRIP}
 SERIES: Series = {
     "name": "tour",
     "lessons": [{"name": name, "title": f"⟦{name}⟧"} for name in ("one", "two", "three")],
     "place": 1,
 }
+EXERCISE = replace(read_exercise(OURS / "doubles"), text="A text.")
 ROW = ["10000", "main", "main.c:1", "vid.v v1", 1, 9, 8, 0, 0, "100 %"]
 FRAMES = [CallFrame("main", 3, 9, (CallFrame("leaf", 6, 6, ()),))]
 TABLE = Table("Functions", ["function", "ticks"], 1, [["main", 9]])
 LISTING = CompiledListing("gcc", ["1"], [["10000", 1, "", "vid", 1, 8, 0, 0]])
-COURSE = [{"minutes": 5, "title": "Title", "text": "A text.", "lesson": LESSON, "play": play} for play in ("", "play")]
 LONE: Mapping[str, Callable[[], str]] = {  # pages without a machine
-    "tour": lambda: pages.lone_page("tour", "⟦⟧", [LESSON]),
-    "course": lambda: pages.lone_page("course", "⟦⟧", COURSE),
+    "tour": lambda: tour_page("⟦⟧", [LESSON]),
+    "course": lambda: course_page("⟦⟧", [CourseEntry(EXERCISE, "5", LESSON)], ""),
+    "course in playground": lambda: course_page("⟦⟧", [], "play"),
     "profile": lambda: profile_page("⟦⟧", ["9 ticks"], [TABLE], [("e8, m1", 8, 1)], FRAMES, [ROW]),
     "listings": lambda: listings_page("⟦⟧", "line", [LISTING]),
 }

@@ -2,14 +2,29 @@
 
 import argparse
 import pathlib
+import re
+from collections.abc import Sequence
+from dataclasses import dataclass
 
+from ..lessons.series import Entry, make_series
+from ..lessons.series_links import lesson_link, read_mark
+from ..lessons.strip import strip_picture
 from ..machine.program import find_program
-from ..page.pages import lone_page, write_pages
-from ..page.texts import page_text
+from ..page.html_elements import Html, content_of, element, joined, prose
+from ..page.pages import filled_page, write_pages
+from ..page.texts import html_text, page_text
 from ..tables.table import read_table
-from ..lessons.series import make_series
 from .check import script_before
-from .exercise import OURS, read_exercise
+from .exercise import OURS, Exercise, read_exercise
+
+
+@dataclass(frozen=True)
+class CourseEntry:
+    """An exercise of the course, the number of minutes that it takes with its lesson, and that lesson."""
+
+    exercise: Exercise
+    minutes: str
+    lesson: Entry
 
 
 def add_arguments(parser: argparse.ArgumentParser) -> None:
@@ -27,16 +42,41 @@ def run(arguments: argparse.Namespace) -> int:
     exercises = {name: read_exercise(OURS / name) for name in minutes}
     scripts = {name: script_before(exercise) for name, exercise in exercises.items()}
     pages, lessons = make_series("course", program, {name: (it, it.steps[0].note) for name, it in scripts.items()})
-    entries = [
-        {
-            "title": it.title,
-            "text": it.text,
-            "minutes": minutes[lesson["name"]],
-            "lesson": lesson,
-            "play": arguments.play,
-        }
-        for it, lesson in zip(exercises.values(), lessons)
-    ]
+    entries = [CourseEntry(it, minutes[lesson["name"]], lesson) for it, lesson in zip(exercises.values(), lessons)]
     title = page_text("course.index")
-    write_pages(folder, [*pages, ("index", title, lone_page("course", title, entries))])
+    write_pages(folder, [*pages, ("index", title, course_page(title, entries, arguments.play))])
     return 0
+
+
+def course_page(title: str, entries: Sequence[CourseEntry], play: str) -> str:
+    """The page of the exercises; play: the address of a playground, or ""."""
+    checked = page_text("course.checked-in-playground") if play else page_text("course.checked-in-class")
+    command = "" if play else element("pre", "vecmon-lab class DIR --course")
+    sections = [_section(number, entry, play) for number, entry in enumerate(entries, 1)]
+    return filled_page("course", title, checked=html_text(checked), command=command, exercises=joined(sections))
+
+
+def _section(number: int, entry: CourseEntry, play: str) -> Html:
+    """An exercise: its lesson with a sentence and a picture, its text, and a link into the playground."""
+    lesson = entry.lesson
+    about = content_of(
+        "course.lesson",
+        lesson=lesson_link(lesson, lesson["title"]),
+        read=read_mark("course", lesson, page_text("course.read")),
+        sentence=prose(lesson["sentence"]),
+        minutes=entry.minutes,
+    )
+    head = [element("h2", f"{number}. {entry.exercise.title}"), element("p", about), strip_picture(lesson["strip"])]
+    texts = [_block(text) for text in re.split(r"\n{2,}", entry.exercise.text.strip("\n"))]
+    solve = element("a", page_text("course.solve"), href=f"{play}#exercise={lesson['name']}")
+    return joined([*head, *texts, *([element("p", solve)] if play else [])])
+
+
+def _block(text: str) -> Html:
+    """A paragraph of an exercise's text, a list or code, as `blocks.js` shows them."""
+    lines = text.split("\n")
+    if all(line.startswith("    ") for line in lines):
+        return element("pre", "\n".join(line[4:] for line in lines))
+    if all(line.startswith("- ") for line in lines):
+        return element("ul", *(element("li", prose(line[2:])) for line in lines))
+    return element("p", prose(" ".join(lines)))

@@ -3,31 +3,14 @@
 from collections.abc import Mapping, Sequence
 from typing import NotRequired, TypedDict
 
-from ..page.pages import lone_page, merge_patch
+from ..page.html_elements import Html, element, joined, prose
+from ..page.pages import merge_patch, page_with_data
 from ..page.state import SourceNames
 from ..page.variables import shown_variables
-from .about import About, about
+from .about import about
 from .frames import Frame
 from .script import Script
-
-
-class SeriesLesson(TypedDict):
-    """A lesson of a series: the name of its page without the suffix, and its title."""
-
-    name: str
-    title: str
-
-
-class Series(TypedDict):
-    """The place of a lesson in a series.
-
-    name: `tour` or `course`, below which the browser stores which lessons were read
-    lessons: in their order; place: the index of this one
-    """
-
-    name: str
-    lessons: Sequence[SeriesLesson]
-    place: int
+from .series_links import Series, marks_of, neighbours_of, place_of
 
 
 class FrameData(TypedDict):
@@ -42,14 +25,13 @@ class FrameData(TypedDict):
 
 
 class LessonData(SourceNames):
-    """The data of a lesson's page: the names of its source, its frames, and its place in a series.
+    """The data of a lesson's page: the names of its source, and its frames.
 
-    about: the content of the first frame, if that introduces the lesson
+    name: the name of a series with that of the lesson, by which the browser stores that it was read
     """
 
     frames: list[FrameData]
-    about: NotRequired[About]
-    series: NotRequired[Series]
+    name: NotRequired[str]
 
 
 def lesson_page(
@@ -71,15 +53,22 @@ def lesson_page(
         "variables": shown_variables(script.variables),
         "frames": [_frame_data(frame, merge_patch(old, frame.states)) for old, frame in zip(before, frames)],
     }
-    content = about(frames, script)
-    if is_introduced and (content["points"] or content["memory"]):
-        data["about"] = content
     if script.program and script.program.data:
         runs = script.program.data.items()
         data["data"] = {f"{address:x}": {"type": run.type, "count": run.count} for address, run in runs}
+    contents = {"has_no_series": "" if series else "hidden"}
     if series:
-        data["series"] = series
-    return lone_page("lesson", title, data)
+        data["name"] = f"{series['name']}/{series['lessons'][series['place']]['name']}"
+        contents |= {"place": place_of(series), "marks": marks_of(series), "neighbours": neighbours_of(series)}
+    if is_introduced:
+        content = about(frames, script)
+        contents |= {"points": _items(content["points"]), "memory": _items(content["memory"])}
+    return page_with_data("lesson", title, data, **contents)
+
+
+def _items(texts: Sequence[str]) -> Html:
+    """Items of a list."""
+    return joined([element("li", prose(text)) for text in texts])
 
 
 def _frame_data(frame: Frame, states: dict[str, object]) -> FrameData:

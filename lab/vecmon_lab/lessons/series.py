@@ -5,8 +5,9 @@ from collections.abc import Mapping
 from typing import TypedDict
 
 from .frames import make_frames
-from .page import SeriesLesson, lesson_page
+from .page import lesson_page
 from .script import Script
+from .series_links import SeriesLesson
 from .strip import Strip, strip_of
 
 Entry = TypedDict("Entry", {"name": str, "title": str, "sentence": str, "strip": Strip})

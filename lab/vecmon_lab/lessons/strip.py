@@ -4,7 +4,9 @@ from collections.abc import Iterator, Sequence
 from itertools import pairwise
 from typing import TypedDict
 
+from ..page.html_elements import Html, content_of, element
 from ..page.state import ABSENT, State
+from ..page.texts import page_text
 from .frames import Frame
 
 VLEN, MAX_CELLS, MAX_WORDS = 256, 16, 6
@@ -22,6 +24,18 @@ def strip_of(frames: Sequence[Frame]) -> Strip:
     code = frames[-1].states.get(frames[-1].user, ABSENT).get("code", {})
     words = [line[:8] for _, line in sorted(code.items(), key=lambda item: int(item[0], 16))]
     return {"name": "program", "text": "", "cells": [(word, "") for word in words if word.strip("0")][:MAX_WORDS]}
+
+
+def strip_picture(strip: Strip) -> Html:
+    """The strip as a picture of its cells, with a name for screen readers, and its description."""
+    cells = [element("span", digits, class_=kind) for digits, kind in strip["cells"]]
+    names = [f"{digits} {page_text(f'outcome.{kind}')}" if kind else digits for digits, kind in strip["cells"]]
+    label = f"{strip['name']}: {', '.join(names)}"
+    picture = element("span", *cells, class_="strip", role="img", aria_label=label)
+    caption = register = element("code", strip["name"])
+    if strip["text"]:
+        caption = content_of("strip.after", register=register, instruction=element("code", strip["text"]))
+    return element("p", picture, element("small", caption), class_="picture")
 
 
 def _rank(strip: Strip) -> tuple[bool, int, int]:

@@ -3,16 +3,20 @@
 import argparse
 import json
 import pathlib
+from collections.abc import Sequence
 from itertools import islice
 
 from ..compilers.variables import read_variables
 from ..machine.lines import is_look, words_of
 from ..machine.program import find_program
-from ..page.pages import lone_page, write_pages
+from ..page.html_elements import Html, element, joined, prose
+from ..page.pages import filled_page, write_pages
 from ..page.texts import page_text
 from ..tables.table import read_table
 from .script import Script, Step, add_line
-from .series import make_series
+from .series import Entry, make_series
+from .series_links import lesson_link, read_mark
+from .strip import strip_picture
 
 TOURS = pathlib.Path(__file__).with_name("tours")
 START = {"enter", "map", "asm"}  # commands at the start of a script that are one frame, which shows the program
@@ -31,13 +35,25 @@ def run(arguments: argparse.Namespace) -> int:
     folder.mkdir(parents=True, exist_ok=True)
     sentences = {name: sentence for name, _, sentence in read_table("tours")}
     pages, entries = make_series("tour", program, {name: (script, sentences[name]) for name, script in scripts.items()})
-    write_pages(folder, [("index", title, lone_page("tour", title, entries)), *pages])
+    write_pages(folder, [("index", title, tour_page(title, entries)), *pages])
     return 0
 
 
 def tours() -> dict[str, Script]:
     """The tours by the names of their scripts, in their order."""
     return {name: _script(name, title) for name, title, _ in read_table("tours")}
+
+
+def tour_page(title: str, entries: Sequence[Entry]) -> str:
+    """The index of the lessons, each with a link, its sentence and its picture."""
+    return filled_page("tour", title, lessons=joined([_item(entry) for entry in entries]))
+
+
+def _item(entry: Entry) -> Html:
+    """A lesson in the index."""
+    mark = read_mark("tour", entry, page_text("tour.read"))
+    sentence = element("p", prose(entry["sentence"]))
+    return element("li", lesson_link(entry, entry["title"]), " ", mark, sentence, strip_picture(entry["strip"]))
 
 
 def _script(name: str, title: str) -> Script:

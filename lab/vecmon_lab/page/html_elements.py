@@ -3,7 +3,7 @@
 import html
 from collections.abc import Mapping, Sequence
 
-from .texts import page_text
+from .texts import html_text, page_text
 
 KINDS = ("active", "masked", "tail")
 
@@ -22,6 +22,17 @@ def element(tag: str, *contents: str, **attributes: object) -> Html:
     values = {name.rstrip("_").replace("_", "-"): f"{value}" for name, value in attributes.items()}
     words = "".join(f' {name}="{html.escape(value)}"' for name, value in values.items() if value)
     return Html(f"<{tag}{words}>{joined(contents)}</{tag}>")
+
+
+def prose(text: str) -> Html:
+    """A text of an author's, with backquotes around code."""
+    return Html(html_text(text))
+
+
+def content_of(key: str, **values: str) -> Html:
+    """A text for a page with elements in its places. Raises KeyError without one."""
+    text = page_text(key, **{name: f"{{{name}}}" for name in values})
+    return Html(html_text(text).format(**{name: joined([value]) for name, value in values.items()}))
 
 
 def cell(value: str | int, kind: str = "", tag: str = "td") -> Html:

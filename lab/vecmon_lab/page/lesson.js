@@ -1,9 +1,9 @@
 // A lesson: frames made beforehand, stepped back and forth. Each has what changed of the states.
 
-import { byId, elementsIn, make, prose, put, unseen } from "./elements.js";
+import { byId, elementsIn, make, prose, put } from "./elements.js";
 import { Panes } from "./panes.js";
 import { afterEach } from "./patches.js";
-import { keepRead, lessonsRead } from "./progress.js";
+import { keepRead, markRead } from "./progress.js";
 import { lineBegins } from "./source_lines.js";
 import { textOf } from "./texts.js";
 import { STOP_LINE, entryParts, logEntry } from "./transcript.js";
@@ -28,11 +28,11 @@ class Lesson {
   place = 0;
   address = 0; // a timer
 
-  constructor(/** @type {import("./messages").LessonData} */ { frames, about, series, ...source }) {
+  constructor(/** @type {import("./messages").LessonData} */ { frames, name, ...source }) {
     this.frames = frames;
     this.source = source;
-    this.name = series && `${series.name}/${series.lessons[series.place].name}`; // of what is read
-    this.isIntroduced = Boolean(about);
+    this.name = name;
+    this.isIntroduced = byId("points").childElementCount + byId("in-memory").childElementCount > 0;
     this.view = new MachineView(document);
     new Panes(document.body, "lesson");
     this.view.machine.addEventListener("change", () => this.show(this.place));
@@ -50,33 +50,8 @@ class Lesson {
     this.begins = lineBegins(source.starts ?? {}, this.states.map((states) => states[1]?.pc));
     this.listenToLines();
     put(elementsIn(byId("vectors"), ".missing")[0], textOf("lesson.no-machine"));
-    if (about) this.introduce(about);
-    if (series) this.showSeries(series);
+    markRead();
     this.show(Number(location.hash.slice(1) || 1) - 1);
-  }
-
-  /** Puts what the lesson shows, and what is in memory, into the first frame. */
-  introduce(/** @type {import("./messages").About} */ { points, memory }) {
-    const items = (/** @type {string[]} */ texts) => texts.map((text) => make("li", "", ...prose(text)));
-    byId("points").append(...items(points));
-    byId("in-memory").append(...items(memory));
-  }
-
-  /** Shows the lesson's place in a tour or a course, and links to the others, with marks at those that were read. */
-  showSeries(/** @type {import("./messages").Series} */ { name, lessons, place }) {
-    const read = lessonsRead();
-    const link = (/** @type {number} */ to, /** @type {import("./elements.js").Content} */ content, kind = "") =>
-      Object.assign(make("a", kind, content), { href: `${lessons[to].name}.html`, title: lessons[to].title });
-    const marks = lessons.map((each, to) => {
-      const [isRead, names] = [read.has(`${name}/${each.name}`), { number: to + 1, title: each.title }];
-      const mark = link(to, unseen(isRead ? textOf("lesson.mark-read", names) : textOf("lesson.mark", names)), isRead ? "read" : "");
-      return make("li", "", Object.assign(mark, { ariaCurrent: to === place ? "page" : null }));
-    });
-    put(byId("series-place"), textOf("lesson.series-place", { number: place + 1, all: lessons.length }));
-    byId("progress").append(...marks);
-    if (place > 0) byId("links").append(" ", link(place - 1, textOf("lesson.previous")));
-    if (place + 1 < lessons.length) byId("links").append(" ", link(place + 1, textOf("lesson.following")));
-    byId("links").hidden = false;
   }
 
   listen() {

@@ -1,15 +1,5 @@
 // The types of messages. `.venv/bin/python -m support.message_types` writes this file from the lab's Python types.
 
-/**
- * Sentences of a lesson's first frame, with backquotes around code.
- *
- * points: what the lesson shows; memory: the data of its source, or the variables that all functions know
- */
-export interface About {
-  points: string[];
-  memory: string[];
-}
-
 /** Bytes of memory that an instruction read or wrote: the address in hexadecimal digits, and the number of bytes. */
 export interface Access {
   address: string;
@@ -297,9 +287,9 @@ export interface LastInstructionRequest {
 }
 
 /**
- * The data of a lesson's page: the names of its source, its frames, and its place in a series.
+ * The data of a lesson's page: the names of its source, and its frames.
  *
- * about: the content of the first frame, if that introduces the lesson
+ * name: the name of a series with that of the lesson, by which the browser stores that it was read
  */
 export interface LessonData {
   labels: { [name: string]: string[] };
@@ -310,8 +300,7 @@ export interface LessonData {
   variables?: ShownVariable[];
   data?: { [name: string]: ShownData };
   frames: FrameData[];
-  about?: About;
-  series?: Series;
+  name?: string;
 }
 
 /** The answer to lines. */
@@ -642,24 +631,6 @@ export interface SentNotice {
   to: string[];
   read: string[];
   opened: string[];
-}
-
-/**
- * The place of a lesson in a series.
- *
- * name: `tour` or `course`, below which the browser stores which lessons were read
- * lessons: in their order; place: the index of this one
- */
-export interface Series {
-  name: string;
-  lessons: SeriesLesson[];
-  place: number;
-}
-
-/** A lesson of a series: the name of its page without the suffix, and its title. */
-export interface SeriesLesson {
-  name: string;
-  title: string;
 }
 
 /** Bytes of the script: those that the seat has used, and its share. */

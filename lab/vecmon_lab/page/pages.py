@@ -58,9 +58,9 @@ def _page(name: str) -> Page:
     return Page(name)
 
 
-def lone_page(name: str, title: str, data: object) -> str:
-    """A page that loads nothing, with what its script shows."""
-    return filled_page(name, title, data=json.dumps(data, separators=(",", ":")).replace("<", "\\u003c"))
+def page_with_data(name: str, title: str, data: object, **contents: str) -> str:
+    """A page that loads nothing, with what its script shows, and with HTML for its other places."""
+    return filled_page(name, title, **contents, data=json.dumps(data, separators=(",", ":")).replace("<", "\\u003c"))
 
 
 def filled_page(name: str, title: str, **contents: str) -> str:

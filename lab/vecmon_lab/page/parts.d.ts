@@ -19,7 +19,7 @@ export type Parts =
   Ids<HTMLDListElement, "facts" | "keys" | "teacher-keys"> &
   Ids<HTMLDialogElement, "ask" | "edit" | "exercises" | "join-class" | "key-list" | "settings"> &
   Ids<HTMLFieldSetElement, "controls" | "receivers"> &
-  Ids<HTMLFormElement, "change" | "clocks" | "join" | "operate" | "sending" | "steps" | "until"> &
+  Ids<HTMLFormElement, "change" | "clocks" | "command" | "join" | "operate" | "sending" | "steps" | "until"> &
   Ids<
     HTMLInputElement,
     | "called" | "code" | "find" | "gift-title" | "letters" | "moment" | "name" | "number" | "open" | "place" | "until-line" | "value"
@@ -39,12 +39,11 @@ export type Parts =
   Ids<HTMLTextAreaElement, "given" | "operator-line" | "source" | "words"> &
   Ids<HTMLTableRowElement, "columns"> &
   Ids<HTMLUListElement, "failures" | "in-memory" | "notices" | "points" | "sent"> &
-  Ids<HTMLFormElement | HTMLPreElement, "command"> &
   Ids<HTMLSelectElement | HTMLTextAreaElement, "line"> &
   Ids<
     HTMLElement,
     | "about" | "answer-says" | "answer-title" | "at" | "banner" | "beside" | "bytes" | "called-hint" | "calls" | "card" | "cases"
-    | "checked" | "code-hint" | "console" | "course" | "desk" | "detail" | "dock" | "editor" | "elements" | "entries" | "entry"
+    | "code-hint" | "console" | "course" | "desk" | "detail" | "dock" | "editor" | "elements" | "entries" | "entry"
     | "examples" | "exercise" | "exercise-text" | "exercise-title" | "exercises-title" | "file" | "flame" | "gift" | "gone" | "head"
     | "help-count" | "hint" | "hints" | "introduction" | "introduction-title" | "join-says" | "join-title" | "key-says" | "key-title"
     | "left" | "left-column" | "line-ways" | "links" | "listing" | "machine" | "machines" | "memory" | "menu" | "message" | "middle"

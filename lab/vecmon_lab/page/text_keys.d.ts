@@ -605,7 +605,7 @@ export interface Places {
   "lesson.series-place": "all" | "number";
   "lesson.progress.label": never;
   "lesson.mark": "number" | "title";
-  "lesson.mark-read": "number" | "title";
+  "lesson.mark-read": never;
   "lesson.all": never;
   "lesson.previous": never;
   "lesson.following": never;

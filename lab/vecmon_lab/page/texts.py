@@ -76,11 +76,16 @@ def declarations() -> str:
     return _DECLARATIONS.format(rows="".join(rows))
 
 
+def html_text(text: str) -> str:
+    """A text in HTML, with backquotes around code."""
+    return re.sub("`([^`]*)`", r"<code>\1</code>", html.escape(text))
+
+
 def _as_html(text: str | dict[str, str]) -> str:
     """A text in HTML. Raises ValueError for plural forms."""
     if isinstance(text, dict):
         raise ValueError(f"'{text['other']}' depends on a number: let a script show it")
-    return re.sub("`([^`]*)`", r"<code>\1</code>", _MARKUP.sub(r"<\1>", html.escape(text)))
+    return _MARKUP.sub(r"<\1>", html_text(text))
 
 
 def _in_script(found: re.Match[str]) -> str:

@@ -1,0 +1,62 @@
+"""Links between the lessons of a series in HTML, with marks at those that were read."""
+
+from collections.abc import Sequence
+from typing import TypedDict
+
+from ..page.html_elements import Html, element, joined
+from ..page.texts import page_text
+
+
+class SeriesLesson(TypedDict):
+    """A lesson of a series: the name of its page without the suffix, and its title."""
+
+    name: str
+    title: str
+
+
+class Series(TypedDict):
+    """The place of a lesson in a series.
+
+    name: `tour` or `course`, below which the browser stores which lessons were read
+    lessons: in their order; place: the index of this one
+    """
+
+    name: str
+    lessons: Sequence[SeriesLesson]
+    place: int
+
+
+def lesson_link(lesson: SeriesLesson, content: str, **attributes: object) -> Html:
+    """A link to the page of a lesson in the same folder."""
+    return element("a", content, href=f"{lesson['name']}.html", **attributes)
+
+
+def read_mark(series: str, lesson: SeriesLesson, text: str) -> Html:
+    """A text on a lesson that was read, which `progress.js` removes from others."""
+    return element("span", text, class_="read", data_lesson=f"{series}/{lesson['name']}")
+
+
+def place_of(series: Series) -> str:
+    """The number of the lesson in its series."""
+    return page_text("lesson.series-place", number=series["place"] + 1, all=len(series["lessons"]))
+
+
+def marks_of(series: Series) -> Html:
+    """A link for each lesson of a series, in their order."""
+    return joined([_mark(series, number) for number in range(len(series["lessons"]))])
+
+
+def neighbours_of(series: Series) -> Html:
+    """Links to the lessons before and after one."""
+    texts = {-1: page_text("lesson.previous"), 1: page_text("lesson.following")}
+    lessons, places = series["lessons"], {series["place"] + step: text for step, text in texts.items()}
+    there = [(lessons[place], text) for place, text in places.items() if 0 <= place < len(lessons)]
+    return joined([joined([" ", lesson_link(lesson, text, title=lesson["title"])]) for lesson, text in there])
+
+
+def _mark(series: Series, place: int) -> Html:
+    """The link of a series to one of its lessons."""
+    lesson, is_this = series["lessons"][place], place == series["place"]
+    text = page_text("lesson.mark", number=place + 1, title=lesson["title"])
+    content = element("span", text, read_mark(series["name"], lesson, page_text("lesson.mark-read")), class_="unseen")
+    return element("li", lesson_link(lesson, content, title=lesson["title"], aria_current="page" * is_this))
