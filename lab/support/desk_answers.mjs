@@ -8,7 +8,6 @@ import path from "node:path";
 const [, , web, parts] = process.argv;
 const { Machine } = await import(path.resolve(web, "machine.js"));
 const { Python } = await import(path.resolve(web, "python.js"));
-const DIGEST_BYTES = 32;
 const part = (name) => fs.readFileSync(path.join(parts, name));
 const module = new WebAssembly.Module(part("machine"));
 const [machines, files, pythonFiles, kept] = [new Map(), {}, { "later.zip": part("later") }, {}];
@@ -28,7 +27,7 @@ const host = {
   random: (bytes) => crypto.getRandomValues(bytes),
 };
 for (const [name, text] of Object.entries(JSON.parse(part("lessons")))) pythonFiles[name] = Buffer.from(text);
-const start = () => new Python(new WebAssembly.Module(part("python")), host, pythonFiles, part("memory").subarray(DIGEST_BYTES));
+const start = () => new Python(new WebAssembly.Module(part("python")), host, pythonFiles, part("memory"));
 let python = start();
 const sent = [[python.answer({ begin: {} })[0]]];
 for (const [place, request] of JSON.parse(fs.readFileSync(0)).entries()) {

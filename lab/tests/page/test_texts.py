@@ -32,7 +32,7 @@ WORDS_OF_CALLS = [  # a word that is shown, or read aloud
 ]
 NAMES = {  # of things, and commands: they are no texts
     *("vecmon", "pc", "Not supported", "Not begun", "No connection", "left as it was", "vecmon-lab class DIR --course"),
-    *("an instruction without an access has no row of memory", "the lab has failed", "its parts don't belong together"),
+    *("an instruction without an access has no row of memory", "the lab has failed"),
     *("Python can't be started: ``", "Python ended with ``"),
     *("Replace all:", "Replace with:", "Replace?", "(Use /re/ syntax for regexp search)"),  # phrases of CodeMirror
 }

@@ -59,7 +59,7 @@ def parts_of(folder: pathlib.Path) -> dict[str, bytes]:
     lessons |= {f"lab/{path.relative_to(LAB.parent)}": path.read_text("utf-8") for path in tables}
     return {
         "python": module,
-        "memory": hashlib.sha256(module).digest() + memory[DIGEST_BYTES:],
+        "memory": memory[DIGEST_BYTES:],
         "machine": (folder / "vecmon.wasm").read_bytes(),
         "lessons": json.dumps(lessons).encode(),
         LATER: (folder / "later.zip").read_bytes(),
@@ -117,15 +117,14 @@ def build(folder: pathlib.Path, out: pathlib.Path) -> None:
     provenance = (folder / "PROVENANCE").read_text("utf-8")
     words = about(provenance)
     packed = {name: gzip.compress(part, 9, mtime=0) for name, part in parts.items()}
-    digests = {name: hashlib.sha256(part).hexdigest() for name, part in parts.items()}
     (out / "play").mkdir(parents=True, exist_ok=True)
     (out / "PROVENANCE").write_text(provenance, "utf-8")
-    files = {name: f"{name}-{digests[name][:12]}.gz" for name in parts}
+    files = {name: f"{name}-{hashlib.sha256(part).hexdigest()[:12]}.gz" for name, part in parts.items()}
     for name, file in files.items():
         (out / "play" / file).write_bytes(packed[name])
-    apart = {name: {"url": file, "digest": digests[name]} for name, file in files.items()}
+    apart = {name: {"url": file} for name, file in files.items()}
     (out / "play" / "index.html").write_text(playground(page, apart, words, "'self'"), "utf-8")
-    within = {name: {"id": f"part-{name}", "digest": digests[name]} for name in parts}
+    within = {name: {"id": f"part-{name}"} for name in parts}
     blocks = "".join(
         f'<script type="text/plain" id="part-{name}">{base64.b64encode(part).decode("ascii")}</script>\n'
         for name, part in packed.items()

@@ -17,7 +17,6 @@ export interface Part {
   url?: string;
   id?: string;
   base64?: string;
-  digest: string;
 }
 
 export type PartName = "python" | "memory" | "machine" | "lessons" | "later";

@@ -46,15 +46,9 @@ export class Wasi {
   /** @type {(address: number, size: number) => string} */
   text = (address, size) => new TextDecoder().decode(this.bytes(address, size).slice());
 
-  /** The path that a program names from an open folder on. */
-  /** @type {(folder: number, address: number, size: number) => string} */
-  path(folder, address, size) {
-    const parts = `${this.pathOf(folder)}/${this.text(address, size)}`.split("/").filter((part) => part && part !== ".");
-    /** @type {string[]} */
-    const path = [];
-    for (const part of parts) part === ".." ? path.pop() : path.push(part);
-    return path.join("/");
-  }
+  /** The path that a program names from the only open folder on. */
+  /** @type {(address: number, size: number) => string} */
+  path = (address, size) => this.text(address, size).split("/").filter((part) => part && part !== ".").join("/");
 
   /** The path of an open file or folder. */
   pathOf = (/** @type {number} */ descriptor) => this.opened.get(descriptor)?.path ?? "";
@@ -92,8 +86,6 @@ export class Wasi {
   /** @type {(count: number, size: number) => number} */
   environ_sizes_get = (count, size) => this.number(count, 0) || this.number(size, 0);
 
-  environ_get = () => OK;
-
   /** @type {(descriptor: number, address: number) => number} */
   fd_prestat_get = (descriptor, address) =>
     descriptor === ROOT ? this.number(address, 0) || this.number(address + 4, 1) : BAD_FILE;
@@ -116,14 +108,14 @@ export class Wasi {
 
   /** @type {(folder: number, flags: number, address: number, size: number, to: number) => number} */
   path_filestat_get = (folder, flags, address, size, to) => {
-    const path = this.path(folder, address, size);
+    const path = this.path(address, size);
     return this.status(this.kind(path), path, to);
   };
 
   /** @param {number[]} values the folder, how to look up, address and size of the path, three kinds of rights and flags, and a place */
   path_open = (...values) => {
-    const [folder, , address, size, , , , , to] = values;
-    const path = this.path(folder, address, size);
+    const [, , address, size, , , , , to] = values;
+    const path = this.path(address, size);
     if (!this.kind(path)) return NO_FILE;
     this.opened.set(this.next, { path, place: 0 });
     return this.number(to, this.next++);
@@ -163,32 +155,29 @@ export class Wasi {
   /** @type {(descriptor: number) => number} */
   fd_close = (descriptor) => this.done(this.opened.delete(descriptor));
 
+  /** The bytes of an entry of a folder; its cookie is that of the next one. */
+  /** @type {(name: string, place: number, kind: number) => number[]} */
+  entry(name, place, kind) {
+    const [head, letters] = [new DataView(new ArrayBuffer(24)), new TextEncoder().encode(name)];
+    head.setBigUint64(0, BigInt(place + 1), true);
+    head.setUint32(16, letters.length, true);
+    head.setUint8(20, kind);
+    return [...new Uint8Array(head.buffer), ...letters];
+  }
+
   /** @type {(descriptor: number, address: number, size: number, cookie: bigint, to: number) => number} */
   fd_readdir = (descriptor, address, size, cookie, to) => {
     const path = this.pathOf(descriptor);
     const names = this.names(path) ?? [];
-    let done = 0;
-    for (let place = Number(cookie); place < names.length && done < size; place++) {
-      const name = new TextEncoder().encode(names[place]);
-      const entry = new Uint8Array(24 + name.length);
-      const data = new DataView(entry.buffer);
-      data.setBigUint64(0, BigInt(place + 1), true);
-      data.setUint32(16, name.length, true);
-      data.setUint8(20, this.kind(path ? `${path}/${names[place]}` : names[place]) ?? 0);
-      entry.set(name, 24);
-      const part = entry.subarray(0, size - done);
-      this.bytes(address + done, part.length).set(part);
-      done += part.length;
-    }
-    return this.number(to, done);
+    const entries = names.map((name, place) => this.entry(name, place, this.kind(path ? `${path}/${name}` : name) ?? 0));
+    const read = Uint8Array.from(entries.slice(Number(cookie)).flat()).subarray(0, size);
+    this.bytes(address, read.length).set(read);
+    return this.number(to, read.length);
   };
 
   /** @type {(clock: number, precision: bigint, to: number) => number} */
   clock_time_get = (clock, precision, to) =>
     this.large(to, BigInt(Math.round((clock === 0 ? this.host.now() : this.host.ticks()) * 1000)) * 1000n);
-
-  /** @type {(clock: number, to: number) => number} */
-  clock_res_get = (clock, to) => this.large(to, 1000);
 
   /** @type {(address: number, size: number) => number} */
   random_get = (address, size) => this.done(this.host.random(this.bytes(address, size)));

@@ -9,7 +9,6 @@ import { Python } from "./python.js";
 /** @typedef {import("./playground").ToWorker} ToWorker */
 
 const KEEP_PAUSE = 300; // ms after which what was done is saved
-const DIGEST_BYTES = 32; // of the module that a snapshot belongs to, before the snapshot
 const { port1: bell, port2: rung } = new MessageChannel(); // between turns, so that requests come in
 /** @type {Python} */
 let python;
@@ -57,7 +56,6 @@ async function load(/** @type {Part} */ { url, base64 = "" }, type = "") {
 }
 
 const bytesOf = async (/** @type {Part} */ part) => new Uint8Array(await (await load(part)).arrayBuffer());
-const hexadecimal = (/** @type {Uint8Array} */ bytes) => Array.from(bytes, (byte) => byte.toString(16).padStart(2, "0")).join("");
 
 /** Load pyelftools, which only images need. */
 const loadLater = async () => (pythonFiles["later.zip"] ??= await bytesOf(parts.later));
@@ -67,13 +65,12 @@ async function begin(/** @type {Texts} */ texts) {
   const modules = Promise.all([compiled(parts.python), compiled(parts.machine)]);
   const contents = Promise.all([bytesOf(parts.memory), bytesOf(parts.lessons)]);
   const [[code, machine], [memory, lessons]] = await Promise.all([modules, contents]);
-  if (hexadecimal(memory.subarray(0, DIGEST_BYTES)) !== parts.python.digest) throw new Error("its parts don't belong together");
   module = machine;
   for (const [path, text] of Object.entries(JSON.parse(new TextDecoder().decode(lessons)))) {
     pythonFiles[path] = new TextEncoder().encode(text);
   }
   if (texts["A1.image"]) await loadLater();
-  python = new Python(code, host, pythonFiles, memory.subarray(DIGEST_BYTES));
+  python = new Python(code, host, pythonFiles, memory);
   give({ begin: texts });
   send({ kind: "memory", bytes: python.memory.buffer.byteLength });
 }
