@@ -116,7 +116,7 @@ export class Bench {
     on("show-reference", "click", () => this.refer(""));
     on("find", "input", () => showReference(this.parts.entries, find.value));
     this.desk.view.machine.addEventListener("click", ({ target }) => this.edit(/** @type {Element} */ (target)));
-    this.desk.view.machine.addEventListener("explain", (event) => this.explain(/** @type {CustomEvent} */ (event).detail));
+    this.desk.view.lanes.explain = (name) => this.explain(name);
     this.editor.toggleBreakpoint = (line) => this.breakAt(line);
     this.editor.caretMoved = (text, place) => (tellName(entry, text, place), this.links.mark(this.editor.caretLine));
     document.addEventListener("selectionchange", () => {
@@ -262,10 +262,10 @@ export class Bench {
     return this.askValue(edit, (shown?.dataset.value ?? shown?.firstChild?.nodeValue ?? "").replace("−", "-"));
   }
 
-  /** Gives the calculation of an element of the present state, if there is one. */
-  async explain(/** @type {import("./lanes.js").Question} */ { name, take }) {
-    if (this.desk.past.moment || this.desk.state.run !== "stopped") return;
-    take((await this.connection.ask({ ask: "why", name }))?.why ?? "");
+  /** Returns the calculation of an element of the present state; "" without one. */
+  async explain(/** @type {string} */ name) {
+    const isPresent = !this.desk.past.moment && this.desk.state.run === "stopped";
+    return (isPresent && (await this.connection.ask({ ask: "why", name }))?.why) || "";
   }
 
   /** Sets all breakpoints of a line of the source in the machine, or removes those that are there. */

@@ -16,7 +16,6 @@ import { vectorType } from "./words.js";
 /** @typedef {import("./columns.js").Columns} Columns */
 /** @typedef {import("./columns.js").Fit} Fit */
 /** @typedef {import("./lane_rows.js").Row} Row */
-/** @typedef {{ name: string, take: (text: string) => void }} Question the detail of an event `explain` */
 
 /** Shows the elements of a machine's state in its root. */
 export class Lanes {
@@ -27,6 +26,9 @@ export class Lanes {
   /** @type {View | undefined} */ view;
   /** @type {Columns | undefined} */ columns;
   /** @type {Fit} */ fit = { columns: 8, size: "medium", head: "wide" };
+
+  /** Returns the server's calculation of an element, whose name is as `v8[5]`; "" if it has none. */
+  /** @type {(name: string) => Promise<string>} */ explain = async () => "";
 
   /** @param {Element} root */
   constructor(root) {
@@ -96,11 +98,11 @@ export class Lanes {
    */
   strip(view, { elements, pairs, rows }, first) {
     const colSpan = this.fit.columns;
-    const places = Array.from({ length: colSpan }, (_, place) => first + place);
-    const numbers = places.map((element) => (element < elements ? header("col", `${element}`) : make("td", "")));
+    const places = Array.from({ length: Math.min(colSpan, elements - first) }, (_, place) => first + place);
+    const numbers = places.map((element) => header("col", `${element}`));
     const heads = make("tr", "numbers", header("row", make("small", "", textOf("lanes.element"))), ...numbers);
     const shown = rows.filter(({ cells }) => cells.length > first);
-    const made = shown.map((row) => this.row(view, row, headOf(row, first, Math.min(elements, first + colSpan) - 1), places));
+    const made = shown.map((row) => this.row(view, row, headOf(row, first, first + places.length - 1), places));
     if (pairs.length) {
       const picture = Object.assign(make("td", "", wiresPicture(pairs, first, colSpan)), { colSpan });
       made.splice(shown.findIndex(({ kind }) => /before|after/.test(kind)), 0, make("tr", "wires", make("td", ""), picture));
@@ -116,9 +118,8 @@ export class Lanes {
    */
   row(view, { kind, register, width, words, cells }, head, places) {
     const what = make("small", /\d$/.test(words) ? "field" : "", words);
-    const made = places.map((element) => {
+    const made = places.filter((element) => cells[element]).map((element) => {
       const cell = cells[element];
-      if (!cell) return make("td", "");
       const where = [textOf("lanes.cell", { element, head }), words].filter(Boolean).join(", ");
       const title = [where, cell.words].filter(Boolean).join(": ");
       const shown = Object.assign(make("td", cell.classes.join(" "), cell.text), { role: "gridcell", title });
@@ -138,44 +139,39 @@ export class Lanes {
       this.isOpen = true;
       this.paint();
     }
-    if (!cell || !this.view || !this.columns) return;
-    this.register = Number(cell.parentElement?.dataset.register ?? -1);
-    this.choose(this.view, this.columns, Number(cell.dataset.element), true);
-    this.ask(this.view, this.columns);
+    if (cell && this.view && this.columns) this.chooseCell(this.view, this.columns, cell);
   }
 
   /** @param {KeyboardEvent} event */
   keyed(event) {
-    const { view, columns, chosen, fit } = this;
-    if (!view || !columns || event.ctrlKey || event.altKey || event.metaKey) return;
-    const down = { ArrowDown: 1, ArrowUp: -1 }[event.key];
-    if (down && !columns.executed) return this.chooseRow(event, view, columns, down);
-    if (event.key === "Enter" && /** @type {Element} */ (event.target).matches("td")) {
+    const { view, columns, chosen } = this;
+    const own = /** @type {HTMLTableCellElement | null} */ (this.box.querySelector("td[tabindex]"));
+    if (!view || !columns || !own || event.ctrlKey || event.altKey || event.metaKey) return;
+    if (event.key === "Enter" && event.target === own) {
       event.preventDefault(); // or the dialog takes the same key
       this.detail.querySelector("button")?.click();
     }
-    const last = columns.elements - 1;
-    const rows = { ArrowUp: chosen - fit.columns, ArrowDown: chosen + fit.columns };
-    const goals = { ...rows, ArrowLeft: chosen - 1, ArrowRight: chosen + 1, Home: 0, End: last };
-    const goal = goals[/** @type {keyof typeof goals} */ (event.key)];
-    if (goal === undefined || last < 0) return;
+    const down = { ArrowDown: 1, ArrowUp: -1 }[event.key];
+    const goal = { ArrowLeft: chosen - 1, ArrowRight: chosen + 1, Home: 0, End: columns.elements - 1 }[event.key];
+    if (!down && goal === undefined) return;
     event.preventDefault();
-    if (goal >= 0 && goal <= last) this.choose(view, columns, goal, true);
-    this.ask(view, columns);
+    const column = elementsIn(this.box, `:is(.after, .plain) > :nth-child(${own.cellIndex + 1})`);
+    const cell = down && column[column.indexOf(own) + down];
+    if (cell) return this.chooseCell(view, columns, cell);
+    if (goal !== undefined && goal >= 0 && goal < columns.elements) this.choose(view, columns, goal, true);
+    return this.ask(view, columns);
   }
 
   /**
-   * Chooses the register in the next row, where registers in use are shown.
-   * @param {KeyboardEvent} event
+   * Chooses the element of a cell, and its register where there are several results.
    * @param {View} view
    * @param {Columns} columns
-   * @param {number} step
+   * @param {HTMLElement} cell
    */
-  chooseRow(event, view, columns, step) {
-    const registers = columns.rows.filter(({ cells }) => cells[this.chosen]).map(({ register }) => register);
-    event.preventDefault();
-    this.register = registers[Math.max(0, registers.indexOf(this.register)) + step] ?? this.register;
-    this.choose(view, columns, this.chosen, true);
+  chooseCell(view, columns, cell) {
+    this.register = Number(cell.parentElement?.dataset.register ?? -1);
+    this.choose(view, columns, Number(cell.dataset.element), true);
+    this.ask(view, columns);
   }
 
   /**
@@ -188,7 +184,7 @@ export class Lanes {
   choose(view, columns, element, takesFocus) {
     this.chosen = element;
     const own = elementsIn(this.box, `td[data-element="${element}"]`);
-    if (!own.length && columns.elements > element && !this.isOpen && columns.rows.length) {
+    if (!own.length && !this.isOpen && columns.rows.length) {
       this.isOpen = true; // the element is in the folded tail
       return this.paintStrips(view, columns);
     }
@@ -223,17 +219,15 @@ export class Lanes {
   }
 
   /**
-   * Asks the page for the calculation of the chosen element: an event `explain` with the name and a function that takes the text.
+   * Asks for the server's calculation of the chosen element.
    * @param {View} view
    * @param {Columns} columns
    */
-  ask(view, columns) {
+  async ask(view, columns) {
     const { chosen, register } = this;
-    const name = columns.executed && detailOf(view, columns, chosen, register).explain;
-    const take = (/** @type {string} */ text) => {
-      const isShown = this.chosen === chosen && this.view?.state === view.state;
-      if (text && isShown) this.paintDetail(this.view ?? view, this.columns ?? columns, text);
-    };
-    if (name) this.root.dispatchEvent(new CustomEvent("explain", { bubbles: true, detail: { name, take } }));
+    const { explain } = detailOf(view, columns, chosen, register);
+    const text = columns.executed && explain ? await this.explain(explain) : "";
+    const isShown = this.chosen === chosen && this.view?.state === view.state;
+    if (text && isShown) this.paintDetail(this.view ?? view, this.columns ?? columns, text);
   }
 }
