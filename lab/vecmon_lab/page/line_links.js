@@ -22,24 +22,20 @@ export class LineLinks {
 
   /** Shows a state's rows, which are made anew; starts: undefined unless a compiled program is that of the editor's source. */
   show(/** @type {Starts | undefined} */ starts) {
-    if (starts !== this.starts) {
-      this.starts = starts;
+    const isOther = starts !== this.starts;
+    this.starts = starts;
+    if (isOther) {
       this.program.classList.toggle("both", starts !== undefined);
       this.editor.tint([...new Set(Object.values(starts ?? {}))].filter(Boolean));
-      this.line = 0;
     }
-    if (starts) this.paint();
+    this.mark(isOther ? 0 : this.line, true);
   }
 
-  /** Marks a line and its instructions in place of those before. */
-  mark(/** @type {number} */ line) {
-    if (!this.starts || line === this.line) return;
+  /** Marks a line and its instructions in place of those before. isNew: whether the rows are */
+  mark(/** @type {number} */ line, isNew = false) {
+    if (line === this.line && !isNew) return;
     this.line = line;
-    this.paint();
-  }
-
-  paint() {
-    for (const row of elementsIn(this.listing, "tr")) row.classList.toggle("linked", Number(row.dataset.line) === this.line);
-    this.editor.link(Object.values(this.starts ?? {}).includes(this.line) ? this.line : 0);
+    for (const row of elementsIn(this.listing, "tr")) row.classList.toggle("linked", Number(row.dataset.line) === line);
+    this.editor.link(Object.values(this.starts ?? {}).includes(line) ? line : 0);
   }
 }
