@@ -15,7 +15,6 @@ NAMES = {
     "card": "cardOf",
     "calculation": "calculationText",
     "detail": "detailOf",
-    "outcomes": "resultOutcome",
     "wires": "curvesOf",
 }
 IMPORTS = "".join(f'import {{ {names} }} from "./{module}.js";\n' for module, names in NAMES.items())
@@ -29,7 +28,7 @@ const shown = views.map((given) => {
   return {
     rows: rows.map((row) => ({ head: head(row), kind: row.kind, register: row.register, width: row.width, cells: row.cells })),
     ...{ elements, outcomes, pairs, card: cardOf(view, columns) },
-    results: executed?.destination ? outcomes.map((_, each) => resultOutcome(executed, outcomes, each)) : [],
+    results: executed?.destination ? executed.results : [],
     strips: [16, 8, 4, 2].map((width) => stripsOf(columns, width)).map(({ strips, folded }) => [strips.length, folded]),
     calculations: (given.elements ?? []).map((each) => calculationText(view, columns, each)),
     details: (given.elements ?? []).map((each) => detailOf(view, columns, each)),

@@ -2,7 +2,6 @@
 
 import { isMoving } from "./executed.js";
 import { bitOf, elementOf, numberText } from "./numbers.js";
-import { resultOutcome } from "./outcomes.js";
 import { ABI_NAMES, vectorType } from "./words.js";
 
 /** @typedef {import("./executed.js").Executed} Executed */
@@ -15,8 +14,7 @@ const CONVERTED = /\b(signed|sext|zext)\(([^()]*)\)/g;
  * Returns the scalar register or the immediate that an instruction has in place of vs1; "" without one.
  * @param {Executed} executed
  */
-const scalarOf = ({ text, access }) =>
-  access ? "" : (text.split(/ |, /).slice(2).find((each) => !/^v\d+(\.t)?$/.test(each)) ?? "");
+const scalarOf = ({ text, access }) => access ? "" : (text.split(/ |, /).slice(2).find((each) => !/^v\d+(\.t)?$/.test(each)) ?? "");
 
 /**
  * Returns the formula of an instruction with its own operands: `v8[i] = v4[i] * a0 + v8[i]`.
@@ -58,17 +56,15 @@ export function scalarTexts({ state }, { text, access }) {
  * @param {Columns} columns
  * @param {number} element
  */
-export function calculationText(view, { executed, outcomes }, element) {
-  if (!executed?.earlier.isKnown || !executed.destination || executed.access) return "";
-  if (resultOutcome(executed, outcomes, element) !== "active") return "";
+export function calculationText(view, { executed }, element) {
+  if (!executed?.earlier.isKnown || !executed.destination || executed.access || executed.results[element] !== "active") return "";
   const { register, width } = executed.destination;
   const [target, formula] = formulaText(executed).split(/ = (.*)/);
   if (/ = .*\bvd\b/.test(executed.meaning.formula) && !executed.earlier.hasOld) return "";
   const branch = /\b(for|nth)\b/.test(formula) ? "" : chosenBranch(numbered(view, executed, formula, element));
   const hasSign = /signed|sext/.test(executed.meaning.formula) || (view.form !== "unsigned" && hasEitherSign(executed, branch));
   const form = hasSign ? "signed" : "unsigned";
-  const converted = branch.replace(CONVERTED, (_, name, inner) =>
-    filledIn(view, executed, inner, name === "zext" ? "unsigned" : "signed"));
+  const converted = branch.replace(CONVERTED, (_, name, inner) => filledIn(view, executed, inner, name === "zext" ? "unsigned" : "signed"));
   const values = filledIn(view, executed, converted, form).replace(/^\((−\d+)\)$/, "$1");
   const result = numberText(elementOf(view.state.v, register, width, element), width, form);
   return [...new Set([target.replace(/\[[i0]\]/, `[${element}]`), branch, values, result].filter(Boolean))].join(" = ");

@@ -1,11 +1,9 @@
 // The elements of the last vector instruction as columns, and their strips.
 
 import { countOf, executedOf, operandOf } from "./executed.js";
-import { accessRows, guardRows, operandRows, registerRow } from "./lane_rows.js";
+import { instructionRows, registerRow } from "./lane_rows.js";
 import { LETTER } from "./numbers.js";
-import { outcomeOf } from "./outcomes.js";
 import { textOf } from "./texts.js";
-import { pairsOf } from "./wires.js";
 import { vectorType } from "./words.js";
 
 /** @typedef {import("./executed.js").View} View */
@@ -37,26 +35,12 @@ const NARROW = 480; // sixteenths of a rem
  */
 export function columnsOf(view) {
   const executed = view.width ? undefined : executedOf(view);
-  if (!executed) return withSizes(registerRows(view), { executed, outcomes: [], pairs: [], vl: view.state.vl });
-  const outcomes = Array.from({ length: executed.elements }, (_, element) => outcomeOf(view.state, executed, element));
-  const pairs = pairsOf(executed, outcomes);
-  const { access, earlier: { vl } } = executed;
-  const rows = access ? accessRows(view, executed, outcomes, access) : operandRows(view, executed, outcomes, pairs);
-  return withSizes([...guardRows(view, executed, outcomes), ...rows], { executed, outcomes, pairs, vl });
-}
-
-/**
- * Adds what is counted in rows.
- * @param {Row[]} rows
- * @param {Pick<Columns, "executed" | "outcomes" | "pairs" | "vl">} others
- * @returns {Columns}
- */
-function withSizes(rows, others) {
-  const elements = Math.max(others.outcomes.length, ...rows.map(({ cells }) => cells.length));
-  const changed = Array.from({ length: elements }, (_, element) =>
-    rows.some(({ cells }) => cells[element]?.classes.includes("changed")));
+  const rows = executed ? instructionRows(view, executed) : registerRows(view);
+  const { outcomes, pairs } = executed ?? { outcomes: [], pairs: [] };
+  const elements = Math.max(outcomes.length, ...rows.map(({ cells }) => cells.length));
+  const changed = Array.from({ length: elements }, (_, element) => rows.some(({ cells }) => cells[element]?.classes.includes("changed")));
   const longest = Math.max(2, ...rows.flatMap(({ cells }) => cells.map(({ text }) => text.length)));
-  return { rows, elements, changed, longest, ...others };
+  return { executed, rows, elements, outcomes, changed, pairs, longest, vl: (executed?.earlier ?? view.state).vl };
 }
 
 /**
@@ -128,8 +112,7 @@ export function fit({ longest, elements, vl }, { width, unit }) {
   const most = Math.min(enough, elements);
   for (const columns of [16, 8, 4].filter((each) => each / 2 < most)) {
     const sizes = columns > 4 ? SIZES.slice(0, 3) : SIZES;
-    const size = sizes.find(([, sixteenths]) =>
-      rest / columns >= (longest * sixteenths * LETTER + (sixteenths > 13 ? 20 : 6)) * unit);
+    const size = sizes.find(([, sixteenths]) => rest / columns >= (longest * sixteenths * LETTER + (sixteenths > 13 ? 20 : 6)) * unit);
     if (size) return { columns, size: size[0], head };
   }
   return { columns: Math.min(2, Math.max(1, elements)), size: "tiny", head };

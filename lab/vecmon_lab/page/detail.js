@@ -1,7 +1,7 @@
 // The line of the chosen element: where it is, how it took part, and the line that can change it.
 
 import { REGISTER_BITS, elementOf, numberText } from "./numbers.js";
-import { OUTCOMES, resultOutcome } from "./outcomes.js";
+import { OUTCOMES } from "./outcomes.js";
 import { textOf } from "./texts.js";
 
 /** @typedef {import("./executed.js").View} View */
@@ -67,9 +67,9 @@ function placeText(register, width, place) {
  * @param {number} element
  */
 function sentenceOf({ state }, columns, element) {
-  const { executed, outcomes, rows, vl } = columns;
+  const { executed, rows, vl } = columns;
   if (!executed) return "";
-  const outcome = executed.destination ? resultOutcome(executed, outcomes, element) : outcomes[element];
+  const outcome = executed.results[element];
   const address = addressOf(columns, element);
   const where = address && (executed.access?.isStore ? textOf("detail.to", { address }) : textOf("detail.from", { address }));
   const [before, after] = ["before", "after"].map((kind) => rows.find((row) => row.kind === kind)?.cells[element]?.text);

@@ -1,6 +1,8 @@
 // The vector instruction that a state executed last: its operands by their parts in it, and their values before it.
 
 import { REGISTER_BITS, elementOf } from "./numbers.js";
+import { outcomeOf, resultOutcome } from "./outcomes.js";
+import { pairsOf } from "./wires.js";
 import { ABI_NAMES, vectorType, withNames } from "./words.js";
 
 /** @typedef {import("./numbers.js").Registers} Registers */
@@ -38,7 +40,7 @@ import { ABI_NAMES, vectorType, withNames } from "./words.js";
  *   memory: State["memory"] }} Earlier
  */
 /**
- * @typedef {object} Executed
+ * @typedef {object} Instruction
  * @property {string} text in ABI names
  * @property {string} name the mnemonic
  * @property {number} word
@@ -57,10 +59,16 @@ import { ABI_NAMES, vectorType, withNames } from "./words.js";
  * @property {number} elements the most that it has under the vector type
  */
 
+/**
+ * outcomes: by element, in a reduction of the source; results: of the destination, by element; pairs: of curves
+ * @typedef {Instruction & { outcomes: import("./outcomes.js").Outcome[], results: import("./outcomes.js").Outcome[],
+ *   pairs: import("./wires.js").Pair[] }} Executed
+ */
+
 const NO_MEANING = { does: "", formula: "", layout: "by element" };
 
 /** Whether elements of the source go to other places. */
-export const isMoving = (/** @type {Executed} */ { meaning }) => ["gather", "slide", "compress"].includes(meaning.layout);
+export const isMoving = (/** @type {Instruction} */ { meaning }) => ["gather", "slide", "compress"].includes(meaning.layout);
 
 /** The number of elements of a register group; of a mask that of all its bits. */
 /** @type {(group: { size: number, width: number }) => number} */
@@ -87,12 +95,16 @@ export function executedOf({ state, before }) {
   const access = accessOf(state, machineText, destination, sources, earlier);
   const rs1 = (word >> 15) & 31;
   const scalar = name.endsWith("i") ? BigInt(rs1) : BigInt("0x" + state.x[rs1]);
-  return {
+  /** @type {Instruction} */
+  const instruction = {
     ...{ text: withNames(machineText, true), name, word, isMasked, isWhole, destination, sources, hasChooser, access, earlier },
     ...{ rs1, scalar, offset: name.startsWith("vslide1") ? 1n : scalar, meaning: state.meanings?.[name] ?? NO_MEANING },
     isIllegal: Boolean(state.faulted) && (!access || /illegal/i.test(state.stop ?? "")),
     elements: isWhole ? countOf(destination ?? sources[0]) : Math.max(1, Math.floor(type.most)),
   };
+  const outcomes = Array.from({ length: instruction.elements }, (_, element) => outcomeOf(state, instruction, element));
+  const results = outcomes.map((_, element) => resultOutcome(instruction, outcomes, element));
+  return { ...instruction, outcomes, results, pairs: pairsOf(instruction, outcomes) };
 }
 
 /**

@@ -2,7 +2,7 @@
 
 import { countOf, isMoving } from "./executed.js";
 import { REGISTER_BITS, elementOf, memoryElement, numberText, registersText } from "./numbers.js";
-import { OUTCOMES, resultOutcome } from "./outcomes.js";
+import { OUTCOMES } from "./outcomes.js";
 import { textOf } from "./texts.js";
 
 /** @typedef {import("./executed.js").Access} Access */
@@ -69,38 +69,36 @@ const indexForm = ({ form }) => (form === "hexadecimal" ? form : "unsigned");
 const tailOr = (outcomes, other) => outcomes.map((outcome) => (outcome === "tail" ? outcome : other));
 
 /**
- * Returns the row of v0, where it is a mask or a source of bits.
+ * Returns the rows of an instruction: v0, where it is a mask or a source of bits, and those of its operands.
  * @param {View} view
  * @param {Executed} executed
- * @param {Outcome[]} outcomes
  * @returns {Row[]}
  */
-export function guardRows({ form }, { isMasked, hasChooser, earlier, elements }, outcomes) {
-  if (!isMasked && !hasChooser) return [];
-  const values = { registers: earlier.v, outcomes: tailOr(outcomes, "active"), form };
-  return [registerRow("mask", isMasked ? textOf("row.mask") : textOf("row.bits"), { register: 0, width: 1, count: elements }, values)];
+export function instructionRows(view, executed) {
+  const { isMasked, hasChooser, earlier, elements, outcomes, access } = executed;
+  const rows = access ? accessRows(view, executed, access) : operandRows(view, executed);
+  if (!isMasked && !hasChooser) return rows;
+  const values = { registers: earlier.v, outcomes: tailOr(outcomes, "active"), form: view.form };
+  const words = isMasked ? textOf("row.mask") : textOf("row.bits");
+  return [registerRow("mask", words, { register: 0, width: 1, count: elements }, values), ...rows];
 }
 
 /**
  * Returns the rows of the sources and of the result of an instruction without memory.
  * @param {View} view
  * @param {Executed} executed
- * @param {Outcome[]} outcomes
- * @param {import("./wires.js").Pair[]} pairs
  * @returns {Row[]}
  */
-export function operandRows(view, executed, outcomes, pairs) {
+function operandRows(view, executed) {
   const { destination, sources, meaning } = executed;
-  const isSame = (/** @type {Operand} */ one, /** @type {Operand | undefined} */ other) =>
-    one.register === other?.register && one.width === other.width;
   const hasAll = isMoving(executed) || meaning.layout === "reduce";
   const rows = sources.flatMap((each, place) => {
-    const isDouble = [destination, ...sources.slice(0, place)].some((other) => isSame(each, other));
-    return hasAll || !isDouble ? [sourceRow(view, executed, each, place, outcomes, pairs)] : [];
+    const others = [destination, ...sources.slice(0, place)];
+    const isDouble = others.some((other) => other?.register === each.register && other.width === each.width);
+    return hasAll || !isDouble ? [sourceRow(view, executed, each, place)] : [];
   });
   if (isMoving(executed)) rows.reverse(); // the moved source is next to the curves
-  const hasBefore = !["gather", "compress"].includes(meaning.layout);
-  return [...rows, ...resultRows(view, executed, outcomes, hasBefore)];
+  return [...rows, ...resultRows(view, executed, !["gather", "compress"].includes(meaning.layout))];
 }
 
 /**
@@ -109,11 +107,9 @@ export function operandRows(view, executed, outcomes, pairs) {
  * @param {Executed} executed
  * @param {Operand} source
  * @param {number} place
- * @param {Outcome[]} outcomes
- * @param {import("./wires.js").Pair[]} pairs
  */
-function sourceRow(view, executed, source, place, outcomes, pairs) {
-  const { meaning, earlier, destination, elements } = executed;
+function sourceRow(view, executed, source, place) {
+  const { meaning, earlier, destination, elements, outcomes, pairs } = executed;
   const isScalar = (!destination && source.isWhole && source.width > 1) || (meaning.layout === "reduce" && place > 0); // as vmv.x.s
   const isMoved = isMoving(executed) && !place;
   const read = isScalar ? [0] : pairs.map(([from]) => from);
@@ -128,20 +124,18 @@ function sourceRow(view, executed, source, place, outcomes, pairs) {
  * Returns the rows of the destination: before, where that is wanted and it is one group, and after.
  * @param {View} view
  * @param {Executed} executed
- * @param {Outcome[]} outcomes
  * @param {boolean} hasBefore
  * @returns {Row[]}
  */
-function resultRows({ state, before, form }, executed, outcomes, hasBefore) {
-  const { destination, elements, earlier } = executed;
+function resultRows({ state, before, form }, { destination, elements, earlier, results }, hasBefore) {
   if (!destination) return [];
   const { register, size, groups, width } = destination;
-  const results = outcomes.map((_, element) => resultOutcome(executed, outcomes, element));
   const isKnown = earlier.hasOld || before !== state; // as it isn't once a page was opened again
-  const [old, now] = [{ registers: earlier.olds, outcomes: tailOr(results, ""), form }, { registers: state.v, outcomes: results, form }];
+  const old = { registers: earlier.olds, outcomes: tailOr(results, ""), form };
+  const now = { registers: state.v, olds: earlier.olds, outcomes: results, form };
   return Array.from({ length: groups }, (_, field) => {
     const place = { register: register + field * size, width, count: Math.min(elements, countOf(destination)) };
-    const after = registerRow("after", KINDS.after, place, { ...now, olds: earlier.olds });
+    const after = registerRow("after", KINDS.after, place, now);
     return hasBefore && groups === 1 && isKnown ? [registerRow("before", KINDS.before, place, old), after] : [after];
   }).flat();
 }
@@ -150,24 +144,21 @@ function resultRows({ state, before, form }, executed, outcomes, hasBefore) {
  * Returns the rows of an access: offsets, memory and registers, in the order in which values go.
  * @param {View} view
  * @param {Executed} executed
- * @param {Outcome[]} outcomes
  * @param {Access} access
  * @returns {Row[]}
  */
-export function accessRows(view, executed, outcomes, access) {
-  const { sources: [data], elements, earlier } = executed;
+function accessRows(view, executed, access) {
+  const { sources: [data], elements, earlier, outcomes } = executed;
   const source = (/** @type {string} */ words, /** @type {Operand} */ each, /** @type {NumberForm} */ form) =>
     registerRow("source", words, { ...each, count: elements }, { registers: earlier.v, outcomes, form });
-  const memory = (/** @type {"memory" | "before" | "after"} */ kind, /** @type {number} */ field) =>
-    memoryRow(view, executed, outcomes, access, kind, field);
   const offsets = access.index ? [source(textOf("row.offset"), access.index, indexForm(view))] : [];
   const fields = Array.from({ length: access.fields }, (_, field) => field);
-  const rows = (/** @type {"memory" | "after"} */ kind) => fields.map((field) => memory(kind, field));
-  if (!access.isStore) return [...offsets, ...rows("memory"), ...resultRows(view, executed, outcomes, true)];
+  const rows = (/** @type {"memory" | "before" | "after"} */ kind) =>
+    fields.map((field) => memoryRow(view, executed, access, kind, field));
+  if (!access.isStore) return [...offsets, ...rows("memory"), ...resultRows(view, executed, true)];
   const stored = fields.map((field) =>
     source(fieldName(access, textOf("row.from"), field), { ...data, register: data.register + field * data.size }, view.form));
-  const before = access.fields > 1 ? [] : [memory("before", 0)];
-  return [...offsets, ...stored, ...before, ...rows("after")];
+  return [...offsets, ...stored, ...(access.fields > 1 ? [] : rows("before")), ...rows("after")];
 }
 
 /** @type {(access: Access, words: string, field: number) => string} */
@@ -177,13 +168,12 @@ const fieldName = ({ fields }, words, field) => (fields > 1 ? textOf("row.field"
  * Returns the row of an access's elements in memory, or of a field of its segments. The tail has no place in memory.
  * @param {View} view
  * @param {Executed} executed
- * @param {Outcome[]} outcomes
  * @param {Access} access
  * @param {"memory" | "before" | "after"} kind
  * @param {number} field
  * @returns {Row}
  */
-function memoryRow({ state, form }, { earlier }, outcomes, access, kind, field) {
+function memoryRow({ state, form }, { earlier, outcomes }, access, kind, field) {
   const { width, base, address } = access;
   const read = (/** @type {Record<string, string> | undefined} */ rows, /** @type {number} */ element) => {
     const found = memoryElement(rows, address(element, field), Math.max(8, width));

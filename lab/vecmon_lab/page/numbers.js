@@ -17,8 +17,7 @@ export const littleEndian = (bytes) => BigInt("0x" + (bytes.match(/../g) ?? ["0"
  * @param {string} bytes
  * @param {number} index
  */
-export const bitOf = (bytes, index) =>
-  BigInt((parseInt(bytes.slice(2 * (index >> 3), 2 * (index >> 3) + 2), 16) >> (index & 7)) & 1);
+export const bitOf = (bytes, index) => BigInt((parseInt(bytes.slice(2 * (index >> 3), 2 * (index >> 3) + 2), 16) >> (index & 7)) & 1);
 
 /**
  * Returns an element of a register group, without a sign; with a width of 1 a bit of the one register of a mask.

@@ -3,7 +3,7 @@
 import { bitOf } from "./numbers.js";
 import { textOf } from "./texts.js";
 
-/** @typedef {import("./executed.js").Executed} Executed */
+/** @typedef {import("./executed.js").Instruction} Instruction */
 /**
  * `kept`: the formula doesn't count for it, as below a slide's offset; `pending`: not reached, since the access of an element
  * before it wasn't possible; `idle`: the instruction doesn't read it.
@@ -19,7 +19,7 @@ export const OUTCOMES = {
 
 /**
  * Returns the number of elements that an instruction works on; of a reduction that of its source.
- * @param {Executed} executed
+ * @param {Instruction} instruction
  */
 function bodyOf({ isWhole, elements, access, earlier, meaning, destination }) {
   if (isWhole) return elements;
@@ -31,13 +31,13 @@ function bodyOf({ isWhole, elements, access, earlier, meaning, destination }) {
 /**
  * Returns how an element takes part; in a reduction an element of the source.
  * @param {import("./executed.js").State} state
- * @param {Executed} executed
+ * @param {Instruction} instruction
  * @param {number} element
  * @returns {Outcome}
  */
-export function outcomeOf(state, executed, element) {
-  const { earlier, isIllegal, isMasked, name } = executed;
-  if (element >= bodyOf(executed)) return "tail";
+export function outcomeOf(state, instruction, element) {
+  const { earlier, isIllegal, isMasked, name } = instruction;
+  if (element >= bodyOf(instruction)) return "tail";
   if (isIllegal) return "pending";
   if (element < (state.faulted ? state.vstart : earlier.vstart)) return "prestart";
   if (state.faulted) return element === state.vstart ? "fault" : "pending";
@@ -46,24 +46,25 @@ export function outcomeOf(state, executed, element) {
 }
 
 /**
- * Returns how an element of the destination is written: in a reduction and a compression not all are.
- * @param {Executed} executed
+ * Returns how an element of the destination is written: in a reduction and a compression not all are. As `outcomes` without one.
+ * @param {Instruction} instruction
  * @param {Outcome[]} outcomes
  * @param {number} element
  * @returns {Outcome}
  */
-export function resultOutcome(executed, outcomes, element) {
-  const { meaning, name, earlier, offset } = executed;
+export function resultOutcome(instruction, outcomes, element) {
+  const { meaning, name, earlier, offset, destination } = instruction;
   const outcome = outcomes[element];
+  if (!destination) return outcome;
   if (meaning.layout === "reduce") return element || !earlier.vl ? "tail" : "active";
   if (outcome !== "active") return outcome;
-  if (meaning.layout === "compress") return element < chosenOf(executed, outcomes).length ? "active" : "tail";
+  if (meaning.layout === "compress") return element < chosenOf(instruction, outcomes).length ? "active" : "tail";
   return name.startsWith("vslideup.") && BigInt(element) < offset ? "kept" : "active";
 }
 
 /**
  * Returns the elements that a compression's mask selects.
- * @param {Executed} executed
+ * @param {Instruction} instruction
  * @param {Outcome[]} outcomes
  */
 export const chosenOf = ({ rs1, earlier }, outcomes) =>

@@ -3,7 +3,7 @@
 import { elementOf } from "./numbers.js";
 import { chosenOf } from "./outcomes.js";
 
-/** @typedef {import("./executed.js").Executed} Executed */
+/** @typedef {import("./executed.js").Instruction} Instruction */
 /** @typedef {[number, number]} Pair an element of the source, and the element of the result that it goes to */
 
 const SVG = "http://www.w3.org/2000/svg";
@@ -11,27 +11,27 @@ const HEIGHT = 50; // units of a curve's picture, which is as high as its style 
 
 /**
  * Returns the pairs of elements of a gather, a slide, a compression or a reduction; none of other instructions.
- * @param {Executed} executed
+ * @param {Instruction} instruction
  * @param {import("./outcomes.js").Outcome[]} outcomes
  * @returns {Pair[]}
  */
-export function pairsOf(executed, outcomes) {
-  const { meaning, access, destination, elements } = executed;
+export function pairsOf(instruction, outcomes) {
+  const { meaning, access, destination, elements } = instruction;
   if (access || !destination) return [];
   const active = outcomes.flatMap((outcome, element) => (outcome === "active" ? [element] : []));
   if (meaning.layout === "reduce") return active.map((element) => [element, 0]);
-  if (meaning.layout === "compress") return chosenOf(executed, outcomes).map((from, element) => [from, element]);
+  if (meaning.layout === "compress") return chosenOf(instruction, outcomes).map((from, element) => [from, element]);
   const source = { gather: gathered, slide: slid }[meaning.layout];
   if (!source) return [];
   return active.flatMap((element) => {
-    const from = source(executed, element);
+    const from = source(instruction, element);
     return from >= 0n && from < BigInt(elements) ? [[Number(from), element]] : [];
   });
 }
 
 /**
  * Returns the element of the source that a gather reads.
- * @param {Executed} executed
+ * @param {Instruction} instruction
  * @param {number} element
  */
 const gathered = ({ rs1, scalar, sources: [, indices], earlier }, element) =>
@@ -39,7 +39,7 @@ const gathered = ({ rs1, scalar, sources: [, indices], earlier }, element) =>
 
 /**
  * Returns the element of the source that a slide reads; -1n where it reads none.
- * @param {Executed} executed
+ * @param {Instruction} instruction
  * @param {number} element
  */
 function slid({ name, offset, earlier }, element) {
