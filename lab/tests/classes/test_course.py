@@ -87,6 +87,19 @@ async def test_unknown_exercises_are_refused(tmp_path: pathlib.Path) -> None:
         assert names(tab) == ["doubles"]
 
 
+async def test_order_survives_restart(tmp_path: pathlib.Path) -> None:
+    """An exercise that was turned off is offered at its place again."""
+    own = ["filter", "doubles", "byte_sum"]
+    async with served(tmp_path / "class", exercises=map(pathlib.Path, own)) as room:
+        teacher = await room.sit("teacher")
+        await teacher.ask("exercises", on=["filter", "byte_sum"])
+    async with served(tmp_path / "class") as room:
+        tab, teacher = await room.sit("A1"), await room.sit("teacher")
+        offered = [each["name"] for each in teacher.view["course"]]
+        assert offered == [*own, *(name for name in COURSE if name not in own)]
+        assert names(tab) == ["filter", "byte_sum"]
+
+
 async def test_choice_survives_restart(tmp_path: pathlib.Path) -> None:
     """An exercise in a folder of its own is offered again, though it was off."""
     own = tmp_path / "own"

@@ -122,6 +122,21 @@ async def test_bad_certificate_or_key_is_refused(tmp_path: pathlib.Path, pair: P
         assert "\n" not in str(reply.value)
 
 
+async def test_key_that_all_can_read_is_warned_about(
+    tmp_path: pathlib.Path, pair: Pair, monkeypatch: pytest.MonkeyPatch, capsys: pytest.CaptureFixture[str]
+) -> None:
+    key = tmp_path / "key.pem"
+    key.write_bytes(pair[1].read_bytes())
+    monkeypatch.setenv("CODEMIRROR", str(tmp_path))  # which ends the start behind the warning
+    for mode, count in ((0o600, 0), (0o640, 0), (0o644, 1)):
+        key.chmod(mode)
+        arguments = arguments_of(["class", "--tls", str(pair[0]), str(key), str(tmp_path / "class")])
+        with pytest.raises(LabError, match="codemirror"):
+            run(arguments)
+        warning = f"vecmon-lab: warning: all users of this computer can read the private key: chmod 600 {key}\n"
+        assert capsys.readouterr() == ("", count * warning)
+
+
 async def test_refused_certificate_starts_no_server(tmp_path: pathlib.Path, pair: Pair) -> None:
     """One line and status 2, before the folder is made; also of an address without TLS, which links would have."""
     openssl(tmp_path, f"x509 -in {pair[0]} -signkey {pair[1]} -days -1 -out old.pem")

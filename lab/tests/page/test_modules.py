@@ -9,6 +9,7 @@ import re
 import pytest
 
 from vecmon_lab import LabError
+from vecmon_lab.__main__ import arguments_of
 from vecmon_lab.page.modules import join_modules
 from vecmon_lab.page.pages import FILES, PIECES, Page, page_with_data, page_file
 
@@ -113,14 +114,18 @@ def test_every_module_is_used_by_page() -> None:
 
 
 def test_missing_library_of_editor_is_reported(monkeypatch: pytest.MonkeyPatch, tmp_path: pathlib.Path) -> None:
+    """Also by `class`, before it makes a folder."""
     monkeypatch.setenv("CODEMIRROR", str(tmp_path))
     assert Page("lesson").text("x")  # which has no editor
-    with pytest.raises(LabError) as raised:
-        Page("class")
-    assert str(raised.value) == (
-        f"{tmp_path}/lib/codemirror.js not found: install Debian's libjs-codemirror, or unpack CodeMirror 5 "
-        "(https://codemirror.net/5/codemirror.zip) and name its folder in the variable CODEMIRROR"
-    )
+    arguments = arguments_of(["class", str(tmp_path / "class")])
+    for needs_editor in (lambda: Page("class"), lambda: arguments.run(arguments)):
+        with pytest.raises(LabError) as raised:
+            needs_editor()
+        assert str(raised.value) == (
+            f"{tmp_path}/lib/codemirror.js not found: install Debian's libjs-codemirror, or unpack CodeMirror 5 "
+            "(https://codemirror.net/5/codemirror.zip) and name its folder in the variable CODEMIRROR"
+        )
+    assert not (tmp_path / "class").exists()
 
 
 @pytest.mark.parametrize("name", PAGES)

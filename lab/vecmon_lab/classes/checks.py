@@ -1,7 +1,7 @@
 """The exercises of a class: seats' answers are checked in separate processes, and saved.
 
 exercises.json: the folder of each exercise that students have, by its name
-offered.json: the folders of exercises that the teacher may turn on, besides the course's
+offered.json: the folders of all exercises that the teacher may turn on, in their order; version 1.0 wrote none of the course
 answers/A3.doubles.2.json: the second answer of seat A3 to `doubles`: its time, its text and the suffix of its language, and
 the result of its check
 """
@@ -65,17 +65,17 @@ class Checks:
         `tell` is called with the names of seats that have news. Raises LabError and OSError for a bad exercise.
         """
         self._store, self._tell, self._workers, self._builds = store, tell, WorkerPool(PLACES, SECONDS), builds
-        stored = [pathlib.Path(path) for path in store.read(EXERCISES, texts, WITHOUT).values()]
+        stored, chosen = [pathlib.Path(path) for path in store.read(EXERCISES, texts, WITHOUT).values()], list(folders)
         self._offered: dict[str, Exercise] = {}
         self._settled: dict[str, Exercise] = {}  # with what they expect; those that students have had
-        for folder in list(folders) or stored:
+        for folder in chosen or stored:
             exercise = read_exercise(folder)
             name = exercise.folder.name
             if not re.fullmatch(r"[\w-]{1,40}", name, re.ASCII) or name in self._offered:
                 raise BadFolder(f"{folder}: an exercise has a name of its own: 1 to 40 letters, digits, _ and -")
             self._offered[name] = exercise
         found = self._settle([*self._offered])  # so that a mistake is reported now
-        self._offer_others()
+        self._offer_others(keeps_order=not chosen)
         self.exercises = Exercises(found, {name: starts_of(exercise) for name, exercise in found.items()})
         if found:
             self._save_choice()
@@ -184,20 +184,25 @@ class Checks:
         """The minutes that an exercise of the course takes; 0 for another one."""
         return int(_COURSE.get(name, 0)) if self._offered[name].folder.parent == OURS else 0
 
-    def _offer_others(self) -> None:
-        """Take up the exercises that were offered before, and those of the course. What can't be read is reported as lost."""
+    def _offer_others(self, keeps_order: bool) -> None:
+        """Take up the exercises that were offered before, and those of the course. What can't be read is reported as lost.
+
+        keeps_order: whether all are in the order of before, which the choice of exercises doesn't change
+        """
         stored = self._store.read(OFFERED, texts, "exercises that were off aren't offered any more")
         for folder in [*map(pathlib.Path, stored.values()), *with_course([])]:
             try:
                 self._offered.setdefault(folder.name, read_exercise(folder))
             except (LabError, OSError) as error:
                 self._store.lose(f"the exercise {folder.name} isn't offered any more: {error}")
+        if keeps_order:
+            names = dict.fromkeys([*stored, *self._offered])
+            self._offered = {name: self._offered[name] for name in names if name in self._offered}
 
     def _save_choice(self) -> None:
         """Save which exercises students have, and which others are offered."""
         self._store.write(EXERCISES, {name: str(each.folder) for name, each in self.exercises.by_name.items()})
-        own = {name: each.folder for name, each in self._offered.items() if each.folder.parent != OURS}
-        self._store.write(OFFERED, {name: str(folder) for name, folder in own.items()})
+        self._store.write(OFFERED, {name: str(each.folder) for name, each in self._offered.items()})
 
     async def _check(self, seat: str, name: str, source: SourceText) -> None:
         """Checks an answer, saves it if it counts as a try, and wakes the tabs."""

@@ -11,6 +11,7 @@ from .. import LabError
 from ..arguments import between
 from ..exercises.exercise import with_course
 from ..machine.program import find_program, images_of
+from ..page import codemirror
 from .builds import builds_by
 from .codes import LETTERS
 from .folder_report import folder_report
@@ -121,12 +122,15 @@ def run(arguments: argparse.Namespace) -> int:
 def _serve(arguments: argparse.Namespace) -> None:
     """Serves a class until SIGINT or SIGTERM. Raises as `run` does."""
     from .server import listening, serve  # these need aiohttp; --help doesn't
-    from .tls import tls_context
+    from .tls import key_warning, tls_context
 
     images, host = images_of(arguments.images), arguments.host
     tls = tls_context(*arguments.tls) if arguments.tls else None
     if tls and (arguments.address or "https:").startswith("http:"):
         raise LabError(f"--tls serves HTTPS, so the address of the class begins with https://: {arguments.address}")
+    if tls and (warning := key_warning(arguments.tls[1])):
+        print(f"vecmon-lab: warning: {warning}", file=sys.stderr)
+    codemirror.folder()  # which the page needs: before a new folder is made
     store = Store(arguments.folder, find_program(), images, arguments.quantum, arguments.machines)
     try:
         listeners = listening(host, arguments.port)  # before the class is replayed, which may take a while

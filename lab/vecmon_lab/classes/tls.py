@@ -5,6 +5,7 @@ import contextlib
 import pathlib
 import socket
 import ssl
+import stat
 from collections import deque
 from collections.abc import Callable
 from typing import cast
@@ -41,6 +42,12 @@ def tls_context(certificate: pathlib.Path, key: pathlib.Path) -> ssl.SSLContext:
         raise LabError(f"{certificate} and {key} can't be used as certificate and private key: {cause}") from error
     _check_validity(context, certificate)
     return context
+
+
+def key_warning(key: pathlib.Path) -> str:
+    """A sentence where all users of this computer can read a private key; else an empty text. Raises OSError."""
+    is_open = key.stat().st_mode & stat.S_IROTH
+    return f"all users of this computer can read the private key: chmod 600 {key}" if is_open else ""
 
 
 def _check_validity(context: ssl.SSLContext, certificate: pathlib.Path) -> None:
