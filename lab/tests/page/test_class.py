@@ -241,7 +241,7 @@ def test_hidden_rows_are_not_created(tabs: "Chrome", own_class: Served) -> None:
     for address in ("10000", "13ce8", "12000"):
         tab.keys("#line", f"setpc {address}\n")
         tab.wait(f"one('#listing .next')?.dataset.address === arguments[0] && {seen}", address)
-        assert 40 < tab.run("all('#listing tr').length") < 150
+        assert 40 < tab.run("all('#listing [data-address]').length") < 150
         rows = tab.run("one('#listing table').getBoundingClientRect().height / one('#listing .next').offsetHeight")
         assert rows == pytest.approx(3901, abs=3)
     tab.click("#one")
