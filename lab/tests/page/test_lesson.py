@@ -352,7 +352,8 @@ def test_lessons_read_to_end_are_marked(
     from selenium.webdriver.common.keys import Keys
 
     strip: Strip = {"name": "v1", "text": "", "cells": [("0a", "active")]}
-    entries = [Entry(**lesson, sentence="It is short.", strip=strip) for lesson in SERIES["lessons"]]
+    lessons = [(lesson["name"], lesson["title"]) for lesson in SERIES["lessons"]]
+    entries = [Entry(name=name, title=title, sentence="It is short.", strip=strip) for name, title in lessons]
     lesson = lesson_page("x", make_frames(read_script("1 enter\n1 map 0 1 rw\n"), program), series=SERIES)
     marks = "return [...document.querySelectorAll('#progress a')].map((mark) => mark.textContent)"
     browser = opened(lesson)

@@ -23,7 +23,7 @@ from vecmon_lab.lessons.tour import tour_page
 from vecmon_lab.page import pages, texts
 from vecmon_lab.runs.callers import CallFrame
 from vecmon_lab.runs.profile_page import profile_page
-from vecmon_lab.runs.tick_profile import Table
+from vecmon_lab.runs.tick_profile import Table, TableRow
 
 if TYPE_CHECKING:
     from selenium.webdriver import Chrome
@@ -51,7 +51,7 @@ SERIES: Series = {
     "place": 1,
 }
 EXERCISE = replace(read_exercise(OURS / "doubles"), text="A text.")
-ROW = ["10000", "main", "main.c:1", "vid.v v1", 1, 9, 8, 0, 0, "100 %"]
+ROW: TableRow = ["10000", "main", "main.c:1", "vid.v v1", 1, 9, 8, 0, 0, "100 %"]
 FRAMES = [CallFrame("main", 3, 9, (CallFrame("leaf", 6, 6, ()),))]
 TABLE = Table("Functions", ["function", "ticks"], 1, [["main", 9]])
 LISTING = CompiledListing("gcc", ["1"], [["10000", 1, "", "vid", 1, 8, 0, 0]])
