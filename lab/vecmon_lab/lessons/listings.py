@@ -76,7 +76,7 @@ def _source_lines(lines: Sequence[str], listings: Sequence[CompiledListing]) -> 
         line = element("th", head, " ", text, scope="rowgroup", colspan=len(listings))
         yield element("tr", line, class_="made" * any(tables))
         if any(tables):
-            yield element("tr", *(element("td", table) for table in tables), class_="made")
+            yield element("tr", *(element("td", table) for table in tables))
 
 
 def _instructions_of(listing: CompiledListing, line: int) -> Html:
