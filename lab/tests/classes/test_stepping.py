@@ -140,6 +140,72 @@ def test_several_steps_stop_at_breakpoint(desk: Desk) -> None:
     assert line(desk) == 5
 
 
+def test_step_until_line(desk: Desk) -> None:
+    """Into the function, at whose label the call ends; a breakpoint ends the steps before, and a loop ends them at last."""
+    ask(desk, ask="step", text=FACTORIAL, until=16)
+    assert line(desk) == 16 and desk.seat.state["x"]["10"] == "1"
+    ask(desk, ask="lines", do=[f"break {desk.seat.named['stops']['18'][0]}"])
+    ask(desk, ask="step", until=4)
+    assert line(desk) == 18
+    endless = ask(desk, ask="step", text="one: nop\nj one\nebreak\n", until=3)
+    assert endless["error"].startswith("The program went through 1,000 lines, but not through line 3: set a breakpoint")
+
+
+def test_condition_of_machine(desk: Desk) -> None:
+    conditions = [desk.seat.condition]
+    requests: list[dict[str, object]] = [
+        {"ask": "source", "text": "nop\nnop\nebreak"},
+        {"ask": "step"},
+        {"ask": "lines", "do": ["set x5 1"]},
+        {"ask": "lines", "do": ["break 10008"]},
+        {"ask": "step", "count": 2},
+        {"ask": "again"},
+        {"ask": "lines", "do": ["unbreak 10008"]},
+        {"ask": "step", "count": 3},
+        {"ask": "run", "text": "here: j here"},
+        {"ask": "lines", "do": ["stop"]},
+        {"ask": "step", "text": "lw t0, 0(zero)"},
+        {"ask": "lines", "do": ["set x5 1"]},
+        {"ask": "lines", "do": ["leave"]},
+    ]
+    for request in requests:
+        assert "error" not in ask(desk, **request)
+        conditions.append(desk.seat.condition)
+    assert conditions[:5] == ["Not begun", "Ready", "Paused", "Paused", "Paused"]
+    assert conditions[5:10] == [
+        "Paused",
+        "Ready",
+        "Ready",
+        "Ended",
+        "Running",
+    ]  # at the breakpoint; again; after the ebreak
+    assert conditions[10:] == ["Paused", "Fault", "Paused", "Not begun"]
+
+
+def test_run_starts_ended_program_again(desk: Desk) -> None:
+    """With its breakpoint; the sum in memory would be 2 without a new machine."""
+    ask(
+        desk, ask="source", text="la a0, sum\nlw a1, 0(a0)\naddi a1, a1, 1\nsw a1, 0(a0)\nebreak\n.data\nsum: .word 0\n"
+    )
+    ask(desk, ask="lines", do=["break 10008"])
+    conditions = list[str]()
+    for _ in range(4):
+        assert "error" not in ask(desk, ask="run") and desk.settle()
+        conditions.append(desk.seat.condition)
+    assert conditions == ["Paused", "Ended", "Paused", "Ended"] and desk.seat.state["x"]["11"] == "1"
+
+
+def test_line_has_addresses_of_its_breakpoints(desk: Desk) -> None:
+    """`la` is two instructions, and a breakpoint of its line is at the first."""
+    ask(desk, ask="source", text=FACTORIAL)
+    assert {number: desk.seat.named["stops"][number] for number in ("1", "2", "3", "6")} == {
+        "1": ["10000"],
+        "2": ["10008"],
+        "3": ["1000c"],
+        "6": ["10018"],
+    }
+
+
 def test_step_without_stopped_program_is_refused(desk: Desk) -> None:
     assert "assemble or compile a source first" in ask(desk, ask="step")["error"]
     assert "assemble or compile a source first" in ask(desk, ask="run")["error"]
@@ -158,6 +224,7 @@ def test_step_without_stopped_program_is_refused(desk: Desk) -> None:
         ({"count": True}, "1 to 256 times"),
         ({"kind": ["into"]}, "into, over or out"),
         ({"text": 5}, "characters at most"),
+        ({"until": "4"}, "until is the number of a line"),
     ],
 )
 def test_invalid_step_is_refused(desk: Desk, fields: Mapping[str, object], expected: str) -> None:

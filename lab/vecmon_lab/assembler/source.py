@@ -61,6 +61,10 @@ class Program:
         """The number of the line that each instruction is of, by its address in hexadecimal digits."""
         return {f"{statement.address:x}": statement.line for statement in self.statements}
 
+    def line_stops(self) -> dict[str, list[str]]:
+        """The address of the breakpoint of each line that has an instruction, by its number."""
+        return {f"{number}": [f"{address:x}"] for number, address in self.addresses().items()}
+
     def source_lines(self, text: str) -> dict[str, str]:
         """The text of each line of the source after its labels, by the address of its first word.
 

@@ -63,7 +63,10 @@ class ProblemsRequest(NumberedRequest, SourceFields):
 
 
 class RunRequest(NumberedRequest):
-    """A program to run; it is built first where there is a source that isn't in the machine. number: as in SourceRequest"""
+    """A program to run; it is built first where there is a source that isn't in the machine, and one that has ended starts again.
+
+    number: as in SourceRequest
+    """
 
     ask: Literal["run"]
     text: NotRequired[str]
@@ -76,6 +79,7 @@ class StepRequest(NumberedRequest):
 
     kind: into calls (by default), over them, or out of a function; by: by default an instruction
     count: of instructions or lines, 1 to 256, by default 1
+    until: a line's number: the program is stepped by lines, into calls, until that line is next, through 1,000 lines at most
     """
 
     ask: Literal["step"]
@@ -85,12 +89,34 @@ class StepRequest(NumberedRequest):
     kind: NotRequired[Literal["into", "over", "out"]]
     by: NotRequired[Literal["instruction", "line"]]
     count: NotRequired[int]
+    until: NotRequired[int]
 
 
 class StepLineRequest(NumberedRequest):
     """A step to another source line."""
 
     ask: Literal["step-line"]
+
+
+class EditRequest(NumberedRequest):
+    """A typed value for a place in the machine.
+
+    edit: `setpc`, `poke 20000`, `set x5`, or `vset v1 32 3 signed`: a vector register, an element's bits (1 for a bit of a mask) and index,
+        and the form in which the page shows it: `hexadecimal`, or another one
+    text: the value as it was typed; decimal: whether the page shows scalar registers in decimal, by default not
+    """
+
+    ask: Literal["edit"]
+    edit: str
+    text: str
+    decimal: NotRequired[bool]
+
+
+class BreakpointRequest(NumberedRequest):
+    """All breakpoints of a line of the loaded source, which are set, or removed if any is there. line: its number"""
+
+    ask: Literal["breakpoint"]
+    line: int
 
 
 class LastInstructionRequest(NumberedRequest):
@@ -304,6 +330,8 @@ StudentRequestForm = (
     | RunRequest
     | StepRequest
     | StepLineRequest
+    | EditRequest
+    | BreakpointRequest
     | LastInstructionRequest
     | WhyRequest
     | ListingsRequest

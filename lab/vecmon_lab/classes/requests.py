@@ -73,6 +73,8 @@ class FindProblems:
 class RunProgram:
     """The program of a source runs; it is built first, unless it is in the machine. Without a source, the program there.
 
+    One that has ended starts again.
+
     number: as in Source
     """
 
@@ -85,6 +87,7 @@ class StepProgram:
     """As RunProgram, but the program is stepped `count` times.
 
     kind: `into` calls, `over` them, or `out` of a function; by_lines: whether to step source lines or instructions
+    until: the number of a line up to which the program is stepped by lines instead; 0 for none
     """
 
     source: SourceText | None
@@ -92,11 +95,28 @@ class StepProgram:
     kind: StepKind
     by_lines: bool
     count: int
+    until: int = 0
 
 
 @dataclass(frozen=True)
 class StepLine:
     """Steps until another line of a compiled source begins."""
+
+
+@dataclass(frozen=True)
+class Edit:
+    """A typed value for a register, an element or bytes of memory. is_decimal: whether scalar registers are shown so"""
+
+    edit: str
+    text: str
+    is_decimal: bool
+
+
+@dataclass(frozen=True)
+class ToggleBreakpoints:
+    """All breakpoints of a line of the loaded source are set, or those that are there are removed."""
+
+    line: int
 
 
 @dataclass(frozen=True)
@@ -298,6 +318,8 @@ SeatsRequest = (
     | RunProgram
     | StepProgram
     | StepLine
+    | Edit
+    | ToggleBreakpoints
     | FindLastRead
     | Why
     | Draft
@@ -345,6 +367,8 @@ _OF_STUDENTS: Mapping[str, Reader] = {
     "run": lambda it: RunProgram(*_source_to_build(it)),
     "step": lambda it: _step(it),
     "step-line": lambda it: StepLine(),
+    "edit": lambda it: Edit(_text(it, "edit"), _text(it, "text"), bool(it.get("decimal"))),
+    "breakpoint": lambda it: ToggleBreakpoints(_line(it)),
     "last-instruction": lambda it: FindLastRead(),
     "why": lambda it: Why(_name(it, "name")),
     "draft": lambda it: Draft(_source(it), _number(it), _name(it, "exercise"), bool(it.get("keep")), _line(it)),
@@ -428,6 +452,15 @@ def _source_to_build(message: JsonObject) -> tuple[SourceText | None, int]:
     return _source(message) if "text" in message else None, _number(message) if "number" in message else -1
 
 
+def _text(message: JsonObject, name: str) -> str:
+    """A part of a line that a message has by a name. Raises BadLine."""
+    text = message.get(name)
+    if not isinstance(text, str):
+        raise BadRequest(f"{name} is a text")
+    check_text(text)
+    return text
+
+
 def _step(message: JsonObject) -> StepProgram:
     """The step of a message."""
     kind, by, count = message.get("kind", "into"), message.get("by", "instruction"), message.get("count", 1)
@@ -438,7 +471,7 @@ def _step(message: JsonObject) -> StepProgram:
     if type(count) is not int or not 1 <= count <= MAX_STEPS:
         raise BadRequest(f"a request steps 1 to {MAX_STEPS} times")
     found = next(each for each in STEP_KINDS if each == kind)
-    return StepProgram(*_source_to_build(message), found, by == "line", count)
+    return StepProgram(*_source_to_build(message), found, by == "line", count, _line(message, "until"))
 
 
 def _give(message: JsonObject) -> Give | OfferSource:
@@ -488,11 +521,11 @@ def _number(message: JsonObject, name: str = "number") -> int:
     return number
 
 
-def _line(message: JsonObject) -> int:
-    """The number of the caret's line in a message; 0 without one."""
-    line = message.get("line", 0)
+def _line(message: JsonObject, name: str = "line") -> int:
+    """The number of a line that a message has by a name; 0 without one."""
+    line = message.get(name, 0)
     if type(line) is not int or not 0 <= line <= SOURCE_LETTERS + 1:
-        raise BadRequest("line is the number of a line of the source")
+        raise BadRequest(f"{name} is the number of a line of the source")
     return line
 
 

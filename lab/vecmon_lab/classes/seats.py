@@ -2,9 +2,10 @@
 
 import time
 from collections import deque
-from collections.abc import Iterable, Sequence
+from collections.abc import Iterable, Mapping, Sequence
 from dataclasses import dataclass, field
 from itertools import takewhile
+from typing import Literal
 
 from ..assembler.commands import log_entries
 from ..assembler.source import Program
@@ -26,6 +27,14 @@ _EXECUTING = ("step", "go", "stop", "slices", "run")  # commands after which reg
 _BREAKPOINTS = (["break"], ["unbreak"])
 BLOCK_DIGITS, BLOCKS = 2048, 64  # of output; a page has the last 64 KB of it
 
+Condition = Literal["Not begun", "Ready", "Running", "Paused", "Ended", "Fault"]
+"""The condition of a machine. Ready: its program hasn't executed anything"""
+_ENDS: Mapping[str, Condition] = {
+    "fault": "Fault",
+    "exit": "Ended",
+    "ebreak": "Ended",
+}  # by the kind of a stop; others are pauses
+
 Done = tuple[str, Sequence[str]]
 """An executed line, and its answer."""
 
@@ -37,9 +46,10 @@ class Seat:
     log, number: its last entries, and how many there were
     state, shown: all that is known of the user, and what pages show of it
     written, program: the source in the machine, and its program
-    named: its parts for pages: its labels, and its line for each word, by address; of one in C also where
-        instructions of its lines begin, the addresses of their breakpoints, and its variables
+    named: its parts for pages: its labels, its line for each word, and the addresses of each line's breakpoints; of one in C also where
+        instructions of its lines begin, and its variables
     stop, line, answer: the last stop, command and line of an answer, without the digit
+    is_started: whether its program has executed anything since its machine began
     output: the last output of the program, in hexadecimal digits, in blocks by number
     status, since: that of its program, and since when it is so, in seconds since 1970
     active: when a tab of it made its last request, in seconds since 1970; 0 without one
@@ -62,6 +72,7 @@ class Seat:
     program: Program | None = None
     output: dict[str, str] = field(default_factory=dict)
     stop: str = ""
+    is_started: bool = False
     line: str = ""
     answer: str = ""
     status: SeatStatus = field(default_factory=NO_STATUS.copy)
@@ -89,6 +100,7 @@ class Seat:
     def follow(self, state: State, shown: State) -> None:
         """Set a state, and the program's status in it."""
         before, self.state, self.shown = self.state, state, shown
+        self.is_started = self.is_started or state["run"] == "running" or "instruction" in state or "stop" in state
         status = status_of(state, self.stop)
         has_moved = state["run"] == "stopped" and before.get("pc") != state["pc"]
         if has_moved or (before["run"], self.status) != (state["run"], status):
@@ -97,6 +109,14 @@ class Seat:
     def set_status(self, status: SeatStatus) -> None:
         """Set its status from now on."""
         self.status, self.since = status, time.time()
+
+    @property
+    def condition(self) -> Condition:
+        """The condition of its machine."""
+        if self.state["run"] != "stopped":
+            return "Not begun" if self.state["run"] == "absent" else "Running"
+        kind = self.stop.partition(" ")[0] if "stop" in self.state else ""
+        return _ENDS.get(kind, "Paused" if self.is_started else "Ready")
 
     @property
     def has_failed(self) -> bool:
@@ -108,7 +128,7 @@ class Seat:
         self.written, self.program = source, program
         self.named = {"labels": program.names(), "lines": program.source_lines(source.text)}
         if not isinstance(program, CompiledProgram):
-            self.named["line_numbers"] = program.line_numbers()
+            self.named["line_numbers"], self.named["stops"] = program.line_numbers(), program.line_stops()
         if program.data:
             self.named["data"] = {f"{at:x}": {"type": run.type, "count": run.count} for at, run in program.data.items()}
         if isinstance(program, CompiledProgram) and program.rows:
@@ -215,7 +235,7 @@ class Seats:
         elif not is_look(line):
             asker.used += len(line) + 1
         if _restarts(line, answer):
-            asker.stop, asker.written, asker.program = "", SourceText(), None
+            asker.stop, asker.is_started, asker.written, asker.program = "", False, SourceText(), None
             asker.named, asker.output = UNNAMED.copy(), {}
         elif words == ["go"] and not is_refusal(answer):
             asker.stop, asker.slices, asker.seen = "", 0.0, 0.0

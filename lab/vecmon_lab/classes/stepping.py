@@ -18,6 +18,7 @@ LINE_BLOCKS, CALL_BLOCKS = (
     1024,
 )  # of code, that a step goes through: of a line, and over calls or out of a function
 BLOCK_WORDS = 16  # a block's instructions at most
+MAX_LINES = 1000  # that a program is stepped through up to a line
 LEAVES = "bje"  # first letters of scalar instructions that may branch, jump or call: bne, jal, ecall
 
 _JAL, _JALR, _LINKS, _SP = 0x6F, 0x67, (1, 5), 2  # opcodes; registers with return addresses; and the stack pointer's
@@ -26,7 +27,7 @@ _JAL, _JALR, _LINKS, _SP = 0x6F, 0x67, (1, 5), 2  # opcodes; registers with retu
 def run(machine: SharedMachine, seat: Seat) -> Steps[None]:
     """Let a seat's program run. Raises BadRequest where there is none, or it runs already."""
     _check_stopped(seat)
-    yield from _lines(machine, seat, "go")
+    yield from execute_line(machine, seat, "go")
 
 
 def step(machine: SharedMachine, seat: Seat, kind: StepKind, by_lines: bool, count: int) -> Steps[None]:
@@ -36,17 +37,32 @@ def step(machine: SharedMachine, seat: Seat, kind: StepKind, by_lines: bool, cou
     """
     _check_stopped(seat)
     if kind == "into" and not by_lines:
-        if count > 1 and not (yield from _lines(machine, seat, f"step {count - 1}")):
+        if count > 1 and not (yield from execute_line(machine, seat, f"step {count - 1}")):
             return
-        yield from _lines(machine, seat, "step 1")
+        yield from execute_line(machine, seat, "step 1")
         return
     for _ in range(count):
         if by_lines or kind == "out" or _calls_at_pc(seat):
             goes_on = yield from _walk(machine, seat, kind, by_lines)
         else:
-            goes_on = yield from _lines(machine, seat, "step 1")
+            goes_on = yield from execute_line(machine, seat, "step 1")
         if not goes_on:
             return
+
+
+def step_until(machine: SharedMachine, seat: Seat, line: int) -> Steps[None]:
+    """Step a seat's program by lines, into calls, until a line is next, or to a stop or a breakpoint.
+
+    Raises BadRequest as `step` does, and where MAX_LINES lines don't come to that line.
+    """
+    _check_stopped(seat)
+    for _ in range(MAX_LINES):
+        if not (yield from _walk(machine, seat, "into", by_lines=True)):
+            return
+        if seat.program and seat.program.line_at(int(seat.state["pc"], 16)) == line:
+            return
+    advice = "set a breakpoint (F9), and run"
+    raise BadRequest(f"The program went through {MAX_LINES:,} lines, but not through line {line}: {advice}.")
 
 
 def step_line(machine: SharedMachine, seat: Seat) -> Steps[None]:
@@ -67,7 +83,7 @@ def _check_stopped(seat: Seat) -> None:
         raise BadRequest("the program already runs: stop it first")
 
 
-def _lines(machine: SharedMachine, seat: Seat, line: str) -> Steps[bool]:
+def execute_line(machine: SharedMachine, seat: Seat, line: str) -> Steps[bool]:
     """Execute a line; return whether the program goes on from there. Raises BadRequest where the machine refuses it."""
     answers: Answers = []
     yield from machine.lines(seat, Lines("", [line], 0, []), answers)
@@ -108,7 +124,7 @@ def _walk(machine: SharedMachine, seat: Seat, kind: StepKind, by_lines: bool) ->
     walk = _Walk(machine, seat, kind, _line_finder(seat) if by_lines else None)
     yield Turn(partial(walk.execute, blocks), seat)
     if walk.has_last:
-        return (yield from _lines(machine, seat, "step 1"))
+        return (yield from execute_line(machine, seat, "step 1"))
     return walk.is_complete
 
 

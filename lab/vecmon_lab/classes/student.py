@@ -9,6 +9,7 @@ from ..assembler.source import Program
 from ..compilers.compiled import CompiledProgram
 from ..page.state import State
 from ..page.texts import page_text
+from .edits import breakpoint_lines, edit_line
 from .example_sources import ExampleSource
 from .languages import LANGUAGES, SourceText
 from .messages import Hand, Notice, Result, SourceResult, SourceView, TextResult, TryResult, shown, source_view
@@ -17,6 +18,7 @@ from .requests import (
     BadRequest,
     Check,
     Draft,
+    Edit,
     FindLastRead,
     FindProblems,
     Lines,
@@ -27,14 +29,15 @@ from .requests import (
     Source,
     StepLine,
     StepProgram,
+    ToggleBreakpoints,
     TryCase,
     Why,
 )
 from .seat_status import problems_status
-from .seats import Seat
+from .seats import Condition, Seat
 from .shared_machine import SEAT_BYTES, MakeProgram, Mistakes, SharedMachine, Steps
 from .sources import SeatSource, kept_program
-from .stepping import run, step, step_line
+from .stepping import execute_line, run, step, step_line, step_until
 from .text_store import TextStore
 
 
@@ -60,6 +63,7 @@ class SeatPart(TypedDict):
 
     seat: str
     state: State
+    condition: Condition
     stop: str
     quantum: int
     share: Share
@@ -154,16 +158,28 @@ class Student:
                 return self.problems
             case RunProgram(source, number):
                 problems = yield from self._build(source, number)
+                if not problems["mistakes"] and self.seat.condition == "Ended" and self.seat.program:
+                    problems = yield from self._write(None)
                 if not problems["mistakes"]:
                     yield from run(self.machine, self.seat)
                 return problems
-            case StepProgram(source, number, kind, by_lines, count):
+            case StepProgram(source, number, kind, by_lines, count, until):
                 problems = yield from self._build(source, number)
-                if not problems["mistakes"]:
+                if not problems["mistakes"] and until:
+                    yield from step_until(self.machine, self.seat, until)
+                elif not problems["mistakes"]:
                     yield from step(self.machine, self.seat, kind, by_lines, count)
                 return problems
             case StepLine():
                 yield from step_line(self.machine, self.seat)
+            case Edit(edit, text, is_decimal):
+                line = edit_line(edit, text, is_decimal, self.seat.state.get("v", {}))
+                yield from execute_line(self.machine, self.seat, line)
+            case ToggleBreakpoints(number):
+                for line in breakpoint_lines(
+                    self.seat.named.get("stops", {}), self.seat.state.get("breaks", []), number
+                ):
+                    yield from execute_line(self.machine, self.seat, line)
             case FindLastRead():
                 yield from self.machine.find_last_read(self.seat)
             case Why(name):
@@ -212,6 +228,7 @@ class Student:
         own: SeatPart = {
             "seat": self.seat.name,
             "state": shown(self.seat),
+            "condition": self.seat.condition,
             "stop": self.seat.stop,
             "quantum": self.machine.session.quantum,
             "share": {"used": self.seat.used, "of": SEAT_BYTES},

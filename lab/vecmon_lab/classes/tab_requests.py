@@ -12,6 +12,7 @@ from .requests import (
     Check,
     Compare,
     Draft,
+    Edit,
     FindLastRead,
     FindProblems,
     JsonObject,
@@ -20,7 +21,7 @@ from .requests import (
     OpenOffer,
 )
 from .requests import ReadAnswer, ReadNotice, ReadVersion, Request, RunProgram, SeatsRequest, SetHand, SetName, Source
-from .requests import StepLine, StepProgram, TryCase, Why, read_request
+from .requests import StepLine, StepProgram, ToggleBreakpoints, TryCase, Why, read_request
 from .seats import Seat
 from .shared_machine import Answers
 from .student import try_result
@@ -110,7 +111,7 @@ class TabRequests:
                 return try_result(members.checks.answer(seat.name, name, number))
             case Source() | FindProblems() | StepLine() | Why() | Draft() | OpenExercise() | ReadVersion():
                 return await self._execute_for_seat(tab, request)
-            case Check() | TryCase() | StepProgram() | FindLastRead():
+            case Check() | TryCase() | StepProgram() | FindLastRead() | Edit() | ToggleBreakpoints():
                 return await self._execute_for_seat(tab, request)
             case RunProgram():
                 result = await self._execute_for_seat(tab, request)

@@ -32,6 +32,13 @@ export interface Beat {
   kind: "beat";
 }
 
+/** All breakpoints of a line of the loaded source, which are set, or removed if any is there. line: its number */
+export interface BreakpointRequest {
+  id: number;
+  ask: "breakpoint";
+  line: number;
+}
+
 /** A source for a new machine with the inputs of a case. case: its place in `cases`, from 0 on; by default the first failed one */
 export interface CaseRequest {
   id: number;
@@ -156,6 +163,21 @@ export interface DraftRequest {
   exercise?: string;
   keep?: boolean;
   line?: number;
+}
+
+/**
+ * A typed value for a place in the machine.
+ *
+ * edit: `setpc`, `poke 20000`, `set x5`, or `vset v1 32 3 signed`: a vector register, an element's bits (1 for a bit of a mask) and index,
+ *     and the form in which the page shows it: `hexadecimal`, or another one
+ * text: the value as it was typed; decimal: whether the page shows scalar registers in decimal, by default not
+ */
+export interface EditRequest {
+  id: number;
+  ask: "edit";
+  edit: string;
+  text: string;
+  decimal?: boolean;
 }
 
 /** The answer to a request that returns nothing. */
@@ -548,7 +570,11 @@ export interface RightsRequest {
   own_slices: boolean;
 }
 
-/** A program to run; it is built first where there is a source that isn't in the machine. number: as in SourceRequest */
+/**
+ * A program to run; it is built first where there is a source that isn't in the machine, and one that has ended starts again.
+ *
+ * number: as in SourceRequest
+ */
 export interface RunRequest {
   id: number;
   ask: "run";
@@ -825,6 +851,7 @@ export interface StepLineRequest {
  *
  * kind: into calls (by default), over them, or out of a function; by: by default an instruction
  * count: of instructions or lines, 1 to 256, by default 1
+ * until: a line's number: the program is stepped by lines, into calls, until that line is next, through 1,000 lines at most
  */
 export interface StepRequest {
   id: number;
@@ -835,12 +862,14 @@ export interface StepRequest {
   kind?: "into" | "over" | "out";
   by?: "instruction" | "line";
   count?: number;
+  until?: number;
 }
 
 /** A student's view. */
 export interface StudentView {
   seat: string;
   state: State;
+  condition: "Not begun" | "Ready" | "Running" | "Paused" | "Ended" | "Fault";
   stop: string;
   quantum: number;
   share: Share;
@@ -1007,6 +1036,8 @@ export type StudentRequestForm =
   | RunRequest
   | StepRequest
   | StepLineRequest
+  | EditRequest
+  | BreakpointRequest
   | LastInstructionRequest
   | WhyRequest
   | ListingsRequest

@@ -52,8 +52,8 @@ class SourceNames(TypedDict):
     labels, lines: names, and lines with their comments, by address
     data: numbers and texts of an assembler source's directives, by address
     line_numbers: of an assembler source: the line number of each instruction, by address
-    starts, stops, variables: of a compiled source (`compilers/compiled.py`): the line number, or 0, by start address; the addresses of a
-        line's breakpoints by line number; and those of the debug data
+    stops: the addresses of a line's breakpoints by line number
+    starts, variables: of a compiled source (`compilers/compiled.py`): the line number, or 0, by start address; and those of the debug data
     """
 
     labels: dict[str, list[str]]

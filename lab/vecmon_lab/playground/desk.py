@@ -17,6 +17,7 @@ from ..classes.requests import (
     BadRequest,
     Check,
     Draft,
+    Edit,
     FindLastRead,
     FindProblems,
     JsonObject,
@@ -24,8 +25,8 @@ from ..classes.requests import (
     OpenExercise,
     ReadAnswer,
 )
-from ..classes.requests import ReadVersion, Request, RunProgram, Settings, Source, StepLine, StepProgram, TryCase, Why
-from ..classes.requests import read_request
+from ..classes.requests import ReadVersion, Request, RunProgram, Settings, Source, StepLine, StepProgram
+from ..classes.requests import ToggleBreakpoints, TryCase, Why, read_request
 from ..classes.shared_machine import Answers, MakeProgram, Returned, SharedMachine, Steps, Turn, WorkApart
 from ..classes.student import ClassView, Student, try_result
 from ..classes.text_store import TextStore
@@ -193,7 +194,7 @@ class Desk:
                 return try_result(self.try_of(name, number))
             case Source() | FindProblems() | StepLine() | Why() | Draft() | OpenExercise() | ReadVersion():
                 return self.run(self.student.execute(request))
-            case Check() | TryCase() | RunProgram() | StepProgram() | FindLastRead():
+            case Check() | TryCase() | RunProgram() | StepProgram() | FindLastRead() | Edit() | ToggleBreakpoints():
                 return self.run(self.student.execute(request))
         return self.execute(request, done)
 

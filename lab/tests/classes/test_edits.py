@@ -1,0 +1,89 @@
+"""Typed values become lines of the monitor; the bytes of registers are worked out by hand."""
+
+from collections.abc import Iterator
+import pathlib
+
+import pytest
+
+from support.desk import Desk, ask
+from vecmon_lab.classes.edits import breakpoint_lines, edit_line
+from vecmon_lab.classes.requests import BadRequest
+
+V = {"1": "00112233445566778899aabbccddeeff" * 2}
+
+
+@pytest.mark.parametrize(
+    "edit, text, is_decimal, line",
+    [
+        ("setpc", "10004", False, "setpc 10004"),
+        ("poke 20002", "0aff", False, "poke 20002 0aff"),
+        ("set x10", "1F", False, "set x10 1f"),
+        ("set x10", "-2", True, "set x10 fffffffffffffffe"),
+        ("vset v1 32 1 hexadecimal", "89abcdef", False, f"vset v1 00112233efcdab898899{V['1'][20:]}"),
+        ("vset v1 8 0 signed", "-2", False, f"vset v1 fe112233445566778899{V['1'][20:]}"),
+        ("vset v1 1 8 mask", "0", False, f"vset v1 00102233445566778899{V['1'][20:]}"),
+    ],
+)
+def test_value_becomes_line(edit: str, text: str, is_decimal: bool, line: str) -> None:
+    assert edit_line(edit, text, is_decimal, V) == line
+
+
+@pytest.mark.parametrize(
+    "edit, text, kind",
+    [
+        ("vset v1 8 0 unsigned", "256", "decimal number of 8 bits"),
+        ("vset v1 8 0 signed", "-129", "decimal number of 8 bits"),
+        ("vset v1 1 0 mask", "2", "decimal number of 1 bits"),
+        ("vset v1 16 0 hexadecimal", "12345", "hexadecimal number of 16 bits"),
+        ("set x5", "0x5", "hexadecimal number of 64 bits"),
+        ("set x5", "", "hexadecimal number of 64 bits"),
+    ],
+)
+def test_value_that_does_not_fit_is_refused(edit: str, text: str, kind: str) -> None:
+    with pytest.raises(BadRequest) as raised:
+        edit_line(edit, text, False, V)
+    assert str(raised.value) == f"`{text}` isn't a {kind}: nothing was sent."
+
+
+@pytest.mark.parametrize(
+    "edit", ["go", "set v1", "vset v1 8 32 signed", "vset v2 8 0 signed", "vset v1 512 0 signed", "setpc 0"]
+)
+def test_unknown_place_is_refused(edit: str) -> None:
+    with pytest.raises(BadRequest, match="there is no such"):
+        edit_line(edit, "1", True, V)
+
+
+STOPS = {"3": ["10000"], "4": ["10008", "10010"]}
+
+
+def test_line_gets_all_its_breakpoints_or_loses_them() -> None:
+    assert breakpoint_lines(STOPS, ["10000"], 4) == ["break 10008", "break 10010"]
+    assert breakpoint_lines(STOPS, ["10000", "10010"], 4) == ["unbreak 10010"]
+    assert breakpoint_lines(STOPS, ["10000", "10008", "10010"], 4) == ["unbreak 10008", "unbreak 10010"]
+    full = [f"{address:x}" for address in range(0x20000, 0x20040, 4)]
+    assert breakpoint_lines(STOPS, full[:14], 4) == ["break 10008", "break 10010"]
+    with pytest.raises(BadRequest) as raised:
+        breakpoint_lines(STOPS, full[:15], 4)
+    assert str(raised.value) == "Line 4 needs 2 breakpoints, and 1 of 16 are left: none was set."
+    with pytest.raises(BadRequest, match="Line 5 has no instruction"):
+        breakpoint_lines(STOPS, [], 5)
+
+
+@pytest.fixture
+def desk(program: pathlib.Path) -> Iterator[Desk]:
+    """A desk without exercises."""
+    desk = Desk(program, {}, 100_000)
+    yield desk
+    desk.close()
+
+
+def test_edit_changes_machine_or_is_refused(desk: Desk) -> None:
+    ask(desk, ask="source", text="nop")
+    assert "error" not in ask(desk, ask="edit", edit="vset v1 8 31 signed", text="-1")
+    assert desk.seat.state["v"]["1"] == "00" * 31 + "ff"
+    assert ask(desk, ask="edit", edit="set x5", text="1000", decimal=True) and desk.seat.state["x"]["5"] == "3e8"
+    assert "E" in ask(desk, ask="edit", edit="poke 20000", text="0")["error"]  # half a byte, and nothing is mapped
+    assert "isn't printable ASCII" in ask(desk, ask="edit", edit="poke 10000", text="é")["error"]
+    assert "is a text" in ask(desk, ask="edit", edit="setpc")["error"]
+    for breaks in (["10000"], []):
+        assert "error" not in ask(desk, ask="breakpoint", line=1) and desk.seat.state["breaks"] == breaks
