@@ -290,10 +290,11 @@ def test_values_are_edited_by_clicks_and_keys(sit: Sit) -> None:
     tab.click("#show-registers")
     tab.click("[data-edit='set x10']")
     tab.keys("#value", Keys.CONTROL, "a", Keys.NULL, "-g", Keys.ENTER)
-    assert "-g isn't a decimal number of 64 bits" in tab.text("#stop") and not tab.run("id('edit').open")
+    tab.wait("id('stop').textContent.startsWith(arguments[0])", "-g isn't a decimal number of 64 bits")
+    assert not tab.run("id('edit').open")
     tab.click("[data-edit='vset v1 32 3 hexadecimal']")
     tab.keys("#value", Keys.CONTROL, "a", Keys.NULL, "1ffffffff", Keys.ENTER)
-    assert "1ffffffff isn't a hexadecimal number of 32 bits" in tab.text("#stop")
+    tab.wait("id('stop').textContent.startsWith(arguments[0])", "1ffffffff isn't a hexadecimal number of 32 bits")
     assert "1ffffffff" not in tab.text("#log")
 
 

@@ -79,7 +79,7 @@ def test_value_and_running_program_outlast_cut_connection(tabs: "Chrome", proxie
     assert tab.run("id('edit').open && id('value').value === '31'")
     tab.keys("#value", Keys.ENTER)
     tab.keys("#line", "set x11 7")
-    assert tab.text("#gone").endswith("Waiting: set x10 1f.")
+    assert tab.text("#gone").endswith("Waiting: set x10 31.")
     proxied.begin()
     tab.wait(f"{BACK} && one(\"[data-edit='set x10']\").textContent === '31'")
     assert tab.run("id('line').value") == "set x11 7"

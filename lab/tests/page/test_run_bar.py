@@ -142,8 +142,8 @@ def test_earlier_keys_name_the_new_ones(sit: Sit) -> None:
     assert tab.text("#key-says") == "Reset is Ctrl Shift F5 now."
     write(tab, "foo\nnop\nbar\n")
     press_key(tab, "F5")
-    tab.wait("all('#mistakes li').length === 2")
     selected = "code().getSelection()"
+    tab.wait(f"all('#mistakes li').length === 2 && {selected} === 'foo'")
     for word in ("bar", "foo"):
         press_key(tab, "F8")
         assert tab.run(selected) == word and tab.text("#key-says") == ""

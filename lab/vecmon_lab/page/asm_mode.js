@@ -1,23 +1,30 @@
-// The language of assembler sources for CodeMirror: kinds of words, and where the next line begins.
+// Assembler sources in CodeMirror: kinds of words, where the next line begins, and names that may go on from a place: mnemonics,
+// directives, labels and registers.
 
 import { CodeMirror } from "./codemirror.js";
-import { FORMS, REGISTERS } from "./hints.js";
+import { SECTIONS } from "./reference.js";
+import { ABI_NAMES } from "./words.js";
+
+const MOST_HINTS = 10;
+const LABELS = /^\s*([A-Za-z_.$][\w.$]*):|^\s*\.(?:equ|set)\s+([A-Za-z_.$][\w.$]*)/gm;
+const SHOWN = ["Instructions", "Pseudo-instructions", "Directives"].flatMap((section) => SECTIONS[section]);
+const VTYPE = ["e8", "e16", "e32", "e64", "mf8", "mf4", "mf2", "m1", "m2", "m4", "m8", "ta", "tu", "ma", "mu"];
+
+/** The form of each mnemonic and directive, by its name. */
+const FORMS = new Map(SHOWN.map(([name, form]) => [name, form]));
+
+const REGISTERS = new Set([...ABI_NAMES, "fp", ...Array.from({ length: 32 }, (_, at) => [`x${at}`, `v${at}`]).flat()]);
 
 /** @typedef {{ isFirst: boolean, indent: number, hasLabel: boolean }} State of a line; isFirst: up to its mnemonic */
 
-/** @type {Record<string, RegExp>} */
-const PATTERNS = { comment: /^(?:#|\/\/).*/, string: /^"(?:[^"\\]|\\.)*"?/, number: /^-?\d\w*/ }; // by CodeMirror's names of kinds
 const NAME = /^[A-Za-z_.$][\w.$]*/;
+const LABEL = /^[A-Za-z_.$][\w.$]*(?=\s*:)/;
+/** @type {Record<string, RegExp>} */
+const PATTERNS = { def: LABEL, comment: /^(?:#|\/\/).*/, string: /^"(?:[^"\\]|\\.)*"?/, number: /^-?\d\w*/ }; // by CodeMirror's kinds
 
-/** The kind of a name; the line's state goes on behind it. */
-/** @type {(name: string, stream: import("./codemirror.js").Stream, state: State) => string | null} */
-function nameKind(name, stream, state) {
-  const { isFirst } = state;
-  if (isFirst && stream.match(/^\s*:/, false)) {
-    state.hasLabel = true;
-    return "def";
-  }
-  state.isFirst = false;
+/** The kind of a name that isn't a label. */
+/** @type {(name: string, isFirst: boolean) => string | null} */
+function nameKind(name, isFirst) {
   if (!isFirst) return REGISTERS.has(name) ? "variable-2" : null;
   return !FORMS.has(name) ? "error" : name[0] === "." ? "meta" : "keyword";
 }
@@ -27,9 +34,11 @@ function token(stream, state) {
   if (stream.sol()) Object.assign(state, { isFirst: true, hasLabel: false, indent: stream.indentation() });
   if (stream.eatSpace()) return null;
   const kind = Object.keys(PATTERNS).find((each) => stream.match(PATTERNS[each]));
-  if (!kind && stream.match(NAME)) return nameKind(stream.current(), stream, state);
-  if (!kind) stream.next();
-  return kind ?? null;
+  state.hasLabel ||= kind === "def";
+  if (kind || !stream.match(NAME)) return kind ?? (stream.next(), null);
+  const { isFirst } = state;
+  state.isFirst = false;
+  return nameKind(stream.current(), isFirst);
 }
 
 CodeMirror.defineMode("riscv", ({ indentUnit }) => ({
@@ -42,3 +51,23 @@ CodeMirror.defineMode("riscv", ({ indentUnit }) => ({
 }));
 
 export const ASSEMBLER = "riscv";
+
+/** @typedef {{ word: string, names: [name: string, form: string][] }} Names that go on from a word, with their forms */
+
+/**
+ * Names that go on from the word before the caret: of mnemonics and directives, or of an operand.
+ * before, after: the caret's line up to the caret, and from it on; text: the source; isAsked: whether all operands are wanted, also
+ * registers and the words of a vector type, and those with the word alone; else only names that go on from two letters
+ * @type {(before: string, after: string, text: string, isAsked: boolean) => Names}
+ */
+export function namesAt(before, after, text, isAsked) {
+  const [word = ""] = /[\w.$]*$/.exec(before) ?? [];
+  const head = before.slice(0, before.length - word.length);
+  const isFirst = /^\s*([\w.$]+:\s*)*$/.test(head);
+  if ((!isAsked && word.length < 2) || /#|\/\/|"/.test(head) || /^[\w.$]/.test(after)) return { word, names: [] };
+  const labels = [...text.matchAll(LABELS)].map(([, label, equal]) => label ?? equal).sort(); // and names of `.equ` and `.set`
+  const operands = isAsked ? [...labels, ...REGISTERS, ...(/^\s*vset/.test(head) ? VTYPE : [])] : labels;
+  const known = isFirst ? [...FORMS.keys()].sort() : [...new Set(operands)];
+  const names = known.filter((name) => name !== word && name.startsWith(word));
+  return { word, names: names.slice(0, isAsked ? names.length : MOST_HINTS).map((name) => [name, FORMS.get(name) ?? ""]) };
+}

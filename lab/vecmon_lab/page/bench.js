@@ -1,13 +1,12 @@
 // One person's work at a machine: buttons, the command line, values to change, the source and the reference become requests.
 
-import { followCursor } from "./cursor.js";
 import { Desk } from "./desk.js";
-import { editDialog, editOf, lineOf } from "./edits.js";
+import { editDialog, followCursor } from "./edits.js";
 import { Editor } from "./editor.js";
 import { ask, part, parts, put } from "./elements.js";
 import { goToPane } from "./keys.js";
 import { LineLinks } from "./line_links.js";
-import { offerLanguages } from "./languages.js";
+import { offer, offerLanguages } from "./languages.js";
 import { listenToLines, requestsOf, unfitLines } from "./lines.js";
 import { linkOf, sourceOf } from "./links.js";
 import { Panes } from "./panes.js";
@@ -15,7 +14,6 @@ import { Problems } from "./problems.js";
 import { entryText, showReference, tellName } from "./reference.js";
 import { RunBar } from "./runbar.js";
 import { MOST_LETTERS, Source } from "./source.js";
-import { stopsOf } from "./source_lines.js";
 import { textOf } from "./texts.js";
 
 /** @typedef {import("./types").Message} Message */
@@ -25,9 +23,7 @@ import { textOf } from "./texts.js";
 /** @typedef {import("./types").Request} Request */
 /** @typedef {import("./types").SourceAction | import("./types").RunAction & { number?: number }} BuildAction */
 
-const MOST_BREAKPOINTS = 16;
 const PAUSE = 600; // ms in which nothing is typed, and then problems are asked for
-const MOST_LINES = 1000; // that a program is stepped through up to a line
 const LEAVING = { absent: [], stopped: ["leave"], running: ["stop", "leave"] };
 
 /** Whether a state has nothing that could be lost. */
@@ -60,12 +56,12 @@ export class Bench {
     this.source = new Source(root, this.editor, connection);
     this.links = new LineLinks(root, this.editor);
     this.problems = new Problems(root, this.editor, (panel) => this.panes.show(panel));
-    this.askValue = editDialog(root, (edit, text) => {
-      const { line, error = "" } = lineOf(edit, text, this.parts.numbers.value === "signed", this.desk.state.v ?? {});
-      return line === undefined ? this.refuse(error) : this.send([line]);
-    });
+    this.askValue = editDialog(root, (edit, text) => this.request({ ask: "edit", edit, text, decimal: this.isDecimal }));
     this.listen();
   }
+
+  /** Whether scalar registers are shown in decimal. */
+  get isDecimal() { return this.parts.numbers.value === "signed"; }
 
   /** Takes up what was typed. */
   typed() {
@@ -94,20 +90,20 @@ export class Bench {
     const line = /** @type {HTMLTextAreaElement} */ (part(this.root, "line"));
     /** @type {(id: keyof import("./parts").Parts, event: string, heard: () => unknown) => void} */
     const on = (id, event, heard) => part(this.root, id).addEventListener(event, heard);
-    on("go", "click", () => this.run());
+    on("go", "click", () => this.execute({ ask: "run" }));
     on("halt", "click", () => this.send(["stop"]));
     on("one", "click", () => this.step("into"));
     on("step-over", "click", () => this.step("over"));
     on("step-out", "click", () => this.step("out"));
     on("steps", "submit", () => this.step("into", Number(part(this.root, "number").value)));
-    on("until", "submit", () => this.stepUntil(Number(part(this.root, "until-line").value)));
+    on("until", "submit", () => this.execute({ ask: "step", until: Number(part(this.root, "until-line").value) }));
     on("break-here", "click", () => this.breakAt(this.editor.caretLine));
     on("next-pane", "click", () => goToPane(this.root, 1));
     on("previous-pane", "click", () => goToPane(this.root, -1));
     listenToLines(line, (lines) => this.enter(lines));
     followCursor(this.root, (place) => this.edit(place));
     on("slice", "click", () => this.request({ ask: "lines", slices: 100 }));
-    on("again", "click", () => this.restart());
+    on("again", "click", () => this.bar.building(this.request({ ask: "again" })));
     on("new", "click", () => this.beginAnew(textOf("run.empty-machine"), ["map 10000 1 rwx", "map 20000 1 rw", "setpc 10000"]));
     on("images", "change", () => this.beginAnew(textOf("run.load"), [`load ${images.value}`]));
     on("assemble", "click", () => this.write());
@@ -135,10 +131,10 @@ export class Bench {
     if ((run !== "absent") !== this.hasMachine) this.panes.show(run === "absent" || (stands && text) ? "editor" : "listing");
     this.hasMachine = run !== "absent";
     offerLanguages(this.editor.language, view);
-    this.offer(this.parts.images, textOf("run.load-image"), view.images);
-    this.offer(this.parts.against, textOf("source.side-by-side"), view.against);
+    offer(this.parts.images, textOf("run.load-image"), view.images);
+    offer(this.parts.against, textOf("source.side-by-side"), view.against);
     this.showSource(view);
-    this.bar.show(view, entries);
+    this.bar.paint(view);
   }
 
   /** Asks once, after a run that ended with a vector instruction, for the registers before that. */
@@ -148,32 +144,13 @@ export class Bench {
     this.connection.ask({ ask: "last-instruction" });
   }
 
-  /** Offers names in a list, if there are any. */
-  offer(/** @type {HTMLSelectElement} */ list, /** @type {string} */ title, /** @type {string[]} */ names) {
-    offerLanguages(list, { languages: [title, ...names], no_c: "" });
-    Object.assign(list, { hidden: !names.length, selectedIndex: 0 });
-  }
-
   /**
    * Whether the source has to be built before the program goes on: a machine without one is left as it is, until the source changes.
    * @returns {boolean}
    */
   get hasChanged() {
-    const { run, code = {} } = this.desk.state;
-    const isLoaded = this.bar.view?.again || this.isEdited || run === "absent" || !Object.keys(code).length;
+    const isLoaded = this.bar.view?.again || this.isEdited || !Object.keys(this.desk.state.code ?? {}).length;
     return Boolean(isLoaded) && !this.source.stands;
-  }
-
-  /** Runs the program; one that has ended starts again. */
-  async run() {
-    if (this.bar.condition === "Ended" && this.bar.view?.again && !this.hasChanged) await this.restart();
-    return this.execute({ ask: "run" });
-  }
-
-  /** Starts a new machine with the source that is in this one. */
-  async restart() {
-    const { mistakes, warnings } = (await this.bar.building(this.request({ ask: "again" }))) ?? {};
-    this.showMistakes(mistakes, warnings);
   }
 
   /** Steps the program: into calls, over them, or out of a function. */
@@ -181,18 +158,6 @@ export class Bench {
     const chosen = /** @type {"" | "instruction" | "line"} */ (this.parts.by.value);
     const by = chosen || (this.editor.isC ? "line" : "instruction");
     return this.execute({ ask: "step", kind, by, count });
-  }
-
-  /** Steps the program line by line until it comes to a line, or stops. */
-  async stepUntil(/** @type {number} */ line) {
-    for (let count = 0; count < MOST_LINES; count++) {
-      const before = this.desk.state;
-      const answer = await this.execute({ ask: "step", kind: "into", by: "line" });
-      const { pc, run, stop } = this.desk.state;
-      if (!answer || answer.error || answer.mistakes?.length || stop || run !== "stopped" || pc === before.pc) return undefined;
-      if (this.source.mark(this.desk.state).next === line) return undefined;
-    }
-    return this.refuse(textOf("run.not-reached", { lines: MOST_LINES.toLocaleString(textOf("language")), line }));
   }
 
   /** Runs or steps the program; a source that has changed is built first. With problems it leads to the first one. */
@@ -254,12 +219,13 @@ export class Bench {
 
   /** Sets or removes a breakpoint, or asks for another value. */
   edit(/** @type {Element} */ place) {
-    const edit = editOf(place);
+    const shown = /** @type {HTMLElement | null} */ (place.closest("[data-edit]"));
+    const { edit, value = shown?.firstChild?.nodeValue ?? "" } = shown?.dataset ?? {};
     const { run, breaks = [] } = this.desk.state;
     if (!edit || run !== "stopped" || this.desk.past.moment) return undefined;
-    if (edit.of === "breakpoint") return this.send([`${breaks.includes(edit.address) ? "un" : ""}break ${edit.address}`]);
-    const shown = /** @type {HTMLElement | null} */ (place.closest("[data-edit]"));
-    return this.askValue(edit, (shown?.dataset.value ?? shown?.firstChild?.nodeValue ?? "").replace("−", "-"));
+    const [command, address] = edit.split(" ");
+    if (command === "break") return this.send([breaks.includes(address) ? `un${edit}` : edit]);
+    return this.askValue(edit, value.replace("−", "-"));
   }
 
   /** Returns the calculation of an element of the present state; "" without one. */
@@ -270,15 +236,7 @@ export class Bench {
 
   /** Sets all breakpoints of a line of the source in the machine, or removes those that are there. */
   breakAt(/** @type {number} */ line) {
-    const { breaks = [] } = this.desk.state;
-    if (!this.source.stands) return this.refuse(textOf("breakpoints.no-program"));
-    const addresses = stopsOf(this.desk.state)[line] ?? [];
-    const there = addresses.filter((address) => breaks.includes(address));
-    const [needed, left, most] = [addresses.length, MOST_BREAKPOINTS - breaks.length, MOST_BREAKPOINTS];
-    if (there.length) return this.send(there.map((address) => `unbreak ${address}`));
-    if (needed > left) return this.refuse(textOf("breakpoints.too-many", { line, needed, left, most }));
-    if (!needed) return this.refuse(textOf("breakpoints.no-instruction", { line }));
-    return this.send(addresses.map((address) => `break ${address}`));
+    return this.source.stands ? this.request({ ask: "breakpoint", line }) : this.refuse(textOf("breakpoints.no-program"));
   }
 
   /** Shows the reference, or what is found in it. */

@@ -66,7 +66,7 @@ const listener = {
 
 window.addEventListener("hashchange", () => (takeHash(), location.reload()));
 byId("forget").onclick = () => ask(textOf("class.leaving"), textOf("menu.leave"), () => (sitDown(""), location.reload()));
-document.addEventListener("submit", (event) => event.preventDefault());
+document.addEventListener("submit", (event) => /** @type {HTMLFormElement} */ (event.target).method !== "dialog" && event.preventDefault());
 byId("join").onsubmit = () => {
   sitDown(byId("code").value.toLowerCase().replace(/[\s-]/g, ""));
   if (byId("called").value) sessionStorage.setItem("name", byId("called").value);

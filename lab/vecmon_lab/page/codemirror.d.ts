@@ -98,12 +98,11 @@ export interface Editor {
   setValue(text: string): void;
   showHint(options: object): void;
   somethingSelected(): boolean;
-  state: { completionActive?: { close(): void } | null };
+  state: { completionActive?: { widget: { selectedHint: number } } | null }; // selectedHint: -1 without a selected one
 }
 
 export const CodeMirror: {
   fromTextArea(field: HTMLTextAreaElement, options: object): Editor;
   defineMode<State>(name: string, make: (options: { indentUnit: number }) => Mode<State>): void;
-  on(target: HintList, event: "select", heard: (hint: Hint | undefined) => unknown): void;
   Pass: object; // returned by a key's function that leaves the key to others
 };

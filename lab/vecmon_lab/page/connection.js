@@ -23,6 +23,7 @@ const ENDINGS = { 4403: textOf("connection.invalid-code"), 4429: textOf("connect
 
 /** The name of a lost request in a message; "" if its sender repeats it. */
 export function nameOf(/** @type {Request} */ request) {
+  if (request.ask === "edit") return `${request.edit} ${request.text}`;
   const lines = request.ask === "lines" ? (request.do ?? []) : [];
   const some = lines.length > 4 ? textOf("request.lines", { line: lines[0], more: lines.length - 1 }) : lines.join(", ");
   return some || (NAMES[request.ask] ?? request.ask);

@@ -9,16 +9,15 @@ import { MachineView, usedIn } from "./view.js";
 /** @typedef {import("./messages").State} State */
 
 const BLANK = { vtype: "8000000000000000", vl: 0, vstart: 0, vxrm: 0, vxsat: 0 }; // vtype is vill
-const STACK_POINTER = 2; // which the lab may set before the program starts
+const of32 = (/** @type {string} */ value) => Object.fromEntries(Array.from({ length: 32 }, (_, number) => [number, value]));
 
-/** A new machine, before its program executes anything: the command `enter` sets all registers to 0. Its memory is the state's. */
-/** @type {(state: State) => State} */
-const newMachine = (state) => {
-  const { x = {}, v = {} } = state;
-  const zeros = Object.keys(x).map((name) => [name, Number(name) === STACK_POINTER ? x[name] : "0"]);
-  const vectors = Object.keys(v).map((name) => [name, v[name].replace(/./g, "0")]);
-  return state.x ? { ...state, ...BLANK, x: Object.fromEntries(zeros), v: Object.fromEntries(vectors) } : state;
-};
+/**
+ * A new machine, before its program executes anything: the command `enter` sets all registers to 0, and the lab perhaps the stack pointer.
+ * Its memory is the state's.
+ * @type {(state: State) => State}
+ */
+const newMachine = (state) =>
+  state.x ? { ...state, ...BLANK, x: { ...of32("0"), 2: state.x[2] }, v: of32("0".repeat(64)) } : state;
 
 /** A machine's state, painted where it changed: at its seat, and for a teacher who looks over the shoulder. */
 export class Desk {

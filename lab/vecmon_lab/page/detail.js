@@ -10,7 +10,7 @@ import { textOf } from "./texts.js";
  * name: of the element; place: its bytes or its address; sentence: how it took part, or what it was before;
  * value: as the pane shows it; edit: what changes it; explain: the element's name for `why`
  * @typedef {{ name: string, place: string, sentence: string, value: string, explain: string,
- *   edit: import("./edits.js").Edit | null }} Detail
+ *   edit: string | null }} Detail
  */
 
 /**
@@ -47,10 +47,10 @@ const addressOf = ({ executed, outcomes }, element) =>
 
 /**
  * Returns what changes an element of a register. width: in bits
- * @type {(view: View, register: number, width: number, index: number) => import("./edits.js").Edit}
+ * @type {(view: View, register: number, width: number, index: number) => string}
  */
 export const elementEdit = ({ form }, register, width, index) =>
-  ({ of: "element", register, bits: width, index, form: width === 1 ? "mask" : form });
+  `vset v${register} ${width} ${index} ${width === 1 ? "mask" : form}`;
 
 /** @type {(register: number, width: number, place: number) => string} */
 function placeText(register, width, place) {

@@ -1,9 +1,8 @@
 // The editor of a source: CodeMirror with the machine's lines, breakpoints, problems, names to choose, and the source's language.
 
-import { ASSEMBLER } from "./asm_mode.js";
+import { ASSEMBLER, namesAt } from "./asm_mode.js";
 import { CodeMirror } from "./codemirror.js";
-import { make } from "./elements.js";
-import { namesAt } from "./hints.js";
+import { elementsIn, make } from "./elements.js";
 import { LineMarks } from "./line_marks.js";
 import { TINTS } from "./source_lines.js";
 import { textOf } from "./texts.js";
@@ -60,13 +59,14 @@ export class Editor {
   }
 
   options(/** @type {HTMLTextAreaElement} */ { readOnly, ariaLabel }) {
+    const fix = () => elementsIn(this.box, ".problems-below button")[0]?.click();
     const extraKeys = {
       Tab: () => (this.code.somethingSelected() ? this.indent("add") : this.code.execCommand("insertSoftTab")),
       "Shift-Tab": () => this.indent("subtract"),
       Esc: false, // Escape, then Tab leaves the editor
       "Ctrl-/": "toggleComment", "Cmd-/": "toggleComment",
       "Ctrl-Space": () => this.suggest(true),
-      "Ctrl-.": () => this.problems?.fix(), "Cmd-.": () => this.problems?.fix(),
+      "Ctrl-.": fix, "Cmd-.": fix,
     };
     return {
       mode: ASSEMBLER, lineNumbers: true, gutters: ["marks", "CodeMirror-linenumbers", "problems"], inputStyle: "contenteditable",
@@ -86,7 +86,7 @@ export class Editor {
     code.on("keydown", (_, event) => this.pressed(event));
     code.on("focus", () => (this.isLeaving = true)); // so Tab passes by, until something is typed or clicked
     box.addEventListener("pointerup", () => (this.isLeaving = false));
-    new ResizeObserver(() => this.shown()).observe(box);
+    new ResizeObserver(() => (code.refresh(), this.bringIntoSight())).observe(box); // it has another size, or is shown
   }
 
   /** The source: its text and the number of its language. */
@@ -169,12 +169,11 @@ export class Editor {
     const list = names.map(([name, form]) =>
       ({ text: name, render: (/** @type {HTMLElement} */ item) => item.append(make("b", "", name), form.slice(name.length)) }));
     const hints = { list, from: { line, ch: ch - word.length }, to: { line, ch }, selectedHint: isAsked ? 0 : -1 };
-    let isChosen = isAsked;
-    CodeMirror.on(hints, "select", (hint) => (isChosen ||= hint !== undefined));
+    const isChosen = () => Number(this.code.state.completionActive?.widget.selectedHint) >= 0;
     /** @type {Record<string, (code: unknown, handle: import("./codemirror.js").HintHandle) => unknown>} */
     const extraKeys = {
-      Enter: (_, handle) => (isChosen ? handle.pick() : CodeMirror.Pass),
-      Tab: (_, handle) => (isChosen || handle.setFocus(0), handle.pick()),
+      Enter: (_, handle) => (isChosen() ? handle.pick() : CodeMirror.Pass),
+      Tab: (_, handle) => (isChosen() || handle.setFocus(0), handle.pick()),
     };
     // CodeMirror's own update would take an Enter that comes at once for a choice.
     const own = { completeSingle: false, updateOnCursorActivity: false, scrollMargin: 1, alignWithWord: true };
@@ -216,12 +215,6 @@ export class Editor {
   /** The number of the line at a height of the window, in pixels. */
   lineAt(/** @type {number} */ height) {
     return this.code.lineAtHeight(height, "window") + 1;
-  }
-
-  /** Lays the editor out again, where it has another size or is shown. */
-  shown() {
-    this.code.refresh();
-    this.bringIntoSight();
   }
 
   bringIntoSight() {

@@ -1,87 +1,73 @@
-// Edits: the change that a press on an element makes to a breakpoint, a register, bytes of memory, or an element of a vector register;
-// and the dialog that asks for a new value.
+// Values that can be changed, and the dialog that asks for a new one. An element has its edit in `data-edit`: the line that sets a
+// breakpoint; or the start of the line that writes the program counter, a register, or bytes of memory, where the value follows; or
+// `vset`, a vector register, an element's bits (1 for a bit of a mask), its index, and the form in which it is shown. In a panel,
+// arrow keys go from value to value, and Enter changes one.
 
-import { part, parts } from "./elements.js";
-
-/**
- * @typedef {{ of: "breakpoint", address: string }
- *   | { of: "pc" }
- *   | { of: "scalar", register: number }
- *   | { of: "bytes", address: string }
- *   | { of: "element", register: number, bits: number, index: number, form: string }} Edit
- * bits: of the element, 1 for a bit of a mask; form: in which its value is shown; addresses are hexadecimal
- * @typedef {Exclude<Edit, { of: "breakpoint" }>} ValueEdit
- */
-
+import { elementsIn, part, parts, put } from "./elements.js";
 import { textOf } from "./texts.js";
 
-/** @type {WeakMap<Element, Edit>} */
-const edits = new WeakMap(); // by the element that is pressed
+/** @type {Record<string, [down: number, right: number]>} */
+const STEPS = { ArrowUp: [-1, 0], ArrowDown: [1, 0], ArrowLeft: [0, -1], ArrowRight: [0, 1] };
+/** @type {("listing" | "registers" | "bytes")[]} */
+const PANELS = ["listing", "registers", "bytes"];
 
-/** The start of the monitor's line that makes an edit; of a breakpoint, the line that sets it. */
-/** @type {(edit: Edit) => string} */
-export function nameOf(edit) {
-  switch (edit.of) {
-    case "breakpoint": return `break ${edit.address}`;
-    case "pc": return "setpc";
-    case "scalar": return `set x${edit.register}`;
-    case "bytes": return `poke ${edit.address}`;
-    case "element": return `vset v${edit.register} ${edit.bits} ${edit.index} ${edit.form}`;
-  }
+/** The next place in a direction: of those above or below, the nearest row's in the same column. */
+/** @type {(places: HTMLElement[], place: HTMLElement, step: [down: number, right: number]) => HTMLElement} */
+function beside(places, place, [down, right]) {
+  if (right) return places[places.indexOf(place) + right] ?? place;
+  const own = place.getBoundingClientRect();
+  const others = places.map((each) => ({ each, box: each.getBoundingClientRect() })).filter(({ box }) => (box.top - own.top) * down > 1);
+  const far = (/** @type {DOMRect} */ { top, left }) => Math.abs(top - own.top) * 1000 + Math.abs(left - own.left);
+  return others.sort((one, other) => far(one.box) - far(other.box))[0]?.each ?? place;
 }
 
-/** The title of an edit's dialog. */
-export const titleOf = (/** @type {Edit} */ edit) =>
-  edit.of === "element" ? textOf("edit.element", { register: `v${edit.register}`, index: edit.index }) : nameOf(edit);
-
-/** Gives an element its edit, whose name is in `data-edit`; returns the element. */
-/** @type {<Kind extends HTMLElement>(element: Kind, edit: Edit) => Kind} */
-export function editable(element, edit) {
-  edits.set(element, edit);
-  element.dataset.edit = nameOf(edit);
-  return element;
-}
-
-/** The edit of an element, or of the nearest one around it. */
-/** @type {(element: Element | null) => Edit | undefined} */
-export const editOf = (element) => edits.get(/** @type {Element} */ (element?.closest("[data-edit]")));
-
-/** The bytes of a register with another element; all bytes in hexadecimal, the least first. */
-/** @type {(bytes: string, width: number, place: number, value: bigint) => string} */
-function withElement(bytes, width, place, value) {
-  const turned = (/** @type {string} */ digits) => (digits.match(/../g) ?? []).reverse().join("");
-  const shift = BigInt(width * place);
-  const others = BigInt("0x" + turned(bytes)) & ~(((1n << BigInt(width)) - 1n) << shift);
-  return turned((others | (BigInt.asUintN(width, value) << shift)).toString(16).padStart(bytes.length, "0"));
+/** Goes through the values of a box by keys. */
+/** @type {(box: HTMLElement, says: HTMLElement, change: (place: HTMLElement) => unknown) => void} */
+function followKeys(box, says, change) {
+  /** @type {string | undefined} */
+  let at; // the name of the change that keys have come to
+  const id = `at-${box.id}`;
+  const placesIn = () => elementsIn(box, "[data-edit]"); // whose values can be changed
+  const mark = () => { // again, since the box's rows are made anew
+    const place = placesIn().find(({ dataset }) => dataset.edit === at);
+    if (place?.id !== id) box.querySelector(`#${id}`)?.removeAttribute("id");
+    return place && Object.assign(place, { id });
+  };
+  new MutationObserver(mark).observe(box, { childList: true, subtree: true });
+  box.addEventListener("keydown", (event) => {
+    if (event.target !== box || event.ctrlKey || event.altKey || event.metaKey) return;
+    const [places, place, step] = [placesIn(), mark(), STEPS[event.key]];
+    if (!(step ? places.length : place && event.key === "Enter")) return;
+    event.preventDefault();
+    if (!step) return void change(/** @type {HTMLElement} */ (place));
+    const next = place ? beside(places, place, step) : (places.find((each) => each.matches("tr.next")) ?? places[0]);
+    at = next.dataset.edit;
+    mark();
+    put(says, next.title || `${at}: ${next.innerText}`);
+    next.scrollIntoView({ block: "nearest", inline: "nearest" });
+  });
 }
 
 /**
- * The line that writes a text where an edit says; an error in place of it if the text is no number that fits.
- * isDecimal: whether scalar registers are shown in decimal; v: the vector registers' bytes by number
- * @type {(edit: ValueEdit, text: string, isDecimal: boolean, v: Record<string, string>) => { line?: string, error?: string }}
+ * Goes through the values of a machine's panels by keys.
+ * @type {(root: ParentNode, change: (place: HTMLElement) => unknown) => void} change is given the element that Enter is pressed at
  */
-export function lineOf(edit, text, isDecimal, v) {
-  if (edit.of === "pc" || edit.of === "bytes") return { line: `${nameOf(edit)} ${text}` };
-  const isElement = edit.of === "element";
-  const decimal = isElement ? edit.form !== "hexadecimal" : isDecimal;
-  const bits = isElement ? edit.bits : 64;
-  const isNumber = (decimal ? /^-?\d{1,20}$/ : /^[0-9a-f]{1,16}$/i).test(text);
-  const value = isNumber ? BigInt(decimal ? text : "0x" + text) : 1n << 64n; // which fits nowhere
-  const fits = [BigInt.asUintN(bits, value), BigInt.asIntN(bits, value)].includes(value);
-  if (!fits) return { error: decimal ? textOf("edit.no-decimal", { text, bits }) : textOf("edit.no-hexadecimal", { text, bits }) };
-  if (!isElement) return { line: `${nameOf(edit)} ${BigInt.asUintN(64, value).toString(16)}` };
-  return { line: `vset v${edit.register} ${withElement(v[edit.register], bits, edit.index, value)}` };
+export const followCursor = (root, change) => PANELS.forEach((id) => followKeys(part(root, id), part(root, "at"), change));
+
+/** The title of an edit's dialog. */
+export function titleOf(/** @type {string} */ edit) {
+  const [command, register, , index] = edit.split(" ");
+  return command === "vset" ? textOf("edit.element", { register, index }) : edit;
 }
 
 /**
  * The dialog that asks for a new value: a function that opens it with the value that is shown.
- * @param {ParentNode} root @param {(edit: ValueEdit, text: string) => unknown} write receives what was typed
+ * @param {ParentNode} root @param {(edit: string, text: string) => unknown} write receives what was typed
  */
 export function editDialog(root, write) {
-  const { edit: dialog, "edit-name": title, change, value } = parts(root, "edit", "edit-name", "change", "value");
-  part(root, "edit-close").addEventListener("click", () => dialog.close());
-  return (/** @type {ValueEdit} */ edit, /** @type {string} */ shown) => {
-    change.onsubmit = () => (dialog.close(), write(edit, value.value.trim()));
+  const { edit: dialog, "edit-name": title, value } = parts(root, "edit", "edit-name", "value");
+  return (/** @type {string} */ edit, /** @type {string} */ shown) => {
+    Object.assign(dialog, { returnValue: "", onclose: () => dialog.returnValue && write(edit, value.value.trim()) });
     title.textContent = titleOf(edit);
     value.value = shown;
     dialog.showModal();

@@ -58,8 +58,7 @@ export const table = (caption, ...parts) => make("table", "", make("caption", "u
 export const prose = (text) => text.split("`").map((part, place) => (place % 2 ? make("code", "", part) : part));
 
 /** A time in seconds since 1970 as `14:05`. */
-export const timeText = (/** @type {number} */ time) =>
-  new Date(time * 1000).toLocaleTimeString("en-GB", { hour: "2-digit", minute: "2-digit" });
+export const timeText = (/** @type {number} */ time) => new Date(time * 1000).toLocaleTimeString("en-GB", { timeStyle: "short" });
 
 /** Lets the browser save a file. */
 export function offerFile(/** @type {string} */ download, /** @type {Blob} */ blob) {
@@ -90,8 +89,7 @@ export function renew(parent, children) {
 export function ask(question, yes, carryOut) {
   put(byId("question"), question);
   put(byId("yes"), yes);
-  byId("yes").onclick = () => (byId("ask").close(), carryOut());
-  byId("no").onclick = () => byId("ask").close();
+  byId("yes").onclick = carryOut;
   byId("ask").showModal();
 }
 

@@ -26,53 +26,42 @@ const keysOf = (/** @type {Element} */ button) => button.getAttribute("aria-keys
 const isOffered = (/** @type {HTMLElement} */ button) =>
   getComputedStyle(button).display !== "none" && (button.closest(PANELS)?.parentElement ?? button).checkVisibility();
 
-export class Keys {
-  usesLetters = () => true; // whether keys of one letter or digit press their buttons, outside of fields
+/** The button of a key that the page offers, the one in sight first. */
+/** @type {(root: HTMLElement, key: string) => HTMLButtonElement | undefined} */
+function buttonOf(root, key) {
+  const own = elementsIn(root, `button[aria-keyshortcuts~="${key}"]`).filter(isOffered);
+  return /** @type {HTMLButtonElement | undefined} */ (own.find((each) => each.checkVisibility()) ?? own[0]);
+}
 
-  /**
-   * @param {HTMLElement} root of the buttons
-   * @param {() => boolean} mayPress whether a key presses its button now
-   * @param {(words: string) => void} say shows a sentence about a key, or "" after it
-   */
-  constructor(root, mayPress, say) {
-    this.root = root;
-    this.mayPress = mayPress;
-    this.say = say;
-    const buttons = elementsIn(root, "button[aria-keyshortcuts]");
-    this.does = new Map(buttons.map((button) => [button, button.title])); // in words
-    for (const button of buttons) button.title = `${button.title} (${keysOf(button).map(keyText).join(` ${textOf("keys.or")} `)})`;
-    document.addEventListener("keydown", (event) => this.pressed(event));
-  }
-
-  /** The keys of the buttons that the page offers, each row with what they do. */
-  list() {
-    return [...this.does].filter(([button]) => isOffered(button)).flatMap(([button, does]) => {
-      const keys = keysOf(button).flatMap((key, place) => [place ? ` ${textOf("keys.or")} ` : "", make("kbd", "", keyText(key))]);
-      return [make("dt", "", ...keys), make("dd", "", does)];
-    });
-  }
-
-  /** The button of a key that the page offers, the one in sight first. */
-  buttonOf(/** @type {string} */ key) {
-    const own = elementsIn(this.root, `button[aria-keyshortcuts~="${key}"]`).filter(isOffered);
-    return /** @type {HTMLButtonElement | undefined} */ (own.find((each) => each.checkVisibility()) ?? own[0]);
-  }
-
-  pressed(/** @type {KeyboardEvent} */ event) {
+/**
+ * Lets keys press buttons. Returns a function that lists the keys of those that the page offers, each row with what they do.
+ * @param {HTMLElement} root of the buttons
+ * @param {(words: string) => void} say shows a sentence about a key, or "" after it
+ * @param {() => boolean} usesLetters whether keys of one letter or digit press their buttons, outside of fields
+ * @param {() => boolean} mayPress whether a key presses its button now
+ */
+export function listenToKeys(root, say, usesLetters, mayPress = () => true) {
+  const buttons = elementsIn(root, "button[aria-keyshortcuts]").map((button) => ({ button, does: button.title }));
+  for (const { button, does } of buttons) button.title = `${does} (${keysOf(button).map(keyText).join(` ${textOf("keys.or")} `)})`;
+  document.addEventListener("keydown", (event) => {
     if (event.defaultPrevented || event.isComposing || !event.key || document.querySelector("dialog[open]")) return;
     const key = keyOf(event);
     const isLetter = /^(Shift\+)?.$/.test(key);
-    if (isLetter && (!this.usesLetters() || /** @type {Element} */ (event.target).closest(FIELDS))) return;
-    const own = this.buttonOf(key);
+    if (isLetter && (!usesLetters() || /** @type {Element} */ (event.target).closest(FIELDS))) return;
+    const own = buttonOf(root, key);
     const later = EARLIER[key];
     const isEarlier = later && (!own || own.disabled);
-    const button = isEarlier ? this.buttonOf(later) : own;
+    const button = isEarlier ? buttonOf(root, later) : own;
     if (!button || (key === "Escape" && button.disabled)) return;
     event.preventDefault();
     const name = /** @type {string} */ (button.textContent).trim();
-    this.say(isEarlier ? textOf("keys.now", { name, key: keyText(later) }) : button.matches(":disabled") ? button.title : "");
-    if (this.mayPress()) button.click();
-  }
+    say(isEarlier ? textOf("keys.now", { name, key: keyText(later) }) : button.matches(":disabled") ? button.title : "");
+    if (mayPress()) button.click();
+  });
+  return () => buttons.filter(({ button }) => isOffered(button)).flatMap(({ button, does }) => {
+    const keys = keysOf(button).flatMap((key, place) => [place ? ` ${textOf("keys.or")} ` : "", make("kbd", "", keyText(key))]);
+    return [make("dt", "", ...keys), make("dd", "", does)];
+  });
 }
 
 /** Moves the focus to the next pane in sight, or with -1 to the one before. */

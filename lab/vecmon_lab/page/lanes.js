@@ -5,7 +5,6 @@ import { calculationText } from "./calculation.js";
 import { cardOf, paintCard, paintFacts } from "./card.js";
 import { columnsOf, fit, stripsOf } from "./columns.js";
 import { detailOf, elementEdit } from "./detail.js";
-import { editable } from "./edits.js";
 import { elementsIn, header, make, part, remPixels, unseen } from "./elements.js";
 import { headOf } from "./lane_rows.js";
 import { textOf } from "./texts.js";
@@ -125,7 +124,8 @@ export class Lanes {
       const shown = Object.assign(make("td", cell.classes.join(" "), cell.text), { role: "gridcell", title });
       shown.dataset.element = `${element}`;
       if (cell.words) shown.append(unseen(` ${cell.words}`));
-      return view.width ? editable(shown, elementEdit(view, register, width, element)) : shown;
+      if (view.width) shown.dataset.edit = elementEdit(view, register, width, element);
+      return shown;
     });
     const shown = make("tr", kind, header("row", make("b", "", head), ...(words ? [" ", what] : [])), ...made);
     if (register >= 0) shown.dataset.register = `${register}`;
@@ -214,8 +214,8 @@ export class Lanes {
     const { name, place, sentence, value, edit } = detailOf(view, columns, this.chosen, this.register);
     const parts = [make("b", "", name), make("small", "", place), make("span", "", sentence), make("code", "", calculation)];
     const change = Object.assign(make("button", "change", textOf("detail.change")), { title: textOf("detail.change.title") });
-    change.dataset.value = value;
-    this.detail.replaceChildren(...parts.filter((part) => part.textContent), ...(edit ? [editable(change, edit)] : []));
+    Object.assign(change.dataset, { value, edit });
+    this.detail.replaceChildren(...parts.filter((part) => part.textContent), ...(edit ? [change] : []));
   }
 
   /**

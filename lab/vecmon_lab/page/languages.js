@@ -1,7 +1,14 @@
-// The language of a source, chosen next to its editor: the first one is the assembler, all others take a compiler.
+// Lists to choose from. Of the languages of a source, the first one is the assembler, all others take a compiler.
 
-import { make } from "./elements.js";
+import { make, renew } from "./elements.js";
 import { textOf } from "./texts.js";
+
+/** Offers names below a list's title, if there are any. */
+/** @type {(list: HTMLSelectElement, title: string, names: string[]) => void} */
+export function offer(list, title, names) {
+  renew(list, [title, ...names].map((name) => make("option", "", name)));
+  Object.assign(list, { hidden: !names.length, selectedIndex: 0 });
+}
 
 /** Offers languages once; C is hidden in a class or page that takes none, and the list's title says why. */
 /** @type {(select: HTMLSelectElement, view: { languages: string[], no_c: string }) => void} */

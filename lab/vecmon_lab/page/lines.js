@@ -2,8 +2,7 @@
 
 import { textOf } from "./texts.js";
 
-const MOST_LINES = 4096; // at once
-const MOST_TOGETHER = 64; // in a request
+const [MOST_LINES, MOST_TOGETHER] = [4096, 64]; // at once, and in a request
 const MOST_CHARACTERS = 1022; // of a line
 /** @type {Record<string, number>} */
 const STEPS = { ArrowUp: -1, ArrowDown: 1 };
@@ -21,10 +20,9 @@ export function unfitLines(/** @type {string[]} */ lines) {
 
 /** The requests that execute lines, at most a fixed number each. */
 /** @type {(lines: string[]) => { ask: "lines", do: string[] }[]} */
-export function requestsOf(lines) {
-  const parts = Array.from({ length: Math.ceil(lines.length / MOST_TOGETHER) }, (_, place) => place * MOST_TOGETHER);
-  return parts.map((first) => ({ ask: "lines", do: lines.slice(first, first + MOST_TOGETHER) }));
-}
+export const requestsOf = (lines) =>
+  Array.from({ length: Math.ceil(lines.length / MOST_TOGETHER) }, (_, part) =>
+    ({ ask: "lines", do: lines.slice(part * MOST_TOGETHER, (part + 1) * MOST_TOGETHER) }));
 
 /**
  * Executes the lines of a field in a form, and brings back earlier ones.

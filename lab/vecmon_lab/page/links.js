@@ -20,15 +20,13 @@ export const isLink = (/** @type {string} */ hash) => hash.startsWith(PREFIX);
 /** The source of such a part; null where it isn't one. */
 /** @type {(hash: string, languages: HTMLSelectElement) => SourceText | null} */
 export function sourceOf(hash, languages) {
-  if (hash.length > MOST_LINK_LETTERS) return null;
   try {
     const letters = atob(hash.slice(PREFIX.length).replaceAll("-", "+").replaceAll("_", "/"));
     const bytes = Uint8Array.from(letters, (letter) => letter.charCodeAt(0));
     const { text, language } = JSON.parse(new TextDecoder().decode(bytes));
-    return typeof text === "string" ? { text, language: Math.max(0, namesOf(languages).indexOf(language)) } : null;
-  } catch {
-    return null;
-  }
+    if (typeof text === "string") return { text, language: Math.max(0, namesOf(languages).indexOf(language)) };
+  } catch {} // damaged
+  return null;
 }
 
 /** The suffix of a file for a language: `s`, `stock.s`, or `O2.c` with C's options. */

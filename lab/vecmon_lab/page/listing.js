@@ -1,6 +1,5 @@
 // The program: labels, breakpoints, the program counter, the current instruction, and new words.
 
-import { editable } from "./edits.js";
 import { header, make, part, unseen } from "./elements.js";
 import { RowTable, placesOf } from "./rows.js";
 import { TINTS, lineOf, startOf } from "./source_lines.js";
@@ -60,9 +59,9 @@ function listingRow(state, before, address, abi) {
   const beside = call ? "" : room + saysMore(said, line.slice(9));
   const source = Object.assign(make("td", "source", beside), { title: said });
   const row = make("tr", kinds.join(" "), marks, header("row", address), word, text, source);
-  row.dataset.address = address;
+  Object.assign(row.dataset, { address, edit: `break ${address}` });
   const number = state.starts ? lineOf(state, address) : 0;
   if (number) row.classList.add(`tint-${number % TINTS}`);
   if (number) row.dataset.line = `${number}`;
-  return editable(row, { of: "breakpoint", address });
+  return row;
 }

@@ -1,7 +1,6 @@
 // Memory in rows of 16, 8 or 4 bytes, as many as fit, with a gap where rows are left out, with numbers where the source or its
 // variables have them, and with marks of the bytes that the last instruction accessed; and what the program has printed.
 
-import { editable } from "./edits.js";
 import { header, make, part } from "./elements.js";
 import { LETTER, littleEndian } from "./numbers.js";
 import { RowTable, placesOf } from "./rows.js";
@@ -136,7 +135,7 @@ function memoryRow(address, digits, digitsBefore, arrays, accessed) {
     const changed = digitsBefore !== undefined && digitsBefore.slice(2 * place, 2 * (place + size)) !== own;
     const kinds = [element && "number", changed ? "changed" : /[^0]/.test(own) ? "" : "zero", access && ACCESSES[access]];
     const span = make("span", kinds.filter(Boolean).join(" "), element ? numberText(element, littleEndian(own)) : own);
-    editable(span, { of: "bytes", address: at.toString(16) });
+    span.dataset.edit = `poke ${at.toString(16)}`;
     if (element) span.title = own.replace(/..(?=.)/g, "$& ");
     const cell = cells[place >> 2];
     cell.append(...(cell.firstChild ? [" "] : []), span);

@@ -5,25 +5,17 @@ import { elementsIn, part, remPixels } from "./elements.js";
 import { store, stored } from "./preferences.js";
 
 /** @typedef {import("./parts").Parts} Parts */
-/** @typedef {{ sizes: Record<string, number>, folded: Record<string, boolean> }} Arrangement sizes in rem, by the pane's id */
+/** @typedef {{ sizes: Record<string, number | undefined>, folded: Record<string, boolean> }} Arrangement sizes in rem, by the pane's id */
 
 const VERSION = 1; // of what the browser keeps
 const STEP = 16; // px that an arrow key moves a splitter
 const [LOW, NARROW] = [860, 1440]; // px of a window in which panes fold to make room for the elements
 
-/** The entries of an object whose values are of a type; none of anything else. */
-/** @type {<Kind>(it: unknown, isFit: (value: unknown) => boolean) => Record<string, Kind>} */
-const fitting = (it, isFit) => Object.fromEntries(Object.entries(it ?? {}).filter(([, value]) => isFit(value)));
-
 /** The arrangement that the browser has kept under a name; an empty one where it has none, or one of another version. */
 /** @type {(key: string) => Arrangement} */
 export function keptArrangement(key) {
-  try {
-    const { version, sizes, folded } = JSON.parse(stored(key) ?? "{}");
-    if (version === VERSION)
-      return { sizes: fitting(sizes, Number.isFinite), folded: fitting(folded, (value) => typeof value === "boolean") };
-  } catch {} // damaged
-  return { sizes: {}, folded: {} };
+  const { version, sizes, folded } = stored(key) ?? {};
+  return version === VERSION ? { sizes, folded } : { sizes: {}, folded: {} };
 }
 
 export class Panes {
@@ -32,15 +24,11 @@ export class Panes {
     this.root = root;
     this.key = `vecmon-panes-${kind}`;
     this.kept = keptArrangement(this.key);
-    for (const list of this.all('[role="tablist"]')) this.listenToTabs(list);
-    for (const bar of this.all(".split")) this.listenToSplitter(bar);
-    for (const button of this.all(".fold, .rail button")) button.addEventListener("click", () => this.toggle(button));
+    for (const list of elementsIn(this.root, '[role="tablist"]')) this.listenToTabs(list);
+    for (const bar of elementsIn(this.root, ".split")) this.listenToSplitter(bar);
+    for (const button of elementsIn(this.root, ".fold, .rail button")) button.addEventListener("click", () => this.toggle(button));
     for (const [id, size] of Object.entries(this.kept.sizes)) this.resize(id, size);
     for (const [id, isFolded] of Object.entries(this.kept.folded)) this.fold(id, isFolded);
-  }
-
-  all(/** @type {string} */ selector) {
-    return elementsIn(this.root, selector);
   }
 
   /** The pane or the panel of a tab, a splitter or a button. */
@@ -49,13 +37,14 @@ export class Panes {
   }
 
   keep() {
-    store(this.key, JSON.stringify({ version: VERSION, ...this.kept }));
+    store(this.key, { version: VERSION, ...this.kept });
   }
 
   /** Brings a pane or a panel into sight: selects its tab, and unfolds its pane. */
   show(/** @type {keyof Parts} */ id) {
     const pane = part(this.root, id).closest(".pane");
-    for (const name of new Set([id, pane?.id ?? id])) this.all(`[role="tab"][aria-controls="${name}"]`).forEach((tab) => this.select(tab));
+    const tabs = elementsIn(this.root, `[role="tab"]:is([aria-controls="${id}"], [aria-controls="${pane?.id}"])`);
+    tabs.forEach((tab) => this.select(tab));
     if (pane?.matches(".folded")) this.fold(pane.id, false);
   }
 
@@ -123,15 +112,14 @@ export class Panes {
 
   /** Gives a pane a size in rem, or without one its first. */
   resize(/** @type {string} */ id, /** @type {number | undefined} */ size = undefined) {
-    if (size === undefined) delete this.kept.sizes[id];
-    else this.kept.sizes[id] = size;
+    this.kept.sizes[id] = size; // JSON leaves out undefined
     this.root.style.setProperty(`--${id}`, size === undefined ? "" : `${size}rem`);
   }
 
   /** Folds a pane to its head or its rail, or unfolds it. */
   fold(/** @type {string} */ id, /** @type {boolean} */ isFolded) {
     elementsIn(this.root, `[id="${id}"]`)[0]?.classList.toggle("folded", isFolded);
-    for (const button of this.all(`:is(.fold, .rail button)[aria-controls="${id}"]`)) button.ariaExpanded = `${!isFolded}`;
+    for (const button of elementsIn(this.root, `:is(.fold, .rail button)[aria-controls="${id}"]`)) button.ariaExpanded = `${!isFolded}`;
   }
 
   /** Folds or unfolds the pane of a button, and keeps that. */

@@ -6,7 +6,7 @@ export type Parts =
   Ids<
     HTMLButtonElement,
     | "again" | "all-messages" | "assemble" | "back" | "backward" | "begin" | "break-here" | "by-address" | "by-ticks" | "check"
-    | "close-sheet" | "edit-close" | "first" | "fold-dock" | "fold-exercise" | "fold-state" | "forget" | "forth" | "go" | "halt" | "hand"
+    | "close-sheet" | "first" | "fold-dock" | "fold-exercise" | "fold-state" | "forget" | "forth" | "go" | "halt" | "hand"
     | "home" | "last" | "line-back" | "line-go" | "line-next" | "link" | "lower-hand" | "many" | "new" | "new-in-c" | "new-program"
     | "next" | "next-help" | "next-pane" | "next-problem" | "no" | "now" | "on-wall" | "one" | "open-exercises" | "open-file"
     | "open-first" | "open-join" | "open-settings" | "open-sheet" | "open-source" | "previous-help" | "previous-pane" | "previous-problem"
@@ -19,7 +19,7 @@ export type Parts =
   Ids<HTMLDListElement, "facts" | "keys" | "teacher-keys"> &
   Ids<HTMLDialogElement, "ask" | "edit" | "exercises" | "join-class" | "key-list" | "settings"> &
   Ids<HTMLFieldSetElement, "controls" | "receivers"> &
-  Ids<HTMLFormElement, "change" | "clocks" | "command" | "join" | "operate" | "sending" | "steps" | "until"> &
+  Ids<HTMLFormElement, "clocks" | "command" | "join" | "operate" | "sending" | "steps" | "until"> &
   Ids<
     HTMLInputElement,
     | "called" | "code" | "find" | "gift-title" | "letters" | "moment" | "name" | "number" | "open" | "place" | "until-line" | "value"

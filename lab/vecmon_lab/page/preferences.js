@@ -1,20 +1,22 @@
-// What the browser stores for the reader. Where it refuses to, a choice holds for the page alone.
+// What the browser stores for the reader, as JSON. Where it refuses to, a choice holds for the page alone.
 
 const TEXT_SIZE = "vecmon-text-size";
 
-/** The stored text of a key; null without one. */
-export function stored(/** @type {string} */ key) {
+/** The stored value of a key; null without one, or where it is damaged. */
+/** @type {(key: string) => any} of what was stored */
+export function stored(key) {
   try {
-    return localStorage.getItem(key);
+    return JSON.parse(localStorage.getItem(key) ?? "null");
   } catch {
     return null;
   }
 }
 
-/** Stores a text. */
-export function store(/** @type {string} */ key, /** @type {string} */ text) {
+/** Stores a value. */
+/** @type {(key: string, value: unknown) => void} */
+export function store(key, value) {
   try {
-    localStorage.setItem(key, text);
+    localStorage.setItem(key, JSON.stringify(value));
   } catch {}
 }
 

@@ -19,7 +19,7 @@ export class Problems {
   /** @type {Problem[]} */ all = [];
   /** @type {Problem[]} */ marked = []; // in the text, until it changes
   place = -1; // of the problem that was gone to last
-  line = 0; // of the problems that are shown below
+  line = -1; // whose problems are shown below it, counted from 0
   /** @type {import("./codemirror.js").Clearable | undefined} */ below;
 
   /**
@@ -58,7 +58,7 @@ export class Problems {
   /** Goes to the next problem, or with -1 to the one before; after the last one to the first. */
   goOn(/** @type {number} */ step) {
     const { length } = this.all;
-    if (length) this.go((Math.max(this.place, step < 0 ? 0 : -1) + step + length) % length);
+    this.go((Math.max(this.place, step < 0 ? 0 : -1) + step + length) % length);
   }
 
   /** Selects the word of a problem in the editor. */
@@ -105,21 +105,16 @@ export class Problems {
     this.marks.style(line, `problem-line-${severity}`, "gutter");
   }
 
-  /** The problems of the caret's line. */
-  get here() {
-    const line = this.code.getCursor().line + 1;
-    return this.marked.filter((problem) => problem.line === line);
-  }
-
   /** Shows the problems of the caret's line below it. */
   showBelow() {
-    const [{ line } = { line: 0 }] = this.here;
+    const { line } = this.code.getCursor();
     if (line === this.line) return;
     this.line = line;
     this.below?.clear();
-    if (!line) return;
-    const items = this.here.map((problem) => make("p", problem.severity, messageOf(problem), " ", ...this.fixes(problem)));
-    this.below = this.code.addLineWidget(line - 1, make("div", "problems-below", ...items), { noHScroll: true });
+    const here = this.marked.filter((problem) => problem.line === line + 1);
+    if (!here.length) return;
+    const items = here.map((problem) => make("p", problem.severity, messageOf(problem), " ", ...this.fixes(problem)));
+    this.below = this.code.addLineWidget(line, make("div", "problems-below", ...items), { noHScroll: true });
   }
 
   /** Buttons that replace a problem's word, where the text can be edited. */
@@ -135,11 +130,5 @@ export class Problems {
     const { from, to } = this.rangeOf(problem);
     this.code.replaceRange(text, from, to, "fix");
     this.code.focus();
-  }
-
-  /** Replaces the word of the caret line's first problem that has a fix. */
-  fix() {
-    const problem = this.here.find(({ fix }) => fix?.length);
-    if (problem?.fix) this.replace(problem, problem.fix[0]);
   }
 }

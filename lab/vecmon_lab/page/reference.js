@@ -26,11 +26,9 @@ export function entryText(/** @type {string} */ name) {
 }
 
 /** The word of a text around a place, or ending at it. */
-function wordAt(/** @type {string} */ text, /** @type {number} */ place) {
-  const [before = ""] = /[\w.]*$/.exec(text.slice(Math.max(0, place - 99), place)) ?? [];
-  const [after = ""] = /^[\w.]*/.exec(text.slice(place, place + 99)) ?? [];
-  return before + after;
-}
+/** @type {(text: string, place: number) => string} */
+const wordAt = (text, place) =>
+  text.slice(Math.max(0, place - 99), place).split(/[^\w.]/).at(-1) + text.slice(place, place + 99).split(/[^\w.]/, 1)[0];
 
 /** Shows those entries that have a text in their form or in what they do, or all. */
 export function showReference(/** @type {HTMLElement} */ box, /** @type {string} */ text) {

@@ -4,7 +4,7 @@ import { part, put } from "./elements.js";
 import { textOf } from "./texts.js";
 
 /** @typedef {import("./messages").StudentView} View */
-/** @typedef {"Not begun" | "Ready" | "Assembling" | "Running" | "Paused" | "Ended" | "Fault" | "No connection"} Condition */
+/** @typedef {View["condition"] | "Assembling" | "No connection"} Condition */
 /**
  * @typedef {"go" | "one" | "many" | "until-go" | "step-over" | "step-out" | "halt" | "slice" | "again" | "assemble" | "new"
  *   | "images"} Name
@@ -18,21 +18,8 @@ const CONDITIONS = { // in words
   Ready: textOf("condition.ready"), Assembling: textOf("condition.assembling"), Running: textOf("condition.running"),
   Paused: textOf("condition.paused"), Ended: textOf("condition.ended"), Fault: textOf("condition.fault"),
 };
-/** @type {Record<string, Condition>} */
-const STOPS = { fault: "Fault", exit: "Ended", ebreak: "Ended" }; // that aren't pauses
-
-/**
- * The condition of a machine.
- * @type {(view: View, isStarted: boolean) => Condition} isStarted: whether its program has executed anything
- */
-export function conditionOf({ state, stop }, isStarted) {
-  if (state.run !== "stopped") return state.run === "absent" ? "Not begun" : "Running";
-  const [why] = state.stop ? stop.split(" ") : [""];
-  return STOPS[why] ?? (isStarted ? "Paused" : "Ready");
-}
 
 export class RunBar {
-  isStarted = false; // whether the program has executed anything since the machine began
   isBuilding = false; // whether a source is being assembled or compiled
   /** @type {Condition} */ condition = "Not begun";
   /** @type {View | null} */ view = null;
@@ -49,15 +36,6 @@ export class RunBar {
     }
   }
 
-  /** Shows a view; entries are the new ones of the log. */
-  show(/** @type {View} */ view, /** @type {string[]} */ entries) {
-    const { run, instruction, stop } = view.state;
-    this.view = view;
-    if (run === "absent" || entries.some((entry) => /^>. enter$/.test(entry))) this.isStarted = false;
-    if (run === "running" || instruction || stop) this.isStarted = true;
-    this.paint();
-  }
-
   /** Shows while `work` goes on that a source is being built. */
   /** @type {<Result>(work: Promise<Result>) => Promise<Result>} */
   building(work) {
@@ -66,16 +44,17 @@ export class RunBar {
     return work.finally(() => paint(false));
   }
 
-  paint() {
-    if (!this.view) return;
-    const present = this.isBuilding ? "Assembling" : conditionOf(this.view, this.isStarted);
+  paint(view = this.view) {
+    this.view = view;
+    if (!view) return;
+    const present = this.isBuilding ? "Assembling" : view.condition;
     this.condition = this.bench.connection.isReady ? present : "No connection";
     put(part(this.root, "run"), CONDITIONS[this.condition]);
     part(this.root, "run").dataset.condition = this.condition;
     put(part(this.root, "go"), this.condition === "Paused" ? textOf("run.continue") : textOf("run"));
-    part(this.root, "slice").hidden = !this.view.own_slices;
+    part(this.root, "slice").hidden = !view.own_slices;
     for (const id of NAMES) {
-      const [button, why] = [part(this.root, id), this.whyOff(id, this.view)];
+      const [button, why] = [part(this.root, id), this.whyOff(id, view)];
       const titleOn = (button.dataset.title ??= button.title);
       if (button.title !== (why || titleOn)) Object.assign(button, { disabled: why !== "", title: why || titleOn });
     }

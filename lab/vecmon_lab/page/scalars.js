@@ -1,6 +1,5 @@
 // The scalar registers, in as many columns as fit: each with its name, its other name, its value, and the label at that address.
 
-import { editable } from "./edits.js";
 import { elementsIn, make, part, renew } from "./elements.js";
 import { ABI_NAMES, signedText } from "./words.js";
 
@@ -22,11 +21,12 @@ export function paintRegisters(root, state, before) {
     const cell = make("dd", before.x[number] === value ? "" : "changed", isSigned && label.length ? `0x${value}` : shown, ...label);
     cell.title = `${numbered}, ${abi}: ${value} = ${signed}`;
     cell.dataset.value = shown;
-    if (number) editable(cell, { of: "scalar", register: number });
+    if (number) cell.dataset.edit = `set x${number}`;
     const kind = value === "0" ? "zero" : label.length ? "labelled" : "";
     return make("div", kind, make("dt", "", name, " ", make("small", "", other)), cell);
   });
-  const pc = editable(make("dd", "", state.pc, ...labelOf(state.pc)), { of: "pc" });
+  const pc = make("dd", "", state.pc, ...labelOf(state.pc));
+  pc.dataset.edit = "setpc";
   const [list] = elementsIn(root, "dl.registers");
   renew(list, [make("div", "", make("dt", "", "pc"), pc), ...rows]);
   const longest = Math.max(...elementsIn(list, "div:not(.labelled) dd").map(({ textContent }) => `${textContent}`.length));

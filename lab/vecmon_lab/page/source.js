@@ -1,9 +1,10 @@
 // The source of a seat: what is typed goes to the server, and what others write there comes; versions; a file to save.
 
 import { NO_MARKS } from "./editor.js";
-import { make, offerFile, part, parts, put, timeText } from "./elements.js";
+import { offerFile, part, parts, put, timeText } from "./elements.js";
+import { offer } from "./languages.js";
 import { languageOf, suffixOf } from "./links.js";
-import { lineOf, stoppedLines, stopsOf } from "./source_lines.js";
+import { lineOf, stoppedLines } from "./source_lines.js";
 import { textOf } from "./texts.js";
 
 /** @typedef {import("./types").Message} Message */
@@ -13,7 +14,6 @@ import { textOf } from "./texts.js";
 /** @typedef {Record<string, { title: string }>} Exercises */
 
 export const MOST_LETTERS = 65536;
-const TOO_LONG = textOf("source.too-long", { most: MOST_LETTERS.toLocaleString("en") });
 const PAUSE = 700; // ms in which nothing is typed, and then it is sent
 /** @type {Record<string, string>} */
 const REASONS = { typed: textOf("source.typed"), written: textOf("source.assembled"), given: textOf("source.given") };
@@ -46,7 +46,7 @@ export class Source {
     this.parts = parts(root, "versions", "assemble", "left");
     const { versions } = this.parts;
     document.addEventListener("visibilitychange", () => this.send());
-    versions.addEventListener("change", () => this.showVersion(Number(versions.value)));
+    versions.addEventListener("change", () => this.showVersion(versions.selectedIndex));
     part(root, "save").addEventListener("click", () => this.save());
     part(root, "open-file").addEventListener("click", () => this.file.click());
     this.file.addEventListener("change", () => this.open(this.file.files?.[0]));
@@ -71,10 +71,6 @@ export class Source {
     this.timer = setTimeout(() => this.send(), PAUSE);
   }
 
-  sendLater() {
-    this.timer ||= setTimeout(() => this.send(), PAUSE);
-  }
-
   /** Sends the typed text, with the number that it was typed at: text that others wrote meanwhile stays. */
   async send() {
     clearTimeout(this.timer);
@@ -82,7 +78,7 @@ export class Source {
     const { source } = this.editor;
     if (!this.told || keyOf(source) === keyOf(this.told)) return;
     if (!this.isTyped || this.isTooLong || !this.connection.isReady) return;
-    if (this.sent.size) this.sendLater();
+    if (this.sent.size) this.timer = setTimeout(() => this.send(), PAUSE);
     else await this.bringOwn({ line: this.editor.caretLine });
   }
 
@@ -129,7 +125,7 @@ export class Source {
     const bytes = share && (share.of - share.used).toLocaleString("en");
     const left = bytes && isCompiled ? textOf("source.room", { bytes }) : "";
     put(this.parts.assemble, isCompiled ? textOf("source.compile") : textOf("source.assemble"));
-    put(this.parts.left, this.isTooLong ? TOO_LONG : left);
+    put(this.parts.left, this.isTooLong ? textOf("source.too-long", { most: MOST_LETTERS.toLocaleString("en") }) : left);
   }
 
   /** Shows what the server has, unless it is what was typed here. Versions are listed with the titles of exercises. */
@@ -139,7 +135,8 @@ export class Source {
     const isNew = seat !== this.seat || !told;
     const isOwn = (/** @type {SourceText} */ each) => keyOf(each) === keyOf(told) || this.sent.has(keyOf(each));
     const isOther = !isNew && (source.exercise !== told.exercise || (source.number > told.number && !isOwn(source)));
-    if (told?.versions !== source.versions) this.listVersions(source.versions, exercises);
+    const title = (/** @type {Version} */ version) => versionText(version, exercises);
+    if (told?.versions !== source.versions) offer(this.parts.versions, textOf("source.versions"), source.versions.map(title).reverse());
     if (isOther && this.isTooLong) return;
     Object.assign(this, { seat, told: source });
     if (isNew || editor.isReadOnly) {
@@ -149,7 +146,7 @@ export class Source {
       if (this.isTyped && !isOwn(editor.source)) this.connection.ask({ ask: "draft", ...editor.source, number, exercise }); // a version
       editor.put(source);
       if (source.exercise !== exercise) editor.code.clearHistory(); // what is undone is of one exercise
-    } else if (this.isTyped && keyOf(source) !== keyOf(editor.source)) this.sendLater();
+    } else if (this.isTyped && keyOf(source) !== keyOf(editor.source)) this.timer ||= setTimeout(() => this.send(), PAUSE);
   }
 
   /** Whether the machine has the source as it is here. */
@@ -157,24 +154,17 @@ export class Source {
 
   /** Marks the lines that the machine executed last and executes next, and those with breakpoints; returns them. */
   mark(/** @type {import("./messages").State} */ state) {
-    const { breaks = [], pc, instruction } = state;
-    const stops = breaks.length ? stoppedLines(stopsOf(state), breaks) : [];
-    const marks = this.stands ? { last: lineOf(state, instruction), next: lineOf(state, pc), stops } : NO_MARKS;
+    const { breaks = [], pc, instruction, stops = {} } = state;
+    const lines = { last: lineOf(state, instruction), next: lineOf(state, pc), stops: stoppedLines(stops, breaks) };
+    const marks = this.stands ? lines : NO_MARKS;
     this.editor.mark(marks);
     return marks;
   }
 
-  listVersions(/** @type {Version[]} */ versions, /** @type {Exercises} */ exercises) {
-    const option = (/** @type {Version} */ version) =>
-      Object.assign(make("option", "", versionText(version, exercises)), { value: version.number });
-    this.parts.versions.replaceChildren(make("option", "", textOf("source.versions")), ...versions.map(option).reverse());
-    this.parts.versions.hidden = !versions.length;
-  }
-
-  /** Puts an earlier version into the editor, where undo takes it back. */
-  async showVersion(/** @type {number} */ number) {
+  /** Puts an earlier version into the editor, where undo takes it back; the last one has the place 1. */
+  async showVersion(/** @type {number} */ place) {
     this.parts.versions.selectedIndex = 0;
-    const answer = await this.connection.ask({ ask: "version", number });
+    const answer = await this.connection.ask({ ask: "version", number: this.told?.versions.at(-place)?.number ?? 0 });
     if (answer?.text !== undefined) await this.replace({ text: answer.text, language: answer.language ?? 0 });
   }
 }

@@ -8,34 +8,20 @@ import { inOrder } from "./rows.js";
 export const TINTS = 3; // grounds of lines and their instructions, in turn
 /** @typedef {import("./messages").State} State */
 
-/** A function that computes its value for an object once. */
-/** @type {<Key extends object, Value>(compute: (key: Key) => Value) => (key: Key) => Value} */
-function once(compute) {
-  const known = new WeakMap();
-  return (key) => (known.has(key) || known.set(key, compute(key)), known.get(key));
-}
-
-/** The addresses of starts in rising order. */
-const addressesOf = once((/** @type {Starts} */ starts) => inOrder(Object.keys(starts)));
+/** @type {WeakMap<Starts, string[]>} */
+const sorted = new WeakMap(); // the addresses of starts in rising order
 
 /** The address where the source line of an instruction starts. */
 /** @type {(starts: Starts, pc: string) => string | undefined} */
-export const startOf = (starts, pc) => addressesOf(starts).findLast((address) => parseInt(address, 16) <= parseInt(pc, 16));
+export function startOf(starts, pc) {
+  if (!sorted.has(starts)) sorted.set(starts, inOrder(Object.keys(starts)));
+  return sorted.get(starts)?.findLast((address) => parseInt(address, 16) <= parseInt(pc, 16));
+}
 
 /** The lines with breakpoints, by the addresses that each line's breakpoints have. */
 /** @type {(stops: Record<string, string[]>, breaks: string[]) => number[]} */
 export const stoppedLines = (stops, breaks) =>
   Object.keys(stops).filter((line) => stops[line].some((address) => breaks.includes(address))).map(Number);
-
-/** The address of the first instruction of each line of an assembler source, by the line numbers of its instructions. */
-const firstsOf = once((/** @type {Starts} */ numbers) => {
-  const lines = addressesOf(numbers).map((address) => [numbers[address], [address]]);
-  return /** @type {Record<string, string[]>} */ (Object.fromEntries(lines.reverse())); // of several addresses the first one stays
-});
-
-/** The addresses of each line's breakpoints, by its number. */
-/** @type {(state: State) => Record<string, string[]>} */
-export const stopsOf = ({ stops, line_numbers: numbers }) => stops ?? (numbers ? firstsOf(numbers) : {});
 
 /** The line of the source that an instruction is of; 0 of none. */
 /** @type {(state: State, address: string | undefined) => number} */

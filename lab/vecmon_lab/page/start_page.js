@@ -1,8 +1,8 @@
 // The start page of an author: a new program, a file, recent sources, and examples. Each of them begins the bench.
 
 import { make, part, prose, put } from "./elements.js";
-import { keepList, keptList } from "./kept_lists.js";
 import { languageOf } from "./links.js";
+import { store, stored } from "./preferences.js";
 import { textOf } from "./texts.js";
 
 /** @typedef {import("./messages").StudentView} View */
@@ -10,6 +10,10 @@ import { textOf } from "./texts.js";
 
 const [KEY, MOST] = ["vecmon-recent", 6];
 const NAME = "begun"; // in the tab's storage: the name of the source in the editor
+
+/** The sources that this browser has kept, the last one first. */
+/** @type {() => (NamedSource & { time: number })[]} */
+const recent = () => stored(KEY) ?? [];
 
 /** The heading of choices, and the choices in columns; nothing without choices. */
 /** @type {(heading: string, tiles: HTMLElement[]) => HTMLElement[]} */
@@ -59,15 +63,9 @@ export class StartPage {
     return Object.assign(make("button", "tile", ...words), { disabled, onclick: () => this.begin(source) });
   }
 
-  /** The sources that this browser has kept, the last one first. */
-  /** @type {(NamedSource & { time: number })[]} */
-  get recent() {
-    return keptList(KEY);
-  }
-
   open() {
     this.keep();
-    const tiles = this.recent.map(({ time, ...source }) => {
+    const tiles = recent().map(({ time, ...source }) => {
       const saved = new Date(time).toLocaleString("en-GB", { dateStyle: "medium", timeStyle: "short" });
       return this.tile(source.name, /[^\s/#].*/.exec(source.text)?.[0] ?? "", saved, source);
     });
@@ -99,7 +97,7 @@ export class StartPage {
   keep() {
     const name = sessionStorage.getItem(NAME);
     if (!name) return;
-    const others = this.recent.filter((each) => each.name !== name);
-    keepList(KEY, [{ name, ...this.bench.editor.source, time: Date.now() }, ...others].slice(0, MOST));
+    const others = recent().filter((each) => each.name !== name);
+    store(KEY, [{ name, ...this.bench.editor.source, time: Date.now() }, ...others].slice(0, MOST));
   }
 }

@@ -3,7 +3,7 @@
 import { Bench } from "./bench.js";
 import { button, byId, make, put, timeText } from "./elements.js";
 import { Exercises } from "./exercises.js";
-import { Keys } from "./keys.js";
+import { listenToKeys } from "./keys.js";
 import { placePast } from "./past.js";
 import { StartPage } from "./start_page.js";
 import { textOf } from "./texts.js";
@@ -35,8 +35,9 @@ export class Student {
     byId("name").onchange = () => this.bench.request({ ask: "name", name: byId("name").value });
     byId("home").onclick = () => this.takeHome();
     byId("hand").onclick = () => this.bench.request({ ask: "hand", up: byId("hand").ariaPressed !== "true" });
-    const keys = new Keys(root, () => connection.pending.size < MOST_WAITING, (words) => put(byId("key-says"), words));
-    byId("show-reference").onclick = () => byId("keys").replaceChildren(...keys.list());
+    const mayPress = () => connection.pending.size < MOST_WAITING;
+    const keys = listenToKeys(root, (words) => put(byId("key-says"), words), () => true, mayPress);
+    byId("show-reference").onclick = () => byId("keys").replaceChildren(...keys());
     const name = sessionStorage.getItem("name"); // that was typed with the code
     sessionStorage.removeItem("name");
     if (name) this.bench.request({ ask: "name", name });

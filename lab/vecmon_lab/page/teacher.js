@@ -2,7 +2,7 @@
 
 import { byId, put, say } from "./elements.js";
 import { JoinDialog } from "./join_dialog.js";
-import { Keys } from "./keys.js";
+import { listenToKeys } from "./keys.js";
 import { store, stored } from "./preferences.js";
 import { Roster } from "./roster.js";
 import { Send } from "./send.js";
@@ -30,9 +30,8 @@ export class Teacher {
     byId("read").onclick = () => (sessionStorage.setItem("unencrypted", "read"), (byId("unencrypted").hidden = true));
     byId("letters").checked = stored(LETTERS) !== "off";
     byId("letters").onchange = () => store(LETTERS, byId("letters").checked ? "on" : "off");
-    const keys = new Keys(root, () => true, () => {});
-    keys.usesLetters = () => byId("letters").checked;
-    byId("show-keys").onclick = () => byId("teacher-keys").replaceChildren(...keys.list());
+    const keys = listenToKeys(root, () => {}, () => byId("letters").checked);
+    byId("show-keys").onclick = () => byId("teacher-keys").replaceChildren(...keys());
     root.addEventListener("click", ({ target }) => this.clicked(/** @type {Element} */ (target)));
   }
 

@@ -59,7 +59,6 @@ export interface Places {
   "run.empty-machine": never;
   "run.load": never;
   "run.load-image": never;
-  "run.not-reached": "line" | "lines";
   "run.at-line": "line";
   "run.after-line": "line";
   "run.next-line": "line";
@@ -264,8 +263,6 @@ export interface Places {
   "link.brought": never;
   "languages.no-c": "why";
   "breakpoints.no-program": never;
-  "breakpoints.too-many": "left" | "line" | "most" | "needed";
-  "breakpoints.no-instruction": "line";
   "listing.program.label": never;
   "listing.width.label": never;
   "listing.label": never;
@@ -303,8 +300,6 @@ export interface Places {
   "lines.not-ascii": "character" | "line" | "place";
   "lines.too-long": "characters" | "line" | "most";
   "edit.element": "index" | "register";
-  "edit.no-decimal": "bits" | "text";
-  "edit.no-hexadecimal": "bits" | "text";
   "help": never;
   "help.title": never;
   "help.find": never;

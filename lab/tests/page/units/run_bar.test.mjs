@@ -1,25 +1,8 @@
-// The condition of a machine, and the names of keys, worked out by hand.
+// The names of keys, worked out by hand.
 
 import assert from "node:assert/strict";
 import test from "node:test";
 import { keyOf, keyText } from "../../../vecmon_lab/page/keys.js";
-import { conditionOf } from "../../../vecmon_lab/page/runbar.js";
-
-const CONDITIONS = [
-  ["Not begun", { run: "absent" }, "", false],
-  ["Running", { run: "running" }, "", true],
-  ["Ready", { run: "stopped" }, "", false],
-  ["Paused", { run: "stopped" }, "", true],
-  ["Paused", { run: "stopped", stop: "Stopped at a breakpoint." }, "break pc=0000000000010008", true],
-  ["Ended", { run: "stopped", stop: "The program exits." }, "exit pc=0000000000010008 status=0", true],
-  ["Ended", { run: "stopped", stop: "Stopped at the ebreak." }, "ebreak pc=000000000001000c", true],
-  ["Fault", { run: "stopped", stop: "A load fault." }, "fault cause=5 pc=0000000000010000", true],
-  ["Paused", { run: "stopped" }, "ebreak pc=000000000001000c", true], // which a later line has ended
-];
-
-test("a machine's condition follows from its state and its last stop", () => {
-  for (const [condition, state, stop, isStarted] of CONDITIONS) assert.equal(conditionOf({ state, stop }, isStarted), condition);
-});
 
 /** A key that is pressed with others held: C for Ctrl, A for Alt, S for Shift, M for Meta. */
 const press = (key, code = key, held = "") =>

@@ -1,7 +1,7 @@
 // Vector types, numbers, places of rows and lines, edits and links: values worked out by hand from the RISC-V manuals.
 import assert from "node:assert/strict";
 import { test } from "node:test";
-import { lineOf, nameOf, titleOf } from "../../../vecmon_lab/page/edits.js";
+import { titleOf } from "../../../vecmon_lab/page/edits.js";
 import { isLink, languageOf, linkOf, sourceOf, suffixOf } from "../../../vecmon_lab/page/links.js";
 import { inOrder, placesOf } from "../../../vecmon_lab/page/rows.js";
 import { lineBegins, startOf, stoppedLines } from "../../../vecmon_lab/page/source_lines.js";
@@ -53,34 +53,8 @@ test("an instruction belongs to the line that starts last before it", () => {
   assert.deepEqual(stoppedLines({ 3: ["10000", "10010"], 4: ["10008"] }, ["10010"]), [3]);
 });
 
-const element = (register, bits, index, form) => ({ of: "element", register, bits, index, form });
-const V = { 1: "00112233445566778899aabbccddeeff".repeat(2) };
-
-test("an edit becomes the line that writes a value", () => {
-  assert.deepEqual(lineOf({ of: "pc" }, "10004", false, V), { line: "setpc 10004" });
-  assert.deepEqual(lineOf({ of: "bytes", address: "20002" }, "0aff", false, V), { line: "poke 20002 0aff" });
-  assert.deepEqual(lineOf({ of: "scalar", register: 10 }, "1F", false, V), { line: "set x10 1f" });
-  assert.deepEqual(lineOf({ of: "scalar", register: 10 }, "-2", true, V), { line: "set x10 fffffffffffffffe" });
-  const bytes = { "32 1 hexadecimal": ["89abcdef", "00112233efcdab898899"], "8 0 signed": ["-2", "fe112233445566778899"] };
-  for (const [form, [text, start]] of Object.entries({ ...bytes, "1 8 mask": ["0", "00102233445566778899"] })) {
-    const [bits, index, shown] = form.split(" ");
-    const line = `vset v1 ${start}${V[1].slice(20)}`;
-    assert.deepEqual(lineOf(element(1, Number(bits), Number(index), shown), text, false, V), { line });
-  }
-});
-
-test("a value that doesn't fit is refused", () => {
-  for (const [edit, text] of [[element(1, 8, 0, "unsigned"), "256"], [element(1, 8, 0, "signed"), "-129"], [element(1, 1, 0, "mask"), "2"],
-    [element(1, 16, 0, "hexadecimal"), "12345"], [{ of: "scalar", register: 5 }, "0x5"], [{ of: "scalar", register: 5 }, ""]]) {
-    assert.equal(lineOf(edit, text, false, V).line, undefined);
-    assert.match(lineOf(edit, text, false, V).error, new RegExp(`^\`${text}\` isn't a .* number of \\d+ bits: nothing was sent.$`));
-  }
-});
-
-test("an edit has the name of its line, and a title", () => {
-  const edits = [{ of: "breakpoint", address: "10008" }, { of: "pc" }, element(1, 32, 3, "hexadecimal")];
-  assert.deepEqual(edits.map(nameOf), ["break 10008", "setpc", "vset v1 32 3 hexadecimal"]);
-  assert.equal(titleOf(edits[2]), "vset v1 element 3");
+test("an edit has a title", () => {
+  assert.deepEqual(["setpc", "poke 20002", "vset v1 32 3 hexadecimal"].map(titleOf), ["setpc", "poke 20002", "vset v1 element 3"]);
 });
 
 /** A list of languages, as far as it is read. */
