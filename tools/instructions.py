@@ -6,6 +6,7 @@ The page begins with what each instruction does, by the lab's records (`support/
 names, the legality, which is read from the definitions, and the section of the manual, which the records have. That a formula is one that the instruction's own line of a step rests on is seen too. The elements that
 the lab has for each vector operation (`body_of`, `elements_of`) are compared with `elements/Bodies` of the definitions. The operands,
 scalar registers and accesses that the lab has for each instruction are compared with the operands in the list.
+First it prints each place that lacks an instruction (`instruction_places.py`).
 It prints what isn't so, and then the status is 1. With `write` it writes the page.
 """
 
@@ -20,8 +21,10 @@ from pathlib import Path
 import definitions as counted
 
 sys.path[:0] = ["lab"]
+from instruction_places import missing
 from support.elements import elements_of
 from support.instruction_page import records_text
+from vecmon_lab import LabError
 from vecmon_lab.guest import changes
 from vecmon_lab.instructions.accesses import REGISTER_BITS, active_spans, base_address, body_of, vector_instruction
 from vecmon_lab.instructions.table import Row, instruction_table
@@ -186,7 +189,7 @@ def cells_of(name: str) -> list[str]:
     variants = variants_of(name)
     found = [formula for names, formula in rules() if names.fullmatch(name)]
     if len(found) != 1 or found[0] not in rests_on(variants):
-        sys.exit(f"{name} has these lines of {RULES}, and its step rests on none of the formulas: {found}")
+        sys.exit(f"{RULES}: {name} needs one line, with a formula that its step rests on; it has {found or 'none'}")
     legal = ", ".join(f"`{it}`" for it in legality(variants))
     return [f"`{formula_of(found[0], variants)}`", legal, record_of(name).section]
 
@@ -306,8 +309,14 @@ def list_in(output: str) -> str:
 
 
 def main() -> int:
+    lacking = missing()
+    for line in lacking:
+        print(line)
     printed = list_in(PRINTED.read_text(encoding="latin-1"))
-    actual = with_rules(printed)
+    try:
+        actual = with_rules(printed)
+    except LabError as error:
+        sys.exit(f"{PAGE} can't be made: {error}")
     if sys.argv[1:] == ["write"]:
         PAGE.write_text(actual, encoding="ascii")
     page = PAGE.read_text(encoding="ascii")
@@ -320,7 +329,7 @@ def main() -> int:
     different = [*elements_differ(printed), *operands_differ()]
     for line in different:
         print(line)
-    return 1 if unused or different or page != actual else 0
+    return 1 if lacking or unused or different or page != actual else 0
 
 
 if __name__ == "__main__":

@@ -1,0 +1,112 @@
+"""The places that name each instruction, for `tools/instructions.py`.
+
+The names are those of the assembler's table, `crates/rv_model/src/assembler/mnemonics.rt`. `missing` lists the names that each place
+lacks, so that one run shows every place that a new instruction still needs (docs/ADDING.md, "An instruction").
+"""
+
+import lzma
+import re
+from collections.abc import Callable, Iterator, Set
+from pathlib import Path
+
+from vecmon_lab.instructions.table import instruction_table
+from vecmon_lab.instructions.words import OP_V, VECTOR_ACCESSES, NoInstruction, decode
+from vecmon_lab.meanings.describe import examples
+from vecmon_lab.meanings.record import Record, records
+
+MNEMONICS = Path("crates/rv_model/src/assembler/mnemonics.rt")
+MNEMONIC = re.compile(r'\*b"([a-z]\S*) *", .*\b(0x[0-9a-f_]+)\)')  # a name, and its word with all operands zero
+VSET = 7  # funct3 of the instructions that set the vector type
+WITHOUT_KERNEL = r"vset\w+|vmv[1248]r\.v"
+WITHOUT_GOLDEN_VECTORS = {"ecall"}
+
+Test = Callable[[str], bool]
+"""Whether a place has a mnemonic."""
+
+
+def words() -> dict[str, int]:
+    """The word of each mnemonic, with all operands zero."""
+    return {name: int(word.replace("_", ""), 16) for name, word in MNEMONIC.findall(MNEMONICS.read_text("utf-8"))}
+
+
+def text_of(*paths: str) -> str:
+    """The texts of files, one after another; a pattern names several."""
+    return "\n".join(path.read_bytes().decode("latin-1") for it in paths for path in sorted(Path().glob(it)))
+
+
+def family(name: str) -> str:
+    """A mnemonic up to its first dot."""
+    return name.partition(".")[0]
+
+
+def records_of(name: str, kinds: Set[str]) -> list[Record]:
+    """The records of these kinds whose pattern of names fits a mnemonic."""
+    return [it for it in records().values() if it.kind in kinds and re.fullmatch(it.names, name)]
+
+
+def has_operation(word: int) -> bool:
+    """Whether the lab's decoder has an instruction of this opcode, funct3 and funct6."""
+    try:
+        decode(word)
+    except NoInstruction as error:
+        return "There is no control register" in str(error)
+    return True
+
+
+def is_vector(word: int) -> bool:
+    """Whether a word is a vector instruction other than those that set the vector type."""
+    return word & 0x7F in (OP_V, *VECTOR_ACCESSES) and not (word & 0x7F == OP_V and word >> 12 & 7 == VSET)
+
+
+def golden_names() -> Set[str]:
+    """The mnemonics of the golden vectors."""
+    paths = Path("lab/tests/data/golden_vectors").glob("*.jsonl.xz")
+    return {
+        name
+        for path in paths
+        for name in re.findall(r'"name": ?"([^"]+)"', lzma.decompress(path.read_bytes()).decode())
+    }
+
+
+def places(encoded: dict[str, int]) -> Iterator[tuple[str, Test]]:
+    """Each place, as the change that a new mnemonic needs there, and whether it has a mnemonic."""
+    printed = {*re.findall(r"^\| `([a-z][^ `]*)", text_of("crates/test_assembler/stdout"), re.MULTILINE)}
+    spelled = {*re.findall(r"^[0-9a-f]{8} (\S+)", text_of("crates/test_assembler/data/spellings"), re.MULTILINE)}
+    stock = {*re.findall(r"^ +(\S+)", text_of("lab/tests/data/stock/instructions.s"), re.MULTILINE)}
+    sections = text_of("docs/COMMANDS.md").partition("\n### Instructions\n")[2].partition("\n### ")[0]
+    listed = {*re.findall(r"\bv\w+", sections)}
+    kernels = {*re.findall(r'"(v\w+)', text_of("crates/test_kernels/src/**/*.rt"))}
+    rules = [re.compile(line.split(",", 1)[1]) for line in text_of("docs/instructions.csv").split()[1:]]
+    golden = golden_names() | WITHOUT_GOLDEN_VECTORS
+    operations = {name for name, word in encoded.items() if word & 0x7F == OP_V}
+    yield (
+        "add it to the kernels of its family in crates/test_kernels/src",
+        lambda name: name not in operations or bool(re.fullmatch(WITHOUT_KERNEL, name)) or family(name) in kernels,
+    )
+    yield "add its row to the list in crates/test_assembler/stdout", printed.__contains__
+    yield "add words and texts to encodings and spellings in crates/test_assembler/data", spelled.__contains__
+    yield "add its row to operations.txt or words.txt in lab/vecmon_lab/tables", lambda name: has_operation(
+        encoded[name]
+    )
+    yield "run tools/pages, which adds it to lab/vecmon_lab/tables/instructions.txt", instruction_table().__contains__
+    yield "add its record to lab/vecmon_lab/tables/meanings", lambda name: len(records_of(name, {"instruction"})) == 1
+    yield "remove it from lab/vecmon_lab/tables/meanings/absent.toml", lambda name: not records_of(name, {"absent"})
+    yield (
+        "run `python3 -m support.meaning_examples` in lab, which adds its family to the table instruction_examples.txt",
+        lambda name: not is_vector(encoded[name])
+        or any(it.name in examples() for it in records_of(name, {"instruction"})),
+    )
+    yield "run lab/tools/stock_records.py, which adds it to lab/tests/data/stock/instructions.s", stock.__contains__
+    yield "add results of another machine to lab/tests/data/golden_vectors", golden.__contains__
+    yield "add it to one line of docs/instructions.csv", lambda name: sum(bool(it.fullmatch(name)) for it in rules) == 1
+    yield (
+        "add it to the table of the section Instructions in docs/COMMANDS.md",
+        lambda name: name not in operations or family(name) in listed,
+    )
+
+
+def missing() -> list[str]:
+    """A line for each place that lacks mnemonics, with up to eight of these; nothing if no place lacks one."""
+    encoded = words()
+    found = [(change, [name for name in encoded if not has(name)]) for change, has in places(encoded)]
+    return [f"{', '.join(names[:8])}{', ...' if names[8:] else ''}: {change}" for change, names in found if names]
