@@ -35,11 +35,12 @@ WIDTHS, GROUPS = ("e8", "e16", "e32", "e64"), ("mf8", "mf4", "mf2", "m1", "m2", 
 def instructions(draw: random.Random) -> str:
     """Each instruction once, with registers that its manual allows."""
     lines = ["# Each name of docs/INSTRUCTIONS.md, with drawn operands."]
-    for number, text in enumerate(re.findall(r"^\| `([^`]*)` \|", INSTRUCTIONS.read_text(), re.MULTILINE)):
+    texts = re.findall(r"^\| `([^`]*)` \| `[01 -]+` \|", INSTRUCTIONS.read_text(), re.MULTILINE)
+    for number, text in enumerate(texts):
         if number % 16 == 0:
             lines.append(f"label_{number // 16}:")
         lines.append(f"        {operands(draw, text, number // 16)}")
-    return "\n".join(lines) + "\nlabel_38:\n"
+    return "\n".join(lines) + f"\nlabel_{-(-len(texts) // 16)}:\n"
 
 
 def operands(draw: random.Random, text: str, block: int) -> str:

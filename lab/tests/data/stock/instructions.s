@@ -18,10 +18,10 @@ label_0:
         lhu x31, -10(a0)
 label_1:
         lwu a7, -9(s4)
-        sb t6, 0x6c0(t6)
-        sh a1, 0x4da(a7)
-        sw t5, 0x64b(sp)
-        sd t4, 0x3e2(s8)
+        sb t6, 11(t6)
+        sh a1, 3(a7)
+        sw t5, 9(sp)
+        sd t4, -1(s8)
         addi s9, a0, 7
         slti x31, s6, -11
         sltiu s11, t6, -10
