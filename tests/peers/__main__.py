@@ -4,7 +4,7 @@ import argparse
 import sys
 from collections.abc import Iterator
 
-from tests.peers import encodings, instructions, programs
+from tests.peers import digests, encodings, instructions, programs
 from tests.peers.tally import Tally
 from vecmon_lab.instructions.table import instruction_table
 
@@ -33,6 +33,7 @@ def tallies(arguments: argparse.Namespace) -> Iterator[Tally]:
     parts, seed = arguments.parts or PARTS, arguments.seed
     if "encodings" in parts:
         yield from encodings.compare(100, 300_000, seed)
+        yield digests.compare()
     if "programs" in parts:
         yield from programs.compare(200, 100, 100 + seed, 40)
         yield from programs.compare(60, 1000, seed, 10)

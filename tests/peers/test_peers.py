@@ -1,6 +1,7 @@
 """A sample of each comparison with other tools; and each of them finds one planted error."""
 
 import pathlib
+import re
 import shutil
 from collections.abc import Sequence
 from typing import Any
@@ -8,7 +9,7 @@ from typing import Any
 import pytest
 
 from support.skips import NO_BINUTILS, NO_LLVM, NO_QEMU, leave_out
-from tests.peers import encodings, instructions, programs
+from tests.peers import digests, encodings, instructions, programs
 from tests.peers.__main__ import parsed
 from tests.peers.tally import Tally
 from tests.peers.tools import GNU, LLVM_MC, gnu_assembled, gnu_disassembled, llvm_assembled, llvm_disassembled
@@ -103,6 +104,17 @@ def test_another_name_and_no_instruction_are_found() -> None:
     texts = ["vadd.vv v1,v2,v3", "vsub.vv v1,v2,v3", "", "addi x0,x0,0"]
     tally = encodings.compare_disassembler("objdump", lambda _: texts, words)
     assert (tally.agreeing, len(tally.differing)) == (1, 3)
+
+
+@pytest.mark.usefixtures("binutils", "llvm")
+def test_stored_names_of_random_words(tmp_path: pathlib.Path, monkeypatch: pytest.MonkeyPatch) -> None:
+    """The names of vector operations and fences; and a changed digit of a stored digest is found."""
+    check(digests.compare("57", "0f"), 2)
+    stored, changed = digests.STORED.read_bytes().decode("latin-1"), tmp_path / "stdout"
+    other = re.sub(r"(opcode 0f: .* names )(\w+)", lambda found: found[1] + other_digit(found[2]), stored)
+    changed.write_bytes(other.encode("latin-1"))
+    monkeypatch.setattr(digests, "STORED", changed)
+    assert [line.split(":")[0] for line in digests.compare("57", "0f").differing] == ["opcode 0f"]
 
 
 @pytest.mark.usefixtures("qemu")
