@@ -8,6 +8,7 @@ from tests.isolation.draws import Draws
 from tests.peers.encodings import FENCE, FENCE_IORW
 from tests.peers.tally import Tally
 from tests.peers.tools import gnu_disassembled, llvm_disassembled
+from vecmon_lab.instructions.table import instruction_table
 
 STORED = Path(__file__).parents[2] / "crates/test_assembler/stdout"
 _LINE = re.compile(r"^(?:opcode (\w\w)|any opcode): (\d+) words, (.*), 0 wrong$", re.MULTILINE)
@@ -23,14 +24,15 @@ def drawn() -> Iterator[tuple[str, list[int], str]]:
 
 
 def names_of(words: Sequence[int]) -> list[str]:
-    """The name of each word by `objdump`, else by `llvm-mc`, which knows more extensions; `.word` if there is none.
+    """The name of each word by `objdump`, else by `llvm-mc`, which knows more extensions; `.word` for other words.
 
-    All fences except `fence iorw, iorw` have the name `.word`.
+    All fences except `fence iorw, iorw` have the name `.word`, and so has a name that docs/INSTRUCTIONS.md doesn't list.
     """
     wide = [word for word in words if word & 3 == 3 and word & 0x1C != 0x1C]  # instructions of 32 bits
     texts = zip(wide, gnu_disassembled(wide), llvm_disassembled(wide), strict=True)
     named = {word: gnu or llvm for word, gnu, llvm in texts if word & 0x7F != FENCE or word == FENCE_IORW}
-    return [(named.get(word) or ".word").split()[0] for word in words]
+    names = ((named.get(word) or ".word").split()[0] for word in words)
+    return [name if name in instruction_table() else ".word" for name in names]
 
 
 def result_of(words: Sequence[int]) -> str:
