@@ -107,7 +107,7 @@ def test_wrong_formula_is_detected(by_name: dict[str, list[tuple[str, Vector]]],
             is_found = any(_finds(formula, *each) for each in vectors if each[1]["name"] in forms)
             is_found = is_found or record.name in BY_HAND and _result(record.name, formula) != NEGATIVE
             if not is_found and not any(
-                any(_drawn_differences(it, formula)) for it in _drawn(program, record.name, MANY)
+                any(_drawn_differences(it, formula)) for it in _drawn(program, record.members[0], MANY)
             ):
                 missed.append(f"{record.name}: {formula.text}")
             count += 1
