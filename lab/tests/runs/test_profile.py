@@ -88,6 +88,20 @@ def test_csv_file_has_rows(lab: Lab, program: pathlib.Path, tmp_path: pathlib.Pa
     assert rows[5] == ["10010", "", "", "addi x5, x5, -1", "20", "20", "", "", "", ""]
 
 
+@pytest.mark.by_command("profile")
+def test_names_of_an_image_control_no_terminal_and_no_spreadsheet(lab: Lab, tmp_path: pathlib.Path) -> None:
+    """A function is called `=`, ESC, `[2Jx`, and a source file ESC, `[1mc`."""
+    image = tmp_path / "image"
+    data = SUM_DWARF4.read_bytes().replace(b"\0_start\0", b"\0=\x1b[2Jx\0")
+    image.write_bytes(data.replace(b"sum.c\0", b"\x1b[1mc\0"))
+    status, output, errors = lab("profile", "-o", tmp_path / "page.html", image)
+    assert (status, errors) == (0, "") and b"=?[2Jx+0x44   ?[1mc:34-35" in output
+    with (tmp_path / "page.csv").open(newline="", encoding="utf-8") as file:
+        assert [*csv.reader(file)][1][1:3] == ["'=?[2Jx", "?[1mc:30"]
+    written = [output.decode(), *((tmp_path / name).read_text("utf-8") for name in ("page.html", "page.csv"))]
+    assert not any("\x1b" in text or "u001b" in text for text in written)
+
+
 CALLS = f"""
 # Twice a function of 3 + 4 x 2 instructions, of which the loop has 8, and once one that calls it 3 times.
         jal ra, short

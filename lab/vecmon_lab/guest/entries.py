@@ -11,13 +11,18 @@ if TYPE_CHECKING:
 NAME_LETTERS, MAX_ORIGINS = 100, 8
 
 
+def printable(name: str) -> str:
+    """A name of an image, with `?` in place of characters that aren't printable, which could control a terminal."""
+    return name if name.isprintable() else "".join(letter if letter.isprintable() else "?" for letter in name)
+
+
 def name_of(entry: "DIE") -> str:
     """The name of a function or a variable, by where it was declared."""
     for _ in range(MAX_ORIGINS):
         if "DW_AT_name" not in entry.attributes and "DW_AT_abstract_origin" in entry.attributes:
             entry = entry.get_DIE_from_attribute("DW_AT_abstract_origin")
     name = entry.attributes.get("DW_AT_name")
-    return str(name.value, "utf-8", "replace")[:NAME_LETTERS] if name else ""
+    return printable(str(name.value, "utf-8", "replace")[:NAME_LETTERS]) if name else ""
 
 
 def ranges_of(debug: "DWARFInfo", unit: "CompileUnit", entry: "DIE") -> Iterator[tuple[int, int]]:

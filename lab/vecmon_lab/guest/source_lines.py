@@ -10,7 +10,7 @@ import pathlib
 from collections.abc import Callable, Collection, Iterable, Iterator, Mapping, Sequence
 from typing import TYPE_CHECKING, NamedTuple, TypeVar
 
-from .entries import entry_at, first_of, name_of, ranges_of
+from .entries import entry_at, first_of, name_of, printable, ranges_of
 from .jumps import Code, Ranges
 
 if TYPE_CHECKING:
@@ -225,7 +225,8 @@ def _file_names(debug: "DWARFInfo", unit: "CompileUnit") -> dict[int, str]:
     program = debug.line_program_for_CU(unit)
     if program is None:
         return {}
-    names = (pathlib.PurePath(entry.name.decode("utf-8", "replace")).name for entry in program["file_entry"])
+    paths = (entry.name.decode("utf-8", "replace") for entry in program["file_entry"])
+    names = (printable(pathlib.PurePath(path).name) for path in paths)
     return dict(enumerate(names, 0 if program.header["version"] >= 5 else 1))
 
 

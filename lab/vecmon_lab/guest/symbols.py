@@ -7,6 +7,7 @@ from collections.abc import Collection, Iterator, Mapping, Sequence
 from dataclasses import dataclass, field
 from typing import TYPE_CHECKING
 
+from .entries import printable
 from .source_lines import SourceLines
 
 if TYPE_CHECKING:
@@ -108,4 +109,4 @@ def _symbols(elf: "ELFFile") -> Iterator[tuple[int, int, int, str, int]]:
             rank = 3 * (kind != "STT_NOTYPE") + (BINDINGS.index(bind) if bind in BINDINGS else 0)
             start, end = bounds.get(index, (0, 0))
             end = end if start <= symbol["st_value"] < end else 0
-            yield symbol["st_value"], rank, end, symbol.name, symbol["st_size"]
+            yield symbol["st_value"], rank, end, printable(symbol.name), symbol["st_size"]

@@ -10,7 +10,7 @@ from .. import LabError
 from ..arguments import add_image, check_outputs, image_path
 from ..guest.symbols import Symbols
 from ..page.texts import page_text
-from ..tables.table import table_lines
+from ..tables.table import spreadsheet_row, table_lines
 from .counts import Counts
 from .profile_page import profile_page
 from .tick_profile import ELEMENTS, TickProfile, Table, TableRow, compared, elements_row, share
@@ -48,7 +48,7 @@ def run(arguments: argparse.Namespace) -> int:
     print("\n".join([*lines, *table_lines([HEAD, *rows], 4), "", *_histogram(counts), "", *summary]))
     if page:
         with page.with_suffix(".csv").open("w", newline="", encoding="utf-8") as file:
-            csv.writer(file).writerows([HEAD, *rows])
+            csv.writer(file).writerows(map(spreadsheet_row, [HEAD, *rows]))
         lengths = [(kind, vl, times) for (kind, vl), times in sorted(counts.lengths.items())]
         title, frames = page_text("profile.page", image=image.name), ticks_spent.callers.frames()
         page.write_text(profile_page(title, summary, tables, lengths, frames, rows), "utf-8")
