@@ -98,7 +98,7 @@ async def test_name_is_sent_to_seat_and_teacher_only(tmp_path: pathlib.Path) -> 
         assert json.loads((folder / "names.json").read_text()) == {"A3": NAME, "B8": "Bo"}
         status, data = await room.get("seats.csv")
         rows = list(csv.reader(io.StringIO(data.decode("utf-8-sig"))))
-        assert status == 200 and len(rows) == 17 and rows[3][:4] == ["A3", NAME, "stopped", "at jal x0, -4"]
+        assert status == 200 and len(rows) == 17 and rows[3][:4] == ["A3", NAME, "stopped", "paused: jal"]
         assert rows[16][:3] == ["B8", "Bo", "absent"] and rows[4][:2] == ["A4", ""]
         assert [(await room.get("seats.csv", role))[0] for role in ("A3", "wall", None)] == [404] * 3
         packed = zipfile.ZipFile(io.BytesIO((await room.get("A3/home", "A3"))[1]))

@@ -40,26 +40,29 @@ async def test_seat_status_follows_program(tmp_path: pathlib.Path) -> None:
             expected = (dict(kind=kind, text=text, **parts), is_stuck)
             await teacher.until(lambda view: (seat(teacher, "1")["status"], seat(teacher, "1")["stuck"]) == expected)
 
-        assert (seat(teacher, "2")["status"], seat(teacher, "2")["stuck"]) == ({"kind": "none", "text": ""}, False)
+        assert (seat(teacher, "2")["status"], seat(teacher, "2")["stuck"]) == (
+            {"kind": "none", "text": "not begun"},
+            False,
+        )
         assert started <= seat(teacher, "2")["since"] <= time.time()
         await tab.ask("source", text="frob x1, x2\nadd x1, x2")
         await until("problems", "2 mistakes in the source", True, count=2)
         await tab.ask("source", text=FAULT)
-        await until("paused", "at vsetivli x0, 8, e32, m1, ta, ma", False, instruction="vsetivli")
+        await until("paused", "paused: vsetivli", False, instruction="vsetivli")
         await tab.do("step 9")
-        await until("fault", "fault at element 5 of vle32.v", True, instruction="vle32.v", element=5)
+        await until("fault", "fault: vle32.v, element 5", True, instruction="vle32.v", element=5)
         assert tab.view["state"]["vstart"] == 5
         since = seat(teacher, "1")["since"]
         await tab.do("set x11 1")
-        await until("fault", "fault at element 5 of vle32.v", True, instruction="vle32.v", element=5)
+        await until("fault", "fault: vle32.v, element 5", True, instruction="vle32.v", element=5)
         assert seat(teacher, "1")["since"] == since
         await tab.do("leave", *LOOP)
-        await until("paused", "at addi x5, x5, 1", False, instruction="addi")
+        await until("paused", "paused: addi", False, instruction="addi")
         await tab.do("break 10004", "go", slices=1)
         await until("breakpoint", "at a breakpoint", False, instruction="jal")
         await tab.do("go")
         await teacher.until(lambda view: seat(teacher, "1")["run"] == "running")
-        await until("running", "", False)
+        await until("running", "running", False)
 
 
 async def test_long_run_without_stop_is_shown(tmp_path: pathlib.Path, monkeypatch: pytest.MonkeyPatch) -> None:
@@ -69,31 +72,31 @@ async def test_long_run_without_stop_is_shown(tmp_path: pathlib.Path, monkeypatc
         await teacher.ask("clock", machine="A", on=True, slices=100, ms=10, limit=200_000)
         await tab.do(*LOOP, "go")
         await teacher.until(lambda view: seat(teacher, "1")["stuck"])
-        text = "stopped, since it ran for 200,000 ticks without a stop"
-        assert seat(teacher, "1")["status"] == {"kind": "limit", "text": text}
+        assert seat(teacher, "1")["status"] == {"kind": "limit", "text": "stopped at the limit"}
 
 
 @pytest.mark.parametrize(
     "last, expected",
     [
-        ("", {"kind": "paused", "text": "at vse32.v v8, (x10)", "instruction": "vse32.v"}),
-        ("break pc=0000000000010008", {"kind": "paused", "text": "at vse32.v v8, (x10)", "instruction": "vse32.v"}),
-        ("ebreak pc=0000000000010004", {"kind": "ebreak", "text": "at an ebreak", "instruction": "vse32.v"}),
+        ("", {"kind": "paused", "text": "paused: vse32.v", "instruction": "vse32.v"}),
+        ("break pc=0000000000010008", {"kind": "paused", "text": "paused: vse32.v", "instruction": "vse32.v"}),
+        ("ebreak pc=0000000000010004", {"kind": "ebreak", "text": "ended", "instruction": "vse32.v"}),
         (
             "outfull pc=0000000000010004",
-            {"kind": "output", "text": "waits, since its output is full", "instruction": "vse32.v"},
+            {"kind": "output", "text": "waits: its output is full", "instruction": "vse32.v"},
         ),
+        ("exit 0 pc=0000000000010004", {"kind": "ended", "text": "ended", "exit": 0, "instruction": "vse32.v"}),
         (
             "exit 3 pc=0000000000010004",
             {"kind": "ended", "text": "ended with status 3", "exit": 3, "instruction": "vse32.v"},
         ),
         (
             "fault cause=7 pc=0000000000010004 value=0000000000030000",
-            {"kind": "fault", "text": "fault at element 6 of vse32.v", "instruction": "vse32.v", "element": 6},
+            {"kind": "fault", "text": "fault: vse32.v, element 6", "instruction": "vse32.v", "element": 6},
         ),
         (
             "fault cause=2 pc=0000000000010004 value=000000000205640a",
-            {"kind": "fault", "text": "illegal instruction vse32.v v8, (x10)", "instruction": "vse32.v"},
+            {"kind": "fault", "text": "fault: vse32.v", "instruction": "vse32.v"},
         ),
     ],
 )
@@ -111,12 +114,12 @@ async def test_status_of_stops(last: str, expected: Message) -> None:
 
 async def test_unknown_instruction_has_no_name() -> None:
     state: State = {"run": "stopped", "pc": "10004", "vtype": "d0", "vstart": 0, "code": {}}
-    assert status_of(state, "") == {"kind": "paused", "text": "at 10004"}
+    assert status_of(state, "") == {"kind": "paused", "text": "paused"}
     assert status_of(state, "fault cause=1 pc=0000000000010004 value=0000000000010004") == {
         "kind": "fault",
-        "text": "no instruction at 0x10004",
+        "text": "fault",
     }
-    assert status_of({"run": "absent"}, "") == {"kind": "none", "text": ""}
+    assert status_of({"run": "absent"}, "") == {"kind": "none", "text": "not begun"}
 
 
 async def test_requests_and_open_exercise_have_times(tmp_path: pathlib.Path) -> None:
@@ -165,3 +168,12 @@ async def test_class_title_is_one_line() -> None:
     for other in ("", "a\nb", 81 * "a"):
         with pytest.raises(SystemExit, match="2"):
             arguments_of(["class", "monday", "--title", other])
+
+
+async def test_used_share_is_reported_from_90_percent(tmp_path: pathlib.Path) -> None:
+    async with served(tmp_path / "class") as room:
+        assert room.members
+        student = room.members.students["A1"]
+        for used, sentence in [(1_349_999, ""), (1_350_000, "90 % of the script's room is used up.")]:
+            student.seat.used = used
+            assert room.members.student_view(student)["trouble"] == sentence

@@ -10,7 +10,7 @@ import pytest
 from support.images import MARCH
 from support.machine_cases import machine_says, random_case, view_of
 from support.places import DOCS
-from vecmon_lab.instructions.reasons import brief_stop, describe_stop, illegal_reasons
+from vecmon_lab.instructions.reasons import describe_stop, illegal_reasons
 from vecmon_lab.instructions.words import CONTROL_REGISTERS
 from vecmon_lab.machine.answers import ControlRegisters, Position, Stop, read
 
@@ -359,28 +359,6 @@ def test_vector_access_fault_names_element() -> None:
     stop = position_of("1 fault cause=5 pc=0000000000010008 value=0000000000020000")
     assert describe_stop(stop, 0x02056407, view(32, "m2", 5)).endswith("no permission r. It stopped at element 5.")
     assert describe_stop(stop, 0x00053283, view(32, "m2", 5)).endswith("no permission r.")
-
-
-@pytest.mark.parametrize(
-    "stop, word, text, arguments",
-    [
-        ("break", 0x13, "addi x0, x0, 0", "at a breakpoint"),
-        ("ebreak", 0x00100073, "ebreak", "at an ebreak"),
-        ("exit 3", 0x73, "ecall", "ended with status 3"),
-        ("outfull", 0x73, "ecall", "waits, since its output is full"),
-        ("fault cause=0", 0x0020006F, "jal x0, 2", "fault at jal"),
-        ("fault cause=1", None, "", "no instruction at 0x10008"),
-        ("fault cause=2", 0x022200D7, "vadd.vv v1, v2, v4", "illegal instruction vadd.vv v1, v2, v4"),
-        ("fault cause=2", None, "", "illegal instruction 0x00020000"),
-        ("fault cause=5", 0x02056407, "vle32.v v8, (x10)", "fault at element 5 of vle32.v"),
-        ("fault cause=7", 0x02056427, "vse32.v v8, (x10)", "fault at element 5 of vse32.v"),
-        ("fault cause=5", 0x00053283, "ld x5, 0(x10)", "fault at ld"),
-        ("fault cause=7", None, "", "fault at 0x10008"),
-    ],
-)
-def test_stop_is_described_briefly(stop: str, word: int | None, text: str, arguments: str) -> None:
-    value = " value=0000000000020000" if stop.startswith("fault") else ""
-    assert brief_stop(position_of(f"1 {stop} pc=0000000000010008{value}"), word, view(32, "m2", 5), text) == arguments
 
 
 @pytest.mark.parametrize("line", ["", "1 ok", "1 E07", "1 out 0", "1 fault cause=3 pc=0000000000010008", "* granted 1"])

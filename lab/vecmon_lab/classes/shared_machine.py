@@ -25,7 +25,7 @@ from .last_run import Run, run_at, state_before
 from .live import server_line, with_output
 from .moved_breakpoints import moved_breakpoints
 from .requests import BadRequest, Lines
-from .seat_status import limit_status
+from .seat_status import LIMIT_STATUS
 from .seats import Done, Seat, Seats, may_change
 
 SEAT_BYTES = 1_500_000  # of a seat's lines in the script: eight leave 3,000,000 to the operator and the clock
@@ -234,7 +234,7 @@ class SharedMachine:
         """
         yield Turn(partial(self._show, seat, not why))
         if why and seat.state["run"] == "stopped":
-            seat.set_status(limit_status(why))
+            seat.set_status(LIMIT_STATUS)
             seat.add_log_entry(f"!The {stopped_by} stopped the program, since {why}. go lets it run on.")
 
     def has_run_long(self, seat: Seat, limit: int) -> str:

@@ -134,18 +134,6 @@ def describe_stop(
     return sentence
 
 
-_BRIEF = dict(read_table("brief_stops"))
-
-
-def brief_stop(where: ProgramState, word: int | None, view: ControlRegisters, text: str) -> str:
-    """A stop in a few words, from what `describe_stop` is given."""
-    name = text.partition(" ")[0] or f"{where.pc:#x}"
-    if has_elements(where, word):
-        name = f"element {view.vstart} of {name}"
-    form = _BRIEF.get(where.what, "fault at {name}")
-    return form.format(number=where.number, pc=f"{where.pc:#x}", name=name, text=text or f"{where.value:#010x}")
-
-
 def has_elements(where: ProgramState, word: int | None) -> bool:
     """Whether it is a fault of a vector access, which the word is."""
     return where.cause in (5, 7) and word is not None and word & 0x7F in VECTOR_ACCESSES

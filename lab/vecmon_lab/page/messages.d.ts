@@ -602,7 +602,7 @@ export interface SeatResult {
  * kind: `none` without a program; `problems`: of the last source, which isn't in the machine; `paused` before an instruction;
  *     `breakpoint`, `ebreak`, `ended`, `fault`: its last stop; `output`: it waits, since its output is full; `limit`: the server
  *     stopped it, since it ran too long, or nobody looked at it
- * text: the same in a few words; "" for `none` and `running`
+ * text: the same in a few words
  * count: of problems; exit: the status with which the program ended
  * instruction: the mnemonic of the instruction at the program counter, if it is known
  * element: at which a vector access has its fault

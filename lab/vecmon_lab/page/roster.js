@@ -10,13 +10,9 @@ import { textOf } from "./texts.js";
 const FIRST_EXERCISE = 4; // its column, from 0 on
 const AGES_EVERY = 5000; // ms
 const GROUPS = ["hand", "help", "work", "waits", "free"]; // of seats, from above
-/** @type {Record<SeatStatus["kind"], [sign: string, words: string]>} */
-const STATUSES = {
-  none: ["", textOf("status.not-begun")], running: ["▶", textOf("status.running")],
-  paused: ["•", textOf("status.paused")], breakpoint: ["•", textOf("status.breakpoint")],
-  problems: ["⊗", textOf("status.some-problems")], fault: ["↯", textOf("status.fault")],
-  limit: ["↻", textOf("status.limit")], output: ["…", textOf("status.output")],
-  ebreak: ["✓", textOf("status.ended")], ended: ["✓", textOf("status.ended")],
+/** @type {Record<SeatStatus["kind"], string>} */
+const SIGNS = {
+  none: "", running: "▶", paused: "•", breakpoint: "•", problems: "⊗", fault: "↯", limit: "↻", output: "…", ebreak: "✓", ended: "✓",
 };
 
 /** For how long, in words, of seconds. */
@@ -29,15 +25,10 @@ export function forHow(/** @type {number} */ seconds) {
 
 /** The status of a seat as a sign and in words, as `fault: vle32.v, element 0`. */
 /** @type {(seat: SeatView) => [sign: string, words: string]} */
-export function statusOf({ tabs, hand, status: { kind, count, exit, instruction, element } }) {
+export function statusOf({ tabs, hand, status: { kind, count, text } }) {
   if (hand) return ["☝", hand.text ? textOf("status.hand-text", { text: hand.text }) : textOf("status.hand")];
-  const [sign, words] = STATUSES[kind];
-  if (kind === "none") return [sign, tabs ? words : textOf("status.not-here")];
-  if (count !== undefined) return [sign, textOf("status.problems", { count })];
-  const isNamed = kind === "fault" || kind === "paused";
-  const number = element !== undefined && textOf("status.element", { element });
-  const place = [isNamed && instruction, number, exit && textOf("status.exit", { exit })];
-  return [sign, [words, place.filter(Boolean).join(", ")].filter(Boolean).join(isNamed ? ": " : " ")];
+  if (kind === "none" && !tabs) return ["", textOf("status.not-here")];
+  return [SIGNS[kind], count === undefined ? text : textOf("status.problems", { count })];
 }
 
 /** Since when a seat waits for help or has its status, in seconds since 1970. */
@@ -132,9 +123,7 @@ export class Roster {
     this.sort();
   }
 
-  age() {
-    for (const row of this.rows) put(row.minutes, row.group < 3 ? forHow(this.teacher.now() - waitOf(row.told)) : "");
-  }
+  age = () => this.rows.forEach(({ group, told, minutes }) => put(minutes, group < 3 ? forHow(this.teacher.now() - waitOf(told)) : ""));
 
   /** The rows of those who need help. */
   get waiting() { return this.rows.filter(({ group }) => group < 2); }

@@ -506,7 +506,6 @@ export interface Places {
   "status.running": never;
   "status.paused": never;
   "status.breakpoint": never;
-  "status.some-problems": never;
   "status.problems": "count";
   "status.fault": never;
   "status.limit": never;
