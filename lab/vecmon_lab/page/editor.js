@@ -4,7 +4,6 @@ import { ASSEMBLER, namesAt } from "./asm_mode.js";
 import { CodeMirror } from "./codemirror.js";
 import { elementsIn, make } from "./elements.js";
 import { LineMarks } from "./line_marks.js";
-import { TINTS } from "./source_lines.js";
 import { textOf } from "./texts.js";
 
 export const MARGIN = 60; // px around a line that is scrolled into sight
@@ -52,8 +51,6 @@ export class Editor {
     const ariaReadOnly = field.readOnly ? "true" : null;
     Object.assign(this.code.getInputField(), { role: "textbox", ariaMultiLine: "true", ariaReadOnly });
     this.machineMarks = new LineMarks(this.code);
-    this.tints = new LineMarks(this.code);
-    this.links = new LineMarks(this.code);
     this.languages.set(this.code.changeGeneration(), this.source.language);
     this.listen();
   }
@@ -196,25 +193,6 @@ export class Editor {
         this.machineMarks.sign(line, "marks", make("span", "", ...breakpoint(line), ...arrow(line)));
     });
     this.bringIntoSight();
-  }
-
-  /** Gives lines grounds in turn, in place of those before. */
-  tint(/** @type {number[]} */ lines) {
-    this.code.operation(() => {
-      this.tints.clear();
-      for (const line of lines) this.tints.style(line, `tint-${line % TINTS}`);
-    });
-  }
-
-  /** Marks the line whose instructions are marked; 0 for none. */
-  link(/** @type {number} */ line) {
-    this.links.clear();
-    this.links.style(line, "linked");
-  }
-
-  /** The number of the line at a height of the window, in pixels. */
-  lineAt(/** @type {number} */ height) {
-    return this.code.lineAtHeight(height, "window") + 1;
   }
 
   bringIntoSight() {

@@ -2,6 +2,8 @@
 // the caret is marked with its instructions.
 
 import { elementsIn, part } from "./elements.js";
+import { LineMarks } from "./line_marks.js";
+import { TINTS } from "./source_lines.js";
 
 /** @typedef {import("./source_lines.js").Starts} Starts */
 
@@ -10,14 +12,16 @@ export class LineLinks {
   line = 0; // that is marked
 
   /** @param {HTMLElement} root of a machine @param {import("./editor.js").Editor} editor */
-  constructor(root, editor) {
+  constructor(root, { box: source, code }) {
     this.program = part(root, "program");
     this.listing = part(root, "listing");
-    this.editor = editor;
+    this.code = code;
+    this.tints = new LineMarks(code);
+    this.marked = new LineMarks(code);
     const rowOf = (/** @type {Event} */ { target }) => /** @type {HTMLElement | null} */ (/** @type {Element} */ (target).closest("tr"));
     this.listing.addEventListener("mouseover", (event) => this.mark(Number(rowOf(event)?.dataset.line)));
-    editor.box.addEventListener("mousemove", ({ clientY }) => this.mark(editor.lineAt(clientY)));
-    for (const box of [this.listing, editor.box]) box.addEventListener("mouseleave", () => this.mark(editor.caretLine));
+    source.addEventListener("mousemove", ({ clientY }) => this.mark(code.lineAtHeight(clientY, "window") + 1));
+    for (const box of [this.listing, source]) box.addEventListener("mouseleave", () => this.mark(code.getCursor().line + 1));
   }
 
   /** Shows a state's rows, which are made anew; starts: undefined unless a compiled program is that of the editor's source. */
@@ -26,7 +30,7 @@ export class LineLinks {
     this.starts = starts;
     if (isOther) {
       this.program.classList.toggle("both", starts !== undefined);
-      this.editor.tint([...new Set(Object.values(starts ?? {}))].filter(Boolean));
+      this.code.operation(() => this.tint());
     }
     this.mark(isOther ? 0 : this.line, true);
   }
@@ -36,6 +40,13 @@ export class LineLinks {
     if (line === this.line && !isNew) return;
     this.line = line;
     for (const row of elementsIn(this.listing, "tr")) row.classList.toggle("linked", Number(row.dataset.line) === line);
-    this.editor.link(Object.values(this.starts ?? {}).includes(line) ? line : 0);
+    this.marked.clear();
+    if (Object.values(this.starts ?? {}).includes(line)) this.marked.style(line, "linked");
+  }
+
+  /** Gives the lines that have instructions their tints, in place of those before. */
+  tint() {
+    this.tints.clear();
+    for (const line of new Set(Object.values(this.starts ?? {}))) this.tints.style(line, `tint-${line % TINTS}`);
   }
 }
