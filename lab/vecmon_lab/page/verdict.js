@@ -12,9 +12,7 @@ const RESULTS = { passes: ` ${textOf("cases.passes")}`, fails: ` ${textOf("cases
 const [GIVEN, EXPECTED] = [textOf("cases.given"), textOf("cases.expected")];
 /** @type {Record<NonNullable<import("./messages").CheckResult["cause"]>, string>} */
 const CAUSES = {
-  "left as it was": textOf("verdict.cause.left"),
-  "masked off": textOf("verdict.cause.masked"),
-  tail: textOf("verdict.cause.tail"),
+  "left as it was": textOf("verdict.cause.left"), "masked off": textOf("verdict.cause.masked"), tail: textOf("verdict.cause.tail"),
 };
 
 /** At most some numbers of a row, each in a box; the wrong ones are marked. After them is the number of those not shown. */
