@@ -32,14 +32,14 @@ SCALARS += "s2 s3 s4 s5 s6 s7 s8 s9 s10 s11 t3 t4 t5 t6 x0 x5 x31".split()
 WIDTHS, GROUPS = ("e8", "e16", "e32", "e64"), ("mf8", "mf4", "mf2", "m1", "m2", "m4", "m8")
 
 
-def instructions(draw: random.Random) -> str:
-    """Each instruction once, with registers that its manual allows."""
+def instructions() -> str:
+    """Each instruction once, with registers that its manual allows. Its operands depend on its text alone."""
     lines = ["# Each name of docs/INSTRUCTIONS.md, with drawn operands."]
     texts = re.findall(r"^\| `([^`]*)` \| `[01 -]+` \|", INSTRUCTIONS.read_text(), re.MULTILINE)
     for number, text in enumerate(texts):
         if number % 16 == 0:
             lines.append(f"label_{number // 16}:")
-        lines.append(f"        {operands(draw, text, number // 16)}")
+        lines.append(f"        {operands(random.Random(text), text, number // 16)}")
     return "\n".join(lines) + f"\nlabel_{-(-len(texts) // 16)}:\n"
 
 
@@ -111,9 +111,8 @@ def record(source: pathlib.Path, folder: pathlib.Path) -> str:
 
 def main() -> None:
     """Writes the generated sources and all records."""
-    draw = random.Random(1)
-    (HERE / "instructions.s").write_text(instructions(draw))
-    (HERE / "constants.s").write_text(constants(draw))
+    (HERE / "instructions.s").write_text(instructions())
+    (HERE / "constants.s").write_text(constants(random.Random(1)))
     with tempfile.TemporaryDirectory() as folder:
         for source in sorted(HERE.glob("*.s")):
             source.with_suffix(".recorded").write_text(record(source, pathlib.Path(folder)))
