@@ -6,7 +6,8 @@ lacks, so that one run shows every place that a new instruction still needs (doc
 
 import lzma
 import re
-from collections.abc import Callable, Iterator, Set
+from collections.abc import Iterable, Iterator, Set
+from itertools import chain
 from pathlib import Path
 
 from vecmon_lab.instructions.table import instruction_table
@@ -20,8 +21,8 @@ VSET = 7  # funct3 of the instructions that set the vector type
 WITHOUT_KERNEL = r"vset\w+|vmv[1248]r\.v"
 WITHOUT_GOLDEN_VECTORS = {"ecall"}
 
-Test = Callable[[str], bool]
-"""Whether a place has a mnemonic."""
+Place = tuple[str, Set[str]]
+"""The change that a new mnemonic needs at a place, and the mnemonics that the place has."""
 
 
 def words() -> dict[str, int]:
@@ -68,45 +69,59 @@ def golden_names() -> Set[str]:
     }
 
 
-def places(encoded: dict[str, int]) -> Iterator[tuple[str, Test]]:
-    """Each place, as the change that a new mnemonic needs there, and whether it has a mnemonic."""
-    printed = {*re.findall(r"^\| `([a-z][^ `]*)", text_of("crates/test_assembler/stdout"), re.MULTILINE)}
-    spelled = {*re.findall(r"^[0-9a-f]{8} (\S+)", text_of("crates/test_assembler/data/spellings"), re.MULTILINE)}
-    stock = {*re.findall(r"^ +(\S+)", text_of("lab/tests/data/stock/instructions.s"), re.MULTILINE)}
-    sections = text_of("docs/COMMANDS.md").partition("\n### Instructions\n")[2].partition("\n### ")[0]
-    listed = {*re.findall(r"\bv\w+", sections)}
-    kernels = {*re.findall(r'"(v\w+)', text_of("crates/test_kernels/src/**/*.rt"))}
-    rules = [re.compile(line.split(",", 1)[1]) for line in text_of("docs/instructions.csv").split()[1:]]
-    golden = golden_names() | WITHOUT_GOLDEN_VECTORS
-    operations = {name for name, word in encoded.items() if word & 0x7F == OP_V}
-    yield (
-        "add it to the kernels of its family in crates/test_kernels/src",
-        lambda name: name not in operations or bool(re.fullmatch(WITHOUT_KERNEL, name)) or family(name) in kernels,
-    )
-    yield "add its row to the list in crates/test_assembler/stdout", printed.__contains__
-    yield "add words and texts to encodings and spellings in crates/test_assembler/data", spelled.__contains__
-    yield "add its row to operations.txt or words.txt in lab/vecmon_lab/tables", lambda name: has_operation(
-        encoded[name]
-    )
-    yield "run tools/pages, which adds it to lab/vecmon_lab/tables/instructions.txt", instruction_table().__contains__
-    yield "add its record to lab/vecmon_lab/tables/meanings", lambda name: len(records_of(name, {"instruction"})) == 1
-    yield "remove it from lab/vecmon_lab/tables/meanings/absent.toml", lambda name: not records_of(name, {"absent"})
+def of_families(encoded: dict[str, int], families: Iterable[str]) -> Set[str]:
+    """The mnemonics of the major opcode OP-V whose families these are, and all mnemonics of other opcodes."""
+    found = {*families}
+    return {name for name, word in encoded.items() if word & 0x7F != OP_V or family(name) in found}
+
+
+def crate_places(encoded: dict[str, int]) -> Iterator[Place]:
+    """The places in tests of crates."""
+    without = {name for name in encoded if re.fullmatch(WITHOUT_KERNEL, name)}
+    kernels = of_families(encoded, re.findall(r'"(v\w+)', text_of("crates/test_kernels/src/**/*.rt")))
+    yield "add it to the kernels of its family in crates/test_kernels/src", without | kernels
+    rows = re.findall(r"^\| `([a-z][^ `]*)", text_of("crates/test_assembler/stdout"), re.MULTILINE)
+    yield "add its row to the list in crates/test_assembler/stdout", {*rows}
+    spelled = re.findall(r"^[0-9a-f]{8} (\S+)", text_of("crates/test_assembler/data/spellings"), re.MULTILINE)
+    yield "add words and texts to encodings and spellings in crates/test_assembler/data", {*spelled}
+
+
+def record_places(encoded: dict[str, int]) -> Iterator[Place]:
+    """The lab's records and their examples."""
+    recorded = {name: records_of(name, {"instruction"}) for name in encoded}
+    yield "add its record to lab/vecmon_lab/tables/meanings", {name for name in encoded if len(recorded[name]) == 1}
+    absent = {name for name in encoded if records_of(name, {"absent"})}
+    yield "remove it from lab/vecmon_lab/tables/meanings/absent.toml", encoded.keys() - absent
+    shown = {name for name, found in recorded.items() if any(it.name in examples() for it in found)}
     yield (
         "run `python3 -m support.meaning_examples` in lab, which adds its family to the table instruction_examples.txt",
-        lambda name: not is_vector(encoded[name])
-        or any(it.name in examples() for it in records_of(name, {"instruction"})),
+        shown | {name for name, word in encoded.items() if not is_vector(word)},
     )
-    yield "run lab/tools/stock_records.py, which adds it to lab/tests/data/stock/instructions.s", stock.__contains__
-    yield "add results of another machine to lab/tests/data/golden_vectors", golden.__contains__
-    yield "add it to one line of docs/instructions.csv", lambda name: sum(bool(it.fullmatch(name)) for it in rules) == 1
-    yield (
-        "add it to the table of the section Instructions in docs/COMMANDS.md",
-        lambda name: name not in operations or family(name) in listed,
-    )
+
+
+def lab_places(encoded: dict[str, int]) -> Iterator[Place]:
+    """The lab's tables and the data of its tests."""
+    decoded = {name for name, word in encoded.items() if has_operation(word)}
+    yield "add its row to operations.txt or words.txt in lab/vecmon_lab/tables", decoded
+    yield "run tools/pages, which adds it to lab/vecmon_lab/tables/instructions.txt", {*instruction_table()}
+    stock = re.findall(r"^ +(\S+)", text_of("lab/tests/data/stock/instructions.s"), re.MULTILINE)
+    yield "run lab/tools/stock_records.py, which adds it to lab/tests/data/stock/instructions.s", {*stock}
+    yield "add results of another machine to lab/tests/data/golden_vectors", golden_names() | WITHOUT_GOLDEN_VECTORS
+
+
+def page_places(encoded: dict[str, int]) -> Iterator[Place]:
+    """The data of docs/INSTRUCTIONS.md, and docs/COMMANDS.md."""
+    rules = [re.compile(line.split(",", 1)[1]) for line in text_of("docs/instructions.csv").split()[1:]]
+    ruled = {name for name in encoded if sum(bool(it.fullmatch(name)) for it in rules) == 1}
+    yield "add it to one line of docs/instructions.csv", ruled
+    section = text_of("docs/COMMANDS.md").partition("\n### Instructions\n")[2].partition("\n### ")[0]
+    listed = of_families(encoded, re.findall(r"\bv\w+", section))
+    yield "add it to the table of the section Instructions in docs/COMMANDS.md", listed
 
 
 def missing() -> list[str]:
     """A line for each place that lacks mnemonics, with up to eight of these; nothing if no place lacks one."""
     encoded = words()
-    found = [(change, [name for name in encoded if not has(name)]) for change, has in places(encoded)]
+    places = chain(crate_places(encoded), lab_places(encoded), record_places(encoded), page_places(encoded))
+    found = [(change, [name for name in encoded if name not in there]) for change, there in places]
     return [f"{', '.join(names[:8])}{', ...' if names[8:] else ''}: {change}" for change, names in found if names]
