@@ -89,17 +89,17 @@ def test_csv_file_has_rows(lab: Lab, program: pathlib.Path, tmp_path: pathlib.Pa
 
 
 @pytest.mark.by_command("profile")
-def test_names_of_an_image_control_no_terminal_and_no_spreadsheet(lab: Lab, tmp_path: pathlib.Path) -> None:
-    """A function is called `=`, ESC, `[2Jx`, and a source file ESC, `[1mc`."""
+def test_names_of_an_image_are_texts(lab: Lab, tmp_path: pathlib.Path) -> None:
+    """They control no terminal, are no formulas, and no elements of the page."""
     image = tmp_path / "image"
-    data = SUM_DWARF4.read_bytes().replace(b"\0_start\0", b"\0=\x1b[2Jx\0")
-    image.write_bytes(data.replace(b"sum.c\0", b"\x1b[1mc\0"))
+    data = SUM_DWARF4.read_bytes().replace(b"\0_start\0", b"\0=\x1b<b>x\0")
+    image.write_bytes(data.replace(b"sum.c\0", b"\x1b<i>c\0"))
     status, output, errors = lab("profile", "-o", tmp_path / "page.html", image)
-    assert (status, errors) == (0, "") and b"=?[2Jx+0x44   ?[1mc:34-35" in output
+    assert (status, errors) == (0, "") and b"=?<b>x+0x44   ?<i>c:34-35" in output
     with (tmp_path / "page.csv").open(newline="", encoding="utf-8") as file:
-        assert [*csv.reader(file)][1][1:3] == ["'=?[2Jx", "?[1mc:30"]
-    written = [output.decode(), *((tmp_path / name).read_text("utf-8") for name in ("page.html", "page.csv"))]
-    assert not any("\x1b" in text or "u001b" in text for text in written)
+        assert [*csv.reader(file)][1][1:3] == ["'=?<b>x", "?<i>c:30"]
+    page, table = ((tmp_path / name).read_text("utf-8") for name in ("page.html", "page.csv"))
+    assert "\x1b" not in output.decode() + page + table and "<b>" not in page and "<i>" not in page
 
 
 CALLS = f"""
