@@ -241,7 +241,7 @@ def test_it_starts_with_examples(tabs: "Chrome", site: pathlib.Path) -> None:
     assert tab.run("[...id('language').options].filter((option) => !option.hidden).length") == 1  # no C
     for name in ("none", "toString"):
         tab.run("location.hash = arguments[0]", f"exercise={name}")
-        tab.wait("id('hint').textContent.includes(arguments[0])", f"names an unknown exercise, {name}: choose one")
+        tab.wait("id('stop').textContent.includes(arguments[0])", f"names an unknown exercise, {name}: choose one")
     visit_first(tab, (site / "playground.html").as_uri())
     tab.wait("id('start-page').checkVisibility()")
     assert tab.run("all('.tile').length") == 19 and tab.run("id('new-in-c').disabled")
