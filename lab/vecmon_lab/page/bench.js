@@ -50,18 +50,15 @@ export class Bench {
     this.desk = new Desk(root);
     this.bar = new RunBar(root, this);
     this.desk.painted = (state) => (this.mark(state), this.bar.paint());
-    this.parts = parts(root, "images", "against", "find", "entries", "entry", "hint", "run-place", "by", "numbers");
+    const { numbers } = (this.parts = parts(root, "images", "against", "find", "entries", "entry", "hint", "run-place", "by", "numbers"));
     this.panes = new Panes(root, root.matches(".alone") ? "author" : "student");
     this.editor = new Editor(part(root, "source"), () => this.typed(), part(root, "language"));
     this.source = new Source(root, this.editor, connection);
     this.links = new LineLinks(root, this.editor);
     this.problems = new Problems(root, this.editor, (panel) => this.panes.show(panel));
-    this.askValue = editDialog(root, (edit, text) => this.request({ ask: "edit", edit, text, decimal: this.isDecimal }));
+    this.askValue = editDialog(root, (edit, text) => this.request({ ask: "edit", edit, text, decimal: numbers.value === "signed" }));
     this.listen();
   }
-
-  /** Whether scalar registers are shown in decimal. */
-  get isDecimal() { return this.parts.numbers.value === "signed"; }
 
   /** Takes up what was typed. */
   typed() {
@@ -155,8 +152,7 @@ export class Bench {
 
   /** Steps the program: into calls, over them, or out of a function. */
   step(/** @type {"into" | "over" | "out"} */ kind, count = 1) {
-    const chosen = /** @type {"" | "instruction" | "line"} */ (this.parts.by.value);
-    const by = chosen || (this.editor.isC ? "line" : "instruction");
+    const by = /** @type {"" | "instruction" | "line"} */ (this.parts.by.value) || (this.editor.isC ? "line" : "instruction");
     return this.execute({ ask: "step", kind, by, count });
   }
 
@@ -164,18 +160,18 @@ export class Bench {
   async execute(/** @type {import("./types").RunAction} */ request) {
     if (!this.hasChanged) return this.request(request);
     const answer = await this.build({ ...request, number: this.source.told?.number });
-    if (answer?.mistakes?.length) this.problems.goOn(1);
+    if (answer?.mistakes?.length && this.problems.all.length) this.problems.goOn(1);
     return answer;
   }
 
-  /** Sends a request with the source, and shows its problems. Returns the answer; none where the source is too long. */
+  /** Sends a request with the source, and shows its problems, if it hasn't changed since. Returns the answer; none if it is too long. */
   async build(/** @type {BuildAction} */ action) {
     const { source } = this.editor;
     const [size, most] = [source.text.length, MOST_LETTERS].map((each) => each.toLocaleString(textOf("language")));
     if (this.source.isTooLong) return this.refuse(textOf("source.not-sent", { size, most }));
     const request = /** @type {Request} */ ({ ...action, ...source });
     const answer = await this.source.bring(source, () => this.bar.building(this.request(request)));
-    this.showMistakes(answer?.mistakes, answer?.warnings);
+    if (source.text === this.editor.source.text) this.showMistakes(answer?.mistakes, answer?.warnings);
     return answer;
   }
 

@@ -44,6 +44,7 @@ export class RowTable {
   /** @type {string | undefined} */ seen = "";
   /** @type {Set<Element>} */ near = new Set(); // blocks in sight, or nearly
   room = 0; // px in sight
+  line = 0; // px of a row
 
   /**
    * @param {HTMLElement} box
@@ -77,10 +78,11 @@ export class RowTable {
     if (this.places.length > MOST_MADE) this.paint();
   }
 
-  /** Scrolls again where the box was hidden, or the window is another one. */
+  /** Keeps the same rows in sight if letters have another size; scrolls again if the box was hidden, or the window is another one. */
   resized() {
-    const { room } = this;
-    this.room = this.box.clientHeight;
+    const { room, line } = this;
+    Object.assign(this, { room: this.box.clientHeight, line: parseFloat(getComputedStyle(this.table).lineHeight) });
+    this.box.scrollTop *= this.line / (line || this.line);
     if (Math.abs(this.room - room) > 60) this.bringIntoSight();
   }
 
