@@ -82,7 +82,7 @@ export class RowTable {
   resized() {
     const { room, line } = this;
     Object.assign(this, { room: this.box.clientHeight, line: parseFloat(getComputedStyle(this.table).lineHeight) });
-    this.box.scrollTop *= this.line / (line || this.line);
+    this.box.scrollTop = Math.round(this.box.scrollTop / (line || this.line)) * this.line; // whole rows, since a lower table scrolls less
     if (Math.abs(this.room - room) > 60) this.bringIntoSight();
   }
 
