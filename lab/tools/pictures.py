@@ -2,9 +2,9 @@
 
 Writes steps.gif, lesson.png, listings.png, student.png, teacher.png, wall.png, exercise.png, kernel.png and explore.png to
 the folder: Chromium's pictures of a lesson, of listings side by side and of classes, in light colours, 1280 pixels wide.
-steps.gif steps through six instructions of the lesson, with its masked one. In one class six students have each come to
-another place, and the teacher looks over the shoulder of the third, whose seat is on the wall as well. In another one a
-student's answer fails in a case, and in a third one, and on an own page, sources in C are stepped.
+steps.gif steps through six instructions of the lesson, with its masked one. In one class six students work at exercises and
+programs, and the teacher looks over the shoulder of the third, whose seat is on the wall as well. In another one a student
+tries the case in which an answer fails, and in a third one, and on a page of `explore`, sources in C are stepped.
 """
 
 import base64
@@ -16,7 +16,7 @@ import tempfile
 from typing import TYPE_CHECKING
 
 from support.browser import browser_with
-from support.class_pages import Explored, Served, Tab, look_at
+from support.class_pages import FRAME, Explored, Served, Tab, look_at
 from support.places import EXAMPLES, TOP
 from vecmon_lab.exercises.exercise import OURS
 from vecmon_lab.machine.program import find_program
@@ -24,7 +24,7 @@ from vecmon_lab.machine.program import find_program
 if TYPE_CHECKING:
     from selenium.webdriver import Chrome
 
-WIDTH, HEIGHT, WALL_HEIGHT, EXERCISE_HEIGHT = 1280, 800, 720, 880
+WIDTH, HEIGHT, TALL, WALL_HEIGHT, LISTINGS_HEIGHT = 1280, 800, 880, 720, 1100
 EXAMPLE = EXAMPLES / "strip_mined.s"
 MASKED = 22  # of the example's instructions, the masked one in the loop's second round
 STEPS = range(MASKED - 3, MASKED + 3)  # frames of the lesson: from the round's vsetvli to its store
@@ -32,6 +32,10 @@ STEP_TIME, MASKED_TIME = 1500, 4000  # of a frame of steps.gif, in milliseconds
 GREY = EXAMPLES / "kernels" / "grey.c"
 COUNT_UP = ["addi x5, x5, 1", "jal x0, -4"]
 EXERCISE, WRONG = "clamped_magnitude", OURS / "clamped_magnitude" / "wrong" / "without_the_mask.s"
+COURSE = ["doubles", "strip_mined_copy", "saturating_sum", EXERCISE]  # of the class with a teacher
+ANSWERS = ["doubles/good.s", "strip_mined_copy/wrong/one_round.s", "strip_mined_copy/good.s"]  # checked in this order
+ANSWERED = [2, 3, 2, 0, 1, 3]  # of these by each student
+MESSAGE = "Elements 1 and 3 keep their values. Which bits of v0 decide that?"
 ODD_GROUP = ["vsetivli x0, 8, e32, m2, ta, ma", "vadd.vv v3, v2, v4"]
 
 
@@ -43,7 +47,10 @@ def give_room(browser: "Chrome", height: int) -> None:
 
 def screenshot(browser: "Chrome", height: int) -> bytes:
     """Return a PNG of the upper part of the foremost page, `height` pixels high."""
+    away = {"type": "mouseMoved", "x": 1, "y": 1}
+    browser.execute_cdp_cmd("Input.dispatchMouseEvent", away)  # so that the pointer marks nothing
     browser.execute_script("document.activeElement.blur()")
+    browser.execute_async_script(FRAME)
     clip = {"x": 0, "y": 0, "width": WIDTH, "height": height, "scale": 1}
     capture = browser.execute_cdp_cmd("Page.captureScreenshot", {"clip": clip})
     return base64.b64decode(capture["data"])
@@ -76,9 +83,33 @@ def picture_steps(browser: "Chrome", path: pathlib.Path) -> None:
     frames[0].save(path, save_all=True, append_images=frames[1:], duration=times, loop=0, optimize=False)
 
 
+def drag(tab: Tab, name: str, pixels: int) -> None:
+    """Move the bar between two panes by keys. pixels: to the right or down; a multiple of 16"""
+    from selenium.webdriver.common.keys import Keys
+
+    is_column = tab.run("id(arguments[0]).ariaOrientation === 'vertical'", name)
+    towards = (Keys.ARROW_LEFT, Keys.ARROW_RIGHT) if is_column else (Keys.ARROW_UP, Keys.ARROW_DOWN)
+    tab.keys(f"#{name}", towards[pixels > 0] * (abs(pixels) // 16))
+
+
+def check_answer(tab: Tab, answer: str) -> None:
+    """Check an answer to an exercise of COURSE, and wait for the result."""
+    exercise, _, name = answer.partition("/")
+    button = f"#course-list li:nth-child({COURSE.index(exercise) + 1}) button"
+    tab.click(button)
+    tab.wait("one(arguments[0]).ariaCurrent === 'true' && !id('course-list').inert", button)
+    tab.write((OURS / answer).read_text("utf-8"))
+    tab.click("#check")
+    tab.wait("one(arguments[0]).className === arguments[1]", button, "passed" if name == "good.s" else "tried")
+
+
 def seat_students(browser: "Chrome", served: Served) -> Tab:
     """A program that counts, one that has ended, a masked instruction, an illegal one, an EBREAK, a text with a mistake."""
     tabs = [Tab(browser, served, f"A{number}") for number in range(1, 7)]
+    for tab, count in zip(tabs, ANSWERED):
+        give_room(tab.activate(), HEIGHT)
+        for answer in ANSWERS[:count]:
+            check_answer(tab, answer)
     programs: list[list[str]] = [COUNT_UP, [], [], ODD_GROUP, ["vid.v v1", "ebreak"], ["vid.v v1"]]
     for tab, program, name in zip(tabs, programs, ["Ada", "Bela", "Chiara", "", "Emil", "Fatma"]):
         tab.click("#menu summary")
@@ -91,6 +122,7 @@ def seat_students(browser: "Chrome", served: Served) -> Tab:
     tabs[2].command(f"step {MASKED - 1}", "asm 10044 vadd.vv v1, v2")
     tabs[3].command("step 2")
     tabs[4].command("setpc 10004", "step 1")
+    tabs[4].click("#hand")
     tabs[5].command("set x0 1")
     return tabs[2]
 
@@ -98,26 +130,31 @@ def seat_students(browser: "Chrome", served: Served) -> Tab:
 def picture_class(browser: "Chrome", served: Served, folder: pathlib.Path) -> None:
     """The pages of the third student, of the teacher, who looked on while that student stepped, and of the wall."""
     student = seat_students(browser, served)
-    give_room(student.activate(), HEIGHT)
+    student.click("#fold-exercise")
+    drag(student, "split-state", -64)  # so that all registers are in sight
+    drag(student, "split-dock", -64)
     teacher = Tab(browser, served, "teacher")
     give_room(browser, HEIGHT)
     look_at(teacher, "A3")
     teacher.click("#on-wall")
     wall = Tab(browser, served, "wall")
     give_room(browser, WALL_HEIGHT)
+    browser.refresh()  # so that the rows in sight are whole
     wall.wait("id('who').textContent === 'Seat A3'")
     student.command("step 1")
     save(student.activate(), folder / "student.png", HEIGHT)
     teacher.wait("id('step').textContent.includes('v0.t')")
+    teacher.keys("#words", MESSAGE)
     save(browser, folder / "teacher.png", HEIGHT)
     wall.wait("id('step').textContent.includes('v0.t')")
     save(browser, folder / "wall.png", WALL_HEIGHT)
 
 
 def picture_exercise(browser: "Chrome", served: Served, folder: pathlib.Path) -> None:
-    """The page of a student whose answer was checked and fails."""
+    """The page of a student whose answer fails, and who steps it with what the failed case gives."""
     tab = Tab(browser, served, "A1")
-    give_room(browser, EXERCISE_HEIGHT)  # so that what was found is in sight
+    give_room(browser, TALL)  # so that the numbers of the failed case are in sight
+    drag(tab, "split-exercise", 96)
     tab.click("#course-list button")
     tab.wait("id('check').checkVisibility()")
     tab.run("(code().setValue(arguments[0]), id('assemble').click())", WRONG.read_text("utf-8"))
@@ -125,7 +162,10 @@ def picture_exercise(browser: "Chrome", served: Served, folder: pathlib.Path) ->
     tab.click("#show-source")
     tab.click("#check")
     tab.wait("one('#verdict .wrong')")
-    save(browser, folder / "exercise.png", EXERCISE_HEIGHT)
+    tab.click("#verdict button.main")
+    tab.wait("/131072|20000/.test(id('registers').textContent)")
+    tab.command("step 7", "step 1")
+    save(browser, folder / "exercise.png", TALL)
 
 
 def picture_kernels(browser: "Chrome", served: Served, own: Served, folder: pathlib.Path) -> None:
@@ -136,7 +176,7 @@ def picture_kernels(browser: "Chrome", served: Served, own: Served, folder: path
     ):
         text = (GREY.parent / f"{kernel}.c").read_text("ascii")
         tab = Tab(browser, page, "A2" if page is served else "A1")
-        give_room(browser, HEIGHT)
+        give_room(browser, TALL)
         tab.choose("#language", "C, O2")
         tab.run("(code().setValue(arguments[0]), id('assemble').click())", text)
         tab.wait("id('editor').hidden && one('#listing .next')")
@@ -147,9 +187,15 @@ def picture_kernels(browser: "Chrome", served: Served, own: Served, folder: path
         tab.command(f"break {address}", "go")
         tab.wait("one('#run').textContent === 'Paused'")
         tab.command("step 1")
+        drag(tab, "split-middle", 160)
+        drag(tab, "split-state", 32 if name == "explore" else -32)  # all elements, or all variables, are in sight
+        tab.click("#fold-dock")
         if name == "explore":
-            tab.click("#show-source")
-        save(browser, folder / f"{name}.png", HEIGHT)
+            tab.choose("#form", "unsigned")
+        else:
+            tab.command("step 1")
+            tab.click("#show-variables")
+        save(browser, folder / f"{name}.png", TALL)
 
 
 def main(folder: pathlib.Path) -> None:
@@ -165,8 +211,10 @@ def make(browser: "Chrome", folder: pathlib.Path) -> None:
         save(browser, folder / "lesson.png", HEIGHT)
         picture_steps(browser, folder / "steps.gif")
         open_page(browser, pathlib.Path(room), EXAMPLES / "kernels" / "plain_sum.c", "--against", "O2-scalar")
-        save(browser, folder / "listings.png", HEIGHT)
-        served = Served(pathlib.Path(room) / "class", find_program(), "--cc", "clang-19", takes_c=True)
+        give_room(browser, LISTINGS_HEIGHT)
+        save(browser, folder / "listings.png", LISTINGS_HEIGHT)
+        exercises = [word for name in COURSE for word in ("--exercise", name)]
+        served = Served(pathlib.Path(room) / "monday", find_program(), *exercises, clock=True)
         course = Served(
             pathlib.Path(room) / "course", find_program(), "--cc", "clang-19", "--exercise", EXERCISE, takes_c=True
         )
