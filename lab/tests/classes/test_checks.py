@@ -172,7 +172,7 @@ async def test_given_inputs_are_shown(room: Served) -> None:
     """That other registers hold anything, and what agnostic elements become."""
     tab = await room.sit("A1")
     assert (await check(tab, "square", "ret"))["notes"] == []
-    anything = "All other registers hold anything."
+    anything = "All other registers have arbitrary values."
     assert (await check(tab, "doubles", "ret"))["notes"] == [anything]
     reply = await check(tab, "doubles", (OURS / "doubles" / "wrong" / "always_eight.s").read_text())
     assert reply["notes"] == [

@@ -176,7 +176,7 @@ def test_class_without_c_explains_why(tabs: "Chrome", program: pathlib.Path, tmp
     why = teacher.run("id('given-language').title")
     if not why:
         pytest.skip("this class takes C")
-    assert why.startswith("This class takes no C: ") and tab.run("id('language').title") == why
+    assert why.startswith("C isn't available: ") and tab.run("id('language').title") == why
     assert tab.run("[...id('language').options].map((option) => option.disabled && option.hidden)").count(False) == 1
     served.end()
 

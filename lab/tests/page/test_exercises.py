@@ -148,7 +148,7 @@ def test_exercise_is_solved(tabs: "Chrome", course: Served) -> None:
         "passes", "fails", "fails", "passes", "fails"
     ]  # fmt: skip
     assert "element 3, i32 at 0x2010c: expected -1, found 80" in tab.text("#exercise .said")
-    assert "All other registers hold anything." in tab.text("#exercise .verdict")
+    assert "All other registers have arbitrary values." in tab.text("#exercise .verdict")
     assert tab.run(BOXES, "#verdict .strip") == ["20", "-40", "60", "-1", "77", "88"]  # expected, and then found
     assert tab.run(BOXES, "#verdict .strip + .strip") == ["20", "-40", "60", "80", "100", "0"]
     assert tab.run("all('#verdict .wrong').map((box) => box.firstChild.data)") == ["80", "100", "0"]

@@ -184,7 +184,7 @@ def case_rows(exercise: Exercise, case: Case) -> CaseRows:
 def _notes(exercise: Exercise, case: Case) -> list[str]:
     """The state before a case, in addition to numbers in registers and memory."""
     agnostic = "Agnostic elements, of a tail or masked off, become all ones here: does the answer use one?"
-    junk = "All other registers hold anything."
+    junk = "All other registers have arbitrary values."
     return [junk] * exercise.junk + [agnostic] * (case.policy == "ones")
 
 

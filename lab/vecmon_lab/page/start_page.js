@@ -42,7 +42,7 @@ export class StartPage {
     for (const [heading, own = []] of Object.entries(Object.groupBy(view.examples ?? [], (example) => example.group))) {
       part(root, "examples").append(...group(heading, own.map((each) => this.tile(each.title, each.about, each.name, each))));
     }
-    part(root, "to-exercises").addEventListener("click", () => this.leave());
+    part(root, "to-exercises").addEventListener("click", () => (this.leave(), bench.panes.show("exercise")));
     part(root, "to-exercises").hidden = !Object.keys(view.exercises).length;
     const isWanted = sessionStorage.getItem(NAME) !== null || sessionStorage.getItem("linked"); // a source or an exercise
     if (!view.source.text && view.state.run === "absent" && !isWanted) this.open();

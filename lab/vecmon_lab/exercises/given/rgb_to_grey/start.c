@@ -1,9 +1,9 @@
 #include <riscv_vector.h>
 
 /* greys: where the greys go
- * dots: where the dots are
+ * pixels: where the pixels are
  * count: how many there are */
-void answer(uint8_t *greys, const uint8_t *dots,
+void answer(uint8_t *greys, const uint8_t *pixels,
             size_t count)
 {
 }
