@@ -125,7 +125,12 @@ def test_keys_of_letters_can_be_off(tabs: "Chrome", served: Served) -> None:
         "id('teacher-keys').textContent.includes('Ctrl Shift Enter')"
     ), "only a student checks an exercise"
     teacher.click("#key-list .done")
+    teacher.click("#show-keys")  # in the menu, which closes
+    assert teacher.run("id('key-list').open && !id('menu').open")
+    teacher.click("#key-list .done")
     teacher.click("#letters")
+    press_key(teacher, "Escape")
+    assert teacher.run("!id('menu').open && document.activeElement === one('#menu summary')")
     press_key(teacher, "M")
     assert teacher.run("id('message').hidden")
     teacher.activate().refresh()

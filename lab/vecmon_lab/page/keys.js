@@ -33,6 +33,16 @@ function buttonOf(root, key) {
   return /** @type {HTMLButtonElement | undefined} */ (own.find((each) => each.checkVisibility()) ?? own[0]);
 }
 
+/** Closes a menu when something else is pressed, after one of its buttons, and with Escape, which leads back to its summary. */
+function listenToMenu(/** @type {HTMLDetailsElement} */ menu) {
+  const close = () => (menu.open = false);
+  document.addEventListener("pointerdown", ({ target }) => menu.contains(/** @type {Node} */ (target)) || close());
+  menu.addEventListener("click", ({ target }) => target instanceof HTMLButtonElement && close());
+  menu.addEventListener("keydown", (event) => {
+    if (event.key === "Escape") event.preventDefault(), close(), menu.querySelector("summary")?.focus();
+  });
+}
+
 /**
  * Lets keys press buttons. Returns a function that lists the keys of those that the page offers, each row with what they do.
  * @param {HTMLElement} root of the buttons
@@ -41,6 +51,7 @@ function buttonOf(root, key) {
  * @param {() => boolean} mayPress whether a key presses its button now
  */
 export function listenToKeys(root, say, usesLetters, mayPress = () => true) {
+  /** @type {HTMLDetailsElement[]} */ (elementsIn(root, "details.menu")).forEach(listenToMenu);
   const buttons = elementsIn(root, "button[aria-keyshortcuts]").map((button) => ({ button, does: button.title }));
   for (const { button, does } of buttons) button.title = `${does} (${keysOf(button).map(keyText).join(` ${textOf("keys.or")} `)})`;
   document.addEventListener("keydown", (event) => {

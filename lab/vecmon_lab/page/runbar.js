@@ -28,12 +28,6 @@ export class RunBar {
   constructor(root, bench) {
     this.root = root;
     this.bench = bench;
-    const menus = /** @type {NodeListOf<HTMLDetailsElement>} */ (root.querySelectorAll("details.menu"));
-    for (const menu of menus) {
-      document.addEventListener("pointerdown", ({ target }) => (menu.open &&= menu.contains(/** @type {Node} */ (target))));
-      menu.addEventListener("click", ({ target }) => target instanceof HTMLButtonElement && (menu.open = false));
-      menu.addEventListener("keydown", (event) => event.key === "Escape" && (event.preventDefault(), (menu.open = false)));
-    }
   }
 
   /** Shows while `work` goes on that a source is being built. */
