@@ -35,12 +35,10 @@ function buttonOf(root, key) {
 
 /** Closes a menu when something else is pressed, after one of its buttons, and with Escape, which leads back to its summary. */
 function listenToMenu(/** @type {HTMLDetailsElement} */ menu) {
-  const close = () => (menu.open = false);
-  document.addEventListener("pointerdown", ({ target }) => menu.contains(/** @type {Node} */ (target)) || close());
-  menu.addEventListener("click", ({ target }) => target instanceof HTMLButtonElement && close());
-  menu.addEventListener("keydown", (event) => {
-    if (event.key === "Escape") event.preventDefault(), close(), menu.querySelector("summary")?.focus();
-  });
+  document.addEventListener("pointerdown", ({ target }) => (menu.open &&= menu.contains(/** @type {Node} */ (target))));
+  menu.addEventListener("click", ({ target }) => target instanceof HTMLButtonElement && (menu.open = false));
+  menu.addEventListener("keydown", (event) =>
+    event.key === "Escape" && (event.preventDefault(), (menu.open = false), menu.querySelector("summary")?.focus()));
 }
 
 /**

@@ -16,7 +16,7 @@ const SIGNS = {
 };
 
 /** For how long, in words, of seconds. */
-export function forHow(/** @type {number} */ seconds) {
+function forHow(/** @type {number} */ seconds) {
   const minutes = Math.floor(seconds / 60);
   if (minutes < 1) return textOf("time.seconds", { seconds: Math.max(0, Math.floor(seconds)) });
   if (minutes < 60) return textOf("time.minutes", { minutes });
@@ -32,7 +32,7 @@ export function statusOf({ tabs, hand, status: { kind, count, text } }) {
 }
 
 /** Since when a seat waits for help or has its status, in seconds since 1970. */
-export const waitOf = (/** @type {SeatView} */ { hand, stuck_since: stuck, since }) => hand?.since ?? stuck ?? since;
+const waitOf = (/** @type {SeatView} */ { hand, stuck_since: stuck, since }) => hand?.since ?? stuck ?? since;
 
 /** A seat's work at an exercise, in words. */
 /** @type {(result: import("./messages").SeatResult | undefined, most: number) => string} */

@@ -96,16 +96,15 @@ export class Send {
   }
 
   async submit() {
-    const how = this.kind;
-    const receivers = { seats: this.choices[group("to").value] };
-    const title = byId("gift-title").value;
+    const [how, seats, title] = [this.kind, this.choices[group("to").value], byId("gift-title").value];
     /** @type {import("./types").Request} */
     const what = how === "message" ? { ask: "write", text: byId("words").value } : { ask: "give", ...this.given.source, how, title };
-    const answer = await this.teacher.request({ ...what, ...receivers });
+    const answer = await this.teacher.request({ ...what, seats });
     if (!answer || answer.error) return;
     if (how === "message") byId("words").value = "";
     put(byId("sent-says"), "");
     this.paint();
+    byId("sent").firstElementChild?.scrollIntoView({ block: "nearest" }); // with the button that takes it back
   }
 
   /** Shows the messages that were sent last, with those who have read them, and the source that was given last. */

@@ -7,7 +7,7 @@ import { offerTries } from "./exercises.js";
 import { offerLanguages } from "./languages.js";
 import { Panes } from "./panes.js";
 import { Problems } from "./problems.js";
-import { forHow, statusOf, waitOf, workText } from "./roster.js";
+import { statusOf, workText } from "./roster.js";
 import { Source } from "./source.js";
 import { textOf } from "./texts.js";
 
@@ -49,7 +49,7 @@ export class Shoulder {
     const open = view.exercises[told.exercise];
     const work = open ? ` · ${open.title}: ${workText(open.seats[seat], open.of)}` : "";
     put(byId("shoulder-title"), this.teacher.withName(seat));
-    put(byId("shoulder-says"), `${statusOf(told)[1]}, ${forHow(this.teacher.now() - waitOf(told))}${work}`);
+    put(byId("shoulder-says"), `${statusOf(told)[1]}${work}`);
     byId("lower-hand").hidden = !told.hand;
     byId("on-wall").ariaPressed = `${view.wall === seat}`;
     this.desk.show(seat, state, log, isOther);
