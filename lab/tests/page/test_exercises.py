@@ -66,6 +66,7 @@ def test_first_visit_starts_with_a_step(tabs: "Chrome", course: Served) -> None:
     tab.click("#step-once")
     tab.wait("id('step').textContent.includes('vsetivli zero, 8, e32') && !id('welcome').checkVisibility()")
     assert tab.run("id('elements').checkVisibility() && !id('check').checkVisibility()")
+    assert tab.run("id('vectors').matches('.shown')"), "the pane that a phone shows"
     tab.click("#show-reference")
     tab.click("#show-welcome")
     assert tab.run("id('welcome').checkVisibility() && !id('elements').checkVisibility()")

@@ -57,8 +57,7 @@ export function listenToKeys(root, say, usesLetters, mayPress = () => true) {
     const key = keyOf(event);
     const isLetter = /^(Shift\+)?.$/.test(key);
     if (isLetter && (!usesLetters() || /** @type {Element} */ (event.target).closest(FIELDS))) return;
-    const own = buttonOf(root, key);
-    const later = EARLIER[key];
+    const [own, later] = [buttonOf(root, key), EARLIER[key]];
     const isEarlier = later && (!own || own.disabled);
     const button = isEarlier ? buttonOf(root, later) : own;
     if (!button || (key === "Escape" && button.disabled)) return;

@@ -96,10 +96,11 @@ export class Send {
   }
 
   async submit() {
-    const [how, seats, title] = [this.kind, this.choices[group("to").value], byId("gift-title").value];
+    const how = this.kind;
+    const [receivers, title] = [{ seats: this.choices[group("to").value] }, byId("gift-title").value];
     /** @type {import("./types").Request} */
     const what = how === "message" ? { ask: "write", text: byId("words").value } : { ask: "give", ...this.given.source, how, title };
-    const answer = await this.teacher.request({ ...what, seats });
+    const answer = await this.teacher.request({ ...what, ...receivers });
     if (!answer || answer.error) return;
     if (how === "message") byId("words").value = "";
     put(byId("sent-says"), "");

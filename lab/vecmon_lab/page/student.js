@@ -25,7 +25,7 @@ export class Student {
     this.root = root;
     placePast(root);
     byId("vectors").append(byId("welcome"));
-    byId("step-once").onclick = () => this.bench.step("into");
+    byId("step-once").onclick = async () => (await this.bench.step("into"))?.mistakes?.length || this.bench.panes.show("vectors");
     byId("open-first").onclick = () => this.exercises.open();
     byId("show-welcome").onclick = () => this.welcome(true);
     byId("all-messages").onclick = () => {
