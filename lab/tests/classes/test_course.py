@@ -98,6 +98,11 @@ async def test_order_survives_restart(tmp_path: pathlib.Path) -> None:
         offered = [each["name"] for each in teacher.view["course"]]
         assert offered == [*own, *(name for name in COURSE if name not in own)]
         assert names(tab) == ["filter", "byte_sum"]
+        assert room.members and not room.members.store.lost
+    for report in (["the choice of exercises is lost, since --exercise and --course replace it: filter, byte_sum"], []):
+        async with served(tmp_path / "class", exercises=map(pathlib.Path, own)) as room:
+            assert names(await room.sit("A1")) == own
+            assert room.members and room.members.store.lost == report
 
 
 async def test_choice_survives_restart(tmp_path: pathlib.Path) -> None:

@@ -99,7 +99,7 @@ async def test_name_is_sent_to_seat_and_teacher_only(tmp_path: pathlib.Path) -> 
         status, data = await room.get("seats.csv")
         rows = list(csv.reader(io.StringIO(data.decode("utf-8-sig"))))
         assert status == 200 and len(rows) == 17 and rows[3][:4] == ["A3", NAME, "stopped", "paused: jal"]
-        assert rows[16][:3] == ["B8", "Bo", "absent"] and rows[4][:2] == ["A4", ""]
+        assert rows[16][:3] == ["B8", "Bo", "no machine"] and rows[4][:2] == ["A4", ""]
         assert [(await room.get("seats.csv", role))[0] for role in ("A3", "wall", None)] == [404] * 3
         packed = zipfile.ZipFile(io.BytesIO((await room.get("A3/home", "A3"))[1]))
         assert f"<title>Seat A3, {NAME.replace(chr(39), '&#x27;')}</title>" in packed.read("A3/A3.html").decode()

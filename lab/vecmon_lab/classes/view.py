@@ -258,7 +258,8 @@ class Class:
         rows: list[Sequence[object]] = [("seat", "name", "state", "details", "since", "bytes of the script")]
         for seat in self.seats():
             name, since = self.names.get(seat.name, ""), local_time(seat.since)
-            rows.append((seat.name, name, seat.state["run"], seat.status["text"], since, seat.used))
+            run = "no machine" if seat.state["run"] == "absent" else seat.state["run"]  # the student may be there
+            rows.append((seat.name, name, run, seat.status["text"], since, seat.used))
         return as_csv(rows)
 
     def exercise_table(self) -> bytes:
