@@ -392,7 +392,7 @@ async def test_reload_preserves_seat(room: Served) -> None:
     await teacher.until(lambda view: view["machines"]["A"]["seats"]["7"]["tabs"] == 1)
     seat = teacher.view["machines"]["A"]["seats"]["7"]
     assert (seat["line"], seat["answer"], seat["run"]) == ("setpc 10000", "ok", "stopped")
-    assert seat["status"] == {"kind": "paused", "text": "at jal x0, 0", "instruction": "jal"}
+    assert seat["status"] == {"kind": "paused", "text": "paused: jal", "instruction": "jal"}
 
 
 async def test_two_tabs_show_same_seat(room: Served) -> None:

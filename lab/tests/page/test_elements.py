@@ -107,7 +107,7 @@ def test_cards_and_details_have_own_operands(shown: dict[str, dict[str, Any]]) -
         "place": "v8, bytes 4 to 7: −2 = 0xfffffffe",
         "sentence": "1 → −2",
         "value": "−2",
-        "edit": {"of": "element", "register": 8, "bits": 32, "index": 1, "form": "signed"},
+        "edit": "vset v8 32 1 signed",
         "explain": "v8[1]",
     }
     assert shown["count of ones"]["card"]["scalars"] == ["a2 = 3"] and shown["first one"]["card"]["scalars"] == [

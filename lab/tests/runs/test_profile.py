@@ -88,7 +88,6 @@ def test_csv_file_has_rows(lab: Lab, program: pathlib.Path, tmp_path: pathlib.Pa
     assert rows[5] == ["10010", "", "", "addi x5, x5, -1", "20", "20", "", "", "", ""]
 
 
-@pytest.mark.by_command("profile")
 def test_names_of_an_image_are_texts(lab: Lab, tmp_path: pathlib.Path) -> None:
     """They control no terminal, are no formulas, and no elements of the page."""
     image = tmp_path / "image"
