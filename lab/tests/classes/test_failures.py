@@ -394,6 +394,23 @@ async def test_clock_stops_when_script_is_full(tmp_path: pathlib.Path, monkeypat
         await room.check_replay()
 
 
+async def test_full_script_leaves_watched_program_running(
+    tmp_path: pathlib.Path, monkeypatch: pytest.MonkeyPatch
+) -> None:
+    lines = "".join(f"1 {line}\n" for line in [*LOOP, "go"])
+    room_left = {"script_bytes": len(lines + "1 stop \n1 out \n")}  # which has no room for another `go`
+    monkeypatch.setattr(machine.Session.__init__, "__kwdefaults__", machine.Session.__init__.__kwdefaults__ | room_left)
+    async with served(tmp_path / "class") as room:
+        tab = await room.sit("A1")
+        await tab.do(*LOOP, "go")
+        assert room.members
+        own = room.members.room("A")
+        seat = own.seats.users["1"]
+        with pytest.raises(machine.ScriptFull):
+            await own.run(seat, own.machine.show(seat, "", "server"))
+        assert (await tab.ask("lines", look=["state"]))["look"] == [["state running pc=0000000000010000"]]
+
+
 async def test_busy_port_is_reported_before_replay(tmp_path: pathlib.Path) -> None:
     async with process(tmp_path / "class") as room:
         await (await room.sit("A1")).do("enter")

@@ -315,10 +315,12 @@ class SharedMachine:
         place = read(self.session.look(f"{seat.digit} state"))
         if not isinstance(place, Position) or place.run != "running" or place.pc in seat.watch_set.breaks:
             return
-        self.do(turn, server_line(seat.digit, "stop"), server_line(seat.digit, "out"))
+        stop, out, go = (server_line(seat.digit, command) for command in ("stop", "out", "go"))
+        self.session.check_room([stop, out, go])  # before a stop after which the program could not go on
+        self.do(turn, stop, out)
         self._look(turn)
         if continues:
-            self.do(turn, server_line(seat.digit, "go"))
+            self.do(turn, go)
             for state in turn.states[seat.digit]:
                 state["run"] = "running"
 

@@ -140,10 +140,14 @@ class Session(contextlib.AbstractContextManager["Session"]):
         """As `do`, for some dozens of lines that go to the program together: all of them are done, or none is."""
         for line in lines:
             check_line(line)
+        self.check_room(lines)
+        return self._ask(lines)
+
+    def check_room(self, lines: Sequence[str]) -> None:
+        """Raise ScriptFull if the script has no room for all of the lines."""
         size = sum(len(line) + 1 for line in lines if not is_look(line))
         if size and self.size + size > self._script_bytes:
             raise ScriptFull(f"the script has {self._script_bytes:,} bytes at most, so only lines that look go on")
-        return self._ask(lines)
 
     def do_script(self, script: bytes) -> Iterator[tuple[str, list[str]]]:
         """Does lines that a session recorded, in bulk: each line and its answer, as they come.
