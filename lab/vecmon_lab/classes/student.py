@@ -41,8 +41,9 @@ from .stepping import execute_line, run, step, step_line, step_until
 from .text_store import TextStore
 
 
-Checker = Callable[[str, str, SourceText], None]
 WARNING_PERCENT = 90  # of a seat's share of the script
+
+Checker = Callable[[str, str, SourceText], None]
 """Starts to check an answer of a seat to an exercise. Raises BadRequest."""
 
 
@@ -152,43 +153,24 @@ class Student:
             case Source(source, number):
                 return (yield from self._write(source, number))
             case FindProblems(source):
-                program = yield MakeProgram(source, is_tried=True)
-                assert program is not None
-                self.problems = problems_of(program, source)
-                return self.problems
+                return (yield from self._find_problems(source))
             case RunProgram(source, number):
-                problems = yield from self._build(source, number)
-                if not problems["mistakes"] and self.seat.condition == "Ended" and self.seat.program:
-                    problems = yield from self._write(None)
-                if not problems["mistakes"]:
-                    yield from run(self.machine, self.seat)
-                return problems
-            case StepProgram(source, number, kind, by_lines, count, until):
-                problems = yield from self._build(source, number)
-                if not problems["mistakes"] and until:
-                    yield from step_until(self.machine, self.seat, until)
-                elif not problems["mistakes"]:
-                    yield from step(self.machine, self.seat, kind, by_lines, count)
-                return problems
+                return (yield from self._run(source, number))
+            case StepProgram():
+                return (yield from self._step(request))
             case StepLine():
                 yield from step_line(self.machine, self.seat)
             case Edit(edit, text, is_decimal):
                 line = edit_line(edit, text, is_decimal, self.seat.state.get("v", {}))
                 yield from execute_line(self.machine, self.seat, line)
             case ToggleBreakpoints(number):
-                for line in breakpoint_lines(
-                    self.seat.named.get("stops", {}), self.seat.state.get("breaks", []), number
-                ):
-                    yield from execute_line(self.machine, self.seat, line)
+                yield from self._toggle_breakpoints(number)
             case FindLastRead():
                 yield from self.machine.find_last_read(self.seat)
             case Why(name):
                 return {"why": (yield from self.machine.why(self.seat, name))}
-            case Draft(source, number, name, is_kept, line):
-                if name and name not in self.exercises.known:
-                    raise BadRequest("there is no such exercise")
-                self.source.draft(source, number, name, is_kept)
-                self.source.caret = line
+            case Draft():
+                self._draft(request)
             case OpenExercise(name):
                 self.exercises.exercise(name)
                 self.source.open(name)
@@ -197,13 +179,55 @@ class Student:
             case Check(name, source):
                 self._check(self.seat.name, name, source)
             case TryCase(name, source, which):
-                case = self.exercises.case(self.seat.name, name, which, source)
-                result = yield from self._write(source, is_answer=True)
-                if not result["mistakes"]:
-                    given = Lines("", case(int(self.seat.state["pc"], 16)), 0, [])
-                    yield from self.machine.lines(self.seat, given, [])
-                return result
+                return (yield from self._try(name, source, which))
         return {}
+
+    def _find_problems(self, source: SourceText) -> Steps[SourceResult]:
+        """The problems of a source, which stays out of the machine."""
+        program = yield MakeProgram(source, is_tried=True)
+        assert program is not None
+        self.problems = problems_of(program, source)
+        return self.problems
+
+    def _run(self, source: SourceText | None, number: int) -> Steps[SourceResult]:
+        """Runs a source, from its start if the program has ended; the problems that the source has."""
+        problems = yield from self._build(source, number)
+        if not problems["mistakes"] and self.seat.condition == "Ended" and self.seat.program:
+            problems = yield from self._write(None)
+        if not problems["mistakes"]:
+            yield from run(self.machine, self.seat)
+        return problems
+
+    def _step(self, request: StepProgram) -> Steps[SourceResult]:
+        """Steps a source, up to an instruction or by a count; the problems that the source has."""
+        problems = yield from self._build(request.source, request.number)
+        if not problems["mistakes"] and request.until:
+            yield from step_until(self.machine, self.seat, request.until)
+        elif not problems["mistakes"]:
+            yield from step(self.machine, self.seat, request.kind, request.by_lines, request.count)
+        return problems
+
+    def _toggle_breakpoints(self, number: int) -> Steps[None]:
+        """Sets the breakpoints of a line of the source, or deletes them where all are set."""
+        stops, breaks = self.seat.named.get("stops", {}), self.seat.state.get("breaks", [])
+        for line in breakpoint_lines(stops, breaks, number):
+            yield from execute_line(self.machine, self.seat, line)
+
+    def _draft(self, draft: Draft) -> None:
+        """Keeps the text in the editor, and its caret's line. Raises BadRequest for an unknown exercise."""
+        if draft.exercise and draft.exercise not in self.exercises.known:
+            raise BadRequest("there is no such exercise")
+        self.source.draft(draft.source, draft.number, draft.exercise, draft.is_kept)
+        self.source.caret = draft.line
+
+    def _try(self, name: str, source: SourceText, which: int | None) -> Steps[SourceResult]:
+        """Starts the machine anew with a case of an exercise, at its call; the problems that the source has."""
+        case = self.exercises.case(self.seat.name, name, which, source)
+        problems = yield from self._write(source, is_answer=True)
+        if not problems["mistakes"]:
+            given = Lines("", case(int(self.seat.state["pc"], 16)), 0, [])
+            yield from self.machine.lines(self.seat, given, [])
+        return problems
 
     def _build(self, source: SourceText | None, number: int) -> Steps[SourceResult]:
         """Starts the machine anew with a source that isn't in it; breakpoints stay. The mistakes that the source has."""
