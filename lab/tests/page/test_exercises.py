@@ -99,7 +99,7 @@ def test_case_is_tried_before_first_check(tabs: "Chrome", course: Served) -> Non
     assert expected == "i32 at 0x20000 -60 50 -70 50 80 50 -1 -33 … 1 more"
     assert tab.run("all('#cases tbody button').length") == 4
     tab.click("#cases tr:nth-child(2) button")
-    tab.wait("id('log').textContent.includes('> set x13 32') && id('run').textContent === 'Paused'")
+    tab.wait("id('log').textContent.includes('> set x13 32') && id('run').textContent === 'Ready'")
     assert tab.text("[data-edit='set x12']") == "7" and tab.text("#try-count") == ""
 
 
@@ -188,7 +188,8 @@ def test_exercise_is_solved_in_c(tabs: "Chrome", course: Served, sandboxed_clang
     tab.click("#exercise .verdict button")
     tab.wait("id('log').textContent.includes('> set x13 6')")
     assert "vl = __riscv_vsetvl_e16m8(count);" in tab.text("#machine")
-    assert tab.text("#run") == "Paused"  # behind the instruction that calls the function
+    assert tab.text("#run") == "Ready" and tab.text("#step") == ""  # at the function's first instruction
+    assert not tab.run("one('#registers .changed, #elements .changed')")  # by what sets up the case
     check(tab, good, "It passes all cases.")
     assert "and a good answer takes" in tab.text("#exercise .verdict")
     assert tab.activate().execute_script(CONTRAST) == []

@@ -198,6 +198,8 @@ class Seats:
             state.pop("output", None)  # which the seat has
             if is_done and state["run"] == "stopped" and _ends_executing(done, digit):
                 add_last_instruction(state, before if _is_single_step(done, digit) else None)
+            elif is_done and "faulted" not in state:
+                state.pop("instruction", None)  # registers have changed since, as by the lines that set up a case
             seat.rows.add(state)
             states[digit] = state, with_rows(state, seat.rows.rows(seat.watch_set, 1 + seat.watch_set.is_compiled))
         return states
@@ -261,7 +263,7 @@ def may_change(line: str, answer: Sequence[str]) -> bool:
 
 def _ends_executing(done: Sequence[Done], digit: str) -> bool:
     """Whether no line changed a user's registers after the last one that executed the program."""
-    own = [line for line, answer in done if line[0] in (digit, "*") and not is_look(line) and not is_refusal(answer)]
+    own = [line for line, answer in done if line[0] in (digit, "*") and may_change(line, answer)]
     commands = [words_of(line)[0] for line in own if words_of(line) != ["out"]]
     return commands[-1:] != [] and commands[-1] in _EXECUTING
 

@@ -48,7 +48,9 @@ export class Desk {
     if (entries.length || state !== this.state) this.frame ||= requestAnimationFrame(() => this.paint());
     if (state === this.state) return;
     const isNew = entries.some((entry) => /^>. enter$/.test(entry));
-    if (isAnew || isNew || !isAlike(state, this.state)) this.before = isAnew ? state : isNew ? newMachine(state) : this.state;
+    const isSetUp = !state.instruction && entries.some((entry) => /^>. setpc /.test(entry)); // as by a case
+    if (isAnew || isSetUp) this.before = state;
+    else if (isNew || !isAlike(state, this.state)) this.before = isNew ? newMachine(state) : this.state;
     this.state = state;
     if (isAnew || isNew || !state.v) this.used = new Set();
     usedIn(state).forEach((number) => this.used.add(number));

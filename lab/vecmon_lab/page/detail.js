@@ -69,8 +69,7 @@ function placeText(register, width, place) {
 function sentenceOf({ state }, columns, element) {
   const { executed, rows, vl } = columns;
   if (!executed) return "";
-  const outcome = executed.results[element];
-  const address = addressOf(columns, element);
+  const [outcome, address] = [executed.results[element], addressOf(columns, element)];
   const where = address && (executed.access?.isStore ? textOf("detail.to", { address }) : textOf("detail.from", { address }));
   const [before, after] = ["before", "after"].map((kind) => rows.find((row) => row.kind === kind)?.cells[element]?.text);
   const was = before === undefined ? "" : before === after ? textOf("detail.unchanged", { value: before }) : `${before} → ${after}`;

@@ -76,8 +76,7 @@ export class Source {
     clearTimeout(this.timer);
     this.timer = 0;
     const { source } = this.editor;
-    if (!this.told || keyOf(source) === keyOf(this.told)) return;
-    if (!this.isTyped || this.isTooLong || !this.connection.isReady) return;
+    if (!this.told || !this.isTyped || this.isTooLong || !this.connection.isReady || keyOf(source) === keyOf(this.told)) return;
     if (this.sent.size) this.timer = setTimeout(() => this.send(), PAUSE);
     else await this.bringOwn({ line: this.editor.caretLine });
   }

@@ -35,7 +35,6 @@ export function lineBegins(/** @type {Starts} */ starts, /** @type {(string | un
   let before = 0;
   return instructions.flatMap((pc, place) => {
     const line = starts[startOf(starts, pc ?? "") ?? ""];
-    if (!line || line === before) return [];
-    return [{ place, line: (before = line) }];
+    return line && line !== before ? [{ place, line: (before = line) }] : [];
   });
 }
