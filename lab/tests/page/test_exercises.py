@@ -205,7 +205,10 @@ def test_passed_cases_are_shown(tabs: "Chrome", course: Served) -> None:
     check(tab, wrong, "It passes 2 of 5 cases.")
     check(tab, (OURS / "doubles" / "good.s").read_text(), "It passes all cases.")
     assert "takes 10 instructions, and a good answer takes 10 instructions." in tab.text("#exercise .verdict")
-    choose(tab, "strip_mined_copy")
+    tab.click("#verdict button")
+    tab.wait(
+        "id('exercise-text').firstChild.textContent === '2 Strip-mined copy with a tail' && !id('verdict').textContent"
+    )
     assert "how many this round takes" in tab.run("text()")
     choose(tab, "doubles")
     assert "vadd.vv" in tab.run("text()")
@@ -231,7 +234,9 @@ def test_all_exercises_are_solved(tabs: "Chrome", course: Served) -> None:
     for name in COURSE:
         choose(tab, name)
         check(tab, (OURS / name / "good.s").read_text(), "It passes all cases.")
-    assert tab.run("all('#course-list .passed').length") == 12
+    assert tab.run("all('#course-list .passed').length") == 12 and not tab.run(
+        "one('#verdict button')"
+    )  # after the last one
 
 
 def test_endless_answer_blocks_no_other_seat(tabs: "Chrome", course: Served) -> None:

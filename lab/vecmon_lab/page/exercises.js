@@ -36,7 +36,7 @@ export class Exercises {
     byId("check").onclick = () => this.checkSource();
     byId("own-answers").onchange = () => this.takeAnswer();
     byId("start-over").onclick = () => (this.takeStart(), bench.panes.show("editor"));
-    byId("reading").onclick = ({ target }) => this.tryCase(/** @type {Element} */ (target));
+    byId("reading").onclick = ({ target }) => void (target instanceof HTMLButtonElement && this.press(target)); // false would stop links
     bench.editor.language.addEventListener("change", () => {
       if (isStart(this.all[this.name], bench.editor.source.text)) bench.editor.put(this.start); // nothing was written yet
     });
@@ -115,7 +115,7 @@ export class Exercises {
     const result = it.passed ? textOf("exercises.passed") : textOf("exercises.best", { best: it.best, all: it.cases.length });
     const words = it.tries ? textOf("exercises.tries", { count: it.tries, result }) : "";
     put(byId("try-count"), it.checking ? textOf("exercises.checking") : words);
-    renew(byId("verdict"), verdict(it));
+    renew(byId("verdict"), verdict(it, this.names[it.number])); // numbers start at 1
     renew(byId("case-rows"), caseRows(it));
     const hints = it.hints.map((hint) => make("li", "", ...prose(hint)));
     const count = textOf("exercises.hints", { number: hints.length, all: it.hint_count });
@@ -153,11 +153,11 @@ export class Exercises {
     byId("check").disabled = this.all[this.name].checking;
   }
 
-  /** Starts a machine with the source in the editor, and with what the case of a button gives. */
-  tryCase(/** @type {Element} */ target) {
-    if (!(target instanceof HTMLButtonElement)) return;
+  /** Opens the exercise that a button names, or starts a machine with the source in the editor, and with what its case gives. */
+  press(/** @type {HTMLButtonElement} */ { name, value }) {
+    if (name) return byId("reading").focus(), this.choose(name); // the button goes
     this.bench.panes.makeRoom();
-    this.bench.write({ ask: "case", exercise: this.name, case: Number(target.value) });
+    return this.bench.write({ ask: "case", exercise: this.name, case: Number(value) });
   }
 
   /** Puts the source to begin with into the editor. */

@@ -211,6 +211,7 @@ export interface Places {
   "verdict.passes": "all" | "passed";
   "verdict.hidden": never;
   "verdict.try": never;
+  "verdict.next": never;
   "verdict.lesson": never;
   "verdict.given": never;
   "source.assemble": never;

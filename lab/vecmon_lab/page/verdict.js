@@ -51,8 +51,12 @@ export function caseRows(/** @type {ExerciseView} */ { cases, told }) {
   });
 }
 
-/** The result of the last check of an exercise; of a case that fails with a button to start it, which has its place. */
-export function verdict(/** @type {ExerciseView} */ { told, cases, lesson }) {
+/**
+ * The result of the last check of an exercise: of a case that fails with a button to start it, whose value is the case's place; if all
+ * pass, with a button to open the exercise `after` it, which has its name.
+ * @type {(exercise: ExerciseView, after?: string) => HTMLElement[]}
+ */
+export function verdict({ told, cases, lesson }, after) {
   const say = (/** @type {string} */ text) => make("p", "", ...prose(text));
   if (told.unchecked) return [make("h3", "", told.unchecked), say(textOf("verdict.unchecked"))];
   if (told.mistakes) return [make("h3", "", textOf("verdict.mistakes")), say(textOf("verdict.no-try"))];
@@ -60,11 +64,12 @@ export function verdict(/** @type {ExerciseView} */ { told, cases, lesson }) {
   const numbers = { passed: told.cases.filter((it) => it.passed).length, all: cases.length };
   const hasPassed = numbers.passed === numbers.all;
   const sum = make("h3", "", hasPassed ? textOf("verdict.passes-all") : textOf("verdict.passes", numbers));
+  const next = hasPassed && after ? [make("p", "", Object.assign(make("button", "main", textOf("verdict.next")), { name: after }))] : [];
   if (told.taken && told.good) {
     const [own, other] = [told.taken, told.good].map((it) => it.instructions.toLocaleString("en"));
-    return [sum, say(textOf("verdict.cost", { own, other, work: told.taken.work, good: told.good.work }))];
+    return [sum, ...next, say(textOf("verdict.cost", { own, other, work: told.taken.work, good: told.good.work }))];
   }
-  if (told.number === undefined) return hasPassed ? [sum] : [sum, say(textOf("verdict.hidden"))];
+  if (told.number === undefined) return hasPassed ? [sum, ...next] : [sum, say(textOf("verdict.hidden"))];
   const start = Object.assign(make("button", "main", textOf("verdict.try")), { value: `${told.number}` });
   const { expected = [], found = [] } = told;
   return [
