@@ -107,6 +107,16 @@ async def test_check_fails_after_time_limit(tmp_path: pathlib.Path, monkeypatch:
         await check_not_counted(room, await check(await room.sit("A1")), "took more than 0.01 s")
 
 
+async def test_late_lesson_says_what_to_do(tmp_path: pathlib.Path, monkeypatch: pytest.MonkeyPatch) -> None:
+    monkeypatch.setattr("vecmon_lab.classes.checks.SECONDS", 0.01)
+    async with served(tmp_path / "class", exercises=DOUBLES) as room:
+        status, text = await room.get("lesson/doubles")
+    assert (status, text.decode().partition(": ")[2]) == (
+        503,
+        "it took more than 0.01 s. The server may be busy: wait a minute, then reload the page.",
+    )
+
+
 async def test_check_fails_if_programs_cannot_start(tmp_path: pathlib.Path, monkeypatch: pytest.MonkeyPatch) -> None:
     """Neither Python's nor the machine's program is there: the teacher is shown which."""
     monkeypatch.setattr("vecmon_lab.classes.checks.SECONDS", SECONDS)

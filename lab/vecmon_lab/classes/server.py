@@ -21,6 +21,7 @@ from aiohttp import web
 from aiohttp.http import HttpProcessingError
 
 from .. import LabError
+from ..compilers.failures import ToolError
 from ..page.pages import Page
 from ..page.texts import page_text
 from ..page.reference import reference_text
@@ -142,10 +143,15 @@ class Server:
         return web.Response(body=table(), content_type="text/csv", charset="utf-8")
 
     async def _get_ticket(self, kind: Page, request: web.Request) -> web.Response:
-        """A lesson of an answer, or listings, with its own content policy, for a seat that knows the ticket."""
+        """A lesson of an answer, or listings, with its own content policy, for a seat that knows the ticket.
+
+        Status 404 without such a page, and 503 if a process that makes it fails, or takes too long.
+        """
         make = self.members.checks.lesson if kind is self._lesson else self.members.comparisons.page
         try:
             page = await make(request.match_info["ticket"])
+        except ToolError as error:
+            raise web.HTTPServiceUnavailable(text=page_text("lesson.not-made", cause=str(error))) from error
         except LabError as error:
             await asyncio.sleep(WRONG_CODE_SECONDS)
             raise web.HTTPNotFound(text=str(error)) from error

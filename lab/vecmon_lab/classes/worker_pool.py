@@ -52,7 +52,7 @@ class WorkerPool:
                 async with asyncio.timeout(self._seconds):
                     output, errors = await child.communicate(script)
             except TimeoutError as error:
-                raise ToolError(f"{module} took more than {self._seconds:g} s") from error
+                raise ToolError(f"it took more than {self._seconds:g} s") from error
             finally:
                 with contextlib.suppress(ProcessLookupError):
                     child.kill()
