@@ -65,6 +65,9 @@ def test_kernel_steps_by_line(kernel: "Chrome") -> None:
     kernel.find_element("id", "line-next").click()
     kernel.find_element("id", "line-back").click()
     assert line_shown(kernel) == lines[0]
+    kernel.find_element("id", "line-next").click()
+    kernel.find_element("id", "next").click()
+    assert "19  x[i] = i;" in kernel.execute_script("return document.querySelector('#step').textContent")
     assert kernel.get_log("browser") == []
 
 

@@ -227,6 +227,11 @@ def test_stops_and_refusals_are_explained(opened: Callable[[str], "Chrome"], pro
     assert "0x0" in expected[2] and expected[6].startswith("Not sent: ")
     assert expected[4] == "li x1, 1\n^\nE15: li is a pseudo-instruction, which only a source has"
     assert expected[5] == "E04: 300 isn't from 1 to 256; the form is step N"
+    browser = opened(lesson_page("x", make_frames(tours()["assembling"], program)))
+    press(browser, Keys.END)
+    lines = text_of(browser, "#stop").split("\n")
+    assert lines[:2] == ["vadd.vv v1, v2", "^".rjust(15)]
+    assert lines[3:6] == ["1 asm 1000c addi x1, x0, 4096:", "addi x1, x0, 4096", "^".rjust(14)]
 
 
 @pytest.mark.parametrize("scheme", ["light", "dark"])

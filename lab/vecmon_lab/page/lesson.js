@@ -105,15 +105,15 @@ class Lesson {
     const user = this.user || frame.user;
     const states = this.states[this.place];
     /** @type {State} */
-    const state = states[user] ?? { run: "absent" };
+    const state = { ...(states[user] ?? { run: "absent" }), ...this.source };
     this.showPlace(user, states);
     this.showStage(frame, state, user, states);
     this.showLog(frame.log.length);
     byId("introduction").hidden = !this.isIntroduced || this.place > 0;
     if (this.name && this.place === this.frames.length - 1) keepRead(this.name);
     const earlier = this.states.slice(0, this.place).map((each) => each[user]);
-    const step = earlier.findLast((each) => each !== state); // before what was done last, which frames that only look leave
-    this.view.paint({ ...state, ...this.source }, earlier.at(-1), this.used[user], step);
+    const step = earlier.findLast((each) => each !== states[user]); // before what was done last, which frames that only look leave
+    this.view.paint(state, earlier.at(-1), this.used[user], step);
     byId("log").scrollTop = byId("log").scrollHeight;
     clearTimeout(this.address);
     this.address = setTimeout(() => history.replaceState(null, "", `#${this.place + 1}`), ADDRESS_DELAY);
@@ -137,7 +137,7 @@ class Lesson {
   showStage(frame, state, user, states) {
     const note = this.frames.slice(0, this.place + 1).findLast((each) => each.note)?.note ?? "";
     put(byId("sentence"), note, prose(note));
-    this.view.showStop(frame.log.map((_, place) => this.entryWords(frame.log, place, states)).filter(Boolean).join(" "));
+    this.view.showStop(frame.log.map((_, place) => this.entryWords(frame.log, place, states)).filter(Boolean).join("\n"));
     const more = frame.more ? textOf("lesson.more", { count: frame.more }) : "";
     const parts = frame.line ? [make("span", "", frame.line, make("small", "", more))] : [];
     const remark = (/** @type {string} */ text) => parts.push(make("small", "", text));
@@ -155,7 +155,7 @@ class Lesson {
     const stop = STOP_LINE.test(text) ? (states[text[0]]?.stop ?? "") : "";
     if (stop) return this.users.length > 1 ? textOf("lesson.user-stop", { user: text[0], stop }) : stop;
     const isFirst = place < 2; // then its line is next to it
-    return refusal && !isFirst ? `\`${log[place - 1].slice(1)}\`: ${refusal}` : refusal;
+    return refusal && !isFirst ? `\`${log[place - 1].slice(1)}\`:${refusal.includes("\n") ? "\n" : " "}${refusal}` : refusal;
   }
 
   /** The transcript up to this frame, whose own entries are `current`. Those that are there already stay. */
