@@ -26,7 +26,7 @@ if TYPE_CHECKING:
     from selenium.webdriver import Chrome
 
 PROGRAM = ["vsetivli x0, 8, e32, m1, ta, ma", "vid.v v1", "vadd.vx v2, v2, x10", "addi x10, x10, 1", "jal x0, -8"]
-LONG = "vid.v v1\n" + "addi a0, a0, 1\n" * 3899
+LONG = "xor a1, a1, a1\n" + "addi a0, a0, 1\n" * 3899
 CROWD = [f"{letter}{digit}" for letter in "ABCD" for digit in "12345678"][:30]
 CLICKS = """const [count, done] = arguments, log = document.getElementById("log"), taken = [];
 const click = () => {
@@ -48,8 +48,13 @@ const click = () => {
 };
 click();"""
 BUSY = """window.busy = setInterval(() => document.getElementById("one").click(), 300 + Math.random() * 60)"""
-SEEN = """window.seen = []; new MutationObserver(() => window.seen.push(performance.timeOrigin + performance.now()))
-    .observe(document.querySelector("#seats [data-seat='A2'] .condition span + span"), { childList: true, characterData: true, subtree: true })"""
+SEEN = """const row = document.querySelector("#seats [data-seat='A2']"), shown = () => row.querySelector(".condition").textContent;
+let before = shown();
+window.seen = [];
+new MutationObserver(() => {
+  if (shown() !== before) window.seen.push(performance.timeOrigin + performance.now());
+  before = shown();
+}).observe(row, { childList: true, characterData: true, subtree: true });"""
 
 
 def print_times(name: str, taken: Sequence[float]) -> None:
@@ -94,7 +99,7 @@ def eight_seats(browser: "Chrome", served: Served, count: int) -> None:
     press_all(others, "#halt")
     turn_clock(teacher)
     first.run("(code().setValue(arguments[0]), id('assemble').click())", LONG)
-    first.wait("id('listing').textContent.includes('vid.v') && !id('one').disabled")
+    first.wait("id('listing').textContent.includes('xor') && !id('one').disabled")
     print_times("the first one with 3,900 rows", clicks(first, count))
     print_times("a stop until the teacher's page shows it", stops(others[0], teacher, count // 3))
 
