@@ -12,8 +12,8 @@ import sys
 from edit_clauses import PAGE, with_list
 
 
-def fault_of(edit: pathlib.Path) -> str | None:
-    """Why an edit can't be applied, if it can't."""
+def edited_texts(edit: pathlib.Path) -> dict[str, str]:
+    """The texts of the files that an edit changes, by their path in the crate. Raises ValueError if it can't be applied."""
     crate, texts = edit.parent.parent, dict[str, str]()
     path = old = ""
     pairs = 0
@@ -21,19 +21,30 @@ def fault_of(edit: pathlib.Path) -> str | None:
         if line.startswith("file: "):
             path = line.removeprefix("file: ").strip()
             if not (crate / path).is_file():
-                return f"there is no file {path}"
+                raise ValueError(f"there is no file {path}")
             texts.setdefault(path, (crate / path).read_text(encoding="utf-8"))
         elif line.startswith("old: "):
             old = line.removeprefix("old: ")
         elif line.startswith("new:"):
             if not path or not old:
-                return "a line `new:` without `file:` and `old:`"
+                raise ValueError("a line `new:` without `file:` and `old:`")
             found = texts[path].count(old)
             if found != 1:
-                return f"the text after `old:` occurs {found} times in {path}: {old.strip()}"
+                raise ValueError(f"the text after `old:` occurs {found} times in {path}: {old.strip()}")
             texts[path] = texts[path].replace(old, line.removeprefix("new:").removeprefix(" "))
             old, pairs = "", pairs + 1
-    return None if pairs else "no pair of `old:` and `new:`"
+    if not pairs:
+        raise ValueError("no pair of `old:` and `new:`")
+    return texts
+
+
+def fault_of(edit: pathlib.Path) -> str | None:
+    """Why an edit can't be applied, if it can't."""
+    try:
+        edited_texts(edit)
+    except ValueError as error:
+        return str(error)
+    return None
 
 
 def main() -> int:

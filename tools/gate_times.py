@@ -2,10 +2,11 @@
 """Runs a command and prints the time of its proofs, crate by crate: `tools/gate_times.py OUT COMMAND...`, say
 `tools/gate_times.py /tmp/times bash .ci/run` at the top of a fresh clone.
 
-The file OUT gets a table in seconds of processor: each crate's own proof, that of its tests, the first check of its must-fail edits (of the
-crate without an edit, from which each edit begins), the checks of the edits, and their number. Below it are the seconds of each edit,
-the dearest first. The last line has the processor time of the whole command, with its programs, tests and compilers, and the time by the
-clock. Each process of the prover is looked at twice a second, so the last half second of each may be missing above; it is in the whole.
+The file OUT gets a table in seconds of processor: each crate's own proof, that of its tests, and the checks of its must-fail edits with
+their number. The first edit of a crate takes as long as its proof, since the others use what it proved; the last check is of the crate
+without an edit. Below the table are the seconds of each edit, the largest first. The last line has the processor time of the whole command,
+with its programs, tests and compilers, and the time by the clock. Each process of the prover is observed twice a second, so the last half
+second of each may be missing above; the whole includes it.
 """
 
 import os
@@ -17,8 +18,10 @@ from collections import defaultdict
 from dataclasses import dataclass
 from pathlib import Path
 
+from check_edits import edited_texts
+
 TICKS_A_SECOND = os.sysconf("SC_CLK_TCK")
-KINDS = ("proof", "tests", "first edit", "edits")
+KINDS = ("proof", "tests", "edits")
 
 
 @dataclass
@@ -34,19 +37,18 @@ class Check:
 
 def kind_of(words: list[str], folder: str) -> str:
     """The purpose of a check, by its arguments and its working folder."""
-    if "--incremental" in words and words[0] == "check":
-        return "first edit" if words[words.index("--incremental") + 1].endswith("/seed") else "edits"
     if os.path.basename(folder).startswith("rt-edit-"):
         return "edits"
     return "tests" if "--test" in words else "proof"
 
 
-def edit_of(words: list[str], crate: str) -> str:
-    """Which edit of a crate a check tries. `rt` numbers those of a crate in the order of their names, from 0 on, and a check keeps what it
-    proves in a folder of that number; the only edit of a crate may have none."""
-    edits = sorted(it.name for it in Path("crates", crate, "must-fail").glob("*.edit"))
-    number = os.path.basename(words[words.index("--incremental") + 1]) if "--incremental" in words else "0"
-    return edits[int(number)].removesuffix(".edit")
+def edit_of(folder: str, crate: str) -> str:
+    """The name of the edit that a check in this folder tries: the one whose texts the folder has; "no edit" if there is none."""
+    for edit in sorted(Path("crates", crate, "must-fail").glob("*.edit")):
+        texts = edited_texts(edit)
+        if all(Path(folder, path).read_text(encoding="utf-8") == text for path, text in texts.items()):
+            return edit.stem
+    return "no edit"
 
 
 def fields_of(process: str) -> list[str]:
@@ -82,8 +84,9 @@ def look_at(process: str, root: int, checks: dict[str, Check]) -> None:
     name = f"{process} {fields[19]}"  # its number and when it began, since numbers are used again
     seconds = sum(int(it) for it in fields[11:15]) / TICKS_A_SECOND
     if name not in checks:
-        crate, kind = words[words.index("--crate-name") + 1], kind_of(words, os.readlink(f"/proc/{process}/cwd"))
-        checks[name] = Check(crate, kind, edit_of(words, crate) if kind == "edits" else "", seconds)
+        crate, folder = words[words.index("--crate-name") + 1], os.readlink(f"/proc/{process}/cwd")
+        kind = kind_of(words, folder)
+        checks[name] = Check(crate, kind, edit_of(folder, crate) if kind == "edits" else "", seconds)
     checks[name].seconds = seconds
 
 
