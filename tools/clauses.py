@@ -8,8 +8,8 @@ Without names it reads all crates. It prints
 - each function with more than six parameters, `self` among them;
 - each line of more than 120 characters.
 
-A clause is the text between the braces of `requires` or `ensures`, without its name. docs/DECISIONS.md, "Forms", tells why some
-of what it prints stays.
+A clause is the text between the braces of `requires` or `ensures`, without its name. docs/DECISIONS.md, "Forms", explains why some
+of these places stay.
 """
 
 import re

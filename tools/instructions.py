@@ -37,9 +37,9 @@ from vecmon_lab.runs.dataflow import scalars_read
 PAGE, RULES, PRINTED = Path("docs/INSTRUCTIONS.md"), Path("docs/instructions.csv"), Path("crates/test_assembler/stdout")
 ROW = re.compile(r"^(\| `(\S+)[^`]*` \| `[01 -]+`) \|$", re.MULTILINE)
 COLUMNS = """
-`Formula` is the definition in `crates/rv_model/specs` that says what the instruction computes or moves; where it has a line for each
+`Formula` is the definition in `crates/rv_model/specs` of the computation or move; where it has a line for each
 operation, that is the one. `Legality` is the shape of the operands (`OperandShapes`), or the definition of their list (`Legality`), and
-what else is asked for; scalar instructions have none. `Section` is one of the manual, of the V extension for vector instructions.
+further conditions; scalar instructions have none. `Section` is one of the manual, of the V extension for vector instructions.
 """
 
 # The functions of a step: functions with a line for each layout, or for each kind of vector operation

@@ -9,7 +9,7 @@ FUNCTION_NAMES = 1  # a subsection of the section "name"
 def with_bodies(module, original, changed):
     """Return the module with the function bodies of the original, except those of the functions named in `changed`.
 
-    The module is what a tool made of the original: it has the same functions in the same order, and perhaps more after them. Both have a
+    The module is a tool's version of the original: it has the same functions in the same order, and perhaps more after them. Both have a
     section "name". Raises ValueError if a function has another name or another index, or if no function has a name in `changed`.
     """
     names, first = function_names(original), len(import_entries(original))

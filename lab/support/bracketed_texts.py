@@ -1,4 +1,4 @@
-"""Texts of pages in brackets, as a translation to be checked: what a page shows without them isn't in the table of texts."""
+"""Texts of pages in brackets, as a translation to be checked: text that a page shows without them isn't in the table of texts."""
 
 from collections.abc import Mapping
 

@@ -57,7 +57,7 @@ return boxes;
 """.replace(
     "SIDEWAYS", '"#listing, #listing .source, .profile .scroll, pre"'
 )
-# Controls of which a part is cut off, and controls and labels over another one.
+# Controls that are partly cut off, and controls and labels over another one.
 UNREACHABLE = """
 const faults = [], parts = [];
 for (const element of seen("button, select, input, textarea, summary, a[href], label, [role=tab]")) {

@@ -25,7 +25,7 @@ def check_request(role: str, request: Mapping[str, Any]) -> None:
 
 
 def check_view(role: str, view: Mapping[str, Any], patch: Mapping[str, Any] | None = None) -> None:
-    """Raises ValidationError for a view of a role that isn't as the schema has it. patch: what to check of it, by default all"""
+    """Raises ValidationError for a view of a role that isn't as the schema has it. patch: the fields to check, by default all"""
     schema = TYPES[{"teacher": "TeacherView", "wall": "WallView"}.get(role, "StudentView")]
     if patch is None:
         _validate(schema, view)
@@ -34,7 +34,7 @@ def check_view(role: str, view: Mapping[str, Any], patch: Mapping[str, Any] | No
 
 
 def _check_one(name: str, message: Mapping[str, Any], by: set[str]) -> None:
-    """Checks a message against the alternative of a type that has its fields. by: fields whose values tell alternatives apart"""
+    """Checks a message against the alternative of a type that has its fields. by: fields whose values select the alternative"""
     for schema in map(_resolved, TYPES[name]["anyOf"]):
         fields, required = schema["properties"], set(schema["required"])
         is_open = schema.get("additionalProperties", True)

@@ -12,10 +12,10 @@
 `data/manual` is the examples of docs/COMMANDS.md. `data/recorded/script` has each refusal, users side by side, traces,
 texts of instructions and what a line means as a command; then the output of programs; then images that are loaded or
 refused, and a pool that eight users fill; then values of scalar instructions, vector lengths and types, and the
-manual's rules of which registers may be named together, at small examples; and then single instructions as QEMU
+manual's rules for registers that may be named together, at small examples; and then single instructions as QEMU
 executes them at VLEN 256, and small programs with answers worked out by hand; then programs that run in slices, with
 breakpoints, output and an instruction that is cut, side by side and each alone; and last vector instructions under the
-policy that makes agnostic elements ones, as QEMU carries them out.
+policy that makes agnostic elements ones, as QEMU executes them.
 
 `data/accesses_in_parts` has each kind of vector load and store, whole and cut into slices of a few ticks: where the
 first slice leaves it, how many slices are left, and then the registers or the bytes, with their neighbours.

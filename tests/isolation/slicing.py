@@ -25,7 +25,7 @@ PROGRAMS = ("unit-stride", "strided", "indexed", "segments", "fault-only-first")
 x5 has a vector length, x9 how often the program is gone through, x10 and x12 to x15 have addresses, x11 a stride. They
 are loads and stores with unit stride, with masks, of other widths than the vector type's, of whole registers and of
 masks; strided ones of several widths; indexed ones, whose loads write the registers of their indices; segments of
-two and three fields; and fault-only-first loads, each of which continues after the previous one.
+two and three fields; and fault-only-first loads that each continue after the previous one.
 """
 
 

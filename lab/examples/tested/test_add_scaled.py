@@ -1,4 +1,4 @@
-"""add_scaled.c beside the same in Python, for numbers that hypothesis draws: `python3 -m pytest` in this folder."""
+"""add_scaled.c compared with the same in Python, for numbers that hypothesis draws: `python3 -m pytest` in this folder."""
 
 import pathlib
 from array import array

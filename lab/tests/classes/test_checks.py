@@ -1,4 +1,4 @@
-"""Answers checked in a class: the messages to seats and to the teacher, and the cost of bad answers to the others."""
+"""Checks of answers in a class: the messages to seats and to the teacher, and the cost of bad answers to the others."""
 
 import asyncio
 import csv

@@ -166,7 +166,7 @@ ebreak
 
 
 def test_request_finds_the_last_of_many_rounds(desk: Desk) -> None:
-    """Nine slices of 100 ticks and a part: v2 is 300 times 0, 1, 2, 3 before it is doubled; another user runs beside it."""
+    """Nine slices of 100 ticks and a part: v2 is 300 times 0, 1, 2, 3 before it is doubled; another user runs at the same time."""
     for line in (
         "2 enter",
         "2 map 10000 1 rwx",

@@ -1,4 +1,4 @@
-"""Turns at a machine, without a transport, a clock, or the machine: a stand-in waits until a test lets it go on."""
+"""Turns at a machine, without a transport, a clock, or the machine: a substitute waits until a test lets it go on."""
 
 import asyncio
 import pathlib

@@ -37,7 +37,7 @@ def test_line_stops_in_all_copies() -> None:
     output = shown(lines, PREFIX_SUMS[1])
     assert output[1:3] == ["ok: at 111c0 prefix_bad+0x30, 11354 main+0xd0", STOPPED.format("11354")]
     assert "=> 11354 main+0xd0  vsetvli x15, x11, e32, m2, ta, ma  (prefix_sums.c:10)" in output
-    assert "ok: at 11354 main+0xd0" in output, "the line that calls, of which no instruction is left"
+    assert "ok: at 11354 main+0xd0" in output, "the line of the call, which has no instruction left"
     assert "The program was stopped at 0x11338." in output[output.index("17 is taken as the line prefix_sums.c:17") :]
     output = shown(["break total", "run", "run", "break 8", "until total.c:10"], TOTAL[1])
     assert output[1] == "ok: at 1018c main+0x6c, 101b4 main+0x94, 101dc total"

@@ -1,4 +1,4 @@
-"""The records: each name has one, what they say holds together, and what searches and `help` find."""
+"""The records: each name has one, their parts are consistent, and searches and `help` find them."""
 
 import pathlib
 import re

@@ -9,7 +9,7 @@ if TYPE_CHECKING:
     from selenium.webdriver import Chrome
 
 LINES = [
-    f"{word} is put out again and again, in sixty-four bytes a line".ljust(63, ".") for word in ("This", "That", "What")
+    f"{word} is printed again and again, in sixty-four bytes a line".ljust(63, ".") for word in ("This", "That", "What")
 ]
 PRINTS = f"""        la s1, end
 again:  la s0, text

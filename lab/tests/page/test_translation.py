@@ -1,4 +1,4 @@
-"""Pages with texts in brackets: what they show outside of brackets is data, and not in the table of texts (docs/ADDING.md)."""
+"""Pages with texts in brackets: any text outside of brackets is data, and not in the table of texts (docs/ADDING.md)."""
 
 import pathlib
 from collections.abc import Callable, Iterator, Mapping, Sequence

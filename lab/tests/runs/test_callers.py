@@ -31,7 +31,7 @@ def test_uncalled_functions_are_roots() -> None:
 
 
 def test_deep_calls_are_bounded() -> None:
-    """Of 5,000 functions, each of which calls the next one, a hundred have a frame."""
+    """Of 5,000 functions that each call the next one, a hundred have a frame."""
     names = [f"f{number}" for number in range(5000)]
     callers = Callers(dict.fromkeys(names, 1), dict.fromkeys(zip(names, names[1:]), 1), "f0")
     assert callers.total["f0"] == 5000 and callers.total["f4999"] == 1

@@ -51,7 +51,7 @@ UNWRITTEN = {
 """The differences of each program of the examples, by its labels; `*` is replaced."""
 
 LATE = """
-# A sum of a tail, of which a branch makes something behind a million instructions.
+# A sum that includes a tail, and a branch on it a million instructions later.
         vsetivli zero, 8, e32, m1, ta, ma
         vmv.v.i v8, 1
         vsetivli zero, 4, e32, m1, ta, ma

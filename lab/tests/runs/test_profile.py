@@ -18,7 +18,7 @@ if TYPE_CHECKING:
 
 HEAD = ["address", "place", "source", "instruction", "times", "ticks", "active", "masked off", "tail", "work"]
 MASKED = f"""
-# Three elements of eight under a mask of 5, two of which are active; and then a scalar loop of 20 rounds.
+# Three elements of eight under a mask of 5, which activates two; and then a scalar loop of 20 rounds.
         vsetivli zero, 3, e32, m1, ta, mu
         vmv.v.i v0, 5
         vadd.vi v8, v8, 1, v0.t
@@ -102,7 +102,7 @@ def test_names_of_an_image_are_texts(lab: Lab, tmp_path: pathlib.Path) -> None:
 
 
 CALLS = f"""
-# Twice a function of 3 + 4 x 2 instructions, of which the loop has 8, and once one that calls it 3 times.
+# Twice a function of 3 + 4 x 2 instructions, 8 in its loop, and once one that calls it 3 times.
         jal ra, short
         jal ra, short
         jal ra, long

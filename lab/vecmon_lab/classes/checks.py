@@ -58,13 +58,13 @@ class Checks:
     """Checks of answers, in separate processes; `exercises` has the exercises, and each seat's progress."""
 
     def __init__(
-        self, store: Store, folders: Iterable[pathlib.Path], tell: Callable[[Iterable[str]], object], builds: Builds
+        self, store: Store, folders: Iterable[pathlib.Path], notify: Callable[[Iterable[str]], object], builds: Builds
     ) -> None:
         """folders: of exercises, or names of those that come with the lab; none for those that the class had before.
 
-        `tell` is called with the names of seats that have news. Raises LabError and OSError for a bad exercise.
+        `notify` is called with the names of seats that have news. Raises LabError and OSError for a bad exercise.
         """
-        self._store, self._tell, self._workers, self._builds = store, tell, WorkerPool(PLACES, SECONDS), builds
+        self._store, self._notify, self._workers, self._builds = store, notify, WorkerPool(PLACES, SECONDS), builds
         stored, chosen = [pathlib.Path(path) for path in store.read(EXERCISES, texts, WITHOUT).values()], list(folders)
         self._offered: dict[str, Exercise] = {}
         self._settled: dict[str, Exercise] = {}  # with what they expect; those that students have had
@@ -103,7 +103,7 @@ class Checks:
         task = asyncio.get_running_loop().create_task(self._check(seat, name, source))
         self._tasks.add(task)
         task.add_done_callback(self._tasks.discard)
-        self._tell([seat])
+        self._notify([seat])
 
     async def choose(self, names: Sequence[str]) -> None:
         """Set the exercises that students have, in this order. Raises BadRequest for one that the class doesn't offer, or a bad one."""
@@ -188,7 +188,7 @@ class Checks:
         return int(_COURSE.get(name, 0)) if self._offered[name].folder.parent == OURS else 0
 
     def _offer_others(self, keeps_order: bool) -> None:
-        """Take up the exercises that were offered before, and those of the course. What can't be read is reported as lost.
+        """Take up the exercises that were offered before, and those of the course. Unreadable data is reported as lost.
 
         keeps_order: whether all are in the order of before, which the choice of exercises doesn't change
         """
@@ -221,7 +221,7 @@ class Checks:
         if self.exercises.take(seat, name, done):
             self._unsaved[_file(seat, name, len(self.exercises.progress(seat, name).tries))] = done
             self.save()
-        self._tell([seat])
+        self._notify([seat])
 
     async def _check_result(self, seat: str, name: str, source: SourceText) -> CheckResult:
         """The result of a check. If the server's side fails, it runs once more, and a second failure is the result."""

@@ -21,7 +21,7 @@ class SourceView(TypedDict):
     """The source of a seat.
 
     language: the number of its language; number: of changes since the server started
-    exercise: the open one, or ""; stands: whether the machine has this source; versions: the last 50, in order
+    exercise: the open one, or ""; `stands`: whether the machine has this source; versions: the last 50, in order
     """
 
     text: str

@@ -27,7 +27,7 @@ SeatResult = TypedDict("SeatResult", {"tries": int, "passed": int, "best": int, 
 
 
 class CaseView(TypedDict):
-    """A case of an exercise: its name, and whether it is hidden. Unless it is, what it gives and expects."""
+    """A case of an exercise: its name, and whether it is hidden; for a visible one, its inputs and expected results."""
 
     name: str
     hidden: bool

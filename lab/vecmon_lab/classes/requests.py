@@ -126,7 +126,7 @@ class FindLastRead:
 
 @dataclass(frozen=True)
 class Why:
-    """A register or an element, such as `v8[5]`, whose value after the last single step is to be explained."""
+    """A register or an element, such as `v8[5]`, whose value after the last single step the student asks about."""
 
     name: str
 

@@ -1,4 +1,4 @@
-"""Answers to exercises: an image, a source or a script, loaded and run for one case, and its results."""
+"""An answer to an exercise: an image, a source or a script, loaded and run for one case, and its results."""
 
 import contextlib
 import os

@@ -8,7 +8,7 @@ import xml.etree.ElementTree as ElementTree
 from .exercise import Case, Exercise
 
 Grades = list[tuple[pathlib.Path, list[str]]]
-"""Answers, each with why it fails, or nothing, for each case."""
+"""For each answer, the reason why it fails each case, or nothing."""
 
 _NO_XML = re.compile("[^\t\n\r -\ud7ff\ue000-\ufffd\U00010000-\U0010ffff]")  # characters that XML can't have
 

@@ -1,4 +1,4 @@
-"""The content of a lesson's first frame: what the lesson shows, and what is in memory before it."""
+"""The content of a lesson's first frame: its subject, and the initial contents of memory."""
 
 import json
 import re
@@ -17,7 +17,7 @@ MAX_POINTS, MAX_NUMBERS, MAX_LETTERS, MAX_PLACES = 3, 12, 40, 8
 class About(TypedDict):
     """Sentences of a lesson's first frame, with backquotes around code.
 
-    points: what the lesson shows; memory: the data of its source, or the variables that all functions know
+    points: the subjects of the lesson; memory: the data of its source, or the variables that all functions know
     """
 
     points: list[str]

@@ -65,8 +65,8 @@ def make_frames(
 
 
 class _Maker:
-    """Two machines carry out the script: one its very lines, whose answers the lesson shows; the other one a single
-    instruction at a time where a line steps several, and that one is looked at."""
+    """Two machines execute the script: one its very lines, whose answers the lesson shows; the other one a single
+    instruction at a time where a line steps several; the frames have its states."""
 
     def __init__(self, script: Script, whole: Session, single: Session) -> None:
         self._script, self._whole, self._single = script, whole, single
@@ -111,7 +111,7 @@ class _Maker:
         answers += answers_by_user(parts)
 
     def _step_singly(self, step: Step, number: int, log: list[str], answers: Sequence[tuple[str, Answer]]) -> None:
-        """Step as often as the line did: up to its number, a stop, or a breakpoint after its first instruction."""
+        """Repeat the line's steps: up to its number, a stop, or a breakpoint after its first instruction."""
         line, user = step.lines[0], step.lines[0][0]
         for place in range(1, number + 1):
             state, part = self._states[user], answers_by_user(self._single.do(f"{user} step 1"))

@@ -123,7 +123,7 @@ CONTROL = tuple(vars(ControlRegisters()))
 
 @dataclass(frozen=True)
 class Word:
-    """A word of the program at an address; its canonical text, which `dis` shows, and `asm` doesn't."""
+    """A program's word at an address; its canonical text, which `dis` shows, and `asm` doesn't."""
 
     address: int
     word: int

@@ -152,7 +152,7 @@ class Session(contextlib.AbstractContextManager["Session"]):
     def do_script(self, script: bytes) -> Iterator[tuple[str, list[str]]]:
         """Does lines that a session recorded, in bulk: each line and its answer, as they come.
 
-        Answers aren't checked for their lines' forms: the digest covers them. Raises BadLine, ProgramGone and OutOfStep,
+        The form of the answers' lines isn't checked: the digest covers them. Raises BadLine, ProgramGone and OutOfStep,
         and then the session is of no use any more, as where it isn't gone through to its end.
         """
         for lines, answers in self.do_blocks(script):

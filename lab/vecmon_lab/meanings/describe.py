@@ -1,4 +1,4 @@
-"""Records as lines of text: what the console's `help` prints, and what the pages, the book and the manual page have."""
+"""Records as lines of text, for the console's `help`, the pages, the book and the manual page."""
 
 import bisect
 import functools

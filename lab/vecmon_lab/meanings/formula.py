@@ -201,7 +201,7 @@ def _assignment(text: str, whole: str) -> Assignment:
 
 
 def _checked(text: str, whole: str) -> ast.expr:
-    """The expression of a text, of which each part belongs to the language. Raises LabError."""
+    """The expression of a text whose parts all belong to the language. Raises LabError."""
     try:
         tree = ast.parse(text.strip(), mode="eval")
     except SyntaxError as error:

@@ -1,4 +1,4 @@
-"""The meanings of vector instructions for pages: what the card above the elements says."""
+"""The meanings of vector instructions for pages: the texts of the card above the elements."""
 
 import functools
 from typing import TypedDict

@@ -1,4 +1,4 @@
-// Memory in rows of 16, 8 or 4 bytes, as many as fit, with a gap where rows are left out, with numbers where the source or its
+// Memory in rows of 16, 8 or 4 bytes, by the width of the pane, with a gap where rows are left out, with numbers where the source or its
 // variables have them, and with marks of the bytes that the last instruction accessed; and what the program has printed.
 
 import { header, make, part } from "./elements.js";

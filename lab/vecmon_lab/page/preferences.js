@@ -1,4 +1,4 @@
-// What the browser stores for the reader, as JSON. Where it refuses to, a choice holds for the page alone.
+// The reader's preferences, which the browser stores as JSON. Where it refuses to, a choice holds for the page alone.
 
 const TEXT_SIZE = "vecmon-text-size";
 

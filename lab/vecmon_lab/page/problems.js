@@ -61,7 +61,7 @@ export class Problems {
     this.go((Math.max(this.place, step < 0 ? 0 : -1) + step + length) % length);
   }
 
-  /** Selects the word of a problem in the editor. */
+  /** Selects a problem's word in the editor. */
   go(/** @type {number} */ place) {
     this.place = place;
     const problem = this.all[place];

@@ -25,7 +25,7 @@ export function entryText(/** @type {string} */ name) {
   return own.map(([, form, does]) => `\`${form}\`${does && `: ${does}`}`).join("\n");
 }
 
-/** The word of a text around a place, or ending at it. */
+/** The word around a place in a text, or ending at it. */
 /** @type {(text: string, place: number) => string} */
 const wordAt = (text, place) =>
   text.slice(Math.max(0, place - 99), place).split(/[^\w.]/).at(-1) + text.slice(place, place + 99).split(/[^\w.]/, 1)[0];

@@ -1,4 +1,4 @@
-// What the teacher sends: a message, or a source that is offered or replaces others; to one seat, some, or all.
+// The teacher's form to send a message, or a source that is offered or replaces others; to one seat, some, or all.
 
 import { Editor } from "./editor.js";
 import { byId, elementsIn, make, put, renew, timeText } from "./elements.js";
@@ -68,14 +68,14 @@ export class Send {
     return { one: shoulder.seat ? [shoulder.seat] : [], chosen, waiting, all };
   }
 
-  /** Names of seats in a sentence; none stand for all. */
+  /** Names of seats in a sentence; an empty list means all. */
   names(/** @type {string[]} */ seats) {
     if ([0, this.teacher.roster.rows.length].includes(seats.length)) return textOf("teacher.all-seats");
     const [more, names] = [seats.length - SHOWN, seats.slice(0, SHOWN).map((seat) => this.teacher.withName(seat)).join(", ")];
     return more > 0 ? textOf("send.more", { names, more }) : names;
   }
 
-  /** What is sent: a message, or a source that is offered or replaces others. */
+  /** The kind of message: a text, or a source that is offered or replaces others. */
   get kind() { return byId("gift").hidden ? "message" : /** @type {"offer" | "replace"} */ (group("how").value); }
 
   /** Shows the receivers, what happens there, and on the button how many they are. */

@@ -59,7 +59,7 @@ export class Teacher {
     this.showSummary(view);
   }
 
-  /** Shows how many seats are used; while none is, what to do at the start is there in place of the list. */
+  /** Shows the number of used seats; while it is 0, first steps are there in place of the list. */
   showSummary(/** @type {TeacherView} */ { machines, wall, shoulder }) {
     const { rows, waiting } = this.roster;
     const used = rows.filter(({ row }) => !row.matches(".free")).length;

@@ -28,7 +28,7 @@ function strip({ where, first, numbers, wrong, more }, name = "", most = Infinit
   return make("div", "strip", make("small", "", title), make("p", "", ...boxes, left ? textOf("verdict.more", { number: left }) : ""));
 }
 
-/** What a case gives or expects: registers in one line, and at most some numbers of each row of memory. */
+/** A case's inputs or expected results: registers in one line, and at most some numbers of each row of memory. */
 /** @type {(rows?: NumberRow[], most?: number) => HTMLElement[]} */
 function rowsOf(rows = [], most = Infinity) {
   const isRegister = (/** @type {NumberRow} */ { where }) => /\(x\d+\)$/.test(where);

@@ -167,7 +167,7 @@ def _operands(row: Row, word: int, view: ControlRegisters) -> list[Operand]:
 
 
 def _draw_word(row: Row, kind: Kind, draws: _Draws, steps: Sequence[int]) -> tuple[int, ControlRegisters]:
-    """A word of the row and a state that are legal together, or illegal; either, if _DRAWS draws find none. Never an odd one.
+    """A row's word and a state that are legal together, or illegal; either, if _DRAWS draws find none. Never an odd one.
 
     steps: of one of these numbers the numbers of vector registers are multiples
     """

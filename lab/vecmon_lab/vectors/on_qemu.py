@@ -34,7 +34,7 @@ SIGNALS = {4: "fault 2", 5: "ebreak", 7: "fault {}", 11: "fault {}"}
 
 
 def program() -> list[int]:
-    """The words of the program around the cases."""
+    """The machine code around the cases, as 32-bit words."""
     listing = pathlib.Path(__file__).with_name("on_qemu.txt")
     return [int(line.split()[0], 16) for line in listing.read_text("ascii").splitlines() if not line.startswith("#")]
 

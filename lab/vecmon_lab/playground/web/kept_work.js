@@ -58,7 +58,7 @@ export class KeptWork {
   readOnly = "";
   isFull = "";
   /** @type {IDBDatabase | null} */ database = null;
-  /** @type {Map<string, Entry | null>} */ due = new Map(); // what is to be written
+  /** @type {Map<string, Entry | null>} */ due = new Map(); // entries that aren't written yet
   /** @type {Promise<void> | null} */ writing = null;
 
   /** @param {(trouble: string) => unknown} changed is called when `trouble` has changed */
