@@ -11,6 +11,8 @@ if TYPE_CHECKING:
 
 COUNTS = "loop:   addi t0, t0, 1   # counts\n        li a0, 0x12345   # two words\n        vid.v v1\n        j loop\n"
 TEXT = "text()"
+ABOVE = """((menu, button) => Math.abs(button.top - menu.bottom) < 8 && menu.left < button.right && button.left < menu.right)(
+    ...["file", "show-file"].map((name) => id(name).getBoundingClientRect()))"""
 PASTE = """((data) => (data.setData("text/plain", arguments[0]), code().getInputField().dispatchEvent(
     new ClipboardEvent("paste", { clipboardData: data, bubbles: true, cancelable: true }))))(new DataTransfer())"""
 TYPED = "loop: vadd.vx v1, v2, x5\n        j loop\n        nop     # it's an add\n        fro"
@@ -149,6 +151,9 @@ def test_given_source_is_offered(sit: Sit, tmp_path: pathlib.Path) -> None:
     look_at(teacher, "A3")
     teacher.wait(f"{TEXT} === 'nop # mine'")
     teacher.click("#show-source")
+    teacher.click("#show-file")
+    assert teacher.run(ABOVE)
+    teacher.run("id('file').hidePopover()")
     teacher.click("#take")
     assert teacher.run("text('given')") == "nop # mine"
     teacher.type(Keys.CONTROL, Keys.HOME, Keys.NULL, "# theirs", Keys.ENTER, field="given")
