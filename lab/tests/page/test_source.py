@@ -195,10 +195,16 @@ def _give_to_all(teacher: Tab, tab: Tab, other: Tab) -> None:
 
 def _take_back(teacher: Tab, tab: Tab) -> None:
     """The teacher takes the source back; to no seat nothing can be given."""
-    teacher.wait("one('#sent .given')?.textContent.includes('all seats')")
+    teacher.wait("one('#sent .given')?.textContent.startsWith('Given to all seats: ')")
+    numbers = teacher.run(
+        "/\\d of 8 editors/.exec(one('#sent .given').textContent)[0]"
+    )  # other tests wrote at seats, too
     teacher.click("#sent .given button")
     tab.wait(f"{TEXT}.startsWith('# theirs')")
-    teacher.wait("!one('#sent .given') && id('sent-says').textContent.startsWith('Taken back: ')")
+    teacher.wait(
+        "!one('#sent .given') && id('sent-says').textContent.startsWith(arguments[0])", f"Taken back: {numbers} "
+    )
+    assert teacher.run("code('given').hasFocus()")  # in place of the button, which is gone
     teacher.click("[name=to][value=chosen]")
     assert teacher.run("id('send-it').disabled") and teacher.text("#preview").startswith("Choose a student")
     teacher.activate().refresh()

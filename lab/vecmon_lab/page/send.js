@@ -102,7 +102,7 @@ export class Send {
     const what = how === "message" ? { ask: "write", text: byId("words").value } : { ask: "give", ...this.given.source, how, title };
     const answer = await this.teacher.request({ ...what, ...receivers });
     if (!answer || answer.error) return;
-    if (how === "message") byId("words").value = "";
+    if (how === "message") Object.assign(byId("words"), { value: "" }).focus(); // the button is off without a text
     put(byId("sent-says"), "");
     this.paint();
     byId("sent").firstElementChild?.scrollIntoView({ block: "nearest" }); // with the button that takes it back
@@ -114,9 +114,13 @@ export class Send {
     offerLanguages(byId("given-language"), view);
     this.paint();
     const items = Object.keys(sent).slice(-SHOWN).reverse().map((number) => this.item(number, sent[number]));
-    const words = given ? textOf("send.replaced", { count: given.replaced, names: this.names(given.seats) }) : "";
+    const words = given ? textOf("send.replaced", { ...this.countsOf(given.replaced, given.seats), names: this.names(given.seats) }) : "";
     renew(byId("sent"), given ? [make("li", "given", words, backButton(words, "")), ...items] : items);
   }
+
+  /** The numbers of a sentence: of editors that had another text, and of all that got the source. */
+  /** @type {(count: number, seats: string[]) => { count: number, all: number }} */
+  countsOf = (count, seats) => ({ count, all: seats.length || this.teacher.roster.rows.length });
 
   /** @type {(number: string, notice: import("./messages").SentNotice) => HTMLElement} */
   item(number, { time, text, offer, to, read, opened }) {
@@ -135,6 +139,7 @@ export class Send {
     if (!answer || answer.error) return;
     const { replaced: count, read = [] } = answer;
     const words = read.length ? textOf("send.read-before", { names: this.names(read) }) : textOf("send.taken-back");
-    put(byId("sent-says"), count === undefined ? words : textOf("send.restored", { count }));
+    put(byId("sent-says"), count === undefined ? words : textOf("send.restored", this.countsOf(count, seats)));
+    this.opened(this.kind === "message" ? byId("words") : this.given.code); // the button with the focus goes
   }
 }

@@ -25,8 +25,7 @@ export const stoppedLines = (stops, breaks) =>
 
 /** The line of the source that an instruction is of; 0 of none. */
 /** @type {(state: State, address: string | undefined) => number} */
-export function lineOf({ starts, line_numbers: numbers }, address) {
-  if (!address) return 0;
+export function lineOf({ starts, line_numbers: numbers }, address = "") {
   return numbers?.[address] ?? (starts && starts[startOf(starts, address) ?? ""]) ?? 0;
 }
 

@@ -532,11 +532,11 @@ export interface Places {
   "send.chosen": "number";
   "send.waiting": "number";
   "send.all": "number";
-  "send.replaced": "count" | "names";
+  "send.replaced": "all" | "count" | "names";
   "send.take-back.label": "what";
   "send.taken-back": never;
   "send.read-before": "names";
-  "send.restored": "count";
+  "send.restored": "all" | "count";
   "send.offered": never;
   "send.offered-title": "title";
   "send.read": "all" | "read";
