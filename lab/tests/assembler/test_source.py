@@ -186,6 +186,7 @@ ERRORS = [
     ("  frobnicate a0", 1, 3, "there is no instruction frobnicate"),
     ("  vfadd.vv v1, v2, v3", 1, 3, "there is no instruction vfadd.vv; near it are vadd.vv"),
     (" mov a0, a1", 1, 2, "there is no instruction mov; near it is mv"),
+    (" vad v1, v2, v3", 1, 2, "there is no instruction vad; near it are vadd.vx, vadd.vv and vadd.vi"),
     (" add a0, a0, " + "0 - " * 80 + "a0", 1, 334, "a0 is no register that fits here"),
     (" add a0, a0, " + ", ".join(["-9"] * 80), 1, 2, "an instruction has at most 256 characters, and this one 332"),
     (".data\n nop", 2, 2, "nop is outside .text"),

@@ -30,6 +30,6 @@ def test_problems_leave_the_machine_as_it_is(desk: Desk) -> None:
 
 def test_problems_without_machine(desk: Desk) -> None:
     answer = ask(desk, ask="problems", text="nop\nvad.vx v1, v2, a0")
-    assert answer["mistakes"][0]["fix"][0] == "vand.vx" and desk.seat.state == {"run": "absent"}
+    assert answer["mistakes"][0]["fix"][0] == "vadd.vx" and desk.seat.state == {"run": "absent"}
     assert "takes no C" in ask(desk, ask="problems", text="int x;", language=C)["error"]
     assert "characters at most" in ask(desk, ask="problems", text=5)["error"]

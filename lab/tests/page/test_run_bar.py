@@ -228,9 +228,9 @@ def test_fix_replaces_the_word(sit: Sit) -> None:
     write(tab, "vad.vv v1, v2, v3\n")
     tab.click("#go")
     tab.wait("all('#mistakes li button').length > 1")
-    assert tab.run("all('#mistakes li button')[1].textContent") == "vand.vv"
+    assert tab.run("all('#mistakes li button')[1].textContent") == "vadd.vv"
     tab.run("all('#mistakes li button')[1].click()")
-    tab.wait("text() === 'vand.vv v1, v2, v3\\n'")
+    tab.wait("text() === 'vadd.vv v1, v2, v3\\n'")
     assert tab.run("all('#mistakes li').length") == 0
     tab.type(Keys.CONTROL, "z", Keys.NULL)
     assert tab.run("text()") == "vad.vv v1, v2, v3\n"

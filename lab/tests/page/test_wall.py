@@ -99,6 +99,9 @@ def test_wall_shows_seat_without_codes(tabs: "Chrome", served: Served) -> None:
     tab, teacher = Tab(tabs, served, "A7"), Tab(tabs, served, "teacher")
     wall = Tab(tabs, served, "wall", KEEP)
     assert "shows no seat" in wall.text("#who") and not wall.run("id('desk').checkVisibility()")
+    assert (
+        wall.run("all('#machine .missing').map((each) => each.textContent).join('')") == "This seat has no machine yet."
+    )
     tab.begin("vsetivli x0, 8, e16, m2, ta, ma", *["vadd.vi v2, v2, 3"] * 20)
     look_at(teacher, "A7")
     teacher.click("#on-wall")

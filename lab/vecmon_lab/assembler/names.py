@@ -2,7 +2,8 @@
 
 import functools
 from collections.abc import Set
-from difflib import get_close_matches
+from difflib import SequenceMatcher, get_close_matches
+from os.path import commonprefix
 
 from ..instructions.table import instruction_table
 from ..tables.table import read_table
@@ -15,12 +16,16 @@ MAX_NEAR = 3
 
 @functools.lru_cache(maxsize=1024)
 def near_names(name: str, names: Set[str] = SOURCE_NAMES) -> list[str]:
-    """Return the nearest of these names with the same first letter, MAX_NEAR at most."""
+    """Return the nearest of these names with the same first letter, MAX_NEAR at most.
+
+    Of equally near ones those come first that start with more of the same letters, as vadd.vv before vand.vv for vad.
+    """
     own, small = sorted(each for each in names if each[0] == name[0].lower()), name.lower()
-    near = get_close_matches(small, own, MAX_NEAR)
+    near = get_close_matches(small, own, len(own) or 1)
     if len(name) <= 3 and not near:  # as jmp, which has one letter of jal
-        near = get_close_matches(small, own, MAX_NEAR, 1 / 3)
-    return near
+        near = get_close_matches(small, own, len(own) or 1, 1 / 3)
+    ranks = {each: (SequenceMatcher(None, each, small).ratio(), len(commonprefix([each, small]))) for each in near}
+    return sorted(near, key=ranks.__getitem__, reverse=True)[:MAX_NEAR]
 
 
 def no_instruction(name: str, names: Set[str] = SOURCE_NAMES) -> str:

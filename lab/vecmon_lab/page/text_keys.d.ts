@@ -565,6 +565,7 @@ export interface Places {
   "wall.seat": "seat";
   "wall.running": "seat";
   "wall.none": never;
+  "wall.no-machine": never;
   "lesson.not-made": "cause";
   "lesson.frames.label": never;
   "lesson.first.label": never;

@@ -1,7 +1,7 @@
 // A page for a projector: the vectors and the program of the seat that the teacher has put there.
 
 import { Desk } from "./desk.js";
-import { part, put } from "./elements.js";
+import { elementsIn, part, put } from "./elements.js";
 import { Panes } from "./panes.js";
 import { textOf } from "./texts.js";
 
@@ -12,16 +12,16 @@ export class Wall {
     this.root = root;
     this.desk = new Desk(root);
     new Panes(root, "wall").show("listing");
+    for (const each of elementsIn(root, ".missing")) put(each, each.closest(".vectors") ? textOf("wall.no-machine") : "");
     document.title = textOf("page.named", { name: textOf("wall.name") });
   }
 
   /** @type {import("./types").RolePage["show"]} */
   show({ seat, state }, logs, isAnew) {
-    const isOther = isAnew || seat !== this.seat;
-    this.seat = seat;
     const seatText = state?.run === "running" ? textOf("wall.running", { seat }) : textOf("wall.seat", { seat });
     put(part(this.root, "who"), seat ? seatText : textOf("wall.none"));
     part(this.root, "desk").hidden = !seat;
-    if (seat) this.desk.show(seat, state, [], isOther);
+    if (seat) this.desk.show(seat, state, [], isAnew || seat !== this.seat);
+    this.seat = seat;
   }
 }

@@ -44,7 +44,8 @@ class Writer:
 
     def summary(self) -> Iterator[str]:
         """The written files, and the cases that can't run in the environment, each in a line."""
-        yield f"{self._cases:,} cases in {self._programs:,} programs"
+        counts = [(self._cases, "case"), (self._programs, "program")]
+        yield " in ".join(f"{number:,} {unit}{'s' * (number != 1)}" for number, unit in counts)
         yield from (f"left out: {count:,} of {kind}" for kind, count in sorted(self._left_out.items()))
 
     def _write_part(self, name: str, part: Sequence[Case]) -> None:
