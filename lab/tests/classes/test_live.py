@@ -117,7 +117,10 @@ async def test_running_program_is_shown(tmp_path: pathlib.Path, monkeypatch: pyt
 
         await tab.until(has_run)
         await teacher.ask("clock", machine="A", on=False)
-        await asyncio.sleep(0.1)
+        assert room.members
+        own = room.members.room("A")
+        while own.machine.has_run or own.is_busy():  # until the last slices are shown
+            await asyncio.sleep(0.02)
         script = (await room.check_replay())[0].decode().splitlines()
         assert {"1 stop ", "1 out ", "1 go "} <= set(script) and "2 stop " not in script  # nobody looks at seat 2
         assert tab.view["share"]["used"] == used
