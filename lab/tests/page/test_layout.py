@@ -167,6 +167,11 @@ def test_bar_of_phone_is_one_row(tabs: "Chrome", served: Served) -> None:
         assert tab.run("!id('says-past').hidden && id('now').checkVisibility()")
         press_key(tab, "Escape")
         assert tab.run("id('says-past').hidden")
+        tab.click("#tab-vectors")
+        tab.choose("#view", "all 32 registers")
+        tab.choose("#width", "8 bits")
+        tab.wait("id('vectors').scrollHeight > id('vectors').clientHeight")
+        assert tab.run("id('detail').scrollHeight <= id('detail').clientHeight")  # whole, below registers that scroll
         resize(tab.activate(), SIZES["laptop"])
         tab.wait("one('#head #past')")
     finally:

@@ -213,8 +213,9 @@ def test_links_carry_sources_and_no_markup(tabs: "Chrome", site: pathlib.Path) -
 
 
 def test_files_are_dropped(tabs: "Chrome", site: pathlib.Path) -> None:
-    """An image is loaded; a source in C, an image that is too large, and any other file are refused by name."""
+    """An image is loaded and runs; a source in C, an image that is too large, and any other file are refused by name."""
     tab = SiteTab(tabs, (site / "playground.html").as_uri())
+    tab.run("code().setValue(arguments[0])", LOOP)
     for name, content, told in (
         (
             "sum.c",
@@ -230,6 +231,8 @@ def test_files_are_dropped(tabs: "Chrome", site: pathlib.Path) -> None:
         tab.wait("id('log').textContent.includes(arguments[0])", told)
     assert tab.run("all('#log img, #log b').length") == 0
     tab.wait("id('run').textContent === 'Ready'")
+    tab.click("#go")  # the image, and not the source
+    tab.wait("id('output').textContent.startsWith('328350')")  # the sum of the squares below 100
 
 
 def test_it_starts_with_examples(tabs: "Chrome", site: pathlib.Path) -> None:

@@ -41,6 +41,7 @@ export class Bench {
   timer = 0; // until problems are asked for
   hasMachine = false; // since the view before
   isEdited = false; // whether the source was changed since the machine began
+  isImage = false; // whether the machine began with an image
   /** @type {State["read"]} */ askedRead; // that lacked registers, which were asked for
 
   /** @param {HTMLElement} root @param {import("./types").Connection} connection */
@@ -119,13 +120,13 @@ export class Bench {
 
   /** @type {(view: View, entries: string[], isAnew: boolean) => void} */
   show(view, entries, isAnew) {
-    const { run, instruction } = view.state;
-    if (entries.some((entry) => /^>. (enter|load)\b/.test(entry))) this.isEdited = false;
+    const { state: { run, instruction }, source: { stands, text } } = view;
+    const start = entries.findLast((entry) => /^>. (enter|load)\b/.test(entry));
+    if (start) Object.assign(this, { isEdited: false, isImage: start.slice(3).startsWith("load") });
     if (instruction) this.panes.makeRoom();
     this.desk.show(view.seat, view.state, entries, isAnew);
     this.askForRead(view.state);
-    const { stands, text } = view.source;
-    if ((run !== "absent") !== this.hasMachine) this.panes.show(run === "absent" || (stands && text) ? "editor" : "listing");
+    if ((run !== "absent") !== this.hasMachine) this.panes.show(run === "absent" || (text && (stands || isAnew)) ? "editor" : "listing");
     this.hasMachine = run !== "absent";
     offerLanguages(this.editor.language, view);
     offer(this.parts.images, textOf("run.load-image"), view.images);
@@ -146,8 +147,8 @@ export class Bench {
    * @returns {boolean}
    */
   get hasChanged() {
-    const isLoaded = this.bar.view?.again || this.isEdited || !Object.keys(this.desk.state.code ?? {}).length;
-    return Boolean(isLoaded) && !this.source.stands;
+    const isOfSource = Boolean(this.bar.view?.again) && !this.isImage;
+    return !this.source.stands && (isOfSource || this.isEdited || !Object.keys(this.desk.state.code ?? {}).length);
   }
 
   /** Steps the program: into calls, over them, or out of a function. */

@@ -112,8 +112,8 @@ class Lesson {
     byId("introduction").hidden = !this.isIntroduced || this.place > 0;
     if (this.name && this.place === this.frames.length - 1) keepRead(this.name);
     const earlier = this.states.slice(0, this.place).map((each) => each[user]);
-    const step = earlier.findLast((each) => each !== states[user]); // before what was done last, which frames that only look leave
-    this.view.paint(state, earlier.at(-1), this.used[user], step);
+    // elements are compared with the state before the last step: frames that only look have the same state
+    this.view.paint(state, earlier.at(-1), this.used[user], earlier.findLast((each) => each !== states[user]));
     byId("log").scrollTop = byId("log").scrollHeight;
     clearTimeout(this.address);
     this.address = setTimeout(() => history.replaceState(null, "", `#${this.place + 1}`), ADDRESS_DELAY);
