@@ -9,28 +9,32 @@ from vecmon_lab.machine.lines import is_look
 from vecmon_lab.machine.session import Session
 
 PICTURE = """
-const groups = {};
-const rows = [...document.querySelectorAll("#elements tr:is(.after, .plain)[data-register]")];
-const folded = /(\\d+) to (\\d+)/.exec(document.querySelector("#elements .folded")?.textContent ?? "");
-for (const row of rows) {
-  const rest = folded ? folded[2] - folded[1] + 1 : 0;
-  const group = (groups[row.dataset.register] ??= {cells: rest, tail: rest, masked: 0, prestart: 0, active: 0});
-  for (const cell of row.querySelectorAll("td[data-element]")) {
-    group.cells += 1;
-    group.active += cell.matches(".active, .kept, .fault, .pending");
-    for (const kind of ["tail", "masked", "prestart"]) group[kind] += cell.classList.contains(kind);
+const [done] = arguments;
+const picture = () => {
+  const groups = {};
+  const rows = [...document.querySelectorAll("#elements tr:is(.after, .plain)[data-register]")];
+  const folded = /(\\d+) to (\\d+)/.exec(document.querySelector("#elements .folded")?.textContent ?? "");
+  for (const row of rows) {
+    const rest = folded ? folded[2] - folded[1] + 1 : 0;
+    const group = (groups[row.dataset.register] ??= {cells: rest, tail: rest, masked: 0, prestart: 0, active: 0});
+    for (const cell of row.querySelectorAll("td[data-element]")) {
+      group.cells += 1;
+      group.active += cell.matches(".active, .kept, .fault, .pending");
+      for (const kind of ["tail", "masked", "prestart"]) group[kind] += cell.classList.contains(kind);
+    }
   }
-}
-const ofElements = rows.filter((row) => !row.querySelector(".set, .clear"));
-const shown = {};
-const add = (name, isChanged) => (shown[name] ||= isChanged);
-for (const row of ofElements) add(row.querySelector("b").textContent, row.querySelector(".changed") !== null);
-for (const cell of document.querySelectorAll("#registers dd")) add(cell.title.split(",")[0] || "pc", cell.matches(".changed"));
-const texts = ["#count", "main"].map((name) => document.querySelector(name).textContent);
-return [...texts, groups, shown];
+  const ofElements = rows.filter((row) => !row.querySelector(".set, .clear"));
+  const shown = {};
+  const add = (name, isChanged) => (shown[name] ||= isChanged);
+  for (const row of ofElements) add(row.querySelector("b").textContent, row.querySelector(".changed") !== null);
+  for (const cell of document.querySelectorAll("#registers dd")) add(cell.title.split(",")[0] || "pc", cell.matches(".changed"));
+  const texts = ["#count", "main"].map((name) => document.querySelector(name).textContent);
+  return [...texts, groups, shown];
+};
+requestAnimationFrame(() => setTimeout(() => done(picture()))); // after a frame, since widths of rows follow the layout
 """
-"""For a browser: the count and the texts, the elements of results and of registers in use by kind, and whether registers, or groups
-as `v4–v5`, changed."""
+"""For a browser, asynchronous: the count and the texts, the elements of results and of registers in use by kind, and whether
+registers, or groups as `v4–v5`, changed."""
 
 
 @dataclass(frozen=True)

@@ -55,7 +55,7 @@ def test_lesson_steps_forwards_and_backwards(
     frames = json.loads(text_of(browser, "#lesson"))["frames"]
     follower, pictures, masked = Follower(session), [], 0
     for number, frame in enumerate(frames, 1):
-        count, picture, groups, shown = browser.execute_script(PICTURE)
+        count, picture, groups, shown = browser.execute_async_script(PICTURE)
         assert count == f"{number} of {len(frames)}"
         pictures.append(picture)
         reply = follower.state_after(frame)
@@ -75,7 +75,7 @@ def test_lesson_steps_forwards_and_backwards(
     assert (masked > 0) == (name in ("masks_and_tails", "strip_mined"))
     assert browser.save_screenshot(str(tmp_path / f"{name}.png")) and (tmp_path / f"{name}.png").stat().st_size > 10_000
     for picture in reversed(pictures):
-        assert text_of(browser, "main") == picture
+        assert browser.execute_async_script(PICTURE)[1] == picture
         press(browser, Keys.ARROW_LEFT)
     assert text_of(browser, "#count").startswith("1 of ")
     assert browser.get_log("browser") == []
