@@ -307,8 +307,8 @@ def test_until_stops_at_register_change_or_address() -> None:
         == ["E05: the user has not entered"] * 2
     )
     output = shown([*lines, "unbreak 20000", "break 10000", "until a0", "until 10000", "1 breaks"])
-    stands = ["Stopped at the breakpoint at 0x10000; its instruction is the next one.", "=> 10000  jal x0, 0"]
-    assert output[-5:-1] == stands * 2
+    positions = ["Stopped at the breakpoint at 0x10000; its instruction is the next one.", "=> 10000  jal x0, 0"]
+    assert output[-5:-1] == positions * 2
     assert [line[:4] for line in output if line.startswith("E12")] == ["E12:"] * 2
     assert output[-1].split()[:3] == ["1", "breaks", f"{0x10000:016x}"]
 
@@ -318,9 +318,9 @@ def test_back_returns_to_instruction_or_write() -> None:
     output = shown(
         ["run", "back", "back to write y", "peek y", "back to write y", "set x9 5", "step", "back 100"], STRIP_MINED
     )
-    stands = [line[3:] for line in output if line.startswith("=>")]
-    assert stands[2:4] == ["10040 next+0x28  bne x10, x0, -40", "1002c next+0x14  vse32.v v9, (x12)"]
-    at = output.index(f"=> {stands[3]}")
+    positions = [line[3:] for line in output if line.startswith("=>")]
+    assert positions[2:4] == ["10040 next+0x28  bne x10, x0, -40", "1002c next+0x14  vse32.v v9, (x12)"]
+    at = output.index(f"=> {positions[3]}")
     assert (
         "x10/a0=d" in output[at - 3]
         and output[at + 1] == "   11040  64 00 00 00 64 00 00 00 64 00 00 00 64 00 00 00  d...d...d...d..."
@@ -328,7 +328,7 @@ def test_back_returns_to_instruction_or_write() -> None:
     assert [line for line in output if line.endswith("before.")] == ["This is the start: there is nothing before."] * 2
     nobody = output.index("No instruction has changed what lies at 11040 y.")
     assert output[nobody + 1] == "This is the start: there is nothing before."
-    assert stands[4:] == ["10000  addi x10, x0, 13", "10004  auipc x11, 1", "10000  addi x10, x0, 13"]
+    assert positions[4:] == ["10000  addi x10, x0, 13", "10004  auipc x11, 1", "10000  addi x10, x0, 13"]
     assert shown(["back", "leave", "back"], STRIP_MINED)[-1] == "This is the start: there is nothing before."
 
 

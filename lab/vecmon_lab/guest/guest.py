@@ -211,7 +211,7 @@ class Guest:
         word, text = self.word_at(stop.pc)
         return describe_stop(stop, word, self.query("vcsr", ControlRegisters), text)
 
-    def tell(self, stop: Stop | None, place: str = "") -> str:
+    def describe(self, stop: Stop | None, place: str = "") -> str:
         """A stop in a line: its address, and the place by a symbol; the instruction there; and why, in sentences.
 
         Without a stop the ticks ran out where the program is.

@@ -240,7 +240,7 @@ class Kernel(contextlib.AbstractContextManager["Kernel"]):
 
     def _stopped(self, what: str, stop: Stop | None, places: Sequence[_Place]) -> CallStopped:
         """Why a call didn't return; for a fault in or near an array also the place in it."""
-        text = f"{what}: " + self._guest.tell(stop, self._symbols.place(stop.pc if stop else self._guest.pc))
+        text = f"{what}: " + self._guest.describe(stop, self._symbols.place(stop.pc if stop else self._guest.pc))
         for number, place in enumerate(places, 1):
             end = place.address + len(place.data)
             if stop and stop.kind == "fault" and place.address - PAGE_BYTES <= stop.value < end + PAGE_BYTES:

@@ -51,7 +51,7 @@ def listing_of(program: CompiledProgram, name: str, machine: pathlib.Path) -> Co
         send(guest, ["enter", *program.lines, f"setpc {program.entry:x}"])
         words = guest.words(lines)
         counts, stop = record(initial_state_at(guest), MAX_TICKS), guest.go(MAX_TICKS)
-        end = f"status {stop.number}" if stop and stop.kind == "exit" else guest.tell(stop)
+        end = f"status {stop.number}" if stop and stop.kind == "exit" else guest.describe(stop)
     by_address = {place.address: place for place in counts.places}
     places = [(word, by_address.get(word.address, CountedWord(word.address, word.word))) for word in words]
     rows: list[Sequence[int | str]] = [

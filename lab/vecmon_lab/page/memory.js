@@ -65,7 +65,7 @@ const arraysOf = (/** @type {MachineState} */ { data = {} }) =>
 
 /** The output of a machine's program. */
 export class OutputPanel {
-  told = ""; // in hexadecimal
+  output = ""; // in hexadecimal
   shown = "";
   pause = 0; // a timer, until which nothing else is shown
 
@@ -85,16 +85,16 @@ export class OutputPanel {
 
   /** The output's end stays in sight, unless one has scrolled away from it. Much of it isn't shown anew each frame. */
   paint(/** @type {MachineState} */ state) {
-    this.told = state.output ?? Object.values(state.outputs ?? {}).join("");
-    this.empty.hidden = Boolean(this.told);
-    this.text.hidden = !this.told;
+    this.output = state.output ?? Object.values(state.outputs ?? {}).join("");
+    this.empty.hidden = Boolean(this.output);
+    this.text.hidden = !this.output;
     this.show();
   }
 
   show() {
-    if (this.pause || this.told === this.shown) return;
-    this.pause = setTimeout(() => ((this.pause = 0), this.show()), this.told.length / 400); // ms, 328 for 64 KB
-    this.shown = this.told;
+    if (this.pause || this.output === this.shown) return;
+    this.pause = setTimeout(() => ((this.pause = 0), this.show()), this.output.length / 400); // ms, 328 for 64 KB
+    this.shown = this.output;
     this.mark.hidden = !this.shown || this.text.checkVisibility();
     const { scrollTop, clientHeight, scrollHeight } = this.text;
     this.text.textContent = outputText(this.shown);

@@ -78,7 +78,7 @@ export class Send {
   /** The kind of message: a text, or a source that is offered or replaces others. */
   get kind() { return byId("gift").hidden ? "message" : /** @type {"offer" | "replace"} */ (group("how").value); }
 
-  /** Shows the receivers, what happens there, and on the button how many they are. */
+  /** Shows the receivers, the effect on them, and on the button their number. */
   paint() {
     const { choices, kind } = this;
     const seats = choices[group("to").value];

@@ -21,8 +21,8 @@ class PageProcess:
 
     def ask(self, lines: Sequence[str]) -> list[list[str]]:
         """The answers to lines that go in together. Raises ProgramGone and OutOfStep."""
-        told = self._ask("".join(f"{line}\n" for line in lines).encode("ascii")).decode("latin-1").split("\n")
-        rest, answers = iter(told[:-1]), list[list[str]]()
+        output = self._ask("".join(f"{line}\n" for line in lines).encode("ascii")).decode("latin-1").split("\n")
+        rest, answers = iter(output[:-1]), list[list[str]]()
         for line in lines:
             answer = [next(rest, "")]
             while not is_whole(line, answer):

@@ -183,8 +183,10 @@ class PageDesk(Desk):
             return
         self.seat.take(SourceText(), program)
         self.seat.list_program(program)
-        told = f"{len(program.labels)} symbols, {len(program.rows)} rows of lines, {len(program.variables)} variables"
-        self.seat.add_log_entry(f"!The image {name} has {told}.")
+        contents = (
+            f"{len(program.labels)} symbols, {len(program.rows)} rows of lines, {len(program.variables)} variables"
+        )
+        self.seat.add_log_entry(f"!The image {name} has {contents}.")
 
     def _shorten(self) -> None:
         """Replaces the lines of the machine by those of a checkpoint. Raises LabError where there is none."""

@@ -84,7 +84,7 @@ def _write(arguments: argparse.Namespace, seed: int) -> tuple[int, Coverage]:
     with started(path) as guest:
         stop = guest.go()
         if stop is None or stop.kind != ("fault" if arguments.faults else "exit") or stop.number:
-            raise LabError(f"{path} doesn't end as it should: {guest.tell(stop)}")
+            raise LabError(f"{path} doesn't end as it should: {guest.describe(stop)}")
         left, size = _state(guest, code, stop), code.labels["end_signature"] - code.labels["begin_signature"]
         digests = [word for (word,) in struct.iter_unpack("<Q", guest.peek(code.labels["begin_signature"], size))]
     if arguments.faults:  # the part of the state that the handler of signals has

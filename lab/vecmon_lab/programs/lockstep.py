@@ -112,7 +112,7 @@ class _Lockstep:
 
     def _stop_text(self, step: LoggedStep) -> str:
         """Where and why the program stopped."""
-        return self._guest.tell(step.retired.stop, self._symbols.place(self._guest.pc))
+        return self._guest.describe(step.retired.stop, self._symbols.place(self._guest.pc))
 
     def _truncated(self, pc: int) -> LabError:
         """The error that the log ends before the instruction at an address."""

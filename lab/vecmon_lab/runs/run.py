@@ -97,7 +97,7 @@ def ending(arguments: argparse.Namespace, counts: Counts, symbols: Symbols) -> s
         return f"status {stop.number}"
     with _begun(arguments) as guest:
         if guest.go(counts.ticks + QUANTUM) == stop:
-            return guest.tell(stop, symbols.place(stop.pc))
+            return guest.describe(stop, symbols.place(stop.pc))
     return f"{place}: {describe_stop(stop)}"
 
 

@@ -134,8 +134,8 @@ def _run(cases: bytes, policy: str) -> bytes:
 @functools.cache
 def version() -> tuple[int, int]:
     """The version of the QEMU that is installed: its first two numbers; zeros if it prints none."""
-    told = subprocess.run([QEMU[0], "--version"], stdout=subprocess.PIPE, text=True, check=True).stdout
-    numbers = re.search(r"version (\d+)\.(\d+)", told)
+    printed = subprocess.run([QEMU[0], "--version"], stdout=subprocess.PIPE, text=True, check=True).stdout
+    numbers = re.search(r"version (\d+)\.(\d+)", printed)
     return (int(numbers[1]), int(numbers[2])) if numbers else (0, 0)
 
 
