@@ -149,6 +149,16 @@ async def test_refused_certificate_starts_no_server(tmp_path: pathlib.Path, pair
         assert completed.stderr.startswith("vecmon-lab: ") and not (tmp_path / "class").exists()
 
 
+async def test_teacher_gets_address_of_certificate(tmp_path: pathlib.Path, pair: Pair) -> None:
+    call = command(tmp_path / "class", "--address", "https://class.school.example/", "--tls", *map(str, pair))
+    process = await asyncio.create_subprocess_exec(*call, cwd=TOP, stdout=subprocess.PIPE)
+    assert process.stdout
+    line = await asyncio.wait_for(process.stdout.readline(), SECONDS)
+    assert line.startswith(b"teacher: https://class.school.example/#")
+    process.terminate()
+    assert await process.wait() == 0
+
+
 @pytest.mark.parametrize(
     "arguments, is_warned",
     [
