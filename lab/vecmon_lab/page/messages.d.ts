@@ -62,7 +62,7 @@ export interface CaseRows {
   notes: string[];
 }
 
-/** A case of an exercise: its name, and whether it is hidden. Unless it is, what it gives and expects. */
+/** A case of an exercise: its name, and whether it is hidden; for a visible one, its inputs and expected results. */
 export interface CaseView {
   name: string;
   hidden: boolean;
@@ -773,7 +773,7 @@ export interface SourceResult {
  * The source of a seat.
  *
  * language: the number of its language; number: of changes since the server started
- * exercise: the open one, or ""; stands: whether the machine has this source; versions: the last 50, in order
+ * exercise: the open one, or ""; `stands`: whether the machine has this source; versions: the last 50, in order
  */
 export interface SourceView {
   text: string;
