@@ -286,7 +286,8 @@ async def serve(
     async with served(members, listeners, {host, *names}, tls) as port:
         whose = "page" if role != TEACHER else role
         named = members.address if tls else ""  # which its certificate has
-        print(f"{whose}: {named or _address(host, port, 'https' if tls else 'http')}#{members.codes.codes[role]}", flush=True)
+        address = named or _address(host, port, "https" if tls else "http")
+        print(f"{whose}: {address}#{members.codes.codes[role]}", flush=True)
         if members.is_unencrypted:
             warning = f"codes travel unencrypted, and all computers that reach {host} can use them: use a network that you trust"
             print(f"vecmon-lab: warning: {warning}, or --tls (docs/CLASS_ADMIN.md)", file=sys.stderr)
