@@ -24,8 +24,13 @@ loop:   li a7, 64
 text:   .ascii {json.dumps("".join(f"{line}{chr(10)}" for line in LINES))}
 end:    nop
 """
-# How often the panel was changed, and how many frames there were.
-COUNTS = """addEventListener("DOMContentLoaded", () => {
+# How often the panel was changed, and how many frames there were. Sizes are observed half a second late, as on a busy machine: new
+# output comes between the click on the panel's tab and the observer.
+COUNTS = """const Observer = ResizeObserver;
+window.ResizeObserver = class extends Observer {
+  constructor(notify) { super((...sizes) => setTimeout(notify, 500, ...sizes)); }
+};
+addEventListener("DOMContentLoaded", () => {
   Object.assign(window, { changes: 0, frames: 0 });
   new MutationObserver((changes) => (window.changes += changes.length)).observe(document.getElementById("output"),
     { childList: true });

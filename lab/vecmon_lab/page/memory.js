@@ -95,10 +95,10 @@ export class OutputPanel {
     if (this.pause || this.output === this.shown) return;
     this.pause = setTimeout(() => ((this.pause = 0), this.show()), this.output.length / 400); // ms, 328 for 64 KB
     this.shown = this.output;
+    const follows = !this.mark.hidden || this.text.scrollTop + this.text.clientHeight > this.text.scrollHeight - 18;
     this.mark.hidden = !this.shown || this.text.checkVisibility();
-    const { scrollTop, clientHeight, scrollHeight } = this.text;
     this.text.textContent = outputText(this.shown);
-    if (scrollTop + clientHeight > scrollHeight - 18) this.text.scrollTop = this.text.scrollHeight;
+    if (follows) this.text.scrollTop = this.text.scrollHeight;
   }
 }
 
