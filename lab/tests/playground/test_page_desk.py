@@ -102,6 +102,23 @@ def test_source_versions_and_machine_come_back(program: pathlib.Path, tmp_path: 
     again.close()
 
 
+@pytest.mark.parametrize("last, condition", [("go", "Ended"), ("step 1", "Paused"), ("set x5 7", "Paused")])
+def test_ended_program_comes_back_ended(
+    program: pathlib.Path, tmp_path: pathlib.Path, last: str, condition: str
+) -> None:
+    """It is paused again if something has changed since: the instruction behind the end, or a register."""
+    page = Page(program, tmp_path)
+    assert page.ask("source", text=SOURCE + "nop\n")["mistakes"] == []
+    page.ask("lines", do=["go"], slices=1)
+    if last != "go":
+        page.do("setpc 10010", last)
+    before = page.desk.hello()["patch"]
+    again = Page(program, tmp_path, page.close())
+    assert [before["condition"], again.view["condition"]] == [condition, condition]
+    assert again.view["state"].get("stop") == before["state"].get("stop")
+    again.close()
+
+
 def test_tries_come_back_and_are_read(program: pathlib.Path, tmp_path: pathlib.Path) -> None:
     page = Page(program, tmp_path)
     page.ask("check", exercise="doubles", text="  ret\n")

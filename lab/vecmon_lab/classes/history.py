@@ -1,12 +1,13 @@
 """The lines at a machine before its server started, and the part of them that its seats receive."""
 
 from collections import Counter, deque
-from collections.abc import Sequence
+from collections.abc import Iterator, Sequence
 from itertools import chain, islice
 
 from ..machine.lines import DIGITS, words_of
+from ..machine.session import Session
 from .live import is_servers
-from .seats import LOG_ENTRIES, Seats
+from .seats import LOG_ENTRIES, Seats, may_change
 
 Numbered = tuple[int, str, str]
 """A line with its number and its answer, which has newlines between its lines."""
@@ -82,6 +83,20 @@ class History:
             self._places[digit] = []
         if digit in self._places:
             self._places[digit].append(done)
+
+    def restore(self, seats: Seats, session: Session) -> None:
+        """Brings seats, which know nothing yet, to where the lines left them. session: that of the lines"""
+        self.tell(seats)
+        stops = [(f"{digit} state", [f"{digit} {seats.users[digit].stop}"]) for digit in self._stopped(seats)]
+        seats.take(seats.look(session, stops, DIGITS))
+
+    def _stopped(self, seats: Seats) -> Iterator[str]:
+        """The digits of users whose programs stopped by themselves, and who have changed nothing since."""
+        for digit, (number, *_) in self._turns.items():
+            later = [done for done in self._last[digit] if done[0] > number and not is_servers(done[1])]
+            has_changed = any(may_change(line, answer.split("\n")) for _, line, answer in later)
+            if seats.users[digit].stop and not has_changed:
+                yield digit
 
     def tell(self, seats: Seats) -> None:
         """Tells the seats, which know nothing yet."""

@@ -75,8 +75,7 @@ class Room:
         history, self.scripts.set_up = History(notes.scripts[-1]), notes.scripts
         for block in self.scripts.file.replay(self.session, notes, lose):
             history.add(*block)
-        history.tell(self.seats)
-        self.seats.take(self.seats.look(self.session, [], DIGITS))
+        history.restore(self.seats, self.session)
         self.own_slices = notes.own_slices
         self.set_clock(notes.clock)
 

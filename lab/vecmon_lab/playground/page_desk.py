@@ -22,7 +22,7 @@ from ..compilers.compiled import program_of
 from ..compilers.debug import image_of
 from ..exercises.exercise import Exercise
 from ..machine.answers import Refused, read
-from ..machine.lines import DIGITS, words_of
+from ..machine.lines import words_of
 from ..machine.process import Vecmon
 from ..machine.image import MARCH
 from ..machine.program import check_flags, image_refusal
@@ -217,8 +217,7 @@ class PageDesk(Desk):
             session.close()
             self.machine.session, self._set_up = self._opening(session.images), 0
             return
-        history.tell(self.machine.seats)
-        self.machine.seats.take(self.machine.seats.look(session, [], DIGITS))
+        history.restore(self.machine.seats, session)
         if (image := self.texts.read_text(IMAGE)) in session.images and self.seat.state["run"] != "absent":
             self._take_image(image)
 
