@@ -1,5 +1,6 @@
 """A power cut at any moment: whatever of the unflushed writes the disk has, the class opens, and has what is a second old."""
 
+import functools
 import json
 import os
 import pathlib
@@ -18,6 +19,7 @@ from vecmon_lab.classes.requests import Lines
 from vecmon_lab.classes.server import KEEP_SECONDS
 from vecmon_lab.classes.store import BadFolder, Store, script_name
 from vecmon_lab.classes.view import Class
+from vecmon_lab.exercises.exercise import read_exercise
 
 TICK, TICKS = 0.05, 96  # seconds, and their number
 EVERY = round(KEEP_SECONDS / TICK)  # ticks between looks at unsaved data; the batch has it that many ticks later
@@ -129,14 +131,17 @@ async def cuts_of(
     monkeypatch.setattr(view, "COUNTS_SECONDS", 0.0)
     monkeypatch.setattr(checks.Checks, "_run", passing_check)
     monkeypatch.setattr(checks, "settled", lambda program, exercise: exercise)
+    monkeypatch.setattr(checks, "read_exercise", functools.cache(read_exercise))  # a thousand classes open
     with monkeypatch.context() as recorded:
         disk = Disk(folder, flushes=flushes)
         for module in (durable, store):
             recorded.setattr(module, "os", disk)
         lesson = Lesson(folder, program, disk)
         await lesson.work()
-    different = {json.dumps([sorted((name, data.hex()) for name, data in cut.contents.items()), str(cut.known)]): cut
-                 for cut in lesson.cuts}  # fmt: skip
+    # of equal states the last one, of which most is known
+    different = {
+        json.dumps(sorted((name, data.hex()) for name, data in cut.contents.items())): cut for cut in lesson.cuts
+    }
     return list(different.values())
 
 

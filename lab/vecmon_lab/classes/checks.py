@@ -194,8 +194,10 @@ class Checks:
         """
         stored = self._store.read(OFFERED, texts, "exercises that were off aren't offered any more")
         for folder in [*map(pathlib.Path, stored.values()), *with_course([])]:
+            if folder.name in self._offered:
+                continue
             try:
-                self._offered.setdefault(folder.name, read_exercise(folder))
+                self._offered[folder.name] = read_exercise(folder)
             except (LabError, OSError) as error:
                 self._store.lose(f"the exercise {folder.name} isn't offered any more: {error}")
         if keeps_order:

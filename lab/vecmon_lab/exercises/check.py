@@ -145,13 +145,13 @@ def passes_all(result: CheckResult) -> bool:
 
 
 def lesson(program: Vecmon, exercise: Exercise, number: int, text: str, compiled: CompiledProgram | None) -> str:
-    """A lesson, in HTML, of a source in a case, which begins when the case is given, and has 256 instructions at most."""
+    """A lesson, in HTML, of a source in a case: a frame that sets up the case, and 256 instructions at most."""
     answer, case = source_answer(text, NAME, compiled), exercise.cases[number]
     assert answer.commands is not None and answer.source is not None and answer.source.program is not None
     title, reason = f"{exercise.title}: {case.name}", outcome(program, answer, exercise, case)[0]
     source = answer.source.program
     brought = [f"1 {line}" for line in ["enter", *answer.commands, *inputs(exercise, case, source.entry)]]
-    steps = [Step(brought, f"The case is given. The answer fails: {reason}"), Step(["1 step 256"])]
+    steps = [Step(brought, f"These lines load the program and set up the case. The answer fails: {reason}"), Step(["1 step 256"])]
     return _page(title, replace(answer.source, steps=steps, said=source.source_lines(text)), program, False)
 
 
