@@ -112,7 +112,7 @@ def test_ended_program_comes_back_ended(
     page.ask("lines", do=["go"], slices=1)
     if last != "go":
         page.do("setpc 10010", last)
-    before = page.desk.hello()["patch"]
+    before: Any = page.desk.hello()["patch"]
     again = Page(program, tmp_path, page.close())
     assert [before["condition"], again.view["condition"]] == [condition, condition]
     assert again.view["state"].get("stop") == before["state"].get("stop")
