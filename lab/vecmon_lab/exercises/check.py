@@ -151,7 +151,10 @@ def lesson(program: Vecmon, exercise: Exercise, number: int, text: str, compiled
     title, reason = f"{exercise.title}: {case.name}", outcome(program, answer, exercise, case)[0]
     source = answer.source.program
     brought = [f"1 {line}" for line in ["enter", *answer.commands, *inputs(exercise, case, source.entry)]]
-    steps = [Step(brought, f"These lines load the program and set up the case. The answer fails: {reason}"), Step(["1 step 256"])]
+    steps = [
+        Step(brought, f"These lines load the program and set up the case. The answer fails: {reason}"),
+        Step(["1 step 256"]),
+    ]
     return _page(title, replace(answer.source, steps=steps, said=source.source_lines(text)), program, False)
 
 
