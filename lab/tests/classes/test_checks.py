@@ -188,7 +188,7 @@ async def test_failed_case_has_lesson(room: Served) -> None:
         page, policy = await answer.text(), answer.headers["Content-Security-Policy"]
     assert (
         '"line":"1 step 256: instruction 2"' in page
-        and "The case is given. The answer fails: a0: expected 36, found 7" in page
+        and "set up the case. The answer fails: a0: expected 36, found 7" in page
     )
     async with room.session.get(room.url) as answer:
         assert (

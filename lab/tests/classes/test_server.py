@@ -507,14 +507,14 @@ async def test_unread_connections_are_closed(room: Served) -> None:
 
 
 async def test_waiting_tab_stays_connected(tmp_path: pathlib.Path, monkeypatch: pytest.MonkeyPatch) -> None:
-    monkeypatch.setattr(class_server, "READ_SECONDS", 2.0)  # between pings; each needs an answer in half of it
+    monkeypatch.setattr(class_server, "READ_SECONDS", 1.5)  # between pings; each needs an answer in half of it
     async with served(tmp_path / "class") as room:
         tab = await room.sit("A1")
         await tab.do("enter")
         assert room.members and (machine := room.members.rooms["A"].session.process)
         os.kill(machine, signal.SIGSTOP)
         waits = asyncio.create_task(tab.do(*LOOP[1:]))  # whose socket answers pings meanwhile
-        await asyncio.sleep(5.0)
+        await asyncio.sleep(3.5)
         os.kill(machine, signal.SIGCONT)
         assert len(await waits) == 4 and not room.members.rooms["A"].session.losses
 
