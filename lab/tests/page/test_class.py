@@ -426,7 +426,7 @@ def test_tab_reconnects_after_server_restart(tabs: "Chrome", own_class: Served) 
     steps = tab.run("all('#log .asked').filter((item) => item.textContent === '> step 1').length")
     assert steps in (1, 2)
     tab.command("set x9 9")
-    assert tab.text("[data-edit='set x9']") == "9" and tab.text("[data-edit='set x7']") == "1"
+    tab.wait("one(\"[data-edit='set x9']\").textContent === '9' && one(\"[data-edit='set x7']\").textContent === '1'")
     assert tab.run("window.marked === 1 && id('gone').hidden")
     tab.click("#backward")
     assert tab.text("[data-edit='set x9']") == "0" and "past: step" in tab.text("#says-past")

@@ -142,7 +142,7 @@ def test_editor_has_eight_lines_at_all_sizes(sit: Sit) -> None:
             tab.browser.execute_cdp_cmd("Emulation.setDeviceMetricsOverride", size)
             lines = "code().getScrollInfo().clientHeight / code().defaultTextHeight()"
             assert tab.wait(f"innerWidth === {width} && {lines}") >= 8, (width, height)
-            assert tab.run("document.documentElement.scrollWidth <= innerWidth"), (width, height)
+            tab.wait("document.documentElement.scrollWidth <= innerWidth")
     finally:
         tab.browser.execute_cdp_cmd("Emulation.clearDeviceMetricsOverride", {})
         tab.browser.set_window_size(before["width"], before["height"])

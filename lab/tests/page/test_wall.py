@@ -77,8 +77,9 @@ def _check_layout(wall: Tab) -> None:
             size = {"width": width, "height": height, "deviceScaleFactor": 1, "mobile": False}
             wall.activate().execute_cdp_cmd("Emulation.setDeviceMetricsOverride", size)
             wall.wait("innerWidth === arguments[0] && innerHeight === arguments[1]", width, height)
-            seen = wall.run(f"{rows}.map((row) => row.dataset.address)")
-            assert len(seen) == 6 and {"1002c", "10030"} <= set(seen), size
+            wall.wait(
+                f"{rows}.length === 6 && {rows}.filter((row) => /^100(2c|30)$/.test(row.dataset.address)).length === 2"
+            )
             for box in ("#elements", "#listing"):
                 where = wall.run("one(arguments[0]).getBoundingClientRect().toJSON()", box)
                 assert 0 <= where["top"] < where["bottom"] <= height and 0 <= where["left"] < where["right"] <= width
