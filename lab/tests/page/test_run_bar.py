@@ -199,7 +199,7 @@ def test_new_machine_is_compared_with_no_earlier_one(sit: Sit) -> None:
     tab.run("id('number').value = 4")
     tab.click("#many")
     tab.wait(f"{CONDITION} === 'Ended'")
-    assert tab.run("id('vectors').textContent.includes('v1')")
+    tab.wait("id('vectors').textContent.includes('v1')")
     write(tab, "li a0, 5\nebreak\n")
     tab.click("#one")
     tab.wait(f"{A0} === '5'")
