@@ -138,7 +138,7 @@ async def cuts_of(
             recorded.setattr(module, "os", disk)
         lesson = Lesson(folder, program, disk)
         await lesson.work()
-    # of equal states the last one, of which most is known
+    # the last of equal states, by when most was acknowledged
     different = {
         json.dumps(sorted((name, data.hex()) for name, data in cut.contents.items())): cut for cut in lesson.cuts
     }
