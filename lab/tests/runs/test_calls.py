@@ -98,6 +98,16 @@ def test_kernel_call_reports_unsupported_call(
     assert capsys.readouterr().err == f"vecmon-lab: 10004 reads+0x4: {TOLD['read']}\n"
 
 
+def test_grade_reports_unsupported_call_once(lab: Lab, tmp_path: pathlib.Path) -> None:
+    """Once in all five cases of an exercise, for each answer with its name."""
+    answers = [tmp_path / "one.s", tmp_path / "other.s"]
+    for answer in answers:
+        answer.write_text("li a7, 63\necall\nret\n")
+    status, _, error = lab("grade", "doubles", *answers)
+    expected = [f"vecmon-lab: 10004 in {answer}: {TOLD['read']}" for answer in answers]
+    assert (status, sorted(error.splitlines())) == (1, expected)
+
+
 def test_supported_calls_are_not_searched(program: pathlib.Path, tmp_path: pathlib.Path) -> None:
     """Where the code before an ECALL, without a target of a branch between, shows the call, no run stops there."""
     good = "li a7, 64\nli a0, 1\nli a2, 0\necall\n" + EXIT

@@ -1,6 +1,7 @@
 """An answer to an exercise: an image, a source or a script, loaded and run for one case, and its results."""
 
 import contextlib
+import functools
 import os
 import pathlib
 import re
@@ -12,6 +13,7 @@ from random import Random
 from .. import LabError, mistakes_in
 from ..compilers.compiled import STACK, CompiledProgram, Isolation
 from ..guest.guest import IMAGE_BYTES, MAX_STEPS, QUANTUM, STACK_END, Guest, pokes
+from ..guest.runner import Reporter
 from ..lessons.script import Script, read_assembled, read_compiled, send
 from ..machine.answers import Position, ScalarRegisters, Stop
 from ..machine.lines import check_line, words_of
@@ -38,6 +40,11 @@ class Answer:
     path: pathlib.Path
     commands: Sequence[str] | None = None
     source: Script | None = None
+
+    @functools.cached_property
+    def reporter(self) -> Reporter:
+        """Prints the answer's unsupported calls: each once, however many cases run."""
+        return Reporter(lambda address: f"in {self.path}")
 
 
 @dataclass(frozen=True)
@@ -135,7 +142,8 @@ def ready(
     """
     images = {"image": answer.path} if answer.commands is None else {}
     with contextlib.ExitStack() as stack:
-        guest = Guest(Session(program, images, quantum=min(QUANTUM, exercise.limits.ticks)))
+        session = Session(program, images, quantum=min(QUANTUM, exercise.limits.ticks))
+        guest = Guest(session, report=answer.reporter)
         stack.callback(lambda: guest.session.close())  # which is another one, where it went back
         if answer.commands is None:
             guest.start("image")
