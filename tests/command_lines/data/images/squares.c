@@ -1,4 +1,4 @@
-/* Fills a table with squares, and has a nought too many. */
+/* Fills a table with squares; the count has one zero too many. */
 void fill(unsigned *to, unsigned long count);
 
 static unsigned table[1000];

@@ -1,4 +1,4 @@
-/* Sums 100 numbers with vector instructions, and puts the sum out. */
+/* Sums 100 numbers with vector instructions, and prints the sum. */
 #include <riscv_vector.h>
 #include <stddef.h>
 
@@ -12,7 +12,7 @@ static long call(long number, long first, long second, long third)
     return a0;
 }
 
-/* The sum of the elements, which are added into a group of two registers, and then to one another. */
+/* Sums the elements: adds them to the elements of a group of two registers, and then reduces these to one. */
 static unsigned sum(const unsigned *elements, size_t count)
 {
     size_t most = __riscv_vsetvlmax_e32m2();
