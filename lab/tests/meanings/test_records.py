@@ -50,6 +50,22 @@ def test_records_describe_instructions() -> None:
 
 
 COMMANDS_SEEN = {"break"}
+# Operands in the manual's assembly syntax, and words for them
+OPERANDS = {"rd", "rs1", "rs2", "vd", "vs1", "vs2", "vs3", "v0", "imm", "uimm", "shamt", "immediate", "scalar"}
+
+
+def test_sentences_name_operands_of_their_form() -> None:
+    for name, row in instruction_table().items():
+        operands = {*re.findall(r"\w+", row.operands)}
+        operands |= {"immediate"} if operands & {"imm", "uimm"} else set()
+        operands |= {"scalar"} if operands & {"rd", "rs1"} else set()
+        sentence = record_of(name).does_of(name)
+        assert {*re.findall(r"\w+", sentence)} & OPERANDS <= operands, f"{name}: {sentence}"
+        assert not {*"{}"} & {*sentence} and len(sentence.split("; ")[0].split()) <= WORDS, f"{name}: {sentence}"
+    sentences = [record_of(f"vsub.{form}").does_of(f"vsub.{form}").split(" from ")[0] for form in ("vv", "vx")]
+    assert sentences == ["Subtracts the elements of vs1", "Subtracts x[rs1]"]
+    assert record_of("vmsgt.vi").does_of("vmsgt.vi").endswith("1 where vs2 is greater than the immediate.")
+    assert records()["vmsgt"].does.endswith("1 where vs2 is greater than a scalar or an immediate.")
 
 
 def test_examples_equal_machine_results(program: pathlib.Path) -> None:
@@ -133,7 +149,7 @@ def test_other_extension_name_is_explained() -> None:
 
 def test_help_describes_instruction() -> None:
     (row, formula, *more) = help_lines("vmacc.vx")
-    assert row.startswith("vmacc.vx vd, rs1, vs2[, v0.t]: Multiplies elements")
+    assert row.startswith("vmacc.vx vd, rs1, vs2[, v0.t]: Multiplies the elements of vs2 by x[rs1] and adds")
     assert formula == "  vd[i] = vs2[i] * vs1[i] + vd[i], where vs1[i] is x[rs1]"
     assert "  101101 | vm:1 | vs2:5 | rs1:5 | 110 | vd:5 | 1010111" in more
     assert help_lines("vcsr")[0].startswith("vcsr: prints") and len(help_lines("vcsr")) > 1

@@ -165,7 +165,8 @@ def _check_help(tab: Tab) -> None:
     assert tab.run("document.activeElement.id") == "find"
     tab.click("#show-console")
     tab.keys("#line", "help vadd.vi\n")
-    expected = "Adds the elements of vs1 to those of vs2; the sums wrap around. vd[i] = vs2[i] + vs1[i]"
+    sentence = "Adds the immediate to the elements of vs2; the sums wrap around."
+    expected = f"{sentence} vd[i] = vs2[i] + vs1[i], where vs1[i] is the immediate"
     assert tab.text("#stop") == f"vadd.vi vd, vs2, imm[, v0.t]: {expected}"
     tab.click("#show-console")
     tab.keys("#line", "help vfadd.vv\n")

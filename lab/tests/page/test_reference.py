@@ -26,10 +26,10 @@ def test_entry_starts_with_its_name() -> None:
     assert pseudo["ret"] == "Returns from a function: jumps to the address in ra. `jalr x0, 0(x1)`"
     assert pseudo["vmsge.vx vd, vs2, rs1"].count(";") == 1
     expected = {name: does for name, _, does in reference()["Instructions"]}
-    assert (
-        expected["vadd.vi"]
-        == "Adds the elements of vs1 to those of vs2; the sums wrap around. `vd[i] = vs2[i] + vs1[i]`"
-    )
+    formula = "`vd[i] = vs2[i] + vs1[i]`"
+    assert expected["vadd.vv"] == f"Adds the elements of vs1 to the elements of vs2; the sums wrap around. {formula}"
+    sentence = "Adds the immediate to the elements of vs2; the sums wrap around."
+    assert expected["vadd.vi"] == f"{sentence} {formula}, where vs1[i] is the immediate"
     assert all(expected.values())
 
 

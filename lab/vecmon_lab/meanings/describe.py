@@ -10,7 +10,7 @@ from fractions import Fraction
 from ..instructions.table import Row, instruction_table
 from ..instructions.words import OP_V, STORE_FP, VECTOR_ACCESSES, Operand, Trait, VectorInstruction, decode
 from ..tables.table import read_table
-from .record import FOLDER, Record, record_of, records
+from .record import FOLDER, Record, record_of, records, scalar_source
 
 _SHORT = ("a", "an", "the", "of", "to", "with", "in")  # words that a search leaves out
 EXAMPLES = FOLDER.with_name("instruction_examples.txt")
@@ -127,10 +127,10 @@ def _absent(name: str) -> list[str]:
 
 def _instruction_lines(name: str) -> Iterator[str]:
     row, record = instruction_table()[name], record_of(name)
-    yield f"{name} {row.operands}".rstrip() + f": {record.does}"
+    yield f"{name} {row.operands}".rstrip() + f": {record.does_of(name)}"
     formula = record.formula_of(name)
     if formula:
-        yield f"  {formula.text}{_scalar_note(row, formula.text)}"
+        yield f"  {formula.text}{scalar_note(row, formula.text)}"
     if operands := [f"{place}: EEW {width}, EMUL {group}" for place, width, group in operand_cells(row)]:
         yield f"  {'; '.join(operands)}"
     if record.elements:
@@ -142,12 +142,10 @@ def _instruction_lines(name: str) -> Iterator[str]:
     yield f"  {encoding_text(row)}"
 
 
-def _scalar_note(row: Row, formula: str) -> str:
-    """The source in place of vs1 in the forms with a scalar or an immediate."""
-    if "vs1" in row.fields() or "vs1" not in formula:
-        return ""
-    other = "x[rs1]" if "rs1" in row.fields() else "the immediate"
-    return f", where vs1[i] is {other}"
+def scalar_note(row: Row, formula: str) -> str:
+    """A note behind a formula with vs1, in the forms with a scalar or an immediate in its place; else ""."""
+    other = scalar_source(row) if "vs1" in formula else ""
+    return f", where vs1[i] is {other}" if other else ""
 
 
 def _more(record: Record) -> Iterator[str]:

@@ -12,7 +12,7 @@ from collections.abc import Mapping
 from dataclasses import dataclass, field
 
 from .. import LabError
-from ..instructions.table import instruction_table
+from ..instructions.table import Row, instruction_table
 from .formula import Formula, condition, read_formula
 
 FOLDER = pathlib.Path(__file__).parents[1] / "tables" / "meanings"
@@ -24,7 +24,8 @@ class Record:
     """The meaning of a name, or of a family of instructions.
 
     kind: `instruction`, `pseudo-instruction`, `directive`, `control register`, `call` or `absent`
-    does: a sentence of 25 words at most
+    does: a sentence of 25 words at most, of a family that of the form with vector registers
+    template: `does` with braces around the words for vs1, for the forms with a scalar or an immediate in its place
     formulas: of an instruction, by the end of a name, as `vx`; "" is for all others
     kept: the condition under which an element isn't written
     layout: how sources lie to results: `by element`, `gather`, `slide`, `reduce`, `compress` or `scan`
@@ -40,6 +41,7 @@ class Record:
     kind: str
     names: str
     does: str
+    template: str = ""
     formulas: Mapping[str, str] = field(default_factory=dict)
     kept: ast.expr | None = None
     layout: str = BY_ELEMENT
@@ -51,6 +53,11 @@ class Record:
     file: str = ""
     kept_text: str = ""
     intrinsic: str = ""
+
+    def does_of(self, name: str) -> str:
+        """The sentence for a mnemonic of this family, with the operand that its form has in place of vs1."""
+        other = scalar_source(instruction_table()[name])
+        return re.sub(r"\{.*?\}", other, self.template) if other else self.does
 
     def formula_of(self, name: str) -> Formula | None:
         """The formula of a mnemonic of this family; None if it has none."""
@@ -65,6 +72,12 @@ class Record:
         if self.kind != "instruction":
             return [self.name]
         return [name for name in instruction_table() if re.fullmatch(self.names, name)]
+
+
+def scalar_source(row: Row) -> str:
+    """The operand in place of vs1 in a form with a scalar or an immediate; "" if the form has vs1."""
+    fields = row.fields()
+    return "" if "vs1" in fields else "x[rs1]" if "rs1" in fields else "the immediate"
 
 
 @functools.cache
@@ -117,5 +130,5 @@ def _record(name: str, file: str, cells: Mapping[str, object]) -> Record:
     own = {key: texts[key] for key in texts if key in Record.__dataclass_fields__}
     if unknown := texts.keys() - own.keys():
         raise LabError(f"{file}.toml: the record {name} has the unknown keys {', '.join(sorted(unknown))}")
-    own |= {"file": file, "kept_text": kept or ""}
+    own |= {"file": file, "kept_text": kept or "", "template": texts["does"], "does": re.sub("[{}]", "", texts["does"])}
     return Record(name, kind, names, formulas=formulas, kept=condition(kept) if kept else None, see=see, **own)

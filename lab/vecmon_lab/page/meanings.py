@@ -24,4 +24,4 @@ def shown_meaning(name: str) -> ShownMeaning:
     """The meaning of a mnemonic. Raises LabError."""
     record = record_of(name)
     formula = record.formula_of(name)
-    return {"does": record.does, "formula": formula.text if formula else "", "layout": record.layout}
+    return {"does": record.does_of(name), "formula": formula.text if formula else "", "layout": record.layout}

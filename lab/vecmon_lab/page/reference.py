@@ -5,7 +5,7 @@ from collections.abc import Iterator
 
 from ..assembler.commands import COMMANDS, MEANINGS
 from ..instructions.table import Row, instruction_table
-from ..meanings.describe import expansions
+from ..meanings.describe import expansions, scalar_note
 from ..meanings.record import record_of, records
 
 NOT_HERE = (
@@ -37,10 +37,11 @@ def reference_text() -> str:
 
 
 def _description(row: Row) -> str:
-    """What an instruction does, with its formula as code."""
+    """What an instruction does, with its formula as code, and the operand in place of vs1."""
     record = record_of(row.name)
     formula = record.formula_of(row.name)
-    return f"{record.does} `{formula.text}`" if formula else record.does
+    note = f" `{formula.text}`{scalar_note(row, formula.text)}" if formula else ""
+    return f"{record.does_of(row.name)}{note}"
 
 
 def _entries(kind: str) -> list[list[str]]:
