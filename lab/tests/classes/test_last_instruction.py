@@ -48,6 +48,14 @@ def test_state_has_data_of_directives(desk: Desk) -> None:
     assert "data" not in desk.seat.named
 
 
+def test_accessed_page_of_zeros_has_row(desk: Desk) -> None:
+    ask(desk, ask="lines", do=["map 30000 1 rw", "set x10 30020", "asm 10000 ld x5, 8(x10)", "setpc 10000"])
+    for _ in range(2):  # before and after the load
+        memory = desk.seat.shown["memory"]
+        assert {row: digits for row, digits in memory.items() if row[:1] == "3"} == {"30020": "00" * 16}
+        step(desk, 1)
+
+
 def test_destination_is_shown_as_it_was(desk: Desk) -> None:
     step(desk, DOUBLED)
     assert desk.seat.state["v"]["8"].startswith(DOUBLES)

@@ -174,6 +174,15 @@ def test_changed_memory_rows_are_preferred(program: pathlib.Path) -> None:
     assert made[-1].states["1"]["memory"]["20100"] == "01" + "00" * 7 + "ff" * 8
 
 
+def test_accessed_page_of_zeros_has_row(program: pathlib.Path) -> None:
+    lines = ["1 enter", "1 map 10000 1 rwx", "1 map 20000 2 rw", "1 asm 10000 ld x2, 8(x1)", "1 set x1 20030"]
+    made = make_frames(read_script("\n".join([*lines, "1 setpc 10000", "1 step 1"])), program)
+    assert made[-1].states["1"]["memory"] == {"20030": "00" * 16}
+    last = make_frames(tours()["class_of_three"], program)[-3:]  # user 3's load has faulted at 0
+    rows = [(frame.line, frame.states["3"]["memory"]) for frame in last]
+    assert rows == [("3 vcsr", {}), ("3 map 0 1 r", {"0": "00" * 16}), ("3 step 1", {"0": "00" * 16})]
+
+
 def test_assembler_source_makes_lesson(program: pathlib.Path) -> None:
     path = EXAMPLES / "strip_mined.s"
     script = read_assembled(path.read_text("utf-8"), path.name)

@@ -132,6 +132,7 @@ class WatchSet:
         self.code: set[int] = set()  # addresses of words
         self.pages: set[int] = set()  # addresses of pages
         self.named: set[int] = set()  # addresses of rows that lines named
+        self.accessed: dict[int, int] = {}  # by page: the row in which a load or store started its access first
         self.breaks: set[int] = set()  # where the program stops, which a look at a running program doesn't show
         self.is_compiled = False  # whether a compiler made the program in memory
         self.trace: Sequence[int] = []  # as it was when it was looked at last
@@ -145,6 +146,7 @@ class WatchSet:
             case ["enter"] | ["leave"] | ["load", _]:
                 for places in (self.code, self.pages, self.named, self.breaks):
                     places.clear()
+                self.accessed.clear()
                 self.is_compiled = False
             case ["map", address, pages, _]:
                 self._add_pages(int(address, 16), int(pages) * PAGE_BYTES, MAPPED_PAGES)
@@ -173,10 +175,11 @@ class WatchSet:
         self.pages.update(pages[: max(0, limit - len(self.pages))])
 
     def add_accessed(self, word: int, x: Sequence[int]) -> None:
-        """Takes up the page in which a load or store starts its access."""
+        """Takes up the page and the row in which a load or store starts its access."""
         address = base_address(word, x)
         if address is not None:
             self._add_pages(address % (1 << 48), 1)
+            self.accessed.setdefault(address % (1 << 48) // PAGE_BYTES, address % (1 << 48) // ROW_BYTES * ROW_BYTES)
 
 
 def look_at(
@@ -304,7 +307,8 @@ def registers_of(state: State) -> Registers:
 class VisibleRows:
     """The rows of a user's memory that are shown: those that lines name, that change, and that aren't zero.
 
-    Words in the listing aren't shown again, unless a line names it.
+    Words in the listing aren't shown again, unless a line names it. If the program accesses a page of memory without such rows, one of
+    its rows is shown: the browser takes bytes without a row as 0 if their page has another row, and as unmapped otherwise.
     """
 
     def __init__(self) -> None:
@@ -325,7 +329,10 @@ class VisibleRows:
         listing = {f"{address // ROW_BYTES * ROW_BYTES:x}" for address in watch_set.code}
         weights = Counter({row: it for row, it in self._weights.items() if it >= minimum and row not in listing})
         weights.update({f"{row:x}": 3 for row in watch_set.named if f"{row:x}" in self._weights})
-        return {row for row, _ in weights.most_common(MAX_ROWS)}
+        shown = {row for row, _ in weights.most_common(MAX_ROWS)}
+        pages = {int(row, 16) // PAGE_BYTES for row in shown}
+        others = {f"{row:x}" for page, row in watch_set.accessed.items() if page not in pages}
+        return shown | others & self._weights.keys()
 
 
 def with_rows(state: State, rows: set[str]) -> State:
