@@ -1,4 +1,4 @@
-"""What assistive technology gets of a page: Chromium's accessibility tree, and the order in which Tab goes through the page."""
+"""A page as assistive technology presents it: Chromium's accessibility tree, and the order in which Tab goes through the page."""
 
 from collections.abc import Sequence
 from typing import TYPE_CHECKING, Any, NamedTuple

@@ -41,7 +41,7 @@ process.stdout.write(JSON.stringify(shown));
 
 
 def shown_columns(views: Sequence[Any], folder: pathlib.Path) -> list[dict[str, Any]]:
-    """What the page's modules make of views: a state, the one before it, if any, the form of numbers, and elements to explain.
+    """Columns that the page's modules make from views: a state, the one before it, if any, the form of numbers, and elements to explain.
 
     folder: for the script
     """

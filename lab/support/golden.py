@@ -105,7 +105,7 @@ def _write_vectors(v: bytearray, registers: dict[str, str]) -> None:
 
 
 def differences(vector: Vector, before: Before, after: After, old: Callable[[int], int] = start_byte) -> Iterator[str]:
-    """What differs between the result of a vector and that of a formula, by name. old: the bytes of memory before it."""
+    """The differences between the result of a vector and that of a formula, by name. old: the bytes of memory before it."""
     expected, control = vector["after"], dict(vars(before.control))
     control |= {name: expected[name] for name in ("vl", "vstart", "vxrm", "vxsat") if name in expected}
     control |= {"vtype": int(expected["vtype"], 16)} if "vtype" in expected else {}

@@ -1,4 +1,4 @@
-"""What docs/INSTRUCTIONS.md says of what each instruction does, in Markdown, made from the records."""
+"""The effects of instructions for docs/INSTRUCTIONS.md, in Markdown, made from the records."""
 
 from collections.abc import Iterator
 
@@ -18,8 +18,8 @@ Each family of instructions has a sentence and a formula. The lab's tests execut
 QEMU computed; nothing here is proved. Definitions that `vecmon` is proved against are in the columns of the encodings.
 
 Elements of `vd` from `vstart` to `vl` that `v0` doesn't mask off get the value of the formula. All others are unchanged, unless they are
-agnostic under [`policy ones`](COMMANDS.md#agnostic-elements). Numbers in formulas have no limit; a target takes its lowest bits. Sentence and
-formula are those of the form with vector registers: in the forms `.vx` and `.vi`, `vs1[i]` is the lowest SEW bits of `x[rs1]`, or the immediate.
+agnostic under [`policy ones`](COMMANDS.md#agnostic-elements). Numbers in formulas have no limit; a target takes its lowest bits. Sentences and
+formulas name `vs1` for all forms: in the forms `.vx` and `.vi`, `vs1[i]` is the lowest SEW bits of `x[rs1]`, or the immediate.
 
 | in a formula | meaning |
 |---|---|

@@ -45,7 +45,7 @@ def _parts(record: Record) -> Iterator[str]:
     if record.kept_text:
         yield f"An element isn't written if `{record.kept_text}`."
     if "vs1[i]" in "".join(formulas) and len({name.rpartition(".")[2] for name in record.members}) > 1:
-        yield "Sentence and formula are those of the form with vector registers; in the others, vs1[i] is the lowest SEW bits of x[rs1], or the immediate."
+        yield "In the forms with a scalar or an immediate, vs1[i] is the lowest SEW bits of x[rs1], or the immediate."
     yield from filter(None, [record.elements])
     if operands := list(operand_cells(first)):
         yield _table(("operand", "EEW", "EMUL"), operands)

@@ -358,7 +358,7 @@ def test_random_text_assembles_or_has_located_error(text: str) -> None:
 
 
 def test_source_lines_match_instruction_words() -> None:
-    """The first word of a source line has the line next to it, with its comment, or the comment of the line above."""
+    """Each source line is at its first word, with its comment, or the comment of the line above."""
     text = "# Counts.\nloop: one: addi t0, t0, 1 # up\n// Two words.\n\tli a0, 0x12345\n\n# none\n.data\n.word 1\n.text\nnop\r\n ret\n"
     assert read_source(text).source_lines(text) == {
         "10000": "addi t0, t0, 1 # up",

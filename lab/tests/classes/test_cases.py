@@ -58,7 +58,7 @@ def test_any_case_that_is_shown_can_be_tried(desk: Desk) -> None:
     state = desk.seat.state
     assert [int(state["x"][number], 16) for number in ("10", "11", "12")] == [0x20100, 0x20000, 3]
     assert state["pc"] == "10000" and state["memory"]["20000"] == "0a000000ecffffff1e00000028000000"
-    assert "instruction" not in state and desk.seat.condition == "Ready"  # what sets vxrm isn't the program's
+    assert "instruction" not in state and desk.seat.condition == "Ready"  # the program's own code doesn't set vxrm
     ask(desk, ask="case", exercise="doubles", text="ret", case=0)
     assert int(desk.seat.state["x"]["12"], 16) == 8
 

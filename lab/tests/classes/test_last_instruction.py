@@ -1,4 +1,4 @@
-"""What the last instruction read and accessed, as a student's page has it. Expected values are worked by hand."""
+"""Registers and memory that the last instruction read and accessed, on a student's page. Expected values are worked by hand."""
 
 import pathlib
 from collections.abc import Iterator

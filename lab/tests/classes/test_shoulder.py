@@ -1,4 +1,4 @@
-"""What a teacher sees over the shoulder besides state and source: problems, the caret's line, and the open exercise."""
+"""The teacher's view over the shoulder, besides state and source: problems, the caret's line, and the open exercise."""
 
 import pathlib
 

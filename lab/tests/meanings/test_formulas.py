@@ -20,7 +20,7 @@ from vecmon_lab.vectors.command import golden_results
 VECTORS, LEAST = 13_358, 2  # that a formula is evaluated on; of an instruction, at least
 DRAWN, MANY = 2, 100  # cases of a family that are drawn; of an instruction, for an error that the golden vectors miss
 MOST = 400  # vectors that an erroneous formula is tried on
-NEGATIVE = 0xFFFF_FFFF_8000_0000  # what these make of 80000000 in x2 and 1 in x3, worked by hand
+NEGATIVE = 0xFFFF_FFFF_8000_0000  # their result for 80000000 in x2 and 1 in x3, worked by hand
 BY_HAND = {"divuw": 0x023150BB, "srliw": 0x0001509B}  # divuw x1, x2, x3 and srliw x1, x2, 0
 WITHOUT = {"fence", "ecall", "ebreak"}  # instructions without a formula
 

@@ -47,7 +47,7 @@ def test_example_begins_bench(page: Tab) -> None:
 
 
 def test_recent_sources_come_back(page: Tab) -> None:
-    """What was typed is among the recent sources, in the tab's next page too; New program has the first text again."""
+    """A typed source is among the recent sources, in the tab's next page too; New program has the first text again."""
     page.click("#new-program")
     first = page.wait("text()")
     assert "Doubles" in first

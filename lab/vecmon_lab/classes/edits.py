@@ -1,4 +1,4 @@
-"""What a student changes on the page, as the monitor's lines that do it: typed values, and breakpoints at lines of the source."""
+"""A student's changes on the page as lines of the monitor: typed values, and breakpoints at lines of the source."""
 
 import re
 from collections.abc import Mapping, Sequence

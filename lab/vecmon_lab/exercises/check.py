@@ -179,7 +179,7 @@ def _page(title: str, script: Script, program: Vecmon, is_introduced: bool = Tru
 
 
 def case_rows(exercise: Exercise, case: Case) -> CaseRows:
-    """What a case gives and expects. Only for a case that isn't hidden."""
+    """The given and the expected numbers of a case. Only for a case that isn't hidden."""
     expected = [_row(where, texts) for where, texts in _strips(case.expected)]
     return {"given": _given(case, None), "expected": expected, "notes": _notes(exercise, case)}
 

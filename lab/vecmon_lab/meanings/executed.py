@@ -74,7 +74,7 @@ class After:
 
 
 class _Indexed:
-    """What has a number at each index: a register group, the scalar registers or memory. Its mask has a bit at each."""
+    """Numbers by their index: a register group, the scalar registers or memory. Its mask has a bit at each index."""
 
     def __init__(self, at: Callable[[int], Bits], mask: "_Indexed | None" = None) -> None:
         self._at, self.mask = at, mask

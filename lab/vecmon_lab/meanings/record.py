@@ -24,8 +24,8 @@ class Record:
     """The meaning of a name, or of a family of instructions.
 
     kind: `instruction`, `pseudo-instruction`, `directive`, `control register`, `call` or `absent`
-    does: a sentence of 25 words at most, of a family that of the form with vector registers
-    template: `does` with braces around the words for vs1, for the forms with a scalar or an immediate in its place
+    does: a sentence of 25 words at most, which may name vs1 for all forms: `does_of` has that of a form
+    template: `does` with braces around the words that other forms replace
     formulas: of an instruction, by the end of a name, as `vx`; "" is for all others
     kept: the condition under which an element isn't written
     layout: how sources lie to results: `by element`, `gather`, `slide`, `reduce`, `compress` or `scan`

@@ -57,7 +57,7 @@ export const ASSEMBLER = "riscv";
 /**
  * Names that go on from the word before the caret: of mnemonics and directives, or of an operand.
  * before, after: the caret's line up to the caret, and from it on; text: the source; isAsked: whether all operands are wanted, also
- * registers and the words of a vector type, and those with the word alone; else only names that go on from two letters
+ * registers and parts of a vector type, and those with the word alone; else only names that go on from two letters
  * @type {(before: string, after: string, text: string, isAsked: boolean) => Names}
  */
 export function namesAt(before, after, text, isAsked) {

@@ -8,7 +8,7 @@ import { textOf } from "./texts.js";
 /** @typedef {import("./columns.js").Columns} Columns */
 /**
  * name: of the element; place: its bytes or its address; sentence: how it took part, or what it was before;
- * value: as the pane shows it; edit: what changes it; explain: the element's name for `why`
+ * value: as the pane shows it; edit: the line that sets it; explain: the element's name for `why`
  * @typedef {{ name: string, place: string, sentence: string, value: string, explain: string,
  *   edit: string | null }} Detail
  */

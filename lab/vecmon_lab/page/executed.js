@@ -34,7 +34,7 @@ import { ABI_NAMES, vectorType, withNames } from "./words.js";
  * @property {(element: number, field?: number) => bigint} address
  */
 /**
- * What was before an instruction. v: of sources; olds: of the destination; isKnown, hasOld: whether sources, and the destination, are
+ * The state before an instruction. v: of sources; olds: of the destination; isKnown, hasOld: whether sources, and the destination, are
  * those before it; else sources are as they are now, and the destination is as in the state before.
  * @typedef {{ v: Registers, olds: Registers, vl: number, vstart: number, isKnown: boolean, hasOld: boolean,
  *   memory: State["memory"] }} Earlier

@@ -14,8 +14,8 @@ import { textOf } from "./texts.js";
 /** @typedef {import("./outcomes.js").Outcome} Outcome */
 /** @typedef {{ text: string, classes: string[], words: string }} Cell */
 /**
- * A row. register: the first one of its group, -1 in memory; head: the name of a place in memory; words: what the row is
- * to the instruction; cells: one for each element that it has.
+ * A row. register: the first one of its group, -1 in memory; head: the name of a place in memory; words: the row's role
+ * in the instruction; cells: one for each element that it has.
  * @typedef {object} Row
  * @property {"mask" | "source" | "memory" | "before" | "after" | "plain"} kind
  * @property {number} register

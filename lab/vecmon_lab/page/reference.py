@@ -37,7 +37,7 @@ def reference_text() -> str:
 
 
 def _description(row: Row) -> str:
-    """What an instruction does, with its formula as code, and the operand in place of vs1."""
+    """The effect of an instruction, with its formula as code, and the operand in place of vs1."""
     record = record_of(row.name)
     formula = record.formula_of(row.name)
     note = f" `{formula.text}`{scalar_note(row, formula.text)}" if formula else ""

@@ -20,7 +20,7 @@ QEMU = ["qemu-riscv64", "-cpu", "rv64,Zve64f=true,vext_spec=v1.0,vlen=256,elen=6
 """The command of QEMU 7.2."""
 
 POLICIES = {"keep": "", "ones": ",rvv_ta_all_1s=true,rvv_ma_all_1s=true"}
-"""What follows in its last argument, by the policy for agnostic elements."""
+"""The end of its last argument, by the policy for agnostic elements."""
 
 CODE, DATA, PROGRAM, BLOCK, STACK = 0x10000, 0x20000, 0x60000000, 0x60010000, 0x60020000
 CONTROL = ("vl", "vtype", "vxrm", "vxsat", "vstart")

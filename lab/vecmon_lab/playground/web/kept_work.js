@@ -53,7 +53,7 @@ export const textsOf = async (/** @type {File} */ file) => {
 /** The storage of this page. If it is refused, `trouble` has a sentence, and texts are only in memory. `readOnly`: why nothing is saved. */
 export class KeptWork {
   /** @type {Texts} */ texts = {};
-  /** @type {Partial<Entry>[]} */ rest = []; // what can't be read
+  /** @type {Partial<Entry>[]} */ rest = []; // entries that can't be read
   trouble = "";
   readOnly = "";
   isFull = "";
