@@ -326,7 +326,7 @@ def test_back_returns_to_instruction_or_write() -> None:
         and output[at + 1] == "   11040  64 00 00 00 64 00 00 00 64 00 00 00 64 00 00 00  d...d...d...d..."
     )
     assert [line for line in output if line.endswith("before.")] == ["This is the start: there is nothing before."] * 2
-    nobody = output.index("No instruction has changed what lies at 11040 y.")
+    nobody = output.index("No instruction has changed 11040 y.")
     assert output[nobody + 1] == "This is the start: there is nothing before."
     assert positions[4:] == ["10000  addi x10, x0, 13", "10004  auipc x11, 1", "10000  addi x10, x0, 13"]
     assert shown(["back", "leave", "back"], STRIP_MINED)[-1] == "This is the start: there is nothing before."

@@ -9,14 +9,15 @@ from support.commands import Lab
 from support.places import SUM
 from vecmon_lab.compilers.compiler import C_SOURCE, IMAGE, Compiler
 
+NEEDED = "a program needs input and input_size to get a file"
 ECHO = """
 #include "vecmon.h"
 char input[300], behind = 7;
 size_t input_size;
 int main(void)
 {
-    for (size_t put_out = 0; put_out < input_size;)
-        put_out += put(input + put_out, input_size - put_out);
+    for (size_t written = 0; written < input_size;)
+        written += put(input + written, input_size - written);
     return behind;
 }
 """
@@ -46,11 +47,11 @@ def test_program_reads_input_file(lab: Lab, made: pathlib.Path, data: bytes) -> 
 @pytest.mark.parametrize(
     "made, size, expected",
     [
-        (ECHO, 301, "its symbol input has room for 300 bytes, and {file} has more"),
+        (ECHO, 301, "{file} has more than the 300 bytes of the symbol input"),
         (ECHO, None, "No such file or directory"),
-        ("int main(void) { return 0; }", 5, "a file is laid at its symbols input and input_size, and it has no input"),
-        ("char input[9]; int main(void) { return 0; }", 5, "and it has no input_size"),
-        ("char input[9]; int input_size; int main(void) { return 0; }", 5, "has no room for 8 bytes, as a size_t has"),
+        ("int main(void) { return 0; }", 5, f"symbol input not found; {NEEDED}"),
+        ("char input[9]; int main(void) { return 0; }", 5, f"symbol input_size not found; {NEEDED}"),
+        ("char input[9]; int input_size; int main(void) { return 0; }", 5, "symbol input_size has fewer than 8 bytes"),
     ],
     indirect=["made"],
 )
@@ -63,4 +64,11 @@ def test_oversized_input_is_refused(lab: Lab, made: pathlib.Path, size: int | No
 
 
 def test_image_without_input_symbols_is_refused(lab: Lab) -> None:
-    assert lab("run", "--in", SUM, SUM)[2].endswith("and it has no input\n")
+    assert lab("run", "--in", SUM, SUM)[2].endswith(f": sum: symbol input not found; {NEEDED}\n")
+
+
+def test_message_names_source(lab: Lab, tmp_path: pathlib.Path) -> None:
+    """A source is named, and not the image in a temporary folder that it is compiled to."""
+    source = tmp_path / "adds.c"
+    source.write_text("int main(void) { return 0; }\n")
+    assert lab("run", "--in", source, source)[2] == f"vecmon-lab: adds: symbol input not found; {NEEDED}\n"

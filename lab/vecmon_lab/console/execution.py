@@ -95,7 +95,7 @@ class Execution:
         if is_there:
             self._timeline.back()
         elif is_there is False:
-            self._screen.say(f"No instruction has changed what lies at {self._names.place(address)}.")
+            self._screen.say(f"No instruction has changed {self._names.place(address)}.")
         self._tell_back(is_there)
 
     def look(self) -> list[Change]:

@@ -245,8 +245,10 @@ def started(
     check_image(path)
     guest = Guest(Session(find_program(), {"image": path}, quantum=quantum), write=write, report=report)
     try:
+        with mistakes_in(path.name):  # a source's image is in a temporary folder
+            given = input_of(path, file) if file else {}
         with mistakes_in(path):
-            guest.start("image", policy, arguments, input_of(path, file) if file else {})
+            guest.start("image", policy, arguments, given)
         yield guest
     finally:
         guest.session.close()  # which is another one, where it went back

@@ -18,12 +18,12 @@ def input_of(image: pathlib.Path, file: pathlib.Path) -> dict[int, bytes]:
     place, size_place = map(symbols.addresses.get, ("input", "input_size"))
     if place is None or size_place is None:
         missing = "input_size" if size_place is None and place is not None else "input"
-        raise LabError(f"a file is laid at its symbols input and input_size, and it has no {missing}")
+        raise LabError(f"symbol {missing} not found; a program needs input and input_size to get a file")
     room = min(symbols.room("input"), MEMORY_BYTES)
     with file.open("rb") as opened:
         data = opened.read(room + 1)
     if len(data) > room:
-        raise LabError(f"its symbol input has room for {room:,} bytes, and {file} has more")
+        raise LabError(f"{file} has more than the {room:,} bytes of the symbol input")
     if symbols.room("input_size") < SIZE_BYTES:
-        raise LabError(f"its symbol input_size has no room for {SIZE_BYTES} bytes, as a size_t has")
+        raise LabError(f"symbol input_size has fewer than {SIZE_BYTES} bytes; make it a size_t")
     return {place: data, size_place: len(data).to_bytes(SIZE_BYTES, "little")}

@@ -40,7 +40,9 @@ def initial_state_of(
     """
     check_image(image)
     with mistakes_in(image):
-        block, given = argument_block(arguments), input_of(image, file) if file else {}
+        block = argument_block(arguments)
+    with mistakes_in(image.name):  # a source's image is in a temporary folder
+        given = input_of(image, file) if file else {}
     placed = {**given, STACK_END - len(block): block}
     memory = [(address, "rw", data) for address, data in placed.items()]
     return InitialState(image, memory, [f"x2 {STACK_END - len(block):x}"], policy)

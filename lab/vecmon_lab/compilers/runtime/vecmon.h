@@ -1,11 +1,11 @@
-/* What a program of the lab has of the machine: its output, and its end. */
+/* The calls of a program in the lab's machine: output, and exit. */
 #ifndef VECMON_H
 #define VECMON_H
 
 #include <stddef.h>
 #include <stdint.h>
 
-/* Puts bytes out; how many were put out, which are fewer where the output is full. */
+/* Writes bytes to the output. Returns the number of bytes written, which is smaller than count if the output is full. */
 long put(const void *bytes, size_t count);
 
 /* Ends the program with a status. */
