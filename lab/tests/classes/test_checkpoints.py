@@ -51,6 +51,8 @@ async def start_next_script(room: Served) -> bytes:
     machine = room.members.rooms["A"]
     tab, other, teacher = await room.sit("A1"), await room.sit("A2"), await room.sit("teacher")
     await other.do(*SUM_LINES)
+    await (await room.sit("A3")).do(*LOOP, "asm 10000 ebreak", "go")
+    await teacher.do("run 3", machine="A")
     await tab.do(*LOOP, "go")
     await teacher.do("slices 999", machine="A")
     await tab.do("stop")
@@ -94,6 +96,7 @@ async def test_class_restarts_from_next_script(tmp_path: pathlib.Path) -> None:
     async with served(tmp_path / "class", {"sum": SUM}) as room:
         await start_next_script(room)
         registers = await (await room.sit("A2")).do("regs")
+        ended = (await room.sit("A3")).view
     async with served(tmp_path / "class") as room:
         tab, other, teacher = await room.sit("A1"), await room.sit("A2"), await room.sit("teacher")
         assert teacher.view["machines"]["A"]["scripts"] == 2 and tab.view["share"]["used"] == 20
@@ -105,4 +108,10 @@ async def test_class_restarts_from_next_script(tmp_path: pathlib.Path) -> None:
         ]
         assert "A2" not in other.logs and other.view["state"]["breaks"] == ["11190"]
         assert await other.do("regs") == registers
+        third = await room.sit("A3")
+        assert third.view["condition"] == ended["condition"] == "Ended"
+        assert third.view["state"]["stop"] == ended["state"]["stop"]
+        assert teacher.view["machines"]["A"]["seats"]["3"]["status"]["kind"] == "ebreak"
         await room.check_replay()
+    async with served(tmp_path / "class") as room:
+        assert (await room.sit("A3")).view["condition"] == "Ended"

@@ -1,6 +1,6 @@
 """The state of seats after the lines that a server replays when it starts."""
 
-from collections.abc import Sequence
+from collections.abc import Mapping, Sequence
 
 import pytest
 
@@ -13,13 +13,15 @@ SCRIPT = [f"{digit} {line}" for digit in "12" for line in LOOP] + ["2 break 1000
 STEPS = 2 * LOG_ENTRIES
 
 
-def seats_after(session: Session, blocks: Sequence[Sequence[str]], set_up: int = 0) -> Seats:
+def seats_after(
+    session: Session, blocks: Sequence[Sequence[str]], set_up: int = 0, stops: Mapping[str, str] = {}
+) -> Seats:
     """Seats after these lines, block by block."""
-    history, seats = History(set_up), Seats("A")
+    history, seats = History(set_up, stops), Seats("A")
     for block in blocks:
         for lines, answers in session.do_blocks("".join(f"{line}\n" for line in block).encode()):
             history.add(lines, answers)
-    history.tell(seats)
+    history.restore(seats, session)
     return seats
 
 
@@ -44,3 +46,12 @@ def test_history_hides_set_up_lines(session: Session) -> None:
     two = seats.users["2"]
     assert list(two.log)[:2] == [">2 go", "<2 running pc=0000000000010000"] and two.watch_set.breaks == {0x10004}
     assert two.used == len("2 go\n") + len("* run 2\n") and seats.users["1"].used == 0
+
+
+@pytest.mark.parametrize("line, condition", [("break 0", "Ended"), ("set x5 1", "Paused"), ("enter", "Ready")])
+def test_stop_before_set_up_lasts_until_change(session: Session, line: str, condition: str) -> None:
+    """The lines that set the machine up don't include the run that ended the program."""
+    set_up = ["1 enter", "1 map 0 1 rx", "1 asm 0 ebreak", "1 setpc 0", "1 step 1"]
+    lines = ["1 leave"] * (line == "enter") + [f"1 {line}"]
+    seats = seats_after(session, [set_up + lines], len(set_up), {"1": "ebreak pc=0000000000000000"})
+    assert seats.users["1"].condition == condition

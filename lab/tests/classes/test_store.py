@@ -125,7 +125,7 @@ def test_script_file_is_appended(tmp_path: pathlib.Path) -> None:
     file.close()
 
 
-JUNK = [b"", b"{}", b"null", b"\xff\0\x80junk", b'{"lines": "5"}', b"[" * 100_000]
+JUNK = [b"", b"{}", b"null", b"\xff\0\x80junk", b'{"lines": "5"}', b"[" * 100_000, b'{"stops": {"1": "exit"}}']
 
 
 @pytest.mark.parametrize("junk", JUNK, ids=range(len(JUNK)))
@@ -181,6 +181,23 @@ def test_damaged_script_is_truncated(tmp_path: pathlib.Path, program: pathlib.Pa
         assert members.rooms["A"].session.lines == lines == (folder / "A.script").read_bytes().count(b"\n")
         members.end()
     assert (folder / "A.script.damaged").read_bytes() == b"1 enter\n1 step\0\n1 go\n"
+
+
+@pytest.mark.parametrize("set_up, condition, losses", [(4, "Ended", 0), (5, "Ready", 1)])
+def test_lost_set_up_loses_stops(
+    tmp_path: pathlib.Path, program: pathlib.Path, set_up: int, condition: str, losses: int
+) -> None:
+    """The stops in a machine's notes belong to the state that the set-up of its last script makes."""
+    folder = tmp_path / "class"
+    Store(folder, program).close()
+    (folder / "A.script").write_bytes(b"1 enter\n")
+    (folder / "A.2.script").write_bytes(b"1 enter\n1 map 0 1 rx\n")
+    (folder / "A.3.script").write_bytes(b"1 enter\n1 map 0 1 rx\n1 asm 0 ebreak\n1 setpc 0\n")
+    notes = {"lines": set_up, "scripts": [0, 2, set_up], "stops": {"1": "ebreak pc=0000000000000000"}}
+    (folder / "A.json").write_text(json.dumps(notes))
+    members = Class(Store(folder, program), 5.0)
+    assert members.seat("A1").condition == condition and len(members.store.lost) == losses
+    members.end()
 
 
 def test_unreadable_file_is_refused(tmp_path: pathlib.Path, program: pathlib.Path) -> None:

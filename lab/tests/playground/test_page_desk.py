@@ -102,9 +102,10 @@ def test_source_versions_and_machine_come_back(program: pathlib.Path, tmp_path: 
     again.close()
 
 
+@pytest.mark.parametrize("spent", [0.0, 2.0], ids=["from all lines", "from a checkpoint"])
 @pytest.mark.parametrize("last, condition", [("go", "Ended"), ("step 1", "Paused"), ("set x5 7", "Paused")])
 def test_ended_program_comes_back_ended(
-    program: pathlib.Path, tmp_path: pathlib.Path, last: str, condition: str
+    program: pathlib.Path, tmp_path: pathlib.Path, last: str, condition: str, spent: float
 ) -> None:
     """It is paused again if something has changed since: the instruction behind the end, or a register."""
     page = Page(program, tmp_path)
@@ -113,9 +114,30 @@ def test_ended_program_comes_back_ended(
     if last != "go":
         page.do("setpc 10010", last)
     before: Any = page.desk.hello()["patch"]
+    page.desk.machine.session.recorded.spent = spent  # a second and more makes a checkpoint due
     again = Page(program, tmp_path, page.close())
+    assert (int(again.kept["A.set_up"][0]) > 0) == (spent > 1)
     assert [before["condition"], again.view["condition"]] == [condition, condition]
     assert again.view["state"].get("stop") == before["state"].get("stop")
+    third = Page(program, tmp_path, again.close())
+    assert third.view["condition"] == condition
+    third.do("setpc 10000")
+    fourth = Page(program, tmp_path, third.close())
+    assert fourth.view["condition"] == "Paused"
+    fourth.close()
+
+
+@pytest.mark.parametrize("damage", [{"A.stop": ["exit", 1.0]}, {"A.script": ["1 enter\n\n", 1.0]}])
+def test_damaged_stop_is_left_out(program: pathlib.Path, tmp_path: pathlib.Path, damage: dict[str, Any]) -> None:
+    """Without the last stop, or without the lines that it belongs to, the page opens as if there were none."""
+    page = Page(program, tmp_path)
+    page.ask("source", text=SOURCE)
+    page.ask("lines", do=["go"], slices=1)
+    page.desk.machine.session.recorded.spent = 2.0
+    kept = page.close()
+    assert kept["A.stop"][0] == "ebreak pc=000000000001000c"
+    again = Page(program, tmp_path, kept | damage)
+    assert "stop" not in again.view["state"] and again.view["condition"] != "Ended"
     again.close()
 
 

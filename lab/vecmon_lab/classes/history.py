@@ -1,7 +1,7 @@
 """The lines at a machine before its server started, and the part of them that its seats receive."""
 
 from collections import Counter, deque
-from collections.abc import Iterator, Sequence
+from collections.abc import Iterator, Mapping, Sequence
 from itertools import chain, islice
 
 from ..machine.lines import DIGITS, words_of
@@ -24,9 +24,12 @@ class History:
     show output, since its machine began.
     """
 
-    def __init__(self, set_up: int) -> None:
-        """set_up: how many lines at the beginning set the machine up, as an earlier script left it"""
-        self._set_up, self._count = set_up, 0
+    def __init__(self, set_up: int, stops: Mapping[str, str]) -> None:
+        """set_up: how many lines at the beginning set the machine up, as an earlier script left it
+
+        stops: the last stops of users behind these lines, by digit (`Seats.stops`)
+        """
+        self._set_up, self._stops, self._count = set_up, stops, 0
         self._lines: Counter[str] = Counter()  # behind those, and how often each was done
         self._last = {digit: deque[Numbered](maxlen=LOG_ENTRIES) for digit in f"{DIGITS}*"}
         self._turns: dict[str, Numbered] = {}
@@ -86,13 +89,16 @@ class History:
 
     def restore(self, seats: Seats, session: Session) -> None:
         """Brings seats, which know nothing yet, to where the lines left them. session: that of the lines"""
+        for digit, stop in self._stops.items():
+            seats.users[digit].stop, seats.users[digit].is_started = stop, True
         self.tell(seats)
         stops = [(f"{digit} state", [f"{digit} {seats.users[digit].stop}"]) for digit in self._stopped(seats)]
         seats.take(seats.look(session, stops, DIGITS))
 
     def _stopped(self, seats: Seats) -> Iterator[str]:
         """The digits of users whose programs stopped by themselves, and who have changed nothing since."""
-        for digit, (number, *_) in self._turns.items():
+        for digit in DIGITS:
+            number = self._turns[digit][0] if digit in self._turns else -1
             later = [done for done in self._last[digit] if done[0] > number and not is_servers(done[1])]
             has_changed = any(may_change(line, answer.split("\n")) for _, line, answer in later)
             if seats.users[digit].stop and not has_changed:

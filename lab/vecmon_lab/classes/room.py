@@ -72,7 +72,8 @@ class Room:
         progress: is called with sentences on the progress; lose: is called with sentences on lines that are lost
         """
         self.session.progress = lambda percent: progress(rebuilding(self.letter, percent))
-        history, self.scripts.set_up = History(notes.scripts[-1]), notes.scripts
+        self.scripts.set_up, self.scripts.stops = notes.scripts, notes.stops
+        history = History(notes.scripts[-1], notes.stops)
         for block in self.scripts.file.replay(self.session, notes, lose):
             history.add(*block)
         history.restore(self.seats, self.session)
@@ -81,7 +82,7 @@ class Room:
 
     def notes(self) -> Notes:
         """The notes that the class's folder keeps of the machine."""
-        return self._notes(self.session, self.scripts.set_up)
+        return self._notes(self.session, self.scripts.set_up, self.scripts.stops)
 
     async def run(self, seat: Seat, steps: Steps[Returned]) -> Returned:
         """Executes the steps of a request; between them others have their turns. Raises LabError where the machine is down."""
@@ -196,9 +197,9 @@ class Room:
                     self.set_clock({"on": False})
                     self.seats.operator.add_log_entry(f"!The clock was stopped: {error}.")
 
-    def _notes(self, session: Session, scripts: Sequence[int]) -> Notes:
-        """Notes of a session, whose script is the last one of these."""
-        return Notes(session.lines, session.digest, asdict(self.clock.settings), self.own_slices, scripts)
+    def _notes(self, session: Session, scripts: Sequence[int], stops: Mapping[str, str]) -> Notes:
+        """Notes of a session, whose script is the last one of these. stops: the last ones when that started, by digit"""
+        return Notes(session.lines, session.digest, asdict(self.clock.settings), self.own_slices, scripts, stops)
 
     def _change_all(self) -> None:
         """All seats, and the operator's, have news."""

@@ -4,7 +4,7 @@ import asyncio
 import concurrent.futures
 import contextlib
 import math
-from collections.abc import Callable, Sequence
+from collections.abc import Callable, Mapping, Sequence
 
 from .. import LabError
 from ..machine.session import Checkpoint, Session
@@ -18,20 +18,22 @@ MAX_SET_UP_BYTES = 9_000_000  # of lines that set the machine up in another one
 MAX_BEHIND = 3.0  # times the weight at which a checkpoint is due: until it is made, no slices are granted
 
 
-Saver = Callable[[Session, Sequence[int]], bool]
-"""Saves notes of a session, and of these scripts; whether that went well."""
+Saver = Callable[[Session, Sequence[int], Mapping[str, str]], bool]
+"""Saves notes of a session, of these scripts, and of the last stops when the last one started; whether that went well."""
 
 
 class Scripts:
     """The scripts of a machine, and the file of the last one.
 
     set_up: of each script, how many lines at its beginning set the machine up
+    stops: the last stops of users when the last script started, by digit (`Seats.stops`)
     """
 
     def __init__(self, thread: MachineThread, file: ScriptFile, makers: WorkerPool, save: Saver) -> None:
         """makers: places where checkpoints are made"""
         self.file = file
         self.set_up: Sequence[int] = [0]
+        self.stops: Mapping[str, str] = {}
         self._machine, self._thread, self._makers, self._save = thread.machine, thread, makers, save
         self._minimum = math.inf  # the weight of a script that gets a checkpoint; more where there was none
         self._follower = concurrent.futures.ThreadPoolExecutor(1)  # of the spare process
@@ -87,12 +89,12 @@ class Scripts:
     def _begin_next(self) -> None:
         """Starts another script; called in the machine's thread."""
         replacement = self._machine.session.renewed()
-        set_up = [*self.set_up, replacement.lines]
+        set_up, stops = [*self.set_up, replacement.lines], self._machine.seats.stops()
         try:
             if replacement.size > MAX_SET_UP_BYTES or not self.file.is_saved:
                 raise LabError("there is no room for another script")
             file = self.file.successor(len(set_up), replacement.script)
-            if not self._save(replacement, set_up):
+            if not self._save(replacement, set_up, stops):
                 file.discard()
                 raise LabError("the notes of the script aren't saved")
         except BaseException:
@@ -103,7 +105,7 @@ class Scripts:
         old.close()
         self.file.close()
         self.file = self._machine.file = file
-        self.set_up = set_up
+        self.set_up, self.stops = set_up, stops
 
     def end(self) -> None:
         """Ends the spare's thread, and closes the file; the machine has ended."""

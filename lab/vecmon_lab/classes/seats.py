@@ -164,6 +164,10 @@ class Seats:
         """The digits of users whose programs run."""
         return {digit for digit, seat in self.users.items() if seat.state["run"] == "running"}
 
+    def stops(self) -> dict[str, str]:
+        """The stops of programs that stopped by themselves and whose users have changed nothing since, by digit."""
+        return {digit: seat.stop for digit, seat in self.users.items() if "stop" in seat.state}
+
     def _grant(self, slices: int, digits: set[str]) -> None:
         """Counts slices that went round among the programs of users."""
         for digit in digits:

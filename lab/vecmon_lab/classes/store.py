@@ -276,7 +276,7 @@ class Store:
             self.lose(f"{last_name} has lost lines that set the machine up: it goes on as the script before left it")
             scripts.pop()
         if len(scripts) < len(notes.scripts):
-            notes = replace(notes, scripts=scripts, lines=len(self._lines(machine, len(scripts))), answers="")
+            notes = replace(notes, scripts=scripts, stops={}, lines=len(self._lines(machine, len(scripts))), answers="")
         return notes
 
     def check_script(self, machine: str, number: int) -> None:

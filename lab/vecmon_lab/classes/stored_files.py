@@ -6,6 +6,7 @@ from dataclasses import dataclass, field
 from typing import cast
 
 from ..exercises.check import CaseResult, CheckResult
+from ..machine.answers import is_stop
 from .codes import LETTERS
 from .progress import Try
 from .requests import Settings
@@ -32,18 +33,23 @@ class Facts:
 
 @dataclass(frozen=True)
 class Notes:
-    """The notes with a machine's last script: the number of lines whose answers have the digest, the clock, rights;
-    and of each script how many lines at its beginning set the machine up, as the one before left it."""
+    """The notes with a machine's last script: the number of lines whose answers have the digest, the clock, rights.
+
+    scripts: of each script how many lines at its beginning set the machine up, as the one before left it
+    stops: the last stops of users when the last one of them started, by digit
+    """
 
     lines: int = 0
     answers: str = ""
     clock: Mapping[str, int] = field(default_factory=dict)
     own_slices: bool = True
     scripts: Sequence[int] = field(default_factory=lambda: [0])
+    stops: Mapping[str, str] = field(default_factory=dict)
 
     def __post_init__(self) -> None:
         is_whole = type(self.answers) is str and type(self.own_slices) is bool and bool(self.scripts)
-        if not is_whole or not all(map(_is_count, (self.lines, *self.scripts))):
+        are_stops = all(is_stop(f"{digit} {stop}") for digit, stop in {**self.stops}.items())
+        if not is_whole or not are_stops or not all(map(_is_count, (self.lines, *self.scripts))):
             raise ValueError("no notes of a machine")
         clock = Settings(**self.clock)  # type: ignore[arg-type]
         if type(clock.on) is not bool or not all(_is_count(it) and it for it in (clock.slices, clock.ms, clock.limit)):

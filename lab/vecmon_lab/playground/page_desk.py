@@ -21,7 +21,7 @@ from ..classes.text_store import TextStore
 from ..compilers.compiled import program_of
 from ..compilers.debug import image_of
 from ..exercises.exercise import Exercise
-from ..machine.answers import Refused, read
+from ..machine.answers import Refused, is_stop, read
 from ..machine.lines import words_of
 from ..machine.process import Vecmon
 from ..machine.image import MARCH
@@ -30,6 +30,7 @@ from ..machine.session import Session, recorded_lines
 from .desk import Desk
 
 SCRIPT, SET_UP = "A.script", "A.set_up"  # the machine's lines, and how many of the first ones set it up
+STOP = "A.stop"  # the last stop when those were made, unless something had changed since
 QUANTUM = "A.quantum"  # ticks of a slice, where a class had another number than this page
 IMAGES, IMAGE, ANSWERS = "images", "A1.image", "answers"
 IMAGE_BYTES, MOST_IMAGES = 1 << 20, 8
@@ -72,7 +73,7 @@ class PageDesk(Desk):
         )
         session = self._opening(self._kept_images(texts))
         super().__init__(program, session, texts, exercises, starts)
-        self._set_up = 0
+        self._set_up, self._stops = 0, dict[str, str]()
         self._restore_tries()
         self._restore_machine()
         if cause := self.student.restore():
@@ -86,6 +87,7 @@ class PageDesk(Desk):
                 self._shorten()
         self.texts.write_text(SCRIPT, self.machine.session.script.decode("ascii"))
         self.texts.write_text(SET_UP, f"{self._set_up}")
+        self.texts.write_text(STOP, self._stops.get(self.seat.digit, ""))
 
     def drop(self, name: str, content: bytes) -> News:
         """Loads an image that was dropped on the page, or says why it isn't loaded; what is new then."""
@@ -196,6 +198,7 @@ class PageDesk(Desk):
         heir = session.renewed()
         session.close()
         self.machine.session, self._set_up, self.seat.used = heir, heir.lines, 0
+        self._stops = self.machine.seats.stops()
 
     def _restore_machine(self) -> None:
         """Executes the kept lines of the machine again."""
@@ -207,7 +210,10 @@ class PageDesk(Desk):
             self.lost.append(f"the machine's lines are damaged behind line {count}")
         kept_count = self.texts.read_text(SET_UP)
         self._set_up = int(kept_count) if re.fullmatch("[0-9]{1,9}", kept_count) else 0
-        history, session = History(self._set_up), self.machine.session
+        kept_stop, digit = self.texts.read_text(STOP), self.seat.digit
+        is_set_up = script.count(b"\n") >= self._set_up
+        self._stops = {digit: kept_stop} if is_set_up and is_stop(f"{digit} {kept_stop}") else {}
+        history, session = History(self._set_up, self._stops), self.machine.session
         try:
             for block in session.do_blocks(script):
                 history.add(*block)
@@ -215,7 +221,7 @@ class PageDesk(Desk):
             _set_aside(self.texts, SCRIPT)
             self.lost.append(f"the machine's lines can't be executed again: {error}")
             session.close()
-            self.machine.session, self._set_up = self._opening(session.images), 0
+            self.machine.session, self._set_up, self._stops = self._opening(session.images), 0, {}
             return
         history.restore(self.machine.seats, session)
         if (image := self.texts.read_text(IMAGE)) in session.images and self.seat.state["run"] != "absent":
