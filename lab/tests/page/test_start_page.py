@@ -46,6 +46,37 @@ def test_example_begins_bench(page: Tab) -> None:
     page.wait("one('#step .instruction')?.textContent.includes('addi a0, zero, 13')")
 
 
+def test_example_leaves_machine_of_another_source(page: Tab, tmp_path: pathlib.Path) -> None:
+    """Elements, listing and the stop of another program go with its machine; a source that is in the machine keeps it."""
+    machine = (
+        "[id('run').textContent, id('elements').checkVisibility(), id('stop').textContent, id('step').textContent]"
+    )
+    none = ["Not begun", False, "", "there is no machine here yet"]
+    page.run("all('.tile').find((tile) => tile.textContent.endsWith('strip_mined.s')).click()")
+    page.wait("document.activeElement.id === 'one'")
+    page.click("#go")
+    page.wait("id('run').textContent === 'Ended' && one('#elements td')")
+    ended = page.run(machine)
+    assert ended[:2] == ["Ended", True] and "Stopped at the ebreak" in ended[2]
+    page.click("#to-start")
+    page.run("all('#recent .tile').at(0).click()")  # the same source
+    page.wait("id('desk').checkVisibility()")
+    page.command("state")  # behind all that the page sent before
+    assert page.run(machine) == ended
+    page.click("#to-start")
+    page.run("all('.tile').find((tile) => tile.textContent.endsWith('doubles.s')).click()")
+    page.wait("text().includes('Squares of five numbers') && id('run').textContent === 'Not begun'")
+    assert page.run(machine) == none
+    page.click("#show-listing")
+    assert not page.run("one('#listing tr')?.checkVisibility()")
+    page.click("#one")
+    page.wait("one('#step .instruction')?.textContent.includes('auipc a1, 1')")
+    (tmp_path / "other.s").write_text("nop\n")
+    page.keys("#open", f"{tmp_path / 'other.s'}")
+    page.wait("text() === 'nop\\n' && id('run').textContent === 'Not begun'")
+    assert page.run(machine) == none
+
+
 def test_recent_sources_come_back(page: Tab) -> None:
     """A typed source is among the recent sources, in the tab's next page too; New program has the first text again."""
     page.click("#new-program")

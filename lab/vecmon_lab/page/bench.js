@@ -201,6 +201,9 @@ export class Bench {
     return this.refuse(unfit);
   }
 
+  /** Leaves the machine. */
+  leave = () => this.send(LEAVING[this.desk.state.run]);
+
   refuse(/** @type {string} */ words) {
     this.desk.refusal = words;
     this.desk.showStage();

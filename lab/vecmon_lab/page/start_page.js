@@ -31,7 +31,7 @@ export class StartPage {
     part(root, "new-program").addEventListener("click", beginner("program.s", part(root, "source").defaultValue));
     part(root, "new-in-c").addEventListener("click", beginner("program.c", part(root, "c-start").textContent));
     part(root, "open-source").addEventListener("click", () => source.file.click());
-    source.file.addEventListener("change", () => (this.keep(), this.leave(source.file.files?.[0]?.name)));
+    source.file.addEventListener("change", () => (this.keep(), bench.leave(), this.leave(source.file.files?.[0]?.name)));
     part(root, "to-start").addEventListener("click", () => this.open());
     part(root, "to-start").hidden = false;
     part(root, "new-in-c").disabled = view.no_c !== "";
@@ -74,9 +74,10 @@ export class StartPage {
     part(this.root, "new-program").focus();
   }
 
-  /** Puts a source into the editor, where what was there becomes a version. */
+  /** Puts a source into the editor, where what was there becomes a version; a machine that has another source is left. */
   async begin(/** @type {NamedSource} */ { name, text, language }) {
     await this.bench.source.replace({ text, language });
+    if (this.bench.hasChanged) this.bench.leave();
     this.leave(name);
   }
 

@@ -30,9 +30,7 @@ export class Wasi {
   /** @type {(address: number, size: number) => Uint8Array} */
   bytes = (address, size) => new Uint8Array(this.memory.buffer, address, size);
 
-  get data() {
-    return new DataView(this.memory.buffer);
-  }
+  get data() { return new DataView(this.memory.buffer); }
 
   /** The result of something that is done. */
   done = (/** @type {unknown} */ _) => OK;
