@@ -78,6 +78,24 @@ def test_steps_back_and_forth(sit: Sit) -> None:
     assert teacher.run(SHOWN_ADDRESS) == "1000c"
 
 
+def test_first_seen_moment_of_a_started_program_is_step_1(sit: Sit) -> None:
+    """Its machine wasn't seen before the first step: a page that is opened then counts on from there."""
+    tab = sit("A4")
+    tab.write(DOUBLES)
+    assert tab.text("#moment-count") == "step 0, now"
+    tab.click("#one")
+    tab.wait(f"{SHOWN_ADDRESS} === '10000'")
+    tab.browser.refresh()
+    tab.wait(f"{SHOWN_ADDRESS} === '10000'")
+    assert tab.text("#moment-count") == "step 1, now" and tab.run("id('backward').disabled")
+    tab.click("#one")
+    tab.wait(f"{SHOWN_ADDRESS} === '10004'")
+    assert tab.text("#moment-count") == "step 2, now"
+    tab.click("#backward")
+    assert tab.text("#moment-count") == "step 1 of 2" and tab.run("id('backward').disabled")
+    tab.click("#now")
+
+
 def test_steps_back_over_run(sit: Sit) -> None:
     """Of a program that runs no moment is kept; before it lies the state in which it was let go."""
     tab, teacher = sit("A2"), sit("teacher")

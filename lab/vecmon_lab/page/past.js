@@ -87,7 +87,8 @@ export class Past {
   tell() {
     const { backward, forth, now, moment, "moment-count": counted } = this.parts;
     const [step, last, isPast] = [this.shownPlace, this.end, this.place < Infinity];
-    const count = isPast ? textOf("past.step", { step, last }) : textOf("past.at-now", { step: last });
+    const first = Number(Boolean(this.moments[0]?.state.instruction)); // 0: of a machine that has executed nothing
+    const count = isPast ? textOf("past.step", { step: step + first, last: last + first }) : textOf("past.at-now", { step: last + first });
     const gap = this.moments[step + 1]?.hasRun ? ` ${textOf("past.gap")}` : "";
     backward.disabled = step === 0;
     forth.disabled = now.disabled = !isPast;

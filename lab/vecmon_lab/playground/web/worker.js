@@ -66,9 +66,8 @@ async function begin(/** @type {Texts} */ texts) {
   const contents = Promise.all([bytesOf(parts.memory), bytesOf(parts.lessons)]);
   const [[code, machine], [memory, lessons]] = await Promise.all([modules, contents]);
   module = machine;
-  for (const [path, text] of Object.entries(JSON.parse(new TextDecoder().decode(lessons)))) {
+  for (const [path, text] of Object.entries(JSON.parse(new TextDecoder().decode(lessons))))
     pythonFiles[path] = new TextEncoder().encode(text);
-  }
   if (texts["A1.image"]) await loadLater();
   python = new Python(code, host, pythonFiles, memory);
   give({ begin: texts });
