@@ -209,6 +209,21 @@ def test_new_machine_is_compared_with_no_earlier_one(sit: Sit) -> None:
     assert tab.run(marked) == []
 
 
+def test_loaded_image_opens_its_listing(sit: Sit) -> None:
+    """Also over a machine that has a source, where Source is in sight; an image that isn't loaded opens nothing."""
+    tab = sit("A5")
+    shown = "[id('editor').checkVisibility(), id('listing').checkVisibility()]"
+    write(tab, "nop\nebreak\n")
+    tab.click("#one")
+    tab.wait(f"{CONDITION} === 'Paused'")
+    tab.click("#show-source")
+    tab.command("load other")
+    assert tab.run(shown) == [True, False]
+    tab.choose("#images", "sum")
+    tab.click("#yes")
+    tab.wait(f"{CONDITION} === 'Ready' && {shown}.join() === 'false,true'")
+
+
 def test_fault_outside_of_memory_names_the_address(sit: Sit) -> None:
     """`ret` returns to address 0, where nothing is mapped."""
     tab = sit("A6")

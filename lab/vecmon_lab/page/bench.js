@@ -39,7 +39,6 @@ function refusals(/** @type {Request} */ request, /** @type {Message | null} */ 
 /** A machine with its source, below a root that has the parts of both. */
 export class Bench {
   timer = 0; // until problems are asked for
-  hasMachine = false; // since the view before
   isEdited = false; // whether the source was changed since the machine began
   isImage = false; // whether the machine began with an image
   /** @type {State["read"]} */ askedRead; // that lacked registers, which were asked for
@@ -121,13 +120,14 @@ export class Bench {
   /** @type {(view: View, entries: string[], isAnew: boolean) => void} */
   show(view, entries, isAnew) {
     const { state: { run, instruction }, source: { stands, text } } = view;
-    const start = entries.findLast((entry) => /^>. (enter|load)\b/.test(entry));
+    const wasAbsent = (this.bar.view?.state.run ?? "absent") === "absent";
+    const start = entries.findLast((entry) => /^<. (entered|loaded)\b/.test(entry));
     if (start) Object.assign(this, { isEdited: false, isImage: start.slice(3).startsWith("load") });
     if (instruction) this.panes.makeRoom();
     this.desk.show(view.seat, view.state, entries, isAnew);
     this.askForRead(view.state);
-    if ((run !== "absent") !== this.hasMachine) this.panes.show(run === "absent" || (text && (stands || isAnew)) ? "editor" : "listing");
-    this.hasMachine = run !== "absent";
+    if ((run === "absent") !== wasAbsent) this.panes.show(run === "absent" || (text && (stands || isAnew)) ? "editor" : "listing");
+    if (start && this.isImage && !isAnew) this.panes.show("listing"); // an image has no source
     offerLanguages(this.editor.language, view);
     offer(this.parts.images, textOf("run.load-image"), view.images);
     offer(this.parts.against, textOf("source.side-by-side"), view.against);

@@ -39,9 +39,8 @@ export class StartPage {
     put(part(root, "why-no-c"), why, prose(why));
     addEventListener("pagehide", () => this.keep());
     document.addEventListener("drop", () => this.toggle(false)); // an image, whose refusal is in the console
-    for (const [heading, own = []] of Object.entries(Object.groupBy(view.examples ?? [], (example) => example.group))) {
+    for (const [heading, own = []] of Object.entries(Object.groupBy(view.examples ?? [], (example) => example.group)))
       part(root, "examples").append(...group(heading, own.map((each) => this.tile(each.title, each.about, each.name, each))));
-    }
     part(root, "to-exercises").addEventListener("click", () => (this.leave(), bench.panes.show("exercise")));
     part(root, "to-exercises").hidden = !Object.keys(view.exercises).length;
     const isWanted = sessionStorage.getItem(NAME) !== null || sessionStorage.getItem("linked"); // a source or an exercise
