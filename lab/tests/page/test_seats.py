@@ -45,6 +45,8 @@ def test_typed_name_is_shown(tabs: "Chrome", served: Served) -> None:
     teacher.click("#join-class .done")
     look_at(teacher, "A2")
     assert teacher.text("#shoulder-title") == "Zoë O'Brien (A2)"
+    empty = "all('#machine .missing').filter((each) => each.checkVisibility()).map((each) => each.textContent)"
+    assert set(teacher.run(empty)) == {"No program has been loaded at this seat yet."}
     teacher.click("[data-dialog='join-class']")
     teacher.click("#open-sheet")
     teacher.wait("all('#slips h2').length === 32")

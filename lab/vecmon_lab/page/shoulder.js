@@ -2,7 +2,7 @@
 
 import { Desk } from "./desk.js";
 import { Editor } from "./editor.js";
-import { ask, byId, put } from "./elements.js";
+import { ask, byId, elementsIn, put } from "./elements.js";
 import { offerTries } from "./exercises.js";
 import { offerLanguages } from "./languages.js";
 import { Panes } from "./panes.js";
@@ -23,6 +23,7 @@ export class Shoulder {
     byId("machine").append(byId("seat-answers"));
     byId("tab-dock").after(byId("tab-answers"));
     byId("vectors-title").after(byId("past"));
+    for (const each of elementsIn(root, ".missing")) put(each, textOf("shoulder.no-program"));
     this.desk = new Desk(root);
     byId("source").readOnly = byId("language").disabled = true;
     this.editor = new Editor(byId("source"), undefined, byId("language"));

@@ -551,6 +551,7 @@ export interface Places {
   "settings.not-fetched": "file";
   "shoulder.loss": "seat";
   "shoulder.no-answer": never;
+  "shoulder.no-program": never;
   "codes.wall": never;
   "codes.name.label": "whose";
   "codes.loss": "whose";
