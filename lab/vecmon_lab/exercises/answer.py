@@ -12,7 +12,7 @@ from random import Random
 
 from .. import LabError, mistakes_in
 from ..compilers.compiled import STACK, CompiledProgram, Isolation
-from ..guest.guest import IMAGE_BYTES, MAX_STEPS, QUANTUM, STACK_END, Guest, pokes
+from ..guest.guest import IMAGE_BYTES, MAX_STEPS, QUANTUM, SET_UP_ADDRESS, STACK_END, Guest, pokes
 from ..guest.runner import Reporter
 from ..lessons.script import Script, read_assembled, read_compiled, send
 from ..machine.answers import Position, ScalarRegisters, Stop
@@ -215,9 +215,8 @@ def _junk(name: str, start: int) -> Iterator[str]:
     random = Random(name)
     yield from (f"set x{number} {random.randrange(1, 1 << 64):x}" for number in range(5, 32))
     yield from (f"vset v{number} {random.randbytes(32).hex()}" for number in range(32))
-    place = RETURN + 4  # of the one instruction that is needed
-    yield f"asm {place:x} csrrwi x0, vxrm, {random.randrange(1, 4)}"
-    yield from (f"setpc {place:x}", "step 1", f"setpc {start:x}")
+    yield f"asm {SET_UP_ADDRESS:x} csrrwi x0, vxrm, {random.randrange(1, 4)}"  # the one instruction that is needed
+    yield from (f"setpc {SET_UP_ADDRESS:x}", "step 1", f"setpc {start:x}")
 
 
 def _results(guest: Guest, expected: Results, output: bytes) -> Results:

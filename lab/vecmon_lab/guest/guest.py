@@ -38,6 +38,7 @@ PACES = ((MAX_STEPS, OUTPUT_BYTES - 1), (SAFE_STEPS, OUTPUT_BYTES))
 VECTOR_LOOKS = [f"vreg v{number} 64" for number in range(32)]
 
 STACK_POINTER, STACK_END, STACK_BYTES = 0x7FFF_EFC0, 0x7FFF_F000, 0x4000  # as `load` leaves them
+SET_UP_ADDRESS = STACK_END + 4  # of the instruction that sets up a case of an exercise: no listing has it
 
 AnswerType = TypeVar("AnswerType", bound=Answer)
 

@@ -7,7 +7,7 @@ from typing import NotRequired, TypedDict
 from ..assembler.data_runs import DataType
 from ..guest.calls import shown_calls
 from ..guest.changes import Registers
-from ..guest.guest import VECTOR_LOOKS, Guest
+from ..guest.guest import SET_UP_ADDRESS, VECTOR_LOOKS, Guest
 from ..instructions.accesses import PAGE_BYTES, ROW_BYTES, base_address
 from ..instructions.calls import ECALL, unsupported_call
 from ..instructions.reasons import describe_stop
@@ -220,7 +220,7 @@ def look_at(
     _take_calls(state)
     text = state["code"].get(state["pc"], "")
     _set_memory(guest, watch_set, state, scalar, text, may_store)
-    if trace and (stepped or trace != watch_set.trace):
+    if trace and trace[-1] != SET_UP_ADDRESS and (stepped or trace != watch_set.trace):
         state["instruction"] = f"{trace[-1]:x}"
     _set_stop(state, answers, text, control)
     watch_set.trace = trace
@@ -373,7 +373,7 @@ def _take_calls(state: State) -> None:
 
 
 def _code(guest: Guest, watch_set: WatchSet, pc: int, trace: Sequence[int], known: dict[str, str]) -> dict[str, str]:
-    """The listing: words that lines wrote, executed words, and some from the program counter on.
+    """The listing: words that lines wrote, executed words, and some from the program counter on, but for a case's set-up.
 
     known: the listing before, if memory hasn't changed since; its addresses are in the watch set
     """
@@ -384,6 +384,7 @@ def _code(guest: Guest, watch_set: WatchSet, pc: int, trace: Sequence[int], know
         if pc not in watch_set.followed:
             watch_set.code.update(_ahead(guest, pc))
             watch_set.followed.add(pc)
+    watch_set.code.discard(SET_UP_ADDRESS)
     if len(known) == len(watch_set.code):
         return known
     new = {address for address in watch_set.code if f"{address:x}" not in known}
