@@ -187,6 +187,20 @@ def test_a_page_opened_again_shows_no_values_before(tmp_path: pathlib.Path) -> N
     assert "changed" not in dict(shown["card"]["counts"]) and "before" not in shown["details"][0]
 
 
+def test_a_page_opened_again_shows_no_memory_before(tmp_path: pathlib.Path) -> None:
+    """The same of a store: it has no row of memory before it, and no element counts as unchanged."""
+    pair = stored()["store, masked"]
+    views = [
+        {"state": pair["state"], "elements": [1]},
+        {"state": pair["state"], "before": pair["before"], "elements": [1]},
+    ]
+    again, stepped = shown_columns(views, tmp_path)
+    heads = [[row["head"] for row in each["rows"]] for each in (again, stepped)]
+    assert heads == [["v0 mask", "v4 from", "(a3) after"], ["v0 mask", "v4 from", "(a3) before", "(a3) after"]]
+    assert "changed" not in dict(again["card"]["counts"]) and "changed" in dict(stepped["card"]["counts"])
+    assert "before" not in again["details"][0]
+
+
 def test_strips_fold_tails_and_fit(shown: dict[str, dict[str, Any]]) -> None:
     """The numbers of strips of 16, 8, 4 and 2, and where the unchanged tail begins; and the widest strip that has room."""
     assert shown["group of eight"]["strips"] == [[1, 16], [2, 16], [3, 12], [5, 10]]  # vl is 9 of 64

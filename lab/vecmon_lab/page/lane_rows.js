@@ -158,7 +158,8 @@ function accessRows(view, executed, access) {
   if (!access.isStore) return [...offsets, ...rows("memory"), ...resultRows(view, executed, true)];
   const stored = fields.map((field) =>
     source(fieldName(access, textOf("row.from"), field), { ...data, register: data.register + field * data.size }, view.form));
-  return [...offsets, ...stored, ...(access.fields > 1 ? [] : rows("before")), ...rows("after")];
+  // memory before the store is unknown once a page was opened again
+  return [...offsets, ...stored, ...(access.fields > 1 || view.before === view.state ? [] : rows("before")), ...rows("after")];
 }
 
 /** @type {(access: Access, words: string, field: number) => string} */
