@@ -99,10 +99,31 @@ async def test_order_survives_restart(tmp_path: pathlib.Path) -> None:
         assert offered == [*own, *(name for name in COURSE if name not in own)]
         assert names(tab) == ["filter", "byte_sum"]
         assert room.members and not room.members.store.lost
-    for report in (["the choice of exercises is lost, since --exercise and --course replace it: filter, byte_sum"], []):
+    for report in (
+        ["the choice of exercises (filter, byte_sum) is lost, since --exercise and --course replace it"],
+        [],
+    ):
         async with served(tmp_path / "class", exercises=map(pathlib.Path, own)) as room:
             assert names(await room.sit("A1")) == own
             assert room.members and room.members.store.lost == report
+
+
+async def test_draft_of_exercise_of_before_restart_is_kept(tmp_path: pathlib.Path) -> None:
+    """A page that stayed open sends what was typed without a server, for an exercise that the restart turned off."""
+    async with served(tmp_path / "class", exercises=map(pathlib.Path, ["filter", "doubles"])) as room:
+        tab = await room.sit("A1")
+        await tab.ask("open", exercise="doubles")
+    async with served(tmp_path / "class", exercises=[pathlib.Path("filter")]) as room:
+        tab = await room.sit("A1")
+        assert tab.view["source"]["exercise"] == "filter"
+        assert "error" not in await tab.ask("draft", text="typed without a server", number=1, exercise="doubles")
+        (version,) = tab.view["source"]["versions"]
+        assert (version["exercise"], version["why"]) == ("doubles", "typed")
+        assert await text_of(tab, version["number"]) == "typed without a server"
+        unknown = await tab.ask("draft", text="ret", number=1, exercise="byte_sum")
+        assert unknown["error"] == "there is no such exercise"
+        refused = {"error": "the teacher has turned this exercise off"}
+        assert (await tab.ask("check", exercise="doubles", text="ret")).items() >= refused.items()
 
 
 async def test_choice_survives_restart(tmp_path: pathlib.Path) -> None:

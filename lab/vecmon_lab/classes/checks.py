@@ -74,12 +74,14 @@ class Checks:
             if not re.fullmatch(r"[\w-]{1,40}", name, re.ASCII) or name in self._offered:
                 raise BadFolder(f"{folder}: an exercise has a name of its own: 1 to 40 letters, digits, _ and -")
             self._offered[name] = exercise
-        if chosen and stored and {*self._offered} != {path.name for path in stored}:
-            names = ", ".join(path.name for path in stored)
-            store.lose(f"the choice of exercises is lost, since --exercise and --course replace it: {names}")
+        before = [path.name for path in stored]
+        if chosen and stored and {*self._offered} != {*before}:
+            names = ", ".join(before)
+            store.lose(f"the choice of exercises ({names}) is lost, since --exercise and --course replace it")
         found = self._settle([*self._offered])  # so that a mistake is reported now
         self._offer_others(keeps_order=not chosen)
         self.exercises = Exercises(found, {name: starts_of(exercise) for name, exercise in found.items()})
+        self.exercises.known.update(before)  # pages that stayed open may still send a draft of one of them
         if found:
             self._save_choice()
         self._tasks: set[asyncio.Task[None]] = set()
