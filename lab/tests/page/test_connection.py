@@ -7,6 +7,7 @@ from typing import TYPE_CHECKING
 import pytest
 
 from support.broken_proxy import ProxiedClass
+from support.browser import press
 from support.class_pages import Tab
 
 if TYPE_CHECKING:
@@ -80,8 +81,10 @@ def test_value_and_running_program_outlast_cut_connection(tabs: "Chrome", proxie
     tab.keys("#value", Keys.ENTER)
     tab.keys("#line", "set x11 7")
     assert tab.text("#gone").endswith("Waiting: set x10 31.")
+    press(tabs, Keys.F11)
+    tab.wait("id('key-says').textContent.startsWith('There is no connection')")
     proxied.begin()
-    tab.wait(f"{BACK} && one(\"[data-edit='set x10']\").textContent === '31'")
+    tab.wait(f"{BACK} && id('key-says').textContent === '' && one(\"[data-edit='set x10']\").textContent === '31'")
     assert tab.run("id('line').value") == "set x11 7"
     tab.click("#go")
     tab.wait("id('run').textContent === 'Running'")

@@ -75,7 +75,8 @@ export class Student {
     byId("log").ariaLive = "polite";
   }
 
-  showConnection = () => this.bench.bar.paint();
+  /** Shows whether there is a connection; once there is one again, the reason why a key did nothing goes. */
+  showConnection = () => (this.connection.isReady && put(byId("key-says"), ""), this.bench.bar.paint());
 
   /** Shows what to do first in place of the elements, or the elements again. */
   welcome(/** @type {boolean} */ isShown) {
