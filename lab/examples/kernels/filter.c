@@ -1,5 +1,5 @@
 //# Those numbers that are large enough, close together
-// A comparison makes a mask, vcompress.vm brings what it chose to the front, and vcpop.m tells how many that are.
+// A comparison sets a mask, vcompress.vm packs the elements that it selects, and vcpop.m counts them.
 //> step 256
 //> step 256
 //> out

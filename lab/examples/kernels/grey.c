@@ -1,5 +1,5 @@
 //# Colours to grey: three fields of a pixel are loaded into three registers at once
-// vlseg3e8.v takes red, green and blue apart; their weighted sum has sixteen bits, of which the upper eight stay.
+// vlseg3e8.v separates red, green and blue. Their weighted sum has 16 bits; the grey is the upper eight.
 //> step 256
 //> out
 #include "vecmon.h"

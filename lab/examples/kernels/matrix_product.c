@@ -1,5 +1,5 @@
 //# The product of two matrices, whose sums are twice as wide as their elements
-// A row of the result is made at once: each element of the left matrix is multiplied by a row of the right one.
+// A row of the result is computed at once: each element of the left matrix is multiplied by a row of the right one.
 //> step 256
 //> step 256
 //> out

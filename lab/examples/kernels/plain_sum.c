@@ -1,5 +1,5 @@
-//# A loop that the compiler makes vector instructions of by itself
-// There is no intrinsic here. With the options O2-scalar the loop stays as it is written.
+//# A loop that the compiler vectorises
+// The source has no intrinsics. With the options O2-scalar the loop stays scalar.
 //> step 256
 //> step 256
 //> out

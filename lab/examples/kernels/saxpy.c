@@ -1,5 +1,5 @@
 //# A multiple of one vector is added to another
-// Each round of the loop takes as many elements as the machine has room for, and the last one what is left.
+// Each iteration processes as many elements as a register group holds, and the last one those that are left.
 //> step 200
 //> out
 #include "vecmon.h"

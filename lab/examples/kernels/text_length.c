@@ -1,6 +1,6 @@
 //# The length of a text, by loads that stop at a page's end
-// A text ends at a zero, and nobody knows where: a load of 32 bytes may reach into a page that isn't there. vle8ff.v
-// loads what it can, and tells by vl how much that was.
+// A text ends with a zero byte at an unknown place: a load of 32 bytes may reach a page that isn't mapped. vle8ff.v
+// loads the bytes before it, and vl is their number.
 //> step 250
 //> out
 #include "vecmon.h"

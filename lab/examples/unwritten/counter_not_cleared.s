@@ -1,4 +1,4 @@
-# Counts the letters of a text in t1, which nobody has set to 0.
+# Counts the letters of a text in t1, which no instruction has set to 0.
         la a1, text
 next:   lbu t0, 0(a1)
         beqz t0, done

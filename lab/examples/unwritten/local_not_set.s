@@ -1,4 +1,4 @@
-# Looks at a variable on the stack that is set on one of two ways alone.
+# Reads a variable on the stack that only one of two paths sets.
         addi sp, sp, -16
         li a0, 3
         beqz a0, set

@@ -1,4 +1,4 @@
-# Counts the positive ones of three numbers as if they were eight: the tail of a mask may be anything, whatever vtype says.
+# Counts the positive numbers among three as if there were eight: a mask's tail may have any value, even with `tu`.
         la a1, three
         vsetivli zero, 3, e32, m1, tu, mu
         vle32.v v8, (a1)

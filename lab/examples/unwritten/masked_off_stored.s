@@ -1,4 +1,4 @@
-# Doubles two elements of four, and stores all of them: with `ma` the other two may be anything.
+# Doubles two of four elements, and stores all four: with `ma` the other two may have any value.
         vsetivli zero, 4, e8, mf2, ta, ma
         vmv.v.i v0, 5
         vmv.v.i v8, 1

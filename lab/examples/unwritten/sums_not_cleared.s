@@ -1,4 +1,4 @@
-# Adds products to v8, which nobody has set to 0.
+# Adds products to v8, which no instruction has set to 0.
         la a1, four
         vsetivli zero, 4, e32, m1, ta, ma
         vle32.v v9, (a1)

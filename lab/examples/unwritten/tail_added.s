@@ -1,4 +1,4 @@
-# Adds up 13 ones, eight at a time. The last round leaves three elements of v8 to be anything, and the sum has them.
+# Adds 13 ones, eight at a time. The last iteration has a tail of three elements of any value, and the sum includes them.
         li a1, 13
         vsetvli t0, zero, e32, m1, ta, ma
         vmv.v.i v8, 0

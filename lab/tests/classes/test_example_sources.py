@@ -16,9 +16,8 @@ def test_examples_have_titles_and_sentences() -> None:
     by_name = {example["name"]: example for example in examples}
     loop, flawed = by_name["strip_mined.s"], by_name["sums_not_cleared.s"]
     assert (loop["title"], loop["about"].split(" where")[0]) == ("A strip-mined loop", "y[i] += 3 x[i]")
-    assert (
-        flawed["title"] == "Sums not cleared" and flawed["about"] == "Adds products to v8, which nobody has set to 0."
-    )
+    assert flawed["title"] == "Sums not cleared"
+    assert flawed["about"] == "Adds products to v8, which no instruction has set to 0."
     assert by_name["saxpy.c"]["title"] == "A multiple of one vector is added to another"
     assert all(example["about"].endswith(".") and "#" not in example["title"] for example in examples)
 
