@@ -129,7 +129,7 @@ def test_exercise_is_solved_by_keys_alone(tabs: "Chrome", course: Served) -> Non
         tab.wait("one('#exercise .verdict h3')?.textContent === arguments[0]", verdict)
     focus(tab, "#course-list li:nth-child(2) button")
     press(tabs, Keys.ENTER)
-    tab.wait("text().includes('how many this round takes')")
+    tab.wait("text().includes('# bytes of this strip')")
 
 
 def test_less_motion_stops_fade(sit: Sit) -> None:

@@ -71,7 +71,7 @@ def test_first_visit_starts_with_a_step(tabs: "Chrome", course: Served) -> None:
     tab.click("#show-welcome")
     assert tab.run("id('welcome').checkVisibility() && !id('elements').checkVisibility()")
     tab.click("#open-first")
-    tab.wait("text().includes('a0: where the doubles go')")
+    tab.wait("text().includes('a0: address of the doubles')")
     assert tab.text("#exercise-text h3") == "1 Doubles" and tab.run("id('check').checkVisibility()")
     tab.click("#one")
     tab.wait("!id('welcome').checkVisibility() && id('step').textContent.includes('ret')")
@@ -125,11 +125,11 @@ def test_exercise_is_solved(tabs: "Chrome", course: Served) -> None:
     assert "Double a2 numbers of 32 bits" in tab.text("#exercise .text")
     assert tab.run("all('#exercise .text li').length") == 3 and not tab.run("one('#exercise .hints h3')")
     tab.wait("text()")
-    assert "a0: where the doubles go" in tab.run("text()")  # and not a sample of something else
+    assert "a0: address of the doubles" in tab.run("text()")  # and not a sample of something else
     tab.run(TYPE, "")
     tab.click("#start-over")
     tab.wait("text()")
-    assert "a0: where the doubles go" in tab.run("text()") and not tab.run("id('editor').hidden")
+    assert "a0: address of the doubles" in tab.run("text()") and not tab.run("id('editor').hidden")
     tab.run(TYPE, "ret\nvsetvli t0, a2, e32")
     tab.run("id('check').click()")
     tab.wait(
@@ -209,7 +209,7 @@ def test_passed_cases_are_shown(tabs: "Chrome", course: Served) -> None:
     tab.wait(
         "id('exercise-text').firstChild.textContent === '2 Strip-mined copy with a tail' && !id('verdict').textContent"
     )
-    assert "how many this round takes" in tab.run("text()")
+    assert "# bytes of this strip" in tab.run("text()")
     choose(tab, "doubles")
     assert "vadd.vv" in tab.run("text()")
     tab.choose("#exercise [aria-label='Earlier answers']", "try 1")
@@ -217,7 +217,7 @@ def test_passed_cases_are_shown(tabs: "Chrome", course: Served) -> None:
     tab = Tab(tabs, course, "A3")  # a new one shows what was there
     tab.wait("text() === arguments[0]", wrong)
     choose(tab, "strip_mined_copy")
-    assert "how many this round takes" in tab.run("text()")
+    assert "# bytes of this strip" in tab.run("text()")
     assert tab.run("one('#course-list .passed').textContent") == "1Doubles✓"
     teacher = Tab(tabs, course, "teacher")
     teacher.wait("one(arguments[0])?.textContent === '✓2'", ANSWERS)

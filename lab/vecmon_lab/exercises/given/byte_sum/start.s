@@ -1,2 +1,4 @@
-# a0: where the bytes are, a1: how many there are; the sum goes to a0
+# a0: address of the bytes
+# a1: their count
+# return in a0: their sum
         ret

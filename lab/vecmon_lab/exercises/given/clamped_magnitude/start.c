@@ -1,8 +1,8 @@
 #include <riscv_vector.h>
 
-/* numbers: where the numbers are
- * flags: where their bytes are
- * count: how many there are of each
+/* numbers: address of the numbers
+ * flags: address of their bytes
+ * count: count of the numbers
  * most: the largest magnitude */
 void answer(int32_t *numbers, const uint8_t *flags,
             size_t count, int32_t most)

@@ -1,2 +1,5 @@
-# a0: where the numbers are, a1: where their bytes are, a2: how many there are of each, a3: the largest magnitude
+# a0: address of the numbers
+# a1: address of their bytes
+# a2: count of the numbers
+# a3: the largest magnitude
         ret

@@ -1,2 +1,4 @@
-# a0 and a1: where the arrays are, a2: how many bytes each has; the sum of the products goes to a0
+# a0, a1: addresses of the arrays
+# a2: count of the bytes in each
+# return in a0: the sum of the products
         ret

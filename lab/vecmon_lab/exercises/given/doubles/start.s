@@ -1,2 +1,4 @@
-# a0: where the doubles go, a1: where the numbers are, a2: how many there are, 0 to 8
+# a0: address of the doubles
+# a1: address of the numbers
+# a2: their count, 0 to 8
         ret

@@ -1,10 +1,10 @@
 #include <riscv_vector.h>
 
-/* to: where the numbers go
- * from: where they are
- * count: how many there are
- * bound: those that are greater go there
- * it returns how many do */
+/* to: address of the result
+ * from: address of the numbers
+ * count: their count
+ * bound: the result has the greater numbers
+ * returns the count of the result */
 size_t answer(int32_t *to, const int32_t *from,
               size_t count, int32_t bound)
 {

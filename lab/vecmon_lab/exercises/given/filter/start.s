@@ -1,2 +1,6 @@
-# a0: where the numbers go, a1: where they are, a2: how many there are, a3: they are to be greater; how many are goes to a0
+# a0: address of the result
+# a1: address of the numbers
+# a2: their count
+# a3: the result has the greater numbers
+# return in a0: the count of the result
         ret

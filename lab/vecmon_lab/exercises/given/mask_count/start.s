@@ -1,2 +1,6 @@
-# a0: where the numbers are, a1: how many there are, a2: the least that counts, a3: the greatest; the count goes to a0
+# a0: address of the numbers
+# a1: their count
+# a2: the least number to count
+# a3: the greatest number to count
+# return in a0: the count
         ret

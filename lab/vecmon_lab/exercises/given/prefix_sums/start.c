@@ -1,8 +1,8 @@
 #include <riscv_vector.h>
 
-/* sums: where the sums go
- * from: where the numbers are
- * count: how many there are */
+/* sums: address of the sums
+ * from: address of the numbers
+ * count: their count */
 void answer(int32_t *sums, const int32_t *from,
             size_t count)
 {

@@ -1,2 +1,4 @@
-# a0: where the sums go, a1: where the numbers are, a2: how many there are
+# a0: address of the sums
+# a1: address of the numbers
+# a2: their count
         ret

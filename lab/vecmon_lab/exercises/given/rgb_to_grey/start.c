@@ -1,8 +1,8 @@
 #include <riscv_vector.h>
 
-/* greys: where the greys go
- * pixels: where the pixels are
- * count: how many there are */
+/* greys: address of the greys
+ * pixels: address of the pixels
+ * count: their count */
 void answer(uint8_t *greys, const uint8_t *pixels,
             size_t count)
 {

@@ -1,2 +1,4 @@
-# a0: where the greys go, a1: where the pixels are, a2: how many there are
+# a0: address of the greys
+# a1: address of the pixels
+# a2: their count
         ret

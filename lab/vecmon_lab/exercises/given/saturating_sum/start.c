@@ -1,8 +1,8 @@
 #include <riscv_vector.h>
 
-/* sums: where the sums go
- * first, second: where the numbers are
- * count: how many sums there are */
+/* sums: address of the sums
+ * first, second: addresses of the numbers
+ * count: count of the sums */
 void answer(int16_t *sums, const int16_t *first,
             const int16_t *second, size_t count)
 {

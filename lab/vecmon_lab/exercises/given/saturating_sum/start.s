@@ -1,2 +1,5 @@
-# a0: where the sums go, a1: the first numbers, a2: the second numbers, a3: how many sums there are
+# a0: address of the sums
+# a1: address of the first numbers
+# a2: address of the second numbers
+# a3: count of the sums
         ret

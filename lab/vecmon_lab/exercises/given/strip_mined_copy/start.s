@@ -1,5 +1,7 @@
-# a0: where the bytes go, a1: where they are, a2: how many there are
-next:   vsetvli t0, a2, e8, m1, ta, ma  # how many this round takes
+# a0: address of the copy
+# a1: address of the bytes
+# a2: their count
+next:   vsetvli t0, a2, e8, m1, ta, ma  # bytes of this strip
 
         bnez a2, next
         ret

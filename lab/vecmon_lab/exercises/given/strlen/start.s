@@ -1,2 +1,3 @@
-# a0: where the string begins; its length goes to a0
+# a0: address of the string
+# return in a0: its length
         ret

@@ -1,2 +1,5 @@
-# a0: where the result goes, a1: where the bytes are, a2: how many there are, a3: where the table is
+# a0: address of the result
+# a1: address of the bytes
+# a2: their count
+# a3: address of the table
         ret
