@@ -135,7 +135,7 @@ def test_exercise_is_solved(tabs: "Chrome", course: Served) -> None:
     tab.wait(
         "one('#mistakes button')?.textContent.startsWith('2:20: an operand is missing at the end; the form is vsetvli rd')"
     )
-    tab.wait(f"{VERDICT} === 'Source has mistakes.'")
+    tab.wait(f"{VERDICT} === 'The source has mistakes.'")
     assert not tab.run("id('editor').hidden")
     assert tab.text("#try-count") == "" and not tab.run("one('#exercise .hints h3')")
     tab.click("#mistakes button")
@@ -181,7 +181,7 @@ def test_exercise_is_solved_in_c(tabs: "Chrome", course: Served, sandboxed_clang
     tab.run(TYPE, good.replace("(first, vl)", "(frist, vl)"))
     tab.run("id('check').click()")
     tab.wait("one('#mistakes button')?.textContent.startsWith('7:48: use of undeclared identifier')")
-    tab.wait(f"{VERDICT} === 'Source has mistakes.'")
+    tab.wait(f"{VERDICT} === 'The source has mistakes.'")
     assert tab.text("#try-count") == "" and tab.text("#editor .problem") == "frist"
     check(tab, good.replace("vsadd", "vadd"), "It passes 2 of 5 cases.")
     assert "no room: element 0, i16 at 0x20200: expected 32767, found -32768" in tab.text("#exercise .said")
@@ -191,7 +191,7 @@ def test_exercise_is_solved_in_c(tabs: "Chrome", course: Served, sandboxed_clang
     assert tab.text("#run") == "Ready" and tab.text("#step") == ""  # at the function's first instruction
     assert not tab.run("one('#registers .changed, #elements .changed')")  # by what sets up the case
     check(tab, good, "It passes all cases.")
-    assert "and a good answer takes" in tab.text("#exercise .verdict")
+    assert " instructions, and a good answer " in tab.text("#exercise .verdict")
     assert tab.activate().execute_script(CONTRAST) == []
     choose(tab, "strlen")
     assert "size_t answer(const uint8_t *text)" in tab.run("text()")
@@ -204,7 +204,7 @@ def test_passed_cases_are_shown(tabs: "Chrome", course: Served) -> None:
     wrong = (OURS / "doubles" / "wrong" / "always_eight.s").read_text()
     check(tab, wrong, "It passes 2 of 5 cases.")
     check(tab, (OURS / "doubles" / "good.s").read_text(), "It passes all cases.")
-    assert "takes 10 instructions, and a good answer takes 10 instructions." in tab.text("#exercise .verdict")
+    assert "your answer executes 10 instructions, and a good answer 10." in tab.text("#exercise .verdict")
     tab.click("#verdict button")
     tab.wait(
         "id('exercise-text').firstChild.textContent === '2 Strip-mined copy with a tail' && !id('verdict').textContent"

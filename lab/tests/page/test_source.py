@@ -183,7 +183,7 @@ def _give_to_all(teacher: Tab, tab: Tab, other: Tab) -> None:
     assert teacher.text("#send-it") == "Replace for 8 students"
     replace = f"(code().setValue(arguments[0]), {TEXT}.length)"
     assert tab.run(replace, "#" * 65537) == 65537  # which can't become a version
-    assert "the server doesn't save it, and nothing replaces it" in tab.text("#left")
+    assert "the page doesn't save it, and nothing replaces it" in tab.text("#left")
     teacher.click("#send-it")
     tab.wait("id('log').textContent.split('The teacher gave a source').length === 3")
     assert tab.run(f"{TEXT}.length") == 65537

@@ -389,7 +389,6 @@ export interface Places {
   "outcome.changed": never;
   "legend.label": never;
   "legend.changed": never;
-  "legend.worked-on": never;
   "vtype.elements": "bits" | "count" | "group" | "mask" | "tail";
   "vtype.vill": never;
   "vtype.half": never;
