@@ -150,6 +150,21 @@ def test_type_has_size_that_reader_chooses(tabs: "Chrome", served: Served) -> No
         tab.run("localStorage.clear()")
 
 
+def test_largest_letters_fit(tabs: "Chrome", course: Served) -> None:
+    """At 150 % the exercise, the source and the elements are next to each other in the window of a laptop."""
+    tab = Tab(tabs, course, "A2")
+    try:
+        resize(tab.activate(), SIZES["laptop"])
+        tab.wait("id('exercise')?.checkVisibility()")
+        tab.choose("#text-size", "150%")
+        edges = "all('#exercise, #vectors').map((each) => [each.getBoundingClientRect().left, each.getBoundingClientRect().right])"
+        (first, last), (left, right) = tab.run(edges)
+        assert first == 0 and first < last < left < right <= tab.run("innerWidth")
+    finally:
+        reset(tabs)
+        tab.run("localStorage.clear()")
+
+
 def test_bar_of_phone_is_one_row(tabs: "Chrome", served: Served) -> None:
     """Its buttons have signs, and their names for readers; the past is in the pane of elements, and back in the bar."""
     tab = Tab(tabs, served, "A3")
