@@ -178,6 +178,16 @@ def test_sources_after_several_steps(tmp_path: pathlib.Path) -> None:
     assert [cells_of(each["rows"][2])[1] for each in shown] == ["0", "0", "1"]
 
 
+def test_memory_of_load_at_the_end_of_a_run(tmp_path: pathlib.Path) -> None:
+    """The run has stored what the load read, so that the memory before the run has other bytes."""
+    pair = stored()["load"]
+    first = pair["before"] | {"pc": "10000", "memory": {"11000": "00" * 16}}
+    (shown,) = shown_columns([{"state": pair["state"], "before": first}], tmp_path)
+    rows = {row["head"]: cells_of(row) for row in shown["rows"]}
+    assert list(rows) == ["(a0) memory", "v4 before", "v4 after"]
+    assert rows["(a0) memory"] == ["3", "-1", "4", "1", "-5", "9", "2", "-6"]  # as the program has them
+
+
 def test_a_page_opened_again_shows_no_values_before(tmp_path: pathlib.Path) -> None:
     """Without any state before the last instruction the result has no row before it, and no change is counted."""
     pair = stored()["multiply and add, masked"]

@@ -182,7 +182,7 @@ function memoryRow({ state, form }, { earlier, outcomes }, access, kind, field) 
   };
   const cells = outcomes.map((outcome, element) => {
     if (outcome === "tail") return { text: "", classes: ["tail"], words: OUTCOMES.tail };
-    const old = read(earlier.memory, element);
+    const old = read(kind === "memory" ? state.memory : earlier.memory, element); // a load leaves the memory that it read as it is
     if (kind !== "after") return cellOf(old, kind === "before" ? "" : outcome, { width, form });
     return cellOf(read(state.memory, element), outcome, { width, form, was: old });
   });
