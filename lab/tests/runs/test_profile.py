@@ -176,6 +176,10 @@ def test_profile_page_is_written(
     rows = browser.execute_script(TEXTS)
     heads = browser.execute_script("return [...document.querySelectorAll('h2')].map((head) => head.textContent)")
     assert heads[1:3] == ["Loops", "Functions"]
+    summary = browser.execute_script(
+        "return [...document.querySelectorAll('#summary p')].map((line) => line.textContent)"
+    )
+    assert [line[-9:] for line in summary] == ["status 0.", "did work."]
     loop = browser.execute_script("return document.querySelector('#tables tbody tr').innerText").split()
     assert loop == "10010 10014 20 40 40 85 %".split()
     assert not browser.find_element("id", "calls").is_displayed()  # as there is no call

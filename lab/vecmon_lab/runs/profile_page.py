@@ -32,7 +32,7 @@ def profile_page(
         "profile",
         title,
         legend=legend(),
-        summary=joined([element("p", line) for line in summary]),
+        summary=joined([element("p", f"{line}.") for line in summary]),
         is_without_calls="" if has_calls else "hidden",
         flame=_flame_graph(frames) if has_calls else "",
         tables=joined([_section(table) for table in tables]),
