@@ -1,6 +1,7 @@
 """Failures of a class: programs that end or hang, servers that are killed, a full disk, floods."""
 
 import asyncio
+import gc
 import json
 import os
 import pathlib
@@ -11,6 +12,8 @@ import signal
 import socket
 import subprocess
 import sys
+import threading
+from typing import Any
 
 import pytest
 
@@ -245,6 +248,33 @@ async def test_temporarily_missing_program_is_retried(tmp_path: pathlib.Path) ->
     assert done == [["stepped 1 pc=0000000000010004"]] and room.warning == ""
     members.end()
     assert (tmp_path / "class" / "A.script").read_bytes() == room.session.script
+
+
+async def test_failure_of_cancelled_call_is_not_logged(tmp_path: pathlib.Path, program: pathlib.Path) -> None:
+    """The server ends while the clock waits for the machine, whose call then fails: asyncio would log that with a traceback."""
+    logged = list[dict[str, Any]]()
+    asyncio.get_running_loop().set_exception_handler(lambda _, context: logged.append(context))
+    members = Class(Store(tmp_path / "class", program), 5.0)
+    begun, ending = threading.Event(), threading.Event()
+
+    def fail() -> None:
+        begun.set()
+        ending.wait(SECONDS)
+        raise machine.ProgramGone("the session has ended")
+
+    waiting = asyncio.create_task(members.rooms["A"].thread.call(fail))
+    await asyncio.to_thread(begun.wait, SECONDS)
+    waiting.cancel()
+    for _ in range(10):  # turns of the event loop, in which the call is cancelled
+        await asyncio.sleep(0)
+    ending.set()
+    with pytest.raises(asyncio.CancelledError):
+        await waiting
+    del waiting
+    await asyncio.sleep(0)
+    gc.collect()
+    assert begun.is_set() and logged == []
+    members.end()
 
 
 async def test_files_at_end_are_consistent(tmp_path: pathlib.Path) -> None:

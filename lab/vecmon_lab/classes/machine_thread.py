@@ -62,6 +62,7 @@ class MachineThread:
             await asyncio.shield(started)
         except asyncio.CancelledError:
             await asyncio.wait([started])
+            started.exception()  # asyncio logs an exception that is never retrieved
             raise
 
     def end(self) -> None:
