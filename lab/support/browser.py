@@ -75,6 +75,18 @@ def _start(command: str, more: tuple[str, ...]) -> "Chrome":
     return Chrome(options=options, service=Service(driver))
 
 
+def click(browser: "Chrome", selector: str) -> None:
+    """Clicks an element, once more if the page draws it anew meanwhile."""
+    from selenium.common.exceptions import StaleElementReferenceException
+    from selenium.webdriver.support.wait import WebDriverWait
+
+    def is_clicked(on: "Chrome") -> bool:
+        on.find_element("css selector", selector).click()
+        return True
+
+    WebDriverWait(browser, 30, ignored_exceptions=[StaleElementReferenceException]).until(is_clicked)
+
+
 def press(browser: "Chrome", *keys: str) -> None:
     """Presses keys, the last one while the others are held."""
     from selenium.webdriver import ActionChains

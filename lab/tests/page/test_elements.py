@@ -9,7 +9,7 @@ from typing import TYPE_CHECKING, Any
 import pytest
 
 from page.conftest import Sit
-from support.browser import CONTRAST, media, press
+from support.browser import CONTRAST, click, media, press
 from support.class_pages import FRAME
 from support.element_columns import shown_columns
 from support.element_states import MEMORY, PROGRAMS, captured, stored
@@ -339,7 +339,7 @@ def test_element_is_chosen_by_pointer_and_keys(
     _open_lesson(browser, program, tmp_path, "gather")
     count = text("#count")
     assert "vrgather.vv v6, v4, v5" in text(".card") and browser.execute_script(CHOSEN) == ["3", "1", "1"]
-    browser.find_element("css selector", "#elements .after td[data-element='5']").click()
+    click(browser, "#elements .after td[data-element='5']")
     assert browser.execute_script(CHOSEN) == ["7", "−6", "−6"] and "v6[5] = v4[7] = −6" in text(".detail")
     curve = (
         "return [...document.querySelectorAll('.wires path.chosen')].map(({ dataset }) => [dataset.from, dataset.to])"
@@ -357,7 +357,7 @@ def test_element_is_chosen_by_pointer_and_keys(
         assert browser.execute_script("return document.activeElement.getAttribute('role')") == "gridcell"
     _open_lesson(browser, program, tmp_path, "group of eight")
     assert text(".folded") == "Elements 16 to 63: tail, unchanged"
-    browser.find_element("css selector", ".folded button").click()
+    click(browser, ".folded button")
     assert browser.execute_script("return document.querySelectorAll('#elements .after td[data-element]').length") == 64
     assert browser.get_log("browser") == []
 

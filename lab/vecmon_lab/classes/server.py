@@ -16,6 +16,7 @@ import sys
 import weakref
 from collections.abc import AsyncIterator, Awaitable, Callable, Iterable
 from functools import partial
+from typing import Any
 
 from aiohttp import web
 from aiohttp.http import HttpProcessingError
@@ -231,12 +232,19 @@ def is_loopback(host: str) -> bool:
         return host == "localhost"
 
 
+def _report(loop: asyncio.AbstractEventLoop, context: dict[str, Any]) -> None:
+    """Logs an exception that no task took, except for a lost connection: aiohttp leaves that of a cancelled write."""
+    if not isinstance(context.get("exception"), ConnectionError):
+        loop.default_exception_handler(context)
+
+
 @contextlib.asynccontextmanager
 async def served(
     members: Class, listeners: Iterable[socket.socket], names: set[str], tls: ssl.SSLContext | None = None
 ) -> AsyncIterator[int]:
     """Serves a class at sockets that listen, by HTTPS if there is a context for it; the port of the first. Ends it behind."""
     logging.getLogger("aiohttp.server").addFilter(_is_ours)
+    asyncio.get_running_loop().set_exception_handler(_report)
     server = Server(members, {socket.gethostname(), *names})
     runner = web.AppRunner(server.application(), access_log=None, keepalive_timeout=15.0, lingering_time=2.0)
     await runner.setup()
