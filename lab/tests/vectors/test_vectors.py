@@ -71,6 +71,11 @@ def test_calls_print_and_exit(session: Session) -> None:
     assert changes(session, "ebreak", Case(0x00100073, ControlRegisters())) == {"end": "ebreak", "after": {}}
 
 
+def test_unsupported_call_prints_no_message(session: Session, capsys: pytest.CaptureFixture[str]) -> None:
+    assert changes(session, "ecall", Case(0x73, ControlRegisters(), x={17: 63}))["end"] == "ran"
+    assert capsys.readouterr().err == ""
+
+
 def test_agnostic_elements_become_ones_by_policy(session: Session) -> None:
     case = Case(0x021FB157, ControlRegisters(1, E8), v={2: bytes(32)})  # vadd.vi v2, v1, -1
     golden = execute_case(session, instruction_table()["vadd.vi"], case, "ones")
