@@ -238,7 +238,7 @@ def test_files_are_dropped(tabs: "Chrome", site: pathlib.Path) -> None:
 def test_it_starts_with_examples(tabs: "Chrome", site: pathlib.Path) -> None:
     """A first visit shows the start page, and one with work the bench; an exercise that the address names comes at once."""
     tab = SiteTab(tabs, (site / "playground.html").as_uri() + "#exercise=filter")
-    tab.wait("id('desk').checkVisibility() && text().includes('how many are goes to a0')")
+    tab.wait("id('desk').checkVisibility() && text().includes('the result has the greater numbers')")
     tab.run("location.hash = 'exercise=doubles'")
     tab.wait("one('#exercise-text h3').textContent === '1 Doubles'")
     assert tab.run("[...id('language').options].filter((option) => !option.hidden).length") == 1  # no C
