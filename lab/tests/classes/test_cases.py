@@ -68,6 +68,26 @@ def test_any_case_that_is_shown_can_be_tried(desk: Desk) -> None:
     assert int(desk.seat.state["x"]["12"], 16) == 8
 
 
+def test_case_stays_until_another_source_is_loaded(desk: Desk) -> None:
+    """Reset sets it up again, and so does Run after the program has ended."""
+
+    def count() -> int:
+        return int(desk.seat.state["x"]["12"], 16)
+
+    ask(desk, ask="case", exercise="doubles", text="addi a2, a2, 1\nret", case=1)
+    ask(desk, ask="lines", do=["step 1"])
+    assert count() == 4
+    ask(desk, ask="again")
+    assert (count(), desk.seat.condition) == (3, "Ready")
+    ask(desk, ask="lines", do=["step 3"])
+    assert (count(), desk.seat.condition) == (4, "Ended")
+    ask(desk, ask="run")
+    assert (count(), desk.seat.condition) == (3, "Running")
+    ask(desk, ask="source", text="ret")
+    ask(desk, ask="again")
+    assert count() == 0
+
+
 @pytest.mark.parametrize(
     "case, expected", [(2, "isn't shown"), (-1, "isn't shown"), (99, "isn't shown"), ("1", "whole")]
 )

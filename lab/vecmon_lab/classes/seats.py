@@ -2,7 +2,7 @@
 
 import time
 from collections import deque
-from collections.abc import Iterable, Mapping, Sequence
+from collections.abc import Callable, Iterable, Mapping, Sequence
 from dataclasses import dataclass, field
 from itertools import takewhile
 from typing import Literal
@@ -37,6 +37,8 @@ _ENDS: Mapping[str, Condition] = {
 
 Done = tuple[str, Sequence[str]]
 """An executed line, and its answer."""
+CaseCommands = Callable[[int], list[str]]
+"""The commands that set up a case of an exercise, by the entry address of the program."""
 
 
 @dataclass(eq=False)
@@ -46,6 +48,7 @@ class Seat:
     log, number: its last entries, and how many there were
     state, shown: all that is known of the user, and what pages show of it
     written, program: the source in the machine, and its program
+    case: the commands of the case that is tried; None without one
     named: its parts for pages: its labels, its line for each word, and the addresses of each line's breakpoints; of one in C also where
         instructions of its lines begin, and its variables
     stop, line, answer: the last stop, command and line of an answer, without the digit
@@ -70,6 +73,7 @@ class Seat:
     named: SourceNames = field(default_factory=UNNAMED.copy)
     written: SourceText = SourceText()
     program: Program | None = None
+    case: CaseCommands | None = None
     output: dict[str, str] = field(default_factory=dict)
     stop: str = ""
     is_started: bool = False
@@ -242,7 +246,7 @@ class Seats:
             asker.used += len(line) + 1
         if _restarts(line, answer):
             asker.stop, asker.is_started, asker.written, asker.program = "", False, SourceText(), None
-            asker.named, asker.output = UNNAMED.copy(), {}
+            asker.case, asker.named, asker.output = None, UNNAMED.copy(), {}
         elif words == ["go"] and not is_refusal(answer):
             asker.stop, asker.slices, asker.seen = "", 0.0, 0.0
         for part, entry in zip(answer, log_entries(line, answer)):

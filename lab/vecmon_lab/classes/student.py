@@ -34,7 +34,7 @@ from .requests import (
     Why,
 )
 from .seat_status import problems_status
-from .seats import Condition, Seat
+from .seats import CaseCommands, Condition, Seat
 from .shared_machine import SEAT_BYTES, MakeProgram, Mistakes, SharedMachine, Steps
 from .sources import SeatSource, kept_program
 from .stepping import execute_line, run, step, step_line, step_until
@@ -223,11 +223,7 @@ class Student:
     def _try(self, name: str, source: SourceText, which: int | None) -> Steps[SourceResult]:
         """Starts the machine anew with a case of an exercise, at its call; the problems that the source has."""
         case = self.exercises.case(self.seat.name, name, which, source)
-        problems = yield from self._write(source, is_answer=True)
-        if not problems["mistakes"]:
-            given = Lines("", case(int(self.seat.state["pc"], 16)), 0, [])
-            yield from self.machine.lines(self.seat, given, [])
-        return problems
+        return (yield from self._write(source, case=case))
 
     def _build(self, source: SourceText | None, number: int) -> Steps[SourceResult]:
         """Starts the machine anew with a source that isn't in it; breakpoints stay. The mistakes that the source has."""
@@ -236,14 +232,22 @@ class Student:
         return (yield from self._write(source, number, keeps_breakpoints=True))
 
     def _write(
-        self, source: SourceText | None, number: int = -1, is_answer: bool = False, keeps_breakpoints: bool = False
+        self,
+        source: SourceText | None,
+        number: int = -1,
+        case: CaseCommands | None = None,
+        keeps_breakpoints: bool = False,
     ) -> Steps[SourceResult]:
-        """Starts the machine anew with a source, or with the one that is there; the mistakes that it has."""
+        """Starts the machine anew with a source, or with the one that is there and its case; the mistakes that it has."""
         if source:
             self.source.write(source, number)
+        is_answer, case = case is not None, case if source else self.seat.case
         mistakes, warnings = yield from self.machine.write(self.seat, source, is_answer, keeps_breakpoints)
         if mistakes:
             self.seat.set_status(problems_status(len(mistakes)))
+        elif case:
+            self.seat.case = case
+            yield from self.machine.lines(self.seat, Lines("", case(int(self.seat.state["pc"], 16)), 0, []), [])
         self.problems = problems_json(source or self.seat.written, mistakes, warnings)
         return self.problems
 
