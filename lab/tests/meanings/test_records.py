@@ -120,6 +120,8 @@ def test_every_intrinsic_compiles(tmp_path: pathlib.Path, clang: Compiler) -> No
         ("exit", "exit", {"exit_group"}),
         ("rounding mode", "vxrm", set()),
         ("end of a string", "vfirst", set()),
+        ("saturating add", "vsadd", {"vsaddu"}),
+        ("multiply add", "vmacc", {"vmadd"}),
     ],
 )
 def test_search_finds_records(arguments: str, first: str, others: set[str]) -> None:

@@ -13,6 +13,7 @@ from ..tables.table import read_table
 from .record import FOLDER, Record, record_of, records, scalar_source
 
 _SHORT = ("a", "an", "the", "of", "to", "with", "in")  # words that a search leaves out
+_ENDING = re.compile(r"(?<=\w{4})(ing|ed|es|s|y|ies)$")  # which a search leaves out: `shifting` finds `Shifts`
 EXAMPLES = FOLDER.with_name("instruction_examples.txt")
 _CAUSES = {Trait.FROM_ZERO: "vstart isn't 0", Trait.BELOW_64: "SEW is 64"}  # why a word with a trait is illegal
 _LISTED = 12  # of what a search finds
@@ -197,7 +198,7 @@ def text_of(record: Record) -> str:
 
 def found(words: str) -> list[Record]:
     """The records that have all words, those with them in their sentence or name first. Short words, as `with`, don't count."""
-    search_words = [word for word in re.findall(r"[\w.]+", words.lower()) if word not in _SHORT]
+    search_words = [_ENDING.sub("", word) for word in re.findall(r"[\w.]+", words.lower()) if word not in _SHORT]
     if not search_words:
         return []
     every = [it for it in records().values() if all(word in text_of(it) for word in search_words)]

@@ -190,7 +190,7 @@ export class Bench {
     if (lines.length > 1 || name === undefined) return this.send(lines);
     this.panes.show("reference");
     this.refer(name);
-    return this.refuse(entryText(name) || (name && textOf("help.unknown", { name })));
+    return this.refuse(entryText(name) || (this.parts.entries.querySelector("li") ? "" : textOf("help.unknown", { name })));
   }
 
   /** Sends lines, unless one of them can't be sent. */

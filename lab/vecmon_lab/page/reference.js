@@ -33,7 +33,8 @@ const wordAt = (text, place) =>
 /** Shows those entries that have a text in their form or in what they do, or all. */
 export function showReference(/** @type {HTMLElement} */ box, /** @type {string} */ text) {
   const wanted = text.trim().toLowerCase();
-  const words = wanted.split(/\s+/).filter((word) => !["with", "a", "an", "the", "of", "to", "in"].includes(word));
+  const whole = wanted.split(/\s+/).filter((word) => !["with", "a", "an", "the", "of", "to", "in"].includes(word));
+  const words = whole.map((word) => word.replace(/(?<=\w{4})(ing|ed|es|s|y|ies)$/, "")); // `shifting` finds `Shifts`
   const shown = { ...KNOWN, "Not supported": wanted ? absentEntry(wanted) : [] };
   const parts = Object.entries(shown).flatMap(([section, entries]) => {
     const found = entries.filter((entry) => words.every((word) => entry.join(" ").toLowerCase().includes(word)));
