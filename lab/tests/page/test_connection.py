@@ -95,3 +95,8 @@ def test_value_and_running_program_outlast_cut_connection(tabs: "Chrome", proxie
     tab.wait(f"window.shown?.startsWith('The server is gone.') && {BACK} && id('run').textContent === 'Running'")
     tab.click("#halt")
     tab.wait("id('run').textContent === 'Paused'")
+    moments = tab.text("#moment-count")
+    tab.run("delete window.shown")
+    proxied.cut()
+    tab.wait(f"window.shown?.startsWith('The server is gone.') && {BACK}")
+    assert tab.text("#moment-count") == moments  # the state is as it was

@@ -182,6 +182,7 @@ def test_what_is_off_says_why(sit: Sit) -> None:
     press_key(tab, "Shift+F5")
     tab.wait(f"{CONDITION} === 'Paused' && id('go').textContent === 'Continue'")
     write(tab, "ebreak\n")
+    assert tab.text("#go") == "Run"  # which loads the source
     press_key(tab, "F11")
     tab.wait(f"{CONDITION} === 'Ended'")
     press_key(tab, "F11")

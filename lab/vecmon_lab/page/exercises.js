@@ -79,10 +79,7 @@ export class Exercises {
   }
 
   /** Opens an exercise, the first one without a name, and brings it into sight. */
-  open(name = this.names[0]) {
-    this.bench.panes.show("exercise");
-    return this.choose(name);
-  }
+  open = (name = this.names[0]) => (this.bench.panes.show("exercise"), this.choose(name));
 
   /** Puts an earlier answer into the editor, where undo takes it back. */
   async takeAnswer() {

@@ -10,10 +10,13 @@ const MOST_MOMENTS = 240; // so that the transcript still has the entries of mos
 // parts of a state that change while the machine's values don't
 const BESIDES = ["accessed", "breaks", "labels", "lines", "outputs", "read"];
 
+/** Whether two values are equal. Parts that a patch leaves are the same object; after a reconnection all of them are new. */
+const isEqual = (/** @type {unknown} */ one, /** @type {unknown} */ other) => one === other || JSON.stringify(one) === JSON.stringify(other);
+
 /** Whether two states have the same values. */
 /** @type {(one: State, other: State) => boolean} */
 export const isAlike = (one, other) =>
-  /** @type {(keyof State)[]} */ (Object.keys({ ...one, ...other })).every((key) => BESIDES.includes(key) || one[key] === other[key]);
+  /** @type {(keyof State)[]} */ (Object.keys({ ...one, ...other })).every((key) => BESIDES.includes(key) || isEqual(one[key], other[key]));
 
 /** Places the controls of a student's page: in the bar, and on a phone in the pane of elements. */
 export function placePast(/** @type {HTMLElement} */ root) {

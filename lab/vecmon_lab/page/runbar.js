@@ -45,7 +45,7 @@ export class RunBar {
     this.condition = this.bench.connection.isReady ? present : "No connection";
     put(part(this.root, "run"), CONDITIONS[this.condition]);
     part(this.root, "run").dataset.condition = this.condition;
-    put(part(this.root, "go"), this.condition === "Paused" ? textOf("run.continue") : textOf("run"));
+    put(part(this.root, "go"), this.condition === "Paused" && !this.bench.hasChanged ? textOf("run.continue") : textOf("run"));
     part(this.root, "slice").hidden = !view.own_slices;
     for (const id of NAMES) {
       const [button, why] = [part(this.root, id), this.whyOff(id, view)];

@@ -121,10 +121,10 @@ export class Source {
   showLanguage(share = this.share) {
     this.share = share;
     const isCompiled = this.editor.source.language > 0;
-    const bytes = share && (share.of - share.used).toLocaleString("en");
+    const bytes = share && (share.of - share.used).toLocaleString(textOf("language"));
     const left = bytes && isCompiled ? textOf("source.room", { bytes }) : "";
     put(this.parts.assemble, isCompiled ? textOf("source.compile") : textOf("source.assemble"));
-    put(this.parts.left, this.isTooLong ? textOf("source.too-long", { most: MOST_LETTERS.toLocaleString("en") }) : left);
+    put(this.parts.left, this.isTooLong ? textOf("source.too-long", { most: MOST_LETTERS.toLocaleString(textOf("language")) }) : left);
   }
 
   /** Shows what the server has, unless it is what was typed here. Versions are listed with the titles of exercises. */

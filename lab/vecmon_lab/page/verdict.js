@@ -66,7 +66,7 @@ export function verdict({ told, cases, lesson }, after) {
   const sum = make("h3", "", hasPassed ? textOf("verdict.passes-all") : textOf("verdict.passes", numbers));
   const next = hasPassed && after ? [make("p", "", Object.assign(make("button", "main", textOf("verdict.next")), { name: after }))] : [];
   if (told.taken && told.good) {
-    const [own, other] = [told.taken, told.good].map((it) => it.instructions.toLocaleString("en"));
+    const [own, other] = [told.taken, told.good].map((it) => it.instructions.toLocaleString(textOf("language")));
     return [sum, ...next, say(textOf("verdict.cost", { own, other, work: told.taken.work, good: told.good.work }))];
   }
   if (told.number === undefined) return hasPassed ? [sum, ...next] : [sum, say(textOf("verdict.hidden"))];

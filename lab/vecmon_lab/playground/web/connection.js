@@ -109,6 +109,7 @@ export class Connection {
     this.worker?.terminate();
     this.isReady = false;
     this.pending.drop();
+    this.listener.gone(textOf("playground.starts"));
     await this.work.replace(texts);
     this.listener.told({ kind: "news", patch: { seat: "" } }); // so that the page takes up the seat anew, with its source
     this.begin();
