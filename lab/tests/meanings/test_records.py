@@ -8,7 +8,7 @@ import pytest
 
 from support.console import shown
 from support.meaning_examples import made
-from vecmon_lab.assembler.source import DIRECTIVES
+from vecmon_lab.assembler.source import DIRECTIVES, read_source
 from vecmon_lab.compilers.compiler import Compiler
 from vecmon_lab.instructions.table import instruction_table
 from vecmon_lab.meanings.describe import EXAMPLES, describe, encoding_fields, expansions, found
@@ -37,6 +37,12 @@ def test_other_names_have_records() -> None:
     pseudo = {form.split()[0] for form, *_ in read_table("pseudo")} | {"li"}
     assert pseudo == {name for name, it in records().items() if it.kind == "pseudo-instruction"} | {"jal", "jalr"}
     assert {*expansions()} == pseudo - {"li"}
+
+
+def test_named_sections_are_accepted() -> None:
+    sections = re.findall(r"\.\w+", records()[".section"].does)
+    assert sections == [".text", ".data", ".bss"]
+    assert not any(read_source(f".section {name}").mistakes for name in sections)
 
 
 def test_records_describe_instructions() -> None:
