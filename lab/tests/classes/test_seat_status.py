@@ -9,7 +9,7 @@ from support.class_tabs import LOOP, Message, Tab, served
 from vecmon_lab.__main__ import arguments_of
 from vecmon_lab.classes import progress
 from vecmon_lab.classes import room as class_room
-from vecmon_lab.classes.seat_status import status_of
+from vecmon_lab.classes.seat_status import problems_status, status_of
 from vecmon_lab.exercises.exercise import OURS
 from vecmon_lab.page.state import State
 
@@ -46,7 +46,9 @@ async def test_seat_status_follows_program(tmp_path: pathlib.Path) -> None:
         )
         assert started <= seat(teacher, "2")["since"] <= time.time()
         await tab.ask("source", text="frob x1, x2\nadd x1, x2")
-        await until("problems", "2 mistakes in the source", True, count=2)
+        await until("problems", "2 problems", True, count=2)
+        _, table = await room.get("seats.csv")
+        assert b"\r\nA1,,no machine,2 problems," in table
         await tab.ask("source", text=FAULT)
         await until("paused", "paused: vsetivli", False, instruction="vsetivli")
         await tab.do("step 9")
@@ -63,6 +65,10 @@ async def test_seat_status_follows_program(tmp_path: pathlib.Path) -> None:
         await tab.do("go")
         await teacher.until(lambda view: seat(teacher, "1")["run"] == "running")
         await until("running", "running", False)
+
+
+async def test_one_problem_is_singular() -> None:
+    assert problems_status(1) == {"kind": "problems", "text": "1 problem", "count": 1}
 
 
 async def test_long_run_without_stop_is_shown(tmp_path: pathlib.Path, monkeypatch: pytest.MonkeyPatch) -> None:

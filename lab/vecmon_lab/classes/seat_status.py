@@ -55,7 +55,8 @@ LIMIT_STATUS: SeatStatus = {"kind": "limit", "text": _WORDS["limit"]}
 
 def problems_status(count: int) -> SeatStatus:
     """The status after a source with this number of mistakes."""
-    return {"kind": "problems", "text": f"{count} mistake{'s' * (count > 1)} in the source", "count": count}
+    form = "one" if count == 1 else "other"
+    return {"kind": "problems", "text": page_text(f"status.problems.{form}", count=count), "count": count}
 
 
 def status_of(state: State, last: str) -> SeatStatus:
