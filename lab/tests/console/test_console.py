@@ -80,7 +80,7 @@ def test_image_receives_arguments(program: pathlib.Path, tmp_path: pathlib.Path)
     step = output.index("   10000  ld x8, 0(x2)")
     assert output[step + 1 : step + 3] == ["      x8/s0=3", "=> 10004  addi x9, x2, 8"]
     run = run_console([], STRIP_MINED, "one")
-    assert (run.returncode, run.stderr) == (2, b"vecmon-lab: words and an input are for an image alone\n")
+    assert (run.returncode, run.stderr) == (2, b"vecmon-lab: arguments and --in need an image or a source in C\n")
 
 
 def test_step_prints_changes() -> None:

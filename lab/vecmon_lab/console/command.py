@@ -65,7 +65,7 @@ def _console(arguments: argparse.Namespace, screen: Screen) -> Iterator[Console]
             yield console
         return
     if arguments.words or arguments.input:
-        raise LabError("words and an input are for an image alone")
+        raise LabError("arguments and --in need an image or a source in C")
     report = Reporter(lambda address: console.names.symbols.place(address))
     guest = Guest(Session(find_program(), quantum=QUANTUM), write=screen.write, report=report)
     with contextlib.ExitStack() as stack:
