@@ -67,7 +67,10 @@ def parts_of(folder: pathlib.Path) -> dict[str, bytes]:
 
 
 def about(provenance: str) -> str:
-    """The text about the machine and the checks at the foot of the page; provenance: the text of tools/wasm."""
+    """The text about the machine and the checks, in the playground's Help and at the foot of index.html.
+
+    provenance: the text of tools/wasm
+    """
     is_proved = "of the proved program" in provenance
     machine = page_text("playground.proved") if is_proved else page_text("playground.unproved")
     return " ".join([machine, page_text("playground.practice")])
