@@ -32,7 +32,9 @@ def add_arguments(parser: argparse.ArgumentParser) -> None:
     parser.add_argument(
         "folder", metavar="DIR", type=pathlib.Path, help="the folder of the pages, created if necessary"
     )
-    parser.add_argument("--play", metavar="ADDRESS", default="", help="of a playground, where the pages lead to")
+    parser.add_argument(
+        "--play", metavar="ADDRESS", default="", help="the address of a playground, to which the pages link"
+    )
 
 
 def run(arguments: argparse.Namespace) -> int:
