@@ -28,7 +28,7 @@ def numbers(random: Random, kind: str, count: int) -> list[int]:
 
 
 def wrapped(value: int) -> int:
-    """A number as 32 bits with a sign hold it."""
+    """A number as a signed one of 32 bits."""
     return (value + (1 << 31)) % (1 << 32) - (1 << 31)
 
 

@@ -23,11 +23,11 @@ formulas name `vs1` for all forms: in the forms `.vx` and `.vi`, `vs1[i]` is the
 
 | in a formula | meaning |
 |---|---|
-| `vs2[i]`, `vs2.mask[i]` | an element without a sign; a bit of a mask |
+| `vs2[i]`, `vs2.mask[i]` | an unsigned element; a bit of a mask |
 | `x[rs1]`, `memory[a]`, `memory16[a]` | a scalar register; an element, or 2 bytes, of memory at an address |
-| `signed(v)`, `sext(v)`, `sext(v, n)` | a number with its sign; its lowest n bits with their sign |
-| `zext(v)`, `zext(v, n)` | a number without a sign; its lowest n bits |
-| `clip(v)`, `clipu(v)` | the nearest number of the target with or without a sign; if that is another one, `vxsat` becomes 1 |
+| `signed(v)`, `sext(v)`, `sext(v, n)` | a number, or its lowest n bits, as a signed one |
+| `zext(v)`, `zext(v, n)` | a number, or its lowest n bits, as an unsigned one |
+| `clip(v)`, `clipu(v)` | the nearest number of the target, signed or unsigned; if that is another one, `vxsat` becomes 1 |
 | `round(v, n, vxrm)` | v / 2^n, rounded by `vxrm` |
 | `quotient(a, b)`, `remainder(a, b)` | a division that rounds towards 0, and its remainder |
 | `sum`, `min`, `max`, `any`, `bitand`, `bitor`, `bitxor` | of numbers, and of lists such as `(vs2[j] for j in active)` |

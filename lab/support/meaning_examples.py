@@ -19,7 +19,7 @@ from vecmon_lab.meanings.describe import EXAMPLES, sample
 from vecmon_lab.meanings.record import Record, instruction_records
 
 HEAD = """# Examples of vector instructions under e32, m1 and vl 8: the family, the instruction, and what it reads and writes before and after
-# it: elements from 0 on, with their signs, of masks bits. `python3 -m support.meaning_examples`, in lab/, makes this table by `vecmon`.
+# it: signed elements from 0 on, of masks bits. `python3 -m support.meaning_examples`, in lab/, makes this table by `vecmon`.
 #
 """
 CODE, DATA, ELEMENTS = 0x10000, 0x20000, 8

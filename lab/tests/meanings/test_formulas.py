@@ -39,7 +39,7 @@ def test_formulas_equal_qemu_results() -> None:
 
 
 def erroneous(record: Record, name: str) -> Iterator[Formula]:
-    """Formulas of a mnemonic with one error: another result, or a number read without its sign."""
+    """Formulas of a mnemonic with one error: another result, or a signed number read as an unsigned one."""
     formula = record.formula_of(name)
     assert formula is not None
     for place, part in enumerate(formula.assignments):

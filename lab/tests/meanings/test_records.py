@@ -128,11 +128,27 @@ def test_every_intrinsic_compiles(tmp_path: pathlib.Path, clang: Compiler) -> No
         ("end of a string", "vfirst", set()),
         ("saturating add", "vsadd", {"vsaddu"}),
         ("multiply add", "vmacc", {"vmadd"}),
+        ("unsigned divide", "divu", {"vdivu", "divuw"}),
+        ("unsigned remainder", "remu", {"vremu"}),
+        ("unsigned compare", "vmsltu", {"vmsleu", "vmsgtu"}),
+        ("unsigned maximum", "vmaxu", {"vredmaxu"}),
+        ("unsigned average", "vaaddu", set()),
+        ("unsigned branch", "bltu", {"bgeu"}),
+        ("unsigned load", "lbu", {"lhu", "lwu"}),
+        ("sign extend", "vsext", {"lb", "sext.w"}),
     ],
 )
 def test_search_finds_records(arguments: str, first: str, others: set[str]) -> None:
     names = [record.name for record in found(arguments)]
     assert first in names and others <= {*names}
+
+
+def test_search_lists_signed_before_unsigned() -> None:
+    """`signed` is inside `unsigned`, and both are found."""
+    names = [record.name for record in found("signed multiply")]
+    signed, unsigned = {"mulh", "vmulh", "vwmul", "vwmacc", "vsmul"}, {"mulhu", "vmulhu", "vwmulu", "vwmaccu"}
+    assert signed | unsigned <= {*names}
+    assert max(map(names.index, signed)) < min(map(names.index, unsigned))
 
 
 def test_other_extension_name_is_explained() -> None:

@@ -1,4 +1,4 @@
-"""Conditions of breakpoints: two numbers of 64 bits without a sign, which are compared; registers have theirs."""
+"""Conditions of breakpoints: two unsigned numbers of 64 bits, which are compared; a register's value is one."""
 
 import re
 from collections.abc import Callable, Mapping

@@ -4,7 +4,7 @@ import bisect
 import functools
 import itertools
 import re
-from collections.abc import Iterator, Mapping
+from collections.abc import Iterator, Mapping, Sequence
 from fractions import Fraction
 
 from ..instructions.table import Row, instruction_table
@@ -197,13 +197,20 @@ def text_of(record: Record) -> str:
 
 
 def found(words: str) -> list[Record]:
-    """The records that have all words, those with them in their sentence or name first. Short words, as `with`, don't count."""
+    """The records that have all words, the closest first. Short words, as `with`, don't count."""
     search_words = [_ENDING.sub("", word) for word in re.findall(r"[\w.]+", words.lower()) if word not in _SHORT]
     if not search_words:
         return []
     every = [it for it in records().values() if all(word in text_of(it) for word in search_words)]
-    first = [it for it in every if all(word in f"{it.name} {it.does}".lower() for word in search_words)]
-    return sorted(every, key=lambda it: (it not in first, it.kind != "instruction"))
+    return sorted(every, key=lambda it: (_rank(it, search_words), it.kind != "instruction"))
+
+
+def _rank(record: Record, search_words: Sequence[str]) -> int:
+    """0 if a word of the name or the sentence begins with each, 1 if some are only inside, as `sign` is in `unsigned`; else 2."""
+    sentence = f"{record.name} {record.does}".lower()
+    if all(re.search(rf"\b{re.escape(word)}", sentence) for word in search_words):
+        return 0
+    return 1 if all(word in sentence for word in search_words) else 2
 
 
 def search_lines(words: str) -> list[str]:

@@ -84,7 +84,7 @@ class _Indexed:
 
 
 def element_of(v: bytes | bytearray, register: int, width: int, number: int) -> Bits:
-    """An element of a register group, without a sign; a bit of a mask under the width 1. Raises LabError."""
+    """An unsigned element of a register group; a bit of a mask under the width 1. Raises LabError."""
     at = register * REGISTER_BITS + number * width
     if number < 0 or at + width > 8 * len(v):
         raise LabError(f"there is no element {number}")

@@ -16,7 +16,7 @@ from typing import Any
 from .. import LabError
 
 OPERANDS = ("vd", "vs1", "vs2", "vs3", "v0")
-"""Register groups: `vs2[i]` is an element without its sign, `vs2.mask[i]` a bit. In the forms .vx and .vi `vs1[i]` is the scalar."""
+"""Register groups: `vs2[i]` is an unsigned element, `vs2.mask[i]` a bit. In the forms .vx and .vi `vs1[i]` is the scalar."""
 
 MEMORIES = {"memory": 0, "memory8": 8, "memory16": 16, "memory32": 32, "memory64": 64}
 """Names of memory with the width of an access in bits; 0 for that of an element."""
@@ -34,7 +34,7 @@ NUMBERS: Mapping[str, str] = {
     "imm": "the immediate",
     "shamt": "the immediate of a shift",
     "offset": "the distance of a jump or branch from its own address, or of a slide",
-    "uimm": "the immediate, without a sign",
+    "uimm": "the unsigned immediate",
     "rd": "the number of the destination",
     "rs1": "the number of the first source",
     "rs2": "the number of the second source",
@@ -58,7 +58,7 @@ _NODES = (
 
 
 class Bits(int):
-    """A number without a sign that a register or memory holds, with its width in bits."""
+    """An unsigned number that a register or memory holds, with its width in bits."""
 
     width: int
 
@@ -69,12 +69,12 @@ class Bits(int):
 
 
 def zext(value: int, bits: int = 0) -> int:
-    """The lowest bits as a number without a sign: all bits of what is read from a register."""
+    """The lowest bits as an unsigned number: all bits of what is read from a register."""
     return value & (1 << (bits or getattr(value, "width", 64))) - 1
 
 
 def sext(value: int, bits: int = 0) -> int:
-    """The lowest bits as a number with a sign."""
+    """The lowest bits as a signed number."""
     sign = 1 << (bits or getattr(value, "width", 64)) - 1
     return (value & 2 * sign - 1 ^ sign) - sign
 
@@ -122,7 +122,7 @@ FUNCTIONS: Mapping[str, Callable[..., int]] = {
     },
 }
 CLIPS = ("clip", "clipu")
-"""The nearest number that the target holds, with or without a sign; where that is another one, vxsat becomes 1."""
+"""The nearest number that the target, signed or unsigned, holds; where that is another one, vxsat becomes 1."""
 
 _CALLABLE, _INDEXED = (*FUNCTIONS, *CLIPS, "range"), (*OPERANDS, *MEMORIES, "x")
 _NUMBER_TARGETS = ("pc", "vl", "vtype", "csr")

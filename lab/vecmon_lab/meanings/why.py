@@ -21,7 +21,7 @@ _READS = (*OPERANDS, *MEMORIES, "x")
 
 @dataclass(frozen=True)
 class Reason:
-    """Why a register or an element has its value: the sentence, and the value, without a sign."""
+    """Why a register or an element has its value: the sentence, and the unsigned value."""
 
     text: str
     value: int

@@ -71,7 +71,7 @@ export function calculationText(view, { executed }, element) {
 }
 
 /**
- * Whether a result has the same bits for sources with and without a sign.
+ * Whether a result has the same bits for signed and unsigned sources.
  * @param {Executed} executed
  * @param {string} branch
  */
@@ -130,7 +130,7 @@ function filledIn({ state }, executed, text, form) {
 const bracketed = (text) => (/^[−-]/.test(text) ? `(${text})` : text);
 
 /**
- * Returns an element of a register as it was, without a sign.
+ * Returns an element of a register as it was, as an unsigned number.
  * @param {Executed} executed
  * @param {number} sew
  * @param {string} register

@@ -60,7 +60,7 @@ export function registerRow(kind, words, { register, width, count }, { registers
 }
 
 /**
- * The form of numbers of elements and of offsets, which have no sign.
+ * The form of numbers of elements and of offsets, which are unsigned.
  * @param {View} view
  */
 const indexForm = ({ form }) => (form === "hexadecimal" ? form : "unsigned");

@@ -7,7 +7,7 @@ export const LETTER = 0.602; // width of a letter of the fonts of `--mono`, in t
 /** @typedef {Record<string, string>} Registers the 32 bytes of each register by its number, byte 0 first */
 
 /**
- * Returns the little-endian number in bytes of hexadecimal digits, without a sign.
+ * Returns the unsigned little-endian number in bytes of hexadecimal digits.
  * @param {string} bytes
  */
 export const littleEndian = (bytes) => BigInt("0x" + (bytes.match(/../g) ?? ["0"]).reverse().join(""));
@@ -20,7 +20,7 @@ export const littleEndian = (bytes) => BigInt("0x" + (bytes.match(/../g) ?? ["0"
 export const bitOf = (bytes, index) => BigInt((parseInt(bytes.slice(2 * (index >> 3), 2 * (index >> 3) + 2), 16) >> (index & 7)) & 1);
 
 /**
- * Returns an element of a register group, without a sign; with a width of 1 a bit of the one register of a mask.
+ * Returns an unsigned element of a register group; with a width of 1 a bit of the one register of a mask.
  * @param {Registers} registers
  * @param {number} first the number of the group's first register
  * @param {number} width of elements, in bits
@@ -34,7 +34,7 @@ export function elementOf(registers, first, width, index) {
 }
 
 /**
- * Returns a number of `bits` bits, 8 or a multiple, from memory, without a sign; null where its bytes aren't shown.
+ * Returns an unsigned number of `bits` bits, 8 or a multiple, from memory; null where its bytes aren't shown.
  * A row that isn't listed has zeros if another row of its page is listed.
  * @param {Record<string, string> | undefined} rows of 16 bytes by address
  * @param {bigint} address
@@ -58,7 +58,7 @@ function byteAt(rows, address) {
 
 /**
  * Returns a number of `width` bits as text, with a true minus sign; a bit of a mask is 0 or 1 in all forms.
- * @param {bigint} value without a sign
+ * @param {bigint} value unsigned
  * @param {number} width
  * @param {NumberForm} form
  */

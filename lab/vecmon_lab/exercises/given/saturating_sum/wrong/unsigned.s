@@ -1,4 +1,4 @@
-# The numbers are taken to have no sign.
+# The numbers are read as unsigned.
 next:   vsetvli t0, a3, e16, m8, ta, ma
         vle16.v v8, (a1)
         vle16.v v16, (a2)

@@ -1,4 +1,4 @@
-# The numbers are taken to have no sign.
+# The numbers are read as unsigned.
         li t0, 0
 next:   vsetvli t1, a1, e16, m8, ta, ma
         vle16.v v8, (a0)

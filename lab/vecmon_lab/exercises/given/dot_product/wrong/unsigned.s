@@ -1,4 +1,4 @@
-# The bytes are taken to have no sign.
+# The bytes are read as unsigned.
         vsetivli zero, 1, e32, m1, ta, ma
         vmv.s.x v4, zero
         beqz a2, done

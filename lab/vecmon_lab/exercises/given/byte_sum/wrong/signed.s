@@ -1,4 +1,4 @@
-# The bytes are taken to have a sign.
+# The bytes are read as signed.
         li t0, 0
         beqz a1, done
         vsetivli zero, 1, e16, m1, ta, ma
