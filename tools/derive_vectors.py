@@ -4,7 +4,7 @@
 It executes COUNT clean vectors of lab/tests/data/golden_vectors, evenly spread, or all of them, each from its word and state. It prints
 each vector whose result differs; the exit status is then 1. Vectors that jump to a misaligned target, which ends QEMU
 itself, are left out. The program around the vectors is that of `on_qemu`
-(docs/GOLDEN_VECTORS.md), with the vectors' memory. It needs `qemu-riscv64` (`apt-get install qemu-user`).
+(docs/GOLDEN_VECTORS.md), with the vectors' memory. It needs `qemu-riscv64` (`sudo apt install qemu-user`).
 """
 
 import shutil

@@ -296,7 +296,7 @@ def test_command_installs_compilers(
     assert log.read_text() == ""
     status, _, errors = lab("lesson", KERNELS / "grey.c", "-o", tmp_path / "page.html")
     assert (status, log.read_text()) == (2, "compilers\n" if is_root else "")
-    assert errors == "vecmon-lab: there is no compiler for C: apt-get install clang-19 lld-19 bubblewrap\n"
+    assert errors == "vecmon-lab: there is no compiler for C: sudo apt install clang-19 lld-19 bubblewrap\n"
     monkeypatch.setattr(compiler, "INSTALLER", tmp_path / "none")
     lab("lesson", KERNELS / "grey.c", "-o", tmp_path / "page.html")
     assert log.read_text() == ("compilers\n" if is_root else "")

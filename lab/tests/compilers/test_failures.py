@@ -226,7 +226,7 @@ def test_missing_package_is_explained(clang: Compiler, tmp_path: pathlib.Path) -
     )
     assert (
         completed.returncode == 2
-        and "pyelftools isn't installed: apt-get install python3-pyelftools" in completed.stderr
+        and "pyelftools isn't installed: sudo apt install python3-pyelftools" in completed.stderr
     )
 
 

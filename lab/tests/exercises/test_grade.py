@@ -331,7 +331,7 @@ def test_c_needs_compiler_and_sandbox(
     assert status == 1 and b"answer.c: " in output
     monkeypatch.setattr(shutil, "which", lambda name, path=None: None)
     status, output, errors = lab("grade", "strlen", tmp_path / "answer.c")
-    assert (status, output) == (2, b"") and "no compiler for C: apt-get install clang-19 lld-19 bubblewrap" in errors
+    assert (status, output) == (2, b"") and "no compiler for C: sudo apt install clang-19 lld-19 bubblewrap" in errors
 
 
 def test_exercise_reference_may_be_in_c(program: pathlib.Path, tmp_path: pathlib.Path, clang: Compiler) -> None:

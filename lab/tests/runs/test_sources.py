@@ -62,7 +62,7 @@ def test_source_mistakes_and_missing_compiler_are_reported(
     status, _, errors = lab("run", "--trace", GREY, GREY)
     assert status == 2 and errors.startswith(f"vecmon-lab: {GREY} would be overwritten")
     monkeypatch.setattr(shutil, "which", lambda name, path=None: None)
-    errors = f"vecmon-lab: {GREY}: there is no compiler for C: apt-get install clang-19 lld-19 bubblewrap\n"
+    errors = f"vecmon-lab: {GREY}: there is no compiler for C: sudo apt install clang-19 lld-19 bubblewrap\n"
     assert lab("gdb", GREY) == lab("console", GREY) == (2, b"", errors)
 
 

@@ -134,7 +134,7 @@ def find_compiler(name: str | None) -> Compiler:
         if name in (None, compiler.name):
             return compiler
     missing = "there is no compiler for C" if name is None else f"{name} is no compiler that is here"
-    raise LabError(f"{missing}: apt-get install clang-19 lld-19 bubblewrap")
+    raise LabError(f"{missing}: sudo apt install clang-19 lld-19 bubblewrap")
 
 
 def install_compilers() -> None:

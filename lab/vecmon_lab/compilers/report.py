@@ -8,7 +8,7 @@ from .sandbox import sandboxed_compiler
 def print_compilers() -> None:
     """Print which compilers there are for C, and why sources of others aren't compiled, if they aren't."""
     names = [each.name if each.has_vectors else f"{each.name} (without intrinsics)" for each in find_compilers()]
-    missing = "not installed: sudo apt install clang-19 lld-19"
+    missing = "not installed: sudo apt install clang-19 lld-19 bubblewrap"
     print(f"compilers for sources in C: {', '.join(names) or missing}")
     try:
         sandboxed_compiler(None)

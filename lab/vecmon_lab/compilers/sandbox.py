@@ -39,7 +39,7 @@ _INSIDE = ("--unshare-user-try", "--", *_PYTHON) if os.geteuid() else ("--", *_N
 def check_sandbox() -> None:
     """Raises LabError where there can be no sandbox."""
     if shutil.which("bwrap") is None:
-        raise LabError("others' C is compiled behind bwrap alone, which isn't here: apt-get install bubblewrap")
+        raise LabError("others' C is compiled behind bwrap alone, which isn't here: sudo apt install bubblewrap")
     if os.geteuid() == 0:
         raise LabError(
             "others' C isn't compiled as root: start this as another user; "

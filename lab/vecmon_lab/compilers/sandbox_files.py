@@ -59,7 +59,7 @@ def elftools() -> pathlib.Path:
     """The folder of Python's package pyelftools. Raises ToolError where it isn't installed."""
     found = importlib.util.find_spec("elftools")
     if found is None or not found.submodule_search_locations:
-        raise ToolError("Python's package pyelftools isn't installed: apt-get install python3-pyelftools")
+        raise ToolError("Python's package pyelftools isn't installed: sudo apt install python3-pyelftools")
     return pathlib.Path(found.submodule_search_locations[0])
 
 
