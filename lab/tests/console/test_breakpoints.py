@@ -134,3 +134,27 @@ def test_breakpoints_of_another_program_are_reported_as_removed() -> None:
     assert "10018 next" in output and f"1 breakpoint was removed, {removed}: 10018" in output
     output = shown(["leave", "enter", "break 100", "load", "breaks", "load"], SQUARES_DWARF5)
     assert f"1 breakpoint was removed, {removed}: 100" in output and output[-2].startswith("loaded ")
+
+
+def test_load_of_another_user_changes_nothing() -> None:
+    """User 1, the console's, has a source with names and lines; the image is that of user 2, and then of user 1."""
+    lines = [
+        f"source {STRIP_MINED}",
+        "break next",
+        "2 enter",
+        "2 load image",
+        "2 leave",
+        "breaks",
+        "list next",
+        "1 load image",
+    ]
+    output = shown(lines, SUM)
+    assert output[3:7] == ["2 entered", "2 loaded pc=0000000000011190 pages=7", "2 left", "10018 next"]
+    numbered = [f"{number:7}  {line}".rstrip() for number, line in enumerate(STRIP_MINED.read_text().split("\n"), 1)]
+    assert [line for line in output if line.startswith("     ")] == numbered[10:20]
+    assert output[-2:] == [
+        "1 breakpoint was removed, since the program is another one: 10018",
+        "=> 11190 _start  addi x2, x2, -16",
+    ]
+    lines = ["break 11194", "1 load image", "breaks"]
+    assert shown(lines, SUM)[-1] == "11194 _start+0x4", "the image is the same"

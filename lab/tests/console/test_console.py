@@ -159,6 +159,18 @@ def test_source_replaces_image_and_back() -> None:
     assert again[3].split()[:5] == ["11190", *"13 01 01 ff".split()] and again[4] == "328350"
 
 
+def test_load_of_file_is_explained(tmp_path: pathlib.Path) -> None:
+    (tmp_path / "sum.c").write_text("int main(void) { return 0; }\n")
+    output = shown(["load other.elf", f"source {SUM}", f"source {tmp_path}/sum.c", "list next"], STRIP_MINED)
+    assert output[1:3] == [
+        "E08: there is no image other.elf",
+        "load reloads the console's image; source FILE loads an assembler source, vecmon-lab console FILE starts with an image",
+    ]
+    for line, path in zip(output[4:6], (SUM, tmp_path / "sum.c")):
+        assert line == f"{path} isn't an assembler source; vecmon-lab console {path} starts with it"
+    assert any(line.split()[1:2] == ["next:"] for line in output[6:]), "the source is unchanged"
+
+
 def test_symbol_with_offset_is_resolved() -> None:
     expected = "E04: _start+zz is no value, which has hexadecimal digits alone; the form is set xN VALUE"
     assert shown(["set a0 _start+zz", "set a0 _start+0x8"], SUM)[1:] == [expected, "ok"]

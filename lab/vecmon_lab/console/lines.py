@@ -44,6 +44,7 @@ HELP_ON_PLACES = {
     "unbreak": ["  ADDR may be a function or a line, as sum.c:12"],
 }
 """Arguments that the console takes in addition to those of the monitor, by command."""
+HELP_ON_LOAD = "load reloads the console's image; source FILE loads an assembler source, vecmon-lab console FILE starts with an image"
 
 
 class Console:
@@ -73,7 +74,10 @@ class Console:
 
     def source(self, path: pathlib.Path) -> None:
         """The user's machine begins anew with a source. Raises LabError and OSError, and then it is as before."""
-        script = read_assembled(path.read_text("utf-8", "replace"), str(path))
+        content = path.read_bytes()
+        if path.suffix == ".c" or content.startswith(b"\x7fELF"):
+            raise LabError(f"{path} isn't an assembler source; vecmon-lab console {path} starts with it")
+        script = read_assembled(content.decode("utf-8", "replace"), str(path))
         commands = [line[2:] for line in script.steps[0].lines]
         with Session(find_program()) as trial:
             send(Guest(trial), commands, script)
@@ -147,25 +151,30 @@ class Console:
         if not has_user:
             check_text(" ".join(words))
         line = " ".join(words if has_user else [str(self._guest.user), *words])
-        saved = self._breakpoints.all() if words[0] == "load" else {}
+        is_own = line[0] == str(self._guest.user)
+        own = line[2:].split() if is_own else []  # the command of the console's user
+        saved = self._breakpoints.all() if own[:1] == ["load"] else {}
         lines = self._guest.session.do(line)
         answer = read(lines)
-        if isinstance(answer, Loaded) and line[0] == str(self._guest.user):
+        is_loaded = own[:1] == ["load"] and isinstance(answer, Loaded)
+        if is_loaded:
             self._guest.ask(*self._guest.start_commands)
         if not is_look(line):
             self.execution.look()
             self._conditions.drop_old()
         if isinstance(answer, Refused):
-            self._screen.say(*explain_refusal(line, answer), kind="refused")
+            self._screen.say(
+                *explain_refusal(line, answer), *([HELP_ON_LOAD] if answer.code == "E08" else []), kind="refused"
+            )
         else:
             self._screen.say(*lines if has_user else self._shown(answer, lines))
-        if isinstance(answer, Loaded):
+        if is_loaded:
             self.names.symbols, self._source.own = self._image_symbols, None
-            self._breakpoints.restart(saved, words == self._program)
-            self._program = words[has_user:]
-        elif words[has_user] in ("enter", "leave") and not isinstance(answer, Refused):
+            self._breakpoints.restart(saved, own == self._program)
+            self._program = own
+        elif own in (["enter"], ["leave"]) and not isinstance(answer, Refused):
             self._program = []
-        if words[0] in ("load", "setpc"):
+        if {*own[:1]} & {"load", "setpc"}:
             self.execution.show_place()
         return answer
 
