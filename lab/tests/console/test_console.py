@@ -13,6 +13,8 @@ from support.images import make_image
 from support.places import EXAMPLES, SQUARES, STOCK, SUM, SUM_DWARF4, SUM_DWARF5, TOP, TOURS
 from support.sources import ARGUMENTS
 from support.terminal import END, INTERRUPT, UP, WHERE, Terminal
+from vecmon_lab.assembler.commands import COMMANDS
+from vecmon_lab.console.names import GDB_COMMANDS
 from vecmon_lab.console.show import Screen, change_rows, memory_rows, register_rows
 from vecmon_lab.machine.answers import ControlRegisters, Memory, ScalarRegisters, VectorRegister, read
 
@@ -159,6 +161,11 @@ def test_source_replaces_image_and_back() -> None:
     assert again[3].split()[:5] == ["11190", *"13 01 01 ff".split()] and again[4] == "328350"
 
 
+def test_remedies_name_commands() -> None:
+    for own, names in GDB_COMMANDS.items():
+        assert own in COMMANDS and not {*names.split()} & {*COMMANDS}, own
+
+
 def test_load_of_file_is_explained(tmp_path: pathlib.Path) -> None:
     (tmp_path / "sum.c").write_text("int main(void) { return 0; }\n")
     output = shown(["load other.elf", f"source {SUM}", f"source {tmp_path}/sum.c", "list next"], STRIP_MINED)
@@ -223,7 +230,12 @@ def test_breakpoint_at_end_of_round_stops(tmp_path: pathlib.Path) -> None:
 @pytest.mark.parametrize(
     "line, expected",
     [
-        ("dance", "E03: there is no command dance"),
+        ("dance", "E03: there is no command dance; help lists the commands"),
+        ("* dance", "E03: there is no command dance; help lists the commands"),
+        ("b loop", "E03: there is no command b; gdb's b is `break ADDR` here"),
+        ("x/4w 11000", "E03: there is no command x/4w; gdb's x is `peek ADDR N` here"),
+        ("stepi", "E03: there is no command stepi; gdb's stepi is `step N` here"),
+        ("slices", "E03: slices is the operator's: * slices N"),
         ("step 257", "E04: 257 isn't from 1 to 256; the form is step N"),
         ("step 01", "E04: 01 begins with 0, and a decimal number doesn't; the form is step N"),
         ("break nowhere", "there is no symbol nowhere"),
@@ -527,6 +539,11 @@ def test_prompt_completes_pastes_and_shows_bar(tmp_path: pathlib.Path) -> None:
         console.expect("xt")
         console.type("\r")
         console.expect("E13: there is no breakpoint")
+        console.expect("policy keep")  # below the new prompt
+        console.type("help vsetiv\t")
+        console.expect("help vsetivli")
+        console.type("\r")
+        console.expect("vsetivli rd, uimm, vtypei: ")
         console.type("\x1b[200~break next+4\nrun\npolicy ones\x1b[201~\r")
         console.expect("Stopped at the breakpoint at 0x1001c")
         console.expect("ok")

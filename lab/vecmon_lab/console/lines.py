@@ -34,7 +34,7 @@ from .breakpoints import Breakpoints
 from .conditions import REGISTERS, Conditions
 from .execution import Execution
 from .listing import SourceListing
-from .names import DIGITS, VECTORS, Names, state_of
+from .names import DIGITS, VECTORS, Names, remedy_of, state_of
 from .places import Places
 from .show import Screen, control_row, memory_rows, register_rows
 
@@ -163,9 +163,7 @@ class Console:
             self.execution.look()
             self._conditions.drop_old()
         if isinstance(answer, Refused):
-            self._screen.say(
-                *explain_refusal(line, answer), *([HELP_ON_LOAD] if answer.code == "E08" else []), kind="refused"
-            )
+            self._screen.say(*_explained(line, answer), kind="refused")
         else:
             self._screen.say(*lines if has_user else self._shown(answer, lines))
         if is_loaded:
@@ -212,6 +210,14 @@ class Console:
         self._breakpoints.check_room(word, place)
         self._screen.say(*filter(None, [place.taken]))
         self.execution.until(place.addresses)
+
+
+def _explained(line: str, answer: Refused) -> list[str]:
+    """The meaning of a refusal, with a remedy for an unknown command or image."""
+    (first, *more) = explain_refusal(line, answer)
+    if answer.code == "E03":
+        first += remedy_of(line[2:].split()[0])
+    return [first, *more, *([HELP_ON_LOAD] if answer.code == "E08" else [])]
 
 
 def _behind(line: str) -> str:

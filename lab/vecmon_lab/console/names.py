@@ -4,12 +4,14 @@ import re
 from collections.abc import Iterable
 
 from .. import LabError
-from ..assembler.commands import COMMANDS
+from ..assembler.commands import COMMANDS, MEANINGS
 from ..guest.changes import Stepper
 from ..guest.guest import Guest
 from ..guest.symbols import Symbols
 from ..instructions.accesses import PAGE_BYTES
+from ..instructions.table import instruction_table
 from ..machine.answers import ControlRegisters, Position
+from ..meanings.record import records
 from ..tables.table import read_table
 from .conditions import REGISTERS
 
@@ -20,6 +22,22 @@ PLACES = ("ADDR", "VALUE", "PLACE")  # arguments that may be a symbol; the last 
 AS_TYPED = ("break", "unbreak", "until", "list")  # the console itself finds their places
 VECTORS = {f"v{number}": number for number in range(32)}
 CHOICES = {kind: words.split() for kind, words in read_table("choices")} | {"COMMAND": list(COMMANDS)}
+GDB_COMMANDS = {
+    "back": "reverse-stepi reverse-step reverse-continue rsi rs rc",
+    "break": "b br tbreak tb",
+    "dis": "disassemble disas",
+    "help": "h",
+    "list": "l",
+    "peek": "x",
+    "quit": "q exit",
+    "regs": "info i print p display inspect",
+    "run": "c continue cont fg r start",
+    "source": "file",
+    "step": "s si stepi n ni next nexti",
+    "unbreak": "d delete clear",
+    "until": "u advance finish watch",
+}
+"""Names of gdb's commands by the console's command that does the same, or what is closest to it."""
 
 
 class Names:
@@ -30,7 +48,10 @@ class Names:
         self._guest, self._stepper = guest, stepper
 
     def choices(self, kind: str) -> Iterable[str]:
-        """The values that an argument of a command's form may have."""
+        """The values that an argument of a command's form may have, or TOPIC, of `help`."""
+        if kind == "TOPIC":
+            described = (name for name, record in records().items() if record.kind != "absent")
+            return {*COMMANDS, *MEANINGS, *instruction_table(), *described}
         registers = [*REGISTERS, *VECTORS] if kind == "PLACE" else []
         return (
             [*{*self.symbols.addresses, *self.symbols.source.functions}, *registers]
@@ -83,3 +104,12 @@ def state_of(guest: Guest) -> tuple[str, int]:
     """Whether the user's program is `stopped` or `running`, and where; or `absent`."""
     (state,) = guest.ask("state")
     return (state.run, state.pc) if isinstance(state, Position) else ("absent", 0)
+
+
+def remedy_of(word: str) -> str:
+    """What to type in place of a word that is no command, for the end of a message; "" if the word is a command."""
+    if word in COMMANDS or f"* {word}" in COMMANDS:
+        return ""
+    name = word.partition("/")[0]  # x/4w
+    own = next((own for own, names in GDB_COMMANDS.items() if name in names.split()), None)
+    return f"; gdb's {name} is `{COMMANDS[own].form}` here" if own else "; help lists the commands"

@@ -41,6 +41,7 @@ class _Names(Completer):
         *before, word = re.split(" +", document.current_line_before_cursor.lstrip())
         form = COMMANDS[before[0]].form.split() if before and before[0] in COMMANDS else ["COMMAND"]
         kind = form[len(before)] if len(before) < len(form) else ""
+        kind = "TOPIC" if before == ["help"] else kind
         if kind == "FILE":
             yield from PathCompleter(expanduser=True).get_completions(Document(word), complete_event)
         for choice in sorted(self._choices(kind)):
