@@ -40,6 +40,7 @@ def main() -> int:
         return 141
     except OSError as error:
         mistake = f"{error.filename}: {error.strerror}" if error.filename else str(error)
+        mistake += "; name a new folder" if isinstance(error, FileExistsError) else ""
     sys.stderr.writelines(f"vecmon-lab: {line}\n" for line in mistake.split("\n"))
     return 2
 

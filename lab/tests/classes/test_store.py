@@ -304,4 +304,5 @@ def test_class_command_refuses_bad_arguments(
     for seat in ("A9", "B1", "", "1", "A"):
         assert "there is no seat" in failed("solo", str(folder), seat)
     assert "has no class" in failed("solo", str(tmp_path / "nowhere"), "A1")
+    assert f"{tmp_path / 'file'} has no class" in failed("solo", str(tmp_path / "file"), "A1")
     assert not (tmp_path / "nowhere").exists()

@@ -142,4 +142,4 @@ def test_new_exercise_passes_try(lab: Lab, tmp_path: pathlib.Path) -> None:
     assert status == 1 and b"good.s: passes 1 of 5 cases; " in output
     assert b"wrong/good.s: passes 5 cases, and it shall fail\n" in output
     status, _, errors = lab("exercise", "new", folder)
-    assert status == 2 and errors == f"vecmon-lab: {folder}: File exists\n"
+    assert status == 2 and errors == f"vecmon-lab: {folder}: File exists; name a new folder\n"

@@ -262,8 +262,12 @@ def test_page_files_do_not_close_their_elements() -> None:
         (["lesson", "{tmp}/good", "-o", "{tmp}/no/page"], "{tmp}/no/page: No such file or directory"),
         (["lesson", "{tmp}/label.s"], "label.s:2:4: "),
         (["lesson", "{tmp}/range.s"], "range.s:1:18: "),
-        (["lesson", "{tmp}/empty"], "a lesson has a line at least"),
-        (["tour", "{tmp}/good"], "{tmp}/good: File exists"),
+        (["lesson", "{tmp}/empty"], "{tmp}/empty: a lesson needs a line of a script, and this file has none"),
+        (
+            ["lesson", f"{SUM}"],
+            f"{SUM} isn't a text; a lesson needs a script, or a source in assembler (.s, .S) or C (.c)",
+        ),
+        (["tour", "{tmp}/good"], "{tmp}/good: File exists; name a new folder"),
     ],
 )
 def test_bad_input_is_refused_in_one_line(tmp_path: pathlib.Path, arguments: list[str], mistake: str) -> None:

@@ -219,7 +219,7 @@ class Store:
             raise
 
     def _open(self, images: Mapping[str, pathlib.Path], quantum: int | None, machines: int | None) -> None:
-        stored = self._kept_facts(quantum, machines)
+        stored = self._kept_facts(quantum, machines) if self.folder.is_dir() else Facts()
         if self._is_reading and not stored.program:
             raise BadFolder(f"{self.folder} has no class")
         facts = (

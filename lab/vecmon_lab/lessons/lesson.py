@@ -64,12 +64,16 @@ def _lesson(arguments: argparse.Namespace, images: Mapping[str, pathlib.Path]) -
     """The page of a lesson. Raises LabError for a source with mistakes, or where there is no compiler for it."""
     path: pathlib.Path = arguments.script
     text = path.read_text("utf-8", "replace")
+    if "\0" in text:
+        raise LabError(f"{path} isn't a text; a lesson needs a script, or a source in assembler (.s, .S) or C (.c)")
     choice = choice_for(path, arguments.options)
     if choice is not None:
         program = compile_c(text, find_compiler(arguments.cc), choice, path.parent)
         script = read_compiled(text, path.name, program, path.suffix == C_SUFFIX)
     else:
         script = read_assembled(text, path.name) if path.suffix in SOURCE_SUFFIXES else read_script(text)
+    if not script.steps:
+        raise LabError(f"{path}: a lesson needs a line of a script, and this file has none")
     frames = make_frames(script, find_program(), images, arguments.quantum)
     title = arguments.title or script.title or path.name
     return lesson_page(title, frames, script)
