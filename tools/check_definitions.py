@@ -1,11 +1,11 @@
 #!/usr/bin/env python3
-"""Compares what the pages say of definitions with what `tools/definitions.py` counts: `tools/check_definitions.py [OUTPUT]`, at the top
-of the repository.
+"""Compares figures and names in pages about definitions with the sources: `tools/check_definitions.py [OUTPUT]`, at the top of the
+repository.
 
-In docs/DEFINITIONS.md: the lines and the files of each row of the hour's table and of the table of all modules, and each sum that is
-said. In docs/GUARANTEES.md: the contracts behind the statements about a crate, functions with their clauses; the modules of the kit whose
-names contracts and definitions cite; and, where OUTPUT is a file with what `rt ci` printed when it proved `vecmon`, the kit's crates and how
-many C functions it rests on. The status is 1 where something differs.
+In docs/DEFINITIONS.md it compares the lines and files of each row of both tables, and each sum, with the counts of `tools/definitions.py`.
+In docs/GUARANTEES.md it looks for each contract that a statement about a crate names, with its clauses, and for the modules of the kit that
+contracts and definitions cite. If OUTPUT is given, the file with the output of `rt ci` that proved `vecmon`, it also compares the kit's
+crates and the number of C functions that the proof assumes. The exit status is 1 if something differs.
 """
 
 import re

@@ -1,9 +1,9 @@
 #!/usr/bin/env python3
 """Checks that each must-fail edit can be applied, and that docs/PROOFS.md lists it: `tools/check_edits.py`, at the top of the repository.
 
-Each text after `old: ` in a file `crates/NAME/must-fail/*.edit` has to be exactly once in the file that the line `file: ` before it
-names, once the pairs before it are applied. The list at the end of docs/PROOFS.md has to be the one that `tools/edit_clauses.py --page`
-writes. This needs no proof; only `rt ci` shows whether an edit is refused. The status is 1 if something isn't so.
+In a file `crates/NAME/must-fail/*.edit`, the line `file: ` names a file, in which each text after `old: ` has to occur exactly once after
+the pairs before it are applied. The list at the end of docs/PROOFS.md has to be the one that `tools/edit_clauses.py --page` writes. This
+needs no proof; only `rt ci` shows whether the proof refuses an edit. The exit status is 1 if a check fails.
 """
 
 import pathlib

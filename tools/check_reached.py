@@ -2,8 +2,8 @@
 """Finds what no proof needs: `tools/check_reached.py`, at the top of the repository.
 
 A declaration in `crates/NAME/proofs` is reached if the code, a contract, a definition, an edit that must fail, an answer or a declaration
-that is reached names it. Names are compared as words, whatever module they are of, and one that a line `use` brings in isn't reached by
-that. It prints the place of each declaration that isn't reached, and the status is 1 if there is one.
+that is reached names it. The tool compares names as words, without their modules; a `use` line reaches no name. It prints the place of each
+declaration that isn't reached, and the exit status is 1 if there is one.
 """
 
 import re

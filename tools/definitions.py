@@ -1,9 +1,9 @@
 #!/usr/bin/env python3
-"""Counts the definitions that are to be believed: `tools/definitions.py [NAME.. [--case TYPE.VARIANT..]]`, at the top of the repository.
+"""Counts the definitions that contracts rest on: `tools/definitions.py [NAME.. [--case TYPE.VARIANT..]]`, at the top of the repository.
 
-With no word it prints the modules of `rv_model/specs`, but for `lending`, with the lines of each file; then what contracts of exported
-items cite beyond these, with all that it rests on: definitions of `lending` and of each other crate, and constants of `src`. Last come the
-lines that the headline rests on, those that are read for one vector addition, and the modules of the kit that are cited.
+Without arguments it prints the modules of `rv_model/specs` except `lending`, with the lines of each file; then all other definitions that
+contracts of exported items rest on: those of `lending` and of each other crate, and constants of `src`. Last come the lines that the
+headline rests on, the lines to read for one vector addition, and the modules of the kit that definitions and contracts cite.
 
 With names it prints, file by file, the definitions they rest on: `monitor_script::run` is a contract, `monitor_script::run.headline` one of
 its clauses, `step.Step.step` a definition of `rv_model`. With `--case`, clauses and rows for siblings of these variants are left out.

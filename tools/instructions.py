@@ -1,13 +1,15 @@
 #!/usr/bin/env python3
 """Compares docs/INSTRUCTIONS.md and the lab with the definitions: `tools/instructions.py [write]`, in the top folder.
 
-The page begins with what each instruction does, by the lab's records (`support/instruction_page.py`). Then comes the list that
-`test_assembler` prints, with which its stored output begins, and three columns more: the formula, which docs/instructions.csv has by
-names, the legality, which is read from the definitions, and the section of the manual, which the records have. That a formula is one that the instruction's own line of a step rests on is seen too. The elements that
-the lab has for each vector operation (`body_of`, `elements_of`) are compared with `elements/Bodies` of the definitions. The operands,
-scalar registers and accesses that the lab has for each instruction are compared with the operands in the list.
-First it prints each place that lacks an instruction (`instruction_places.py`).
-It prints what isn't so, and then the status is 1. With `write` it writes the page.
+First it prints each place that lacks an instruction (`instruction_places.py`). Then it compares
+
+- the page: it starts with what each instruction does, by the lab's records (`support/instruction_page.py`). The list that `test_assembler`
+  prints follows, with three more columns: the formula of docs/instructions.csv, on which the instruction's own line of a step has to rest;
+  the legality by the definitions; and the section of the manual by the records;
+- the elements that the lab has for each vector operation (`body_of`, `elements_of`) with `elements/Bodies` of the definitions;
+- the operands, scalar registers and accesses that the lab has for each instruction with the operands in the list.
+
+It prints each difference, and the exit status is then 1. With `write` it writes the page.
 """
 
 import csv

@@ -5,14 +5,13 @@
     tools/kinds.py time VECMON FILE                  nanoseconds an instruction, of QEMU and of VECMON in turn
     tools/kinds.py count VECMON FILE                 machine instructions an instruction, of VECMON
     tools/kinds.py draw FILE PICTURE                 the figures of FILE as an SVG
-    tools/kinds.py table FILE                        the times of FILE as a table of Markdown, and what they come to
+    tools/kinds.py table FILE                        the times of FILE as a table of Markdown, and the means of their ratios
 
-FILE is a CSV, `docs/kinds.csv` say, with a line for each kind: an instruction, SEW and LMUL. `time` and `count` write their figures over
-those in the table; with `--before` they go to the columns of an earlier program. `--only TEXT` measures the kinds alone whose instruction
-has that text.
+FILE is a CSV such as `docs/kinds.csv`, with a line for each kind: an instruction, SEW and LMUL. `time` and `count` replace the figures in
+FILE; with `--before` they replace those of an earlier program. `--only TEXT` measures only the kinds whose instruction has that text.
 
 A kind is a loop of 16 equal instructions, an addi and a branch, in an image that both programs run; the time of one turn is taken
-off, and the figure is the median of the rounds. Times want a quiet machine; counts don't.
+off, and the figure is the median of the rounds. Times need a quiet machine; counts don't.
 """
 
 import argparse

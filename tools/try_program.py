@@ -1,10 +1,10 @@
 #!/usr/bin/env python3
 """Tries a built program from outside: `tools/try_program.py VECMON`, with the path of any vecmon.
 
-It runs README's first script, a script file with images in small slices, mistakes in the words, files that can't be
-read, an output that is full, and too little memory; and it writes lines to a program that waits for more. Output,
-standard error and status have to be exactly those that are here, in README.md and in `crates/vecmon`, where they were
-worked out by hand. The status is 1 where something differs.
+It runs README's first script and a script file with images in small slices. It tries wrong arguments, files that can't be
+read, a full output, and too little memory, and writes lines to a program that waits for more. Output, standard error
+and exit status have to be exactly those in this file, in README.md and in `crates/vecmon`, which were worked out by
+hand. The exit status is 1 if something differs.
 """
 
 import pathlib
