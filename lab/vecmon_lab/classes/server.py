@@ -27,6 +27,7 @@ from ..page.pages import Page
 from ..page.texts import page_text
 from ..page.reference import reference_text
 from .codes import TEACHER
+from .connections import Connections
 from .resumed_pages import OpenPages
 from .room import Room
 from .store import BadFolder, script_name
@@ -59,9 +60,9 @@ class Server:
         self.members, self.names = members, {"localhost", *names}
         self._requests, self._pages = TabRequests(members), OpenPages()
         self._page, self._lesson, self._listings = Page("class"), Page("lesson"), Page("listings")
-        self._spoke: set[web.RequestHandler] = set()  # connections that have made a whole request
+        self.connections = Connections(UNKNOWN, PATIENCE, READ_SECONDS)
         self._is_ending = False
-        self._nameless = asyncio.Semaphore(UNKNOWN)  # had by sockets without a code
+        self._nameless: dict[web.WebSocketResponse, web.Request] = {}  # sockets without a code, the oldest first
         self._sockets: weakref.WeakSet[web.WebSocketResponse] = weakref.WeakSet()
 
     def application(self) -> web.Application:
@@ -92,20 +93,6 @@ class Server:
             return parts[2] in self.names
         return True
 
-    async def sweep(self, runner: web.AppRunner) -> None:
-        """Closes connections that have made no request in time, and the oldest such where there are too many."""
-        loop, since = asyncio.get_running_loop(), dict[web.RequestHandler, float]()
-        while True:
-            await asyncio.sleep(0.5)
-            there = set(runner.server.connections) if runner.server else set()
-            self._spoke &= there
-            since = {handler: since.get(handler, loop.time()) for handler in there - self._spoke}
-            silent = sorted(since, key=since.__getitem__)
-            for number, handler in enumerate(silent):
-                if loop.time() - since[handler] > PATIENCE or number < len(silent) - UNKNOWN:
-                    if handler.transport:
-                        handler.transport.abort()
-
     async def close(self) -> None:
         """Tells all tabs that the server ends."""
         self._is_ending, sockets = True, list(self._sockets)
@@ -115,7 +102,7 @@ class Server:
     async def _check(
         self, request: web.Request, handler: Callable[[web.Request], Awaitable[web.StreamResponse]]
     ) -> web.StreamResponse:
-        self._spoke.add(request.protocol)
+        self.connections.spoken.add(request.protocol)
         if not self.is_ours(request.headers.get("Host", ""), request.headers.get("Origin")):
             raise web.HTTPForbidden
         return await handler(request)
@@ -183,34 +170,41 @@ class Server:
             raise web.HTTPServiceUnavailable(text=str(error)) from error
 
     async def _socket(self, request: web.Request) -> web.WebSocketResponse:
-        if self._nameless.locked():
-            raise web.HTTPServiceUnavailable
         own = web.WebSocketResponse(heartbeat=READ_SECONDS, max_msg_size=MESSAGE_BYTES, compress=False, timeout=2)
-        async with self._nameless:
-            await own.prepare(request)
-            self._sockets.add(own)
-            role, name = await self._who(own)
+        await own.prepare(request)
+        self._sockets.add(own)
+        role, name = await self._who(request, own)
         others = sum(tab.who == role for tab in self.members.tabs)
         if role is None:
             await own.close(code=CLOSED, message=b"no such code")
         elif others >= (2 * SOCKETS if role == TEACHER else SOCKETS):
             await own.close(code=CROWDED, message=b"too many tabs")
         else:
+            self.connections.tabs.add(request.protocol)
             page, abort = self._pages.open(role, name), partial(_abort, request)
             await TabSocket(self._requests, own, Tab(role), page, abort).serve(lambda: self._is_ending)
         return own
 
-    async def _who(self, own: web.WebSocketResponse) -> tuple[str | None, object]:
-        """The owner of the code in the first message, and the page's name there; a wrong code is refused after a while."""
+    async def _who(self, request: web.Request, own: web.WebSocketResponse) -> tuple[str | None, object]:
+        """The owner of the code in the first message, and the page's name there; a wrong code is refused after a while.
+
+        The oldest of too many sockets without a code is closed, so that new ones are served.
+        """
+        self._nameless[own] = request
+        if len(self._nameless) > UNKNOWN:
+            _abort(self._nameless.pop(next(iter(self._nameless))))
         try:
-            message = json.loads(await own.receive_str(timeout=PATIENCE))
+            async with asyncio.timeout(PATIENCE):  # pings would prolong the time limit of `receive_str`
+                message = json.loads(await own.receive_str())
+            first = message if isinstance(message, dict) else {}
+            role = self.members.codes.owner(first.get("code"))
+            if role is None:
+                await asyncio.sleep(WRONG_CODE_SECONDS)
+            return role, first.get("page")
         except (TypeError, ValueError, RecursionError, asyncio.TimeoutError):
             return None, None
-        first = message if isinstance(message, dict) else {}
-        role = self.members.codes.owner(first.get("code"))
-        if role is None:
-            await asyncio.sleep(WRONG_CODE_SECONDS)
-        return role, first.get("page")
+        finally:
+            self._nameless.pop(own, None)
 
 
 def listening(host: str, port: int) -> list[socket.socket]:
@@ -255,7 +249,7 @@ async def served(
             await (TlsSite(runner, listener, tls, UNKNOWN, PATIENCE) if tls else plain).start()
         rooms = members.rooms.values()
         work = [
-            server.sweep(runner),
+            server.connections.sweep(runner),
             _keep(members),
             *(each for room in rooms for each in (room.clock.run(), room.watch(), room.shorten())),
             *(room.scripts.follow() for room in rooms if members.has_spares),

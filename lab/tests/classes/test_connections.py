@@ -1,0 +1,102 @@
+"""Connections of clients that want to keep others out: without a code, without an end of requests, and without reading."""
+
+import asyncio
+import contextlib
+import pathlib
+import socket
+from collections.abc import AsyncIterator, Sequence
+
+import aiohttp
+import pytest
+import pytest_asyncio
+
+from support.class_tabs import SECONDS, Served, served
+from vecmon_lab.classes import connections
+from vecmon_lab.classes import server as class_server
+
+pytestmark = pytest.mark.asyncio
+TABLE = pathlib.Path("/proc/self/net/tcp")
+
+
+@pytest_asyncio.fixture  # type: ignore[misc]
+async def room(tmp_path: pathlib.Path, monkeypatch: pytest.MonkeyPatch) -> AsyncIterator[Served]:
+    monkeypatch.setattr(class_server, "PATIENCE", 2.0)
+    monkeypatch.setattr(class_server, "READ_SECONDS", 2.0)
+    monkeypatch.setattr(class_server, "UNKNOWN", 3)
+    async with served(tmp_path / "class") as room:
+        yield room
+
+
+async def connection(room: Served, data: bytes) -> socket.socket:
+    """A connection that has sent this and reads nothing; its own buffer is small."""
+    own = socket.socket()
+    own.setsockopt(socket.SOL_SOCKET, socket.SO_RCVBUF, 4096)
+    own.setblocking(False)
+    await asyncio.get_running_loop().sock_connect(own, ("127.0.0.1", room.port))
+    await asyncio.get_running_loop().sock_sendall(own, data)
+    return own
+
+
+async def until_closed(room: Served, own: socket.socket) -> None:
+    """Waits until the server has closed a connection, which is read no further."""
+    ports = [f":{port:04X}" for port in (room.port, own.getsockname()[1])]
+    start = asyncio.get_running_loop().time()
+    while any(is_established(line.split(), *ports) for line in TABLE.read_text("ascii").splitlines()):
+        assert asyncio.get_running_loop().time() < start + SECONDS
+        await asyncio.sleep(0.05)
+    own.close()
+
+
+def is_established(words: Sequence[str], local: str, remote: str) -> bool:
+    """Whether a line of the system's table of connections is of an open one between these ports (Linux, proc_net_tcp)."""
+    return words[1].endswith(local) and words[2].endswith(remote) and words[3] == "01"
+
+
+def request(room: Served) -> bytes:
+    """A request of the page."""
+    return f"GET / HTTP/1.1\r\nHost: 127.0.0.1:{room.port}\r\n\r\n".encode("ascii")
+
+
+async def test_pings_prolong_no_wait_for_code(room: Served) -> None:
+    silent = await room.session.ws_connect(room.url + "socket")
+    end, start = asyncio.create_task(silent.receive()), asyncio.get_running_loop().time()
+    while not end.done():
+        assert asyncio.get_running_loop().time() < start + SECONDS
+        with contextlib.suppress(ConnectionError):  # it may just have ended
+            await silent.ping()
+        await asyncio.wait([end], timeout=0.2)
+    assert end.result().data == 4403
+
+
+async def test_oldest_socket_without_code_makes_room(room: Served) -> None:
+    oldest, *_, last = [await room.session.ws_connect(room.url + "socket") for _ in range(4)]
+    assert (await asyncio.wait_for(oldest.receive(), SECONDS)).type is aiohttp.WSMsgType.CLOSED
+    await last.send_json({"code": room.codes["A2"]})
+    assert (await asyncio.wait_for(last.receive_json(), SECONDS))["who"] == "A2"
+
+
+async def test_connection_that_takes_no_answer_is_closed(room: Served) -> None:
+    own = await connection(room, request(room) * connections.AHEAD)  # more than the system's buffers hold
+    await until_closed(room, own)
+    await room.sit("A1")
+
+
+async def test_oldest_connection_with_unread_answers_makes_room(
+    tmp_path: pathlib.Path, monkeypatch: pytest.MonkeyPatch
+) -> None:
+    monkeypatch.setattr(class_server, "UNKNOWN", 3)
+    async with served(tmp_path / "class") as room:
+        oldest, *others = [await connection(room, request(room) * connections.AHEAD) for _ in range(4)]
+        await until_closed(room, oldest)
+        await room.sit("A1")
+        for each in others:
+            each.close()
+
+
+async def test_connection_with_requests_ahead_is_closed(room: Served) -> None:
+    own, loop = await connection(room, b""), asyncio.get_running_loop()
+    with pytest.raises(ConnectionError):
+        for _ in range(200):
+            await asyncio.wait_for(loop.sock_sendall(own, request(room) * 1000), SECONDS)
+    own.close()
+    await room.sit("A1")
