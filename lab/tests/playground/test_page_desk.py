@@ -187,6 +187,23 @@ def test_damaged_texts_are_reported_and_the_rest_is_kept(program: pathlib.Path, 
     again.close()
 
 
+@pytest.mark.parametrize(
+    "damage",
+    [
+        {f"sources/A1.{'9' * 5000}.typed.s": ["nop", 1.0]},
+        {"answers/A1.doubles.1.json": ["[" * 100_000, 1.0]},
+        {"A1.written.O2.c": ["int x;", 1.0], "A1.written.json": ['{"messages": [[1e999, 1, true, ""]]}', 1.0]},
+    ],
+    ids=["a version", "a try", "a program"],
+)
+def test_crafted_text_leaves_the_others(program: pathlib.Path, tmp_path: pathlib.Path, damage: dict[str, Any]) -> None:
+    """Texts that someone else has made to keep the page from opening; a version without a proper number is none."""
+    page = Page(program, tmp_path, damage | {"A1.s": [SOURCE, 1.0]})
+    assert page.view["source"]["text"] == SOURCE and page.view["source"]["versions"] == []
+    assert len(page.desk.lost) == ("sources" not in str(damage))
+    page.close()
+
+
 def test_a_script_that_another_machine_answers_otherwise_is_given_up(
     program: pathlib.Path, tmp_path: pathlib.Path
 ) -> None:

@@ -214,7 +214,7 @@ class SeatSource:
         """The versions that the folder has."""
         found = []
         for file, when in self._store.files(f"sources/{self._name}.*"):
-            parts = re.fullmatch(r"sources/\w+\.(\d+)\.(typed|written|given)(?:@([\w-]+))?\.(.+)", file)
+            parts = re.fullmatch(r"sources/\w+\.(\d{1,9})\.(typed|written|given)(?:@([\w-]+))?\.(.+)", file)
             if parts and parts[4] in NUMBERS:
                 number, language, exercise = int(parts[1]), NUMBERS[parts[4]], parts[3] or ""
                 found.append(Version(number=number, time=int(when), why=parts[2], language=language, exercise=exercise))

@@ -111,7 +111,7 @@ def read_compiled_program(reply: bytes, limit: int = IMAGE_BYTES) -> CompiledPro
         program = program_of(answer["image"], warnings, limit)
         program.names()  # so that a malformed field is reported now
         return replace(program, reply=reply)
-    except (ValueError, TypeError, LookupError, AttributeError, RecursionError) as error:
+    except (ValueError, TypeError, LookupError, AttributeError, RecursionError, OverflowError) as error:
         raise LabError("the compiler's output can't be read") from error
 
 

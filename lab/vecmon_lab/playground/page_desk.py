@@ -240,7 +240,7 @@ class PageDesk(Desk):
         file = self._file_of_try(name, number)
         try:
             return attempt(**json.loads(self.texts.read_text(file)))
-        except (ValueError, TypeError):
+        except (ValueError, TypeError, RecursionError):
             _set_aside(self.texts, file)
             self.lost.append(f"try {number} at {name} is damaged, and counts as one in which nothing passes")
             return attempt()
