@@ -357,6 +357,14 @@ def test_server_ends_with_status(squares: Packets, packet: str | None, more: byt
     assert squares.ended() == (0, more, b"")
 
 
+@pytest.mark.parametrize("name", ["sum_€.elf", "größe.elf"])
+def test_image_has_its_name_in_bytes(tmp_path: pathlib.Path, name: str) -> None:
+    """Gdb opens the image by the bytes of its name, which are those of UTF-8 (gdb's manual, "General Query Packets")."""
+    image = pathlib.Path(shutil.copy(SUM, tmp_path / name))
+    with Packets(image) as packets:
+        assert packets.ask("qXfer:exec-file:read:1:0,fff") == f"l{image}"
+
+
 @pytest.mark.parametrize("path, reason", [(STOCK / "short", "E09 Short"), (STOCK / "none", "No such file")])
 def test_unsuitable_image_is_refused(path: pathlib.Path, reason: str) -> None:
     with Packets(path) as packets:

@@ -8,6 +8,7 @@ watched, that there is nothing before the first instant, or that the next one is
 
 import argparse
 import contextlib
+import os
 import pathlib
 import re
 
@@ -137,7 +138,7 @@ class Target:
             case ["Xfer", "features", "read", "target.xml", offset, length]:
                 return _part(DESCRIPTION, offset, length)
             case ["Xfer", "exec-file", "read", _, offset, length]:
-                return _part(f"{self._image.absolute()}", offset, length)
+                return _part(os.fsencode(self._image.absolute()).decode("latin-1"), offset, length)
             case ["Rcmd", digits]:
                 return self._monitor(bytes.fromhex(digits).decode("latin-1")).encode().hex()
         return ""
