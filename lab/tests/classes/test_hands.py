@@ -44,6 +44,8 @@ async def test_invalid_hand_is_refused(tmp_path: pathlib.Path) -> None:
         tab, teacher = await room.sit("A1"), await room.sit("teacher")
         for text in ("x" * 401, "two\nlines", 5):
             assert "1 to 400 characters" in (await tab.ask("hand", up=True, text=text))["error"]
+        piled = "Z\u0335\u0301\u034f" + "\u0301\u0335" * 3
+        assert "more than 3 marks" in (await tab.ask("hand", up=True, text=piled))["error"]
         assert "no such seat" in (await teacher.ask("hand", seat="Z9"))["error"] and "hand" not in tab.view
 
 

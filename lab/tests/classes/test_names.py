@@ -28,6 +28,8 @@ NAME = "Zoë O'Brien-Šarić Jr. 2"
         ("Zoe\u0308", "Zoë"),
         ("O’Brien", "O'Brien"),
         ("अदिति", "अदिति"),
+        ("မြွှို့", "မြွှို့"),
+        ("דָּוִ֑ד", "דָּוִ֑ד"),
         ("李小龍", "李小龍"),
         ("a" * 40, "a" * 40),
     ],
@@ -57,6 +59,9 @@ def test_csv_cell_is_never_formula() -> None:
         "Ada\u200b",
         "A_",
         "A+",
+        *("\u3164", "\uffa0\uffa0", "\u115f\u1160", "Ada\ufe0f", "Ada\u034f"),
+        "Z" + "\u0335\u0301\u0317" * 4,
+        "Z" + "\u0301" * 5,
     ],
 )
 def test_invalid_name_is_refused(typed: str) -> None:

@@ -6,7 +6,7 @@ from collections.abc import Mapping
 from .. import LabError
 from .codes import TEACHER, WALL
 from .messages import Answer, Changes, Hello, Result, answer_to, explain_refusals, request_of, with_changes
-from .names import checked_name
+from .names import checked_name, checked_text
 from .requests import (
     BadRequest,
     Check,
@@ -99,7 +99,7 @@ class TabRequests:
             case SetName(seat_name, name):
                 members.set_name(members.seat(seat_name if is_teacher else tab.who).name, checked_name(name))
             case SetHand(up, text):
-                members.set_hand(tab.who, up, text)
+                members.set_hand(tab.who, up, checked_text(text))
             case ReadNotice(number):
                 members.read_notice(tab.who, number)
             case OpenOffer(number):
