@@ -7,6 +7,7 @@ import sys
 from typing import NoReturn
 
 from . import LabError
+from .output import terminal_text
 from .tables.table import read_table
 
 COMMANDS = {name: (module, sentence) for name, module, sentence in read_table("lab_commands")}
@@ -41,7 +42,7 @@ def main() -> int:
     except OSError as error:
         mistake = f"{error.filename}: {error.strerror}" if error.filename else str(error)
         mistake += "; name a new folder" if isinstance(error, FileExistsError) else ""
-    sys.stderr.writelines(f"vecmon-lab: {line}\n" for line in mistake.split("\n"))
+    sys.stderr.writelines(f"vecmon-lab: {line}\n" for line in terminal_text(mistake).split("\n"))
     return 2
 
 

@@ -4,6 +4,7 @@ import csv
 import json
 import os
 import pathlib
+import re
 import shutil
 import subprocess
 import sys
@@ -240,7 +241,7 @@ def test_first_difference_is_reported(echo: Echo, change: tuple[str, str], reaso
         ),
         pytest.param(b"\x7fELF" + bytes(1 << 22), "image", "it has more than 4,194,304 bytes", id="large"),
         (b"1 regs\n\xff\xfe", "script", "it is no image and no text: byte 8 is 0xff"),
-        (b"\0\0\0", "answer.s", "answer.s:1:1: \0 isn't an instruction, a directive or a label"),
+        (b"\0\0\0", "answer.s", "answer.s:1:1: ? isn't an instruction, a directive or a label"),
     ],
 )
 def test_unusable_answer_fails_with_reason(echo: Echo, content: str | bytes, name: str, reason: str) -> None:
@@ -257,6 +258,18 @@ def test_unreadable_answer_has_row(tmp_path: pathlib.Path) -> None:
         "it can't be read: Is a directory",
     ]
     assert rows[3][-1] == "typo.s:3:19: an operand is missing at the end; the form is vle16.v vd, (rs1)[, v0.t]"
+    assert (completed.returncode, completed.stderr) == (1, "")
+
+
+@pytest.mark.parametrize("option", [[], ["--rows"]])
+def test_author_of_answer_controls_no_terminal(tmp_path: pathlib.Path, option: list[str]) -> None:
+    """Of an answer's name and text no control character is printed, no line of its own, and no text from right to left."""
+    odd = tmp_path / os.fsdecode(b"a\xff\x1b[31m\nb.s  ok  5 of 5\n.s")
+    odd.write_text("answer:\n \x1b]0;title\x07 x1\n \u202eret\n", "utf-8")
+    completed = run_grade("strlen", *option, odd)
+    text = completed.stdout.replace("\n", "")
+    assert text.isprintable() and not re.search("^b.s", completed.stdout, re.MULTILINE)
+    assert "a??[31m?b.s  ok  5 of 5?.s" in text and "? isn't an instruction" in text
     assert (completed.returncode, completed.stderr) == (1, "")
 
 

@@ -12,6 +12,7 @@ from random import Random
 
 from .. import LabError, mistakes_in
 from ..compilers.compiled import STACK, CompiledProgram, Isolation
+from ..guest.entries import printable
 from ..guest.guest import IMAGE_BYTES, MAX_STEPS, QUANTUM, SET_UP_ADDRESS, STACK_END, Guest, pokes
 from ..guest.runner import Reporter
 from ..lessons.script import Script, read_assembled, read_compiled, send
@@ -44,7 +45,7 @@ class Answer:
     @functools.cached_property
     def reporter(self) -> Reporter:
         """Prints the answer's unsupported calls: each once, however many cases run."""
-        return Reporter(lambda address: f"in {self.path}")
+        return Reporter(lambda address: f"in {printable(str(self.path))}")
 
 
 @dataclass(frozen=True)
@@ -100,7 +101,8 @@ def source_answer(text: str, path: pathlib.Path, compiled: CompiledProgram | Non
 
     compiled: of a C answer, its compiled form
     """
-    source = read_compiled(text, path.name, compiled, True) if compiled else read_assembled(text, path.name)
+    name = printable(path.name)
+    source = read_compiled(text, name, compiled, True) if compiled else read_assembled(text, name)
     if not (source.statements or compiled):
         raise LabError("there is no instruction in the source")
     stack = [] if compiled else STACK  # which a compiled program has

@@ -17,7 +17,9 @@ from ..compilers.compiler import find_compiler
 from ..compilers.container import answer_as_nobody, check_container
 from ..compilers.failures import ToolError
 from ..compilers.sandbox import answer_sandboxed, sandboxed_compiler
+from ..guest.entries import printable
 from ..machine.program import find_program
+from ..output import terminal_text
 from ..tables.table import spreadsheet_row, table_lines
 from .answer import C_SUFFIX, read_answer, settled
 from .exercise import OURS, Exercise, read_exercise
@@ -76,8 +78,8 @@ def run(arguments: argparse.Namespace) -> int:
         _report(arguments, exercise, done)
     for path, error in found:
         if isinstance(error, ToolError):
-            text = f"vecmon-lab: {path} isn't graded, for a reason that isn't the answer's: {error}"
-            print(text, file=sys.stderr)
+            text = f"vecmon-lab: {printable(str(path))} isn't graded, for a reason that isn't the answer's: {error}"
+            print(terminal_text(text), file=sys.stderr)
     return 2 if len(done) < len(found) else int(any(any(outcomes) for _, (outcomes, _) in done))
 
 
@@ -129,7 +131,7 @@ def graded(
     except ToolError:
         raise
     except LabError as error:
-        return [str(error)] * len(exercise.cases), None
+        return [terminal_text(str(error))] * len(exercise.cases), None
     outcomes = [outcome(program, answer, exercise, case)[0] for case in exercise.cases]
     return outcomes, answer_cost(program, answer, exercise) if is_counted and not any(outcomes) else None
 
@@ -171,7 +173,7 @@ def _print_rows(exercise: Exercise, grades: Grades, more: Sequence[Sequence[str]
     for (path, outcomes), cells in zip(grades, more):
         marks = ["fails" if found else "passes" for found in outcomes]
         reason = next(iter(_reasons(exercise, outcomes)), "")
-        writer.writerow(spreadsheet_row([path, outcomes.count(""), len(marks), *marks, reason, *cells]))
+        writer.writerow(spreadsheet_row([printable(str(path)), outcomes.count(""), len(marks), *marks, reason, *cells]))
 
 
 def _print_table(exercise: Exercise, grades: Grades, more: Sequence[Sequence[str]]) -> None:
@@ -180,8 +182,8 @@ def _print_table(exercise: Exercise, grades: Grades, more: Sequence[Sequence[str
     rows = [[*head, *COUNTS[: len(more[0])]]]
     for (path, outcomes), cells in zip(grades, more):
         marks = ["-" if found else "ok" for found in outcomes]
-        rows.append([str(path), *marks, f"{outcomes.count('')} of {len(marks)}", *cells])
+        rows.append([printable(str(path)), *marks, f"{outcomes.count('')} of {len(marks)}", *cells])
     print("\n".join([exercise.title, *table_lines(rows, len(head))]))
     for path, outcomes in grades:
         for reason in filter(None, _reasons(exercise, outcomes)):
-            print(f"{path}: {reason}")
+            print(f"{printable(str(path))}: {reason}")
