@@ -30,6 +30,8 @@ GIVEN = TOP / "lab" / "vecmon_lab" / "exercises" / "given" / "doubles"
 NO_STORAGE = (
     "Object.defineProperty(window, 'indexedDB', {get() { throw new DOMException('refused', 'SecurityError'); }});"
 )
+CONDITIONS = """window.conditions = [], new MutationObserver(() => conditions.push(id('run').textContent))
+    .observe(id('run'), {childList: true, characterData: true})"""  # that the status line shows one after the other
 DROP = """
 const bytes = Uint8Array.from(atob(arguments[1]), (letter) => letter.charCodeAt(0)), data = new DataTransfer();
 data.items.add(new File([bytes], arguments[0]));
@@ -186,8 +188,10 @@ def test_work_is_brought_from_a_file(tabs: "Chrome", site: pathlib.Path, tmp_pat
     tab.run("one('input[type=file][accept=\".json\"]').hidden = false")
     tab.keys("input[type=file][accept='.json']", str(path))
     tab.wait("id('ask').open")
+    tab.run(f"({CONDITIONS})")
     tab.click("#yes")
     tab.wait("!id('ask').open && id('gone').hidden && text() === arguments[0]", LOOP)
+    assert tab.run("window.conditions") == ["Starting", "Ready"]
     tab.command("regs")
     assert "1234567" in tab.text("#log")
     path.write_text("{}")

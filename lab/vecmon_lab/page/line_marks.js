@@ -8,9 +8,7 @@ export class LineMarks {
     this.code = code;
   }
 
-  clear() {
-    this.removers.splice(0).forEach((remove) => remove());
-  }
+  clear = () => this.removers.splice(0).forEach((remove) => remove());
 
   /** Gives the ground of a line, or its gutter, a class. */
   style(/** @type {number} */ line, /** @type {string} */ kind, /** @type {"background" | "gutter"} */ where = "background") {

@@ -4,7 +4,7 @@ import { part, put } from "./elements.js";
 import { textOf } from "./texts.js";
 
 /** @typedef {import("./messages").StudentView} View */
-/** @typedef {View["condition"] | "Assembling" | "No connection"} Condition */
+/** @typedef {View["condition"] | "Assembling" | "Starting" | "No connection"} Condition */
 /**
  * @typedef {"go" | "one" | "many" | "until-go" | "step-over" | "step-out" | "halt" | "slice" | "again" | "assemble" | "new"
  *   | "images"} Name
@@ -14,7 +14,7 @@ import { textOf } from "./texts.js";
 const NAMES = ["go", "one", "many", "until-go", "step-over", "step-out", "halt", "slice", "again", "assemble", "new", "images"];
 /** @type {Record<Condition, string>} */
 const CONDITIONS = { // in words
-  "Not begun": textOf("condition.not-begun"), "No connection": textOf("condition.no-connection"),
+  "Not begun": textOf("condition.not-begun"), Starting: textOf("condition.starting"), "No connection": textOf("condition.no-connection"),
   Ready: textOf("condition.ready"), Assembling: textOf("condition.assembling"), Running: textOf("condition.running"),
   Paused: textOf("condition.paused"), Ended: textOf("condition.ended"), Fault: textOf("condition.fault"),
 };
@@ -41,8 +41,10 @@ export class RunBar {
   paint(view = this.view) {
     this.view = view;
     if (!view) return;
+    const { isReady, isStarting } = this.bench.connection;
     const present = this.isBuilding ? "Assembling" : view.condition;
-    this.condition = this.bench.connection.isReady ? present : "No connection";
+    const absent = isStarting ? "Starting" : "No connection";
+    this.condition = isReady ? present : absent;
     put(part(this.root, "run"), CONDITIONS[this.condition]);
     part(this.root, "run").dataset.condition = this.condition;
     put(part(this.root, "go"), this.condition === "Paused" && !this.bench.hasChanged ? textOf("run.continue") : textOf("run"));
@@ -59,7 +61,7 @@ export class RunBar {
     if (this.bench.desk.past.moment) return textOf("off.past");
     if (this.condition === "No connection") return textOf("off.no-connection");
     if (this.condition === "Assembling") return textOf("off.building");
-    if (!ready) return textOf("off.not-ready");
+    if (this.condition === "Starting" || !ready) return textOf("off.not-ready");
     if (["assemble", "new", "images"].includes(id)) return "";
     if (id === "halt" || id === "slice") return state.run === "running" ? "" : textOf("off.not-running");
     if (id === "again") return again ? "" : textOf("off.no-source");

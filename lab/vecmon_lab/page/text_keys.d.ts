@@ -89,6 +89,7 @@ export interface Places {
   "run.times": never;
   "run.until.line.label": never;
   "condition.not-begun": never;
+  "condition.starting": never;
   "condition.ready": never;
   "condition.assembling": never;
   "condition.running": never;

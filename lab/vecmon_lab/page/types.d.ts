@@ -35,6 +35,8 @@ export type Message = Pick<Messages.Message, "kind"> & { [Key in KeyOf<Messages.
 /** The way to the server, or to the lab in the page. */
 export interface Connection {
   readonly isReady: boolean;
+  /** Whether the lab in the page starts, which takes seconds. */
+  readonly isStarting?: boolean;
   /** Requests without an answer yet. */
   readonly pending: { readonly size: number };
   /** Seconds that the server's clock is ahead of this one. */

@@ -48,6 +48,7 @@ addEventListener("hashchange", (event) => { // registered before the page's list
 /** @implements {Channel} */
 export class Connection {
   isReady = false;
+  isStarting = true; // until the worker has greeted the page, or has failed
   ahead = 0;
   pending = new Pending();
   /** @type {Worker | null} */ worker = null;
@@ -70,9 +71,7 @@ export class Connection {
     this.work.open().then(() => this.begin());
   }
 
-  send(/** @type {import("./playground").ToWorker} */ message) {
-    this.worker?.postMessage(message);
-  }
+  send = (/** @type {import("./playground").ToWorker} */ message) => this.worker?.postMessage(message);
 
   /** Adds what a page without a server has: work from a file, a sentence on storage, and one on checks. */
   addElements() {
@@ -107,7 +106,7 @@ export class Connection {
   /** Ends the worker, and starts another one with other texts. */
   async restart(/** @type {Texts} */ texts) {
     this.worker?.terminate();
-    this.isReady = false;
+    Object.assign(this, { isReady: false, isStarting: true });
     this.pending.drop();
     this.listener.gone(textOf("playground.starts"));
     await this.work.replace(texts);
@@ -116,7 +115,7 @@ export class Connection {
   }
 
   fail(/** @type {string} */ words) {
-    this.isReady = false;
+    Object.assign(this, { isReady: false, isStarting: false });
     this.pending.drop();
     this.listener.gone(textOf("playground.failed", { cause: words }));
   }
