@@ -9,6 +9,7 @@ import pytest
 
 from support.browser import CONTRAST
 from support.class_pages import Served, Tab, look_at
+from support.layouts import SIZES, reset, resize
 from vecmon_lab.compilers.compiler import Compiler
 from vecmon_lab.exercises.exercise import OURS
 from vecmon_lab.tables.table import read_table
@@ -75,6 +76,30 @@ def test_first_visit_starts_with_a_step(tabs: "Chrome", course: Served) -> None:
     assert tab.text("#exercise-text h3") == "1 Doubles" and tab.run("id('check').checkVisibility()")
     tab.click("#one")
     tab.wait("!id('welcome').checkVisibility() && id('step').textContent.includes('ret')")
+
+
+def test_other_exercise_leaves_machine(tabs: "Chrome", course: Served) -> None:
+    """Elements, registers and listing of the source before go; on a phone the exercise stays in sight."""
+    tab = Tab(tabs, course, "B4")
+    shown = "['elements', 'registers', 'listing', 'welcome'].map((name) => id(name).checkVisibility())"
+    choose(tab, "doubles")
+    try:
+        for name, size in (("strip_mined_copy", "laptop"), ("clamped_magnitude", "phone")):
+            tab.run(TYPE, "vsetivli zero, 8, e32, m1, ta, ma\nvid.v v1\nret")
+            tab.run("id('one').click()")
+            tab.wait("id('step').textContent.includes('vsetivli zero, 8, e32')")
+            resize(tab.activate(), SIZES[size])
+            tab.run("id('tab-exercise').click()")
+            choose(tab, name)
+            tab.wait("id('run').textContent === 'Not begun'")
+            assert tab.run("id('exercise').checkVisibility()") and tab.text("#stop") == ""
+            resize(tab.activate(), SIZES["laptop"])
+            tab.click("#show-listing")
+            assert tab.run(shown) == [False, False, False, False]
+            assert tab.run("one('#vectors .missing').innerText").startswith("There is no machine yet.")
+            tab.click("#show-source")
+    finally:
+        reset(tab.activate())
 
 
 def test_case_is_tried_before_first_check(tabs: "Chrome", course: Served) -> None:

@@ -126,7 +126,8 @@ export class Bench {
     if (instruction) this.panes.makeRoom();
     this.desk.show(view.seat, view.state, entries, isAnew);
     this.askForRead(view.state);
-    if ((run === "absent") !== wasAbsent) this.panes.show(run === "absent" || (text && (stands || isAnew)) ? "editor" : "listing");
+    if (run === "absent" && !wasAbsent) this.panes.select(part(this.root, "show-source")); // in a pane that may be out of sight
+    if (run !== "absent" && wasAbsent) this.panes.show(text && (stands || isAnew) ? "editor" : "listing");
     if (start && this.isImage && !isAnew) this.panes.show("listing"); // an image has no source
     offerLanguages(this.editor.language, view);
     offer(this.parts.images, textOf("run.load-image"), view.images);
@@ -142,13 +143,15 @@ export class Bench {
     this.connection.ask({ ask: "last-instruction" });
   }
 
+  /** Whether the machine has a source, and that isn't the editor's. */
+  get hasOther() { return Boolean(this.bar.view?.again) && !this.isImage && !this.source.stands; }
+
   /**
    * Whether the source has to be built before the program goes on: a machine without one is left as it is, until the source changes.
    * @returns {boolean}
    */
   get hasChanged() {
-    const isOfSource = Boolean(this.bar.view?.again) && !this.isImage;
-    return !this.source.stands && (isOfSource || this.isEdited || !Object.keys(this.desk.state.code ?? {}).length);
+    return this.hasOther || (!this.source.stands && (this.isEdited || !Object.keys(this.desk.state.code ?? {}).length));
   }
 
   /** Steps the program: into calls, over them, or out of a function. */
@@ -203,6 +206,9 @@ export class Bench {
 
   /** Leaves the machine. */
   leave = () => this.send(LEAVING[this.desk.state.run]);
+
+  /** Leaves a machine that has another source than the editor, and so values that aren't those of the editor's program. */
+  leaveOther = () => this.hasOther && this.leave();
 
   refuse(/** @type {string} */ words) {
     this.desk.refusal = words;

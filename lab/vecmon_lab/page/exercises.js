@@ -66,16 +66,16 @@ export class Exercises {
     return isOwn || isStart(all[exercise], text) || Object.values(all).some(({ tries }) => tries > 0);
   }
 
-  /** Opens an exercise, in all tabs of the seat: each has a source, which is the one to begin with at first. */
+  /** Opens an exercise, in all tabs of the seat: each has a source, at first the one to begin with. A machine of another source is left. */
   async choose(/** @type {string} */ name) {
     const isListed = !this.isOpen && name === this.name; // the seat has it already
     this.isOpen = true;
     this.bench.panes.select(byId("show-source"));
-    if (isListed) return this.paint(), this.takeStart();
+    if (isListed) return this.paint(), await this.takeStart(), this.bench.leaveOther();
     byId("course-list").inert = true; // one at a time
     const isOpen = await this.bench.source.openExercise(name);
     byId("course-list").inert = false;
-    return isOpen || this.bench.refuse(textOf("exercises.not-open"));
+    return isOpen ? this.bench.leaveOther() : this.bench.refuse(textOf("exercises.not-open"));
   }
 
   /** Opens an exercise, the first one without a name, and brings it into sight. */

@@ -36,9 +36,7 @@ export class Panes {
     return part(this.root, /** @type {keyof Parts} */ (control.getAttribute("aria-controls")));
   }
 
-  keep() {
-    store(this.key, { version: VERSION, ...this.kept });
-  }
+  keep = () => store(this.key, { version: VERSION, ...this.kept });
 
   /** Brings a pane or a panel into sight: selects its tab, and unfolds its pane. */
   show(/** @type {keyof Parts} */ id) {

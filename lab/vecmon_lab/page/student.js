@@ -61,8 +61,8 @@ export class Student {
     if (view.title) byId("home").title = textOf("student.take-home.title");
     if (view.messages !== this.messages) this.showMessages(view.messages);
     byId("welcome").hidden = Boolean(view.title);
+    if (isFirst && !view.title) this.welcome(true);
     if (logs[view.seat]) this.welcome(false);
-    if (isFirst && !view.title) this.bench.panes.show("vectors"); // which has what to do first
     byId("hand").ariaPressed = `${Boolean(view.hand)}`;
     put(byId("hand"), view.hand ? textOf("hand.raised") : textOf("hand.raise"));
     if (document.activeElement !== byId("name")) byId("name").value = view.name;
