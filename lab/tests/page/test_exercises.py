@@ -8,7 +8,7 @@ from typing import TYPE_CHECKING
 import pytest
 
 from support.browser import CONTRAST
-from support.class_pages import Served, Tab, look_at
+from support.class_pages import SIGNS, Served, Tab, look_at
 from support.layouts import SIZES, reset, resize
 from vecmon_lab.compilers.compiler import Compiler
 from vecmon_lab.exercises.exercise import OURS
@@ -23,6 +23,8 @@ TYPE = "code().setValue(arguments[0])"
 IN_SIGHT = """((panel, shown) => shown.every(({ top, bottom }) => top >= panel.top && bottom <= panel.bottom))(
     id("reading").getBoundingClientRect(),
     [one("#verdict h3"), ...all("#verdict .strip"), one("#verdict button")].slice(0, 5).map((each) => each.getBoundingClientRect()))"""
+NEXT_IN_SIGHT = """((box, line) => line && line.top >= box.top && line.bottom <= box.bottom)(
+    id("source").nextSibling.getBoundingClientRect(), one("#editor .next")?.getBoundingClientRect())"""
 BOXES = "[...one(arguments[0]).querySelectorAll('.strip span[title]')].map((box) => box.firstChild.data)"
 
 ANSWERS = "#seats [data-seat='A3'] button[value='doubles']"
@@ -126,6 +128,18 @@ def test_case_is_tried_before_first_check(tabs: "Chrome", course: Served) -> Non
     tab.click("#cases tr:nth-child(2) button")
     tab.wait("id('log').textContent.includes('> set x13 32') && id('run').textContent === 'Ready'")
     assert tab.text("[data-edit='set x12']") == "7" and tab.text("#try-count") == ""
+
+
+def test_case_is_tried_in_source(tabs: "Chrome", course: Served) -> None:
+    """*Try* shows the source with its next line, also if that was out of sight and is the same one as before."""
+    tab = Tab(tabs, course, "B5")
+    choose(tab, "doubles")
+    tab.run(TYPE, "# a comment\n" * 60 + "ret")
+    for case, count in ((0, "8"), (1, "3")):
+        tab.run("code().scrollTo(0, 0)")
+        tab.run("all('#cases tbody button')[arguments[0]].click()", case)
+        tab.wait("one(\"[data-edit='set x12']\")?.textContent === arguments[0]", count)
+        tab.wait(f"!id('editor').hidden && {SIGNS} === '▶61' && {NEXT_IN_SIGHT}")
 
 
 def test_check_by_key_unfolds_exercise(tabs: "Chrome", course: Served) -> None:

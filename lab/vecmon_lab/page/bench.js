@@ -296,7 +296,8 @@ export class Bench {
   async write(/** @type {import("./types").SourceAction} */ request = { ask: "source", number: this.source.told?.number }) {
     const answer = await this.build(request);
     if (answer?.listings) open(`listings/${answer.listings}`);
-    if (answer?.mistakes) this.panes.show(answer.mistakes.length ? "editor" : "listing");
+    if (answer?.mistakes) this.panes.show(answer.mistakes.length || request.ask === "case" ? "editor" : "listing");
+    if (request.ask === "case") this.editor.bringIntoSight(this.editor.marks.next); // for the steps that follow
   }
 
   /** Lists the problems of the source, and shows them at its lines, until it changes. isAsked: whether the list comes into sight */

@@ -195,9 +195,9 @@ export class Editor {
     this.bringIntoSight();
   }
 
-  bringIntoSight() {
-    if (!this.unseen || !this.code.getWrapperElement().offsetHeight) return;
-    this.code.scrollIntoView({ line: this.unseen - 1, ch: 0 }, MARGIN);
+  bringIntoSight(line = this.unseen) {
+    if (!line || !this.code.getWrapperElement().offsetHeight) return;
+    this.code.scrollIntoView({ line: line - 1, ch: 0 }, MARGIN);
     this.unseen = 0;
   }
 }
