@@ -6,6 +6,7 @@ from typing import Any
 
 import pytest
 
+from support.class_tabs import served
 from support.desk import Desk, ask
 from vecmon_lab.exercises.answer import settled
 from vecmon_lab.exercises.exercise import read_exercise
@@ -86,6 +87,28 @@ def test_case_stays_until_another_source_is_loaded(desk: Desk) -> None:
     ask(desk, ask="source", text="ret")
     ask(desk, ask="again")
     assert count() == 0
+
+
+@pytest.mark.asyncio
+async def test_case_stays_after_restart(tmp_path: pathlib.Path) -> None:
+    """Reset sets it up again, unless its exercise is off or the file is damaged."""
+    folder, exercises = tmp_path / "class", [pathlib.Path("doubles"), pathlib.Path("byte_sum")]
+    async with served(folder, exercises=exercises) as room:
+        tab = await room.sit("A1")
+        for case in (0, 1):
+            request = {"exercise": "doubles", "text": "addi a2, a2, 1\nret", "case": case}
+            assert (await tab.ask("case", **request))["mistakes"] == []
+        await tab.do("step 1")
+    assert (folder / "A1.case").read_text() == "doubles 1"
+    restarts = ("doubles 1", exercises, "3"), ("doubles 1", exercises[1:], "0"), ("doubles x", exercises, "0")
+    for text, chosen, count in restarts:
+        (folder / "A1.case").write_text(text)
+        async with served(folder, exercises=chosen) as room:
+            tab = await room.sit("A1")
+            await tab.ask("again")
+            assert tab.view["state"]["x"]["12"] == count
+            await tab.ask("source", text="addi a2, a2, 1\nret")
+        assert "doubles 1" not in (folder / "A1.case").read_text()
 
 
 @pytest.mark.parametrize(

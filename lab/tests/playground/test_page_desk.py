@@ -102,6 +102,18 @@ def test_source_versions_and_machine_come_back(program: pathlib.Path, tmp_path: 
     again.close()
 
 
+def test_case_comes_back(program: pathlib.Path, tmp_path: pathlib.Path) -> None:
+    """Reset sets up the case that was tried before the page was closed: its second one has three numbers."""
+    page = Page(program, tmp_path)
+    page.ask("case", exercise="doubles", text="addi a2, a2, 1\nret", case=1)
+    page.do("step 1")
+    again = Page(program, tmp_path, page.close())
+    assert again.desk.seat.state["x"]["12"] == "4"
+    again.ask("again")
+    assert again.desk.seat.state["x"]["12"] == "3"
+    again.close()
+
+
 @pytest.mark.parametrize("spent", [0.0, 2.0], ids=["from all lines", "from a checkpoint"])
 @pytest.mark.parametrize("last, condition", [("go", "Ended"), ("step 1", "Paused"), ("set x5 7", "Paused")])
 def test_ended_program_comes_back_ended(

@@ -1,7 +1,7 @@
 """The exercises of a class, and the progress of each seat in them: its tries, their results, and what its page shows."""
 
 import time
-from collections.abc import Callable, Mapping, Sequence
+from collections.abc import Mapping, Sequence
 from dataclasses import dataclass, field
 from typing import NotRequired, TypedDict
 
@@ -12,6 +12,7 @@ from ..exercises.exercise import Case, Exercise
 from .codes import new_code
 from .languages import NUMBERS, C, SourceText
 from .requests import BadRequest
+from .seats import TriedCase
 
 MAX_TRIES = 200  # of a seat at an exercise
 MAX_FAILURES = 50  # of checks, which the teacher is shown
@@ -174,8 +175,8 @@ class Exercises:
             result["name"] = result["name"] or case.name
         return done
 
-    def case(self, seat: str, name: str, number: int | None, source: SourceText) -> Callable[[int], list[str]]:
-        """Return a function from a program's entry address to the commands that set up a case.
+    def case(self, seat: str, name: str, number: int | None, source: SourceText) -> TriedCase:
+        """Return a case, with the commands that set it up for a source.
 
         number: its place among the cases, from 0 on; None for the one that failed first. Raises BadRequest for a hidden case,
         and where there is none.
@@ -187,7 +188,7 @@ class Exercises:
         if not 0 <= number < len(exercise.cases) or exercise.cases[number].is_hidden:
             raise BadRequest(f"case {number} of {name} isn't shown: take one from the list of cases")
         case, stack = exercise.cases[number], STACK if source.choice is None else ()
-        return lambda start: [*stack, *inputs(exercise, case, start)]
+        return TriedCase(name, number, lambda start: [*stack, *inputs(exercise, case, start)])
 
     def answered(self, ticket: str) -> tuple[str, str, Progress] | None:
         """The seat and the exercise of the answer whose lesson a ticket opens, and the progress there."""

@@ -37,8 +37,18 @@ _ENDS: Mapping[str, Condition] = {
 
 Done = tuple[str, Sequence[str]]
 """An executed line, and its answer."""
-CaseCommands = Callable[[int], list[str]]
-"""The commands that set up a case of an exercise, by the entry address of the program."""
+
+
+@dataclass(frozen=True)
+class TriedCase:
+    """A case of an exercise that a seat tries. number: its place among the cases, from 0 on
+
+    commands: returns the commands that set it up, for the entry address of a program
+    """
+
+    exercise: str
+    number: int
+    commands: Callable[[int], list[str]]
 
 
 @dataclass(eq=False)
@@ -48,7 +58,7 @@ class Seat:
     log, number: its last entries, and how many there were
     state, shown: all that is known of the user, and what pages show of it
     written, program: the source in the machine, and its program
-    case: the commands of the case that is tried; None without one
+    case: the case that is tried; None without one
     named: its parts for pages: its labels, its line for each word, and the addresses of each line's breakpoints; of one in C also where
         instructions of its lines begin, and its variables
     stop, line, answer: the last stop, command and line of an answer, without the digit
@@ -73,7 +83,7 @@ class Seat:
     named: SourceNames = field(default_factory=UNNAMED.copy)
     written: SourceText = SourceText()
     program: Program | None = None
-    case: CaseCommands | None = None
+    case: TriedCase | None = None
     output: dict[str, str] = field(default_factory=dict)
     stop: str = ""
     is_started: bool = False

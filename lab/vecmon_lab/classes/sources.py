@@ -1,7 +1,7 @@
 """The source of a seat: its text as it is, and the last versions of it, which the class's folder keeps.
 
 A3.s: the text, a second or two after it was typed; A3.written.s: the source in the machine, or nothing;
-A3.written.json: its compiled form
+A3.written.json: its compiled form; A3.case: the case of an exercise that is tried with it, as `doubles 1`, or nothing
 A3.exercise: the name of the exercise that is open; drafts/A3.doubles.s: the source of an exercise; A3.s is a copy
 while it is open
 sources/A3.17.typed.s: version 17, and why it is one: it was typed, written into memory, or given; its time is the file's
@@ -22,7 +22,7 @@ from .languages import LANGUAGES, NUMBERS, SourceText
 from .requests import BadRequest
 from .text_store import TextStore
 
-MADE, OPEN, DRAFTS = "written.json", "exercise", "drafts"
+MADE, CASE, OPEN, DRAFTS = "written.json", "case", "exercise", "drafts"
 MAX_VERSIONS = 50
 TYPING_SECONDS = 30.0  # after which what is typed becomes a version
 
@@ -36,6 +36,7 @@ class SeatSource:
 
     own, number: as it is, and how often it has changed since the server began; versions: the last ones, in order
     exercise: the one that is open, whose source is `own`; "" for none. Each exercise has a source.
+    case: the exercise and the number of the case that is tried with the source in the machine; None without one
     opened: when it was opened, or the server started, in seconds since 1970
     caret: the number of the line in which the student typed last; 0 if it is unknown
     """
@@ -50,6 +51,7 @@ class SeatSource:
         self.own = kept_source(store, self._place(self.exercise))
         self._saved = (self.exercise, self.own)
         self.written = self._saved_written = kept_source(store, f"{name}.written")
+        self.case = self._saved_case = kept_case(store, name)
         self._gift: tuple[SourceText, SourceText] | None = None  # the teacher's last one, and the own before it
         self._newest = self._newest_of(self.exercise)
         self._since = time.time()  # when the text began to differ from the newest version
@@ -150,6 +152,8 @@ class SeatSource:
             del self._left[exercise]
         if (self.exercise, self.own) != self._saved and self._write_own():
             self._saved = (self.exercise, self.own)
+        if self.case != self._saved_case and self._store.write_text(f"{self._name}.{CASE}", _case_text(self.case)):
+            self._saved_case = self.case
         if self.written != self._saved_written:
             reply = program.reply.decode("utf-8", "replace") if isinstance(program, CompiledProgram) else ""
             is_saved = self._store.write_text(f"{self._name}.{MADE}", reply)
@@ -235,6 +239,17 @@ def kept_exercise(store: TextStore, seat: str) -> str:
     """The exercise that was open at a seat; "" for none."""
     name = store.read_text(f"{seat}.{OPEN}")
     return name if re.fullmatch(r"[\w-]{1,40}", name, re.ASCII) else ""
+
+
+def kept_case(store: TextStore, seat: str) -> tuple[str, int] | None:
+    """The exercise and the number of the case that was tried last at a seat; None without one."""
+    parts = re.fullmatch(r"([\w-]{1,40}) ([0-9]{1,4})", store.read_text(f"{seat}.{CASE}"), re.ASCII)
+    return (parts[1], int(parts[2])) if parts else None
+
+
+def _case_text(case: tuple[str, int] | None) -> str:
+    """A case as the folder has it."""
+    return f"{case[0]} {case[1]}" if case else ""
 
 
 def kept_program(store: TextStore, seat: str) -> tuple[SourceText, Program]:

@@ -1,6 +1,7 @@
 """A student's requests at one seat, as steps at the machine, and what the student's page shows."""
 
 from collections.abc import Callable, Sequence
+from contextlib import suppress
 from typing import NotRequired, TypedDict, cast
 
 from .. import LabError
@@ -34,7 +35,7 @@ from .requests import (
     Why,
 )
 from .seat_status import problems_status
-from .seats import CaseCommands, Condition, Seat
+from .seats import Condition, Seat, TriedCase
 from .shared_machine import SEAT_BYTES, MakeProgram, Mistakes, SharedMachine, Steps
 from .sources import SeatSource, kept_program
 from .stepping import execute_line, run, step, step_line, step_until
@@ -129,7 +130,7 @@ class Student:
             self.source.open(names[0] if names else "")
 
     def restore(self) -> str:
-        """Brings back which source is in the seat's machine, where its text is kept; why that fails, else an empty text."""
+        """Brings back which source is in the seat's machine, and which case is tried; why that fails, else an empty text."""
         try:
             source, program = kept_program(self._texts, self.seat.name)
         except LabError as error:
@@ -137,11 +138,15 @@ class Student:
         if source.text:
             self.seat.take(source, program)
             self.seat.list_program(program)
+        if source.text and self.source.case:
+            with suppress(BadRequest):  # of an exercise that is off now
+                self.seat.case = self.exercises.case(self.seat.name, *self.source.case, source)
         return ""
 
     def save(self) -> bool:
         """Keeps the source where it has changed; whether there is a new version."""
-        self.source.written = self.seat.written
+        self.source.written, case = self.seat.written, self.seat.case
+        self.source.case = (case.exercise, case.number) if case else None
         return self.source.save(self.seat.program)
 
     def execute(self, request: SeatsRequest) -> Steps[Result]:
@@ -235,7 +240,7 @@ class Student:
         self,
         source: SourceText | None,
         number: int = -1,
-        case: CaseCommands | None = None,
+        case: TriedCase | None = None,
         keeps_breakpoints: bool = False,
     ) -> Steps[SourceResult]:
         """Starts the machine anew with a source, or with the one that is there and its case; the mistakes that it has."""
@@ -247,7 +252,8 @@ class Student:
             self.seat.set_status(problems_status(len(mistakes)))
         elif case:
             self.seat.case = case
-            yield from self.machine.lines(self.seat, Lines("", case(int(self.seat.state["pc"], 16)), 0, []), [])
+            entry = int(self.seat.state["pc"], 16)
+            yield from self.machine.lines(self.seat, Lines("", case.commands(entry), 0, []), [])
         self.problems = problems_json(source or self.seat.written, mistakes, warnings)
         return self.problems
 
