@@ -60,7 +60,7 @@ async def test_exercises_are_turned_on_and_off(tmp_path: pathlib.Path) -> None:
         assert (await tab.ask("check", exercise="filter", text="ret")).items() >= refused.items()
         late = await tab.ask("draft", text="typed meanwhile", number=1, exercise="filter")
         assert "error" not in late
-        assert "filter" in [version["exercise"] for version in tab.view["source"]["versions"]]
+        assert {"exercise": "filter", "title": "A filter"}.items() <= tab.view["source"]["versions"][-1].items()
 
         await teacher.ask("exercises", on=[])
         await other.until(lambda view: view["exercises"] == {})

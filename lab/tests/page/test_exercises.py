@@ -253,6 +253,7 @@ def test_passed_cases_are_shown(tabs: "Chrome", course: Served) -> None:
     assert "vadd.vv" in tab.run("text()")
     tab.choose("#exercise [aria-label='Earlier answers']", "try 1")
     tab.wait("text() === arguments[0]", wrong)
+    assert tab.run("id('versions').options[1].textContent").endswith(" typed, Doubles")
     tab = Tab(tabs, course, "A3")  # a new one shows what was there
     tab.wait("text() === arguments[0]", wrong)
     choose(tab, "strip_mined_copy")

@@ -81,6 +81,7 @@ class Checks:
         found = self._settle([*self._offered])  # so that a mistake is reported now
         self._offer_others(keeps_order=not chosen)
         self.exercises = Exercises(found, {name: starts_of(exercise) for name, exercise in found.items()})
+        self.exercises.titles |= {name: each.title for name, each in self._offered.items()}
         self.exercises.known.update(before)  # pages that stayed open may still send a draft of one of them
         if found:
             self._save_choice()

@@ -17,6 +17,12 @@ from .sources import SeatSource, Version
 Logs = dict[str, list[str]]
 
 
+class VersionView(Version):
+    """A version on a page. title: of its exercise, or the exercise's name where its title is unknown; "" for none"""
+
+    title: str
+
+
 class SourceView(TypedDict):
     """The source of a seat.
 
@@ -29,7 +35,7 @@ class SourceView(TypedDict):
     number: int
     exercise: str
     stands: bool
-    versions: list[Version]
+    versions: list[VersionView]
 
 
 class Offer(TypedDict):
@@ -306,15 +312,18 @@ def explain_refusals(result: Result, digit: str, request: JsonObject, done: Answ
     return cast(Result, {**result, "words": words})
 
 
-def source_view(source: SeatSource, seat: Seat) -> SourceView:
-    """The source of a seat, for pages."""
+def source_view(source: SeatSource, seat: Seat, titles: Mapping[str, str]) -> SourceView:
+    """The source of a seat, for pages. titles: of exercises, by name"""
+    versions: list[dict[str, object]] = [
+        {**each, "title": titles.get(each["exercise"], each["exercise"])} for each in source.versions
+    ]
     return {
         "text": source.own.text,
         "language": source.own.language,
         "number": source.number,
         "exercise": source.exercise,
         "stands": source.own == seat.written,
-        "versions": source.versions,
+        "versions": cast(list[VersionView], versions),
     }
 
 

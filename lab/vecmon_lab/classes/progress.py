@@ -111,12 +111,13 @@ class Exercises:
     """Exercises by name, the sources that each may start with, and the progress of each seat.
 
     by_name: those that students have, in their order; known: the names of these, and of those that they have had
+    titles: of these exercises, and of those that the teacher may turn on, by name
     busy: the exercise by seat whose answer is checked, or made a lesson of
     failures: the last checks that failed on the server's side, in order; for the teacher alone
     """
 
     def __init__(self, exercises: Mapping[str, Exercise], starts: Mapping[str, list[Start]]) -> None:
-        self.known, self.busy = set[str](), dict[str, str]()
+        self.known, self.titles, self.busy = set[str](), dict[str, str](), dict[str, str]()
         self.choose(exercises, starts)
         self._progress: dict[tuple[str, str], Progress] = {}
         self.failures: list[CheckFailure] = []
@@ -127,6 +128,7 @@ class Exercises:
         self._numbers = {name: number for number, name in enumerate(exercises, 1)}
         self._cases = {name: [_case_view(each, case) for case in each.cases] for name, each in exercises.items()}
         self.known |= exercises.keys()
+        self.titles |= {name: each.title for name, each in exercises.items()}
 
     def exercise(self, name: str) -> Exercise:
         """The exercise of a name. Raises BadRequest."""

@@ -267,7 +267,7 @@ class Student:
             "quantum": self.machine.session.quantum,
             "share": {"used": self.seat.used, "of": SEAT_BYTES},
             "languages": [language.name for language in LANGUAGES],
-            "source": source_view(self.source, self.seat),
+            "source": source_view(self.source, self.seat, self.exercises.titles),
             "exercises": self.exercises.views(self.seat.name),
             "again": self.seat.program is not None,
         }

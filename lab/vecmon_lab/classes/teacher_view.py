@@ -160,7 +160,9 @@ def teacher_view(members: Class, tab: Tab) -> TeacherView:
     }
     if tab.shoulder:
         student = members.students[tab.shoulder.name]
-        view["state"], view["source"] = shown(tab.shoulder), source_view(student.source, tab.shoulder)
+        view["state"], view["source"] = shown(tab.shoulder), source_view(
+            student.source, tab.shoulder, student.exercises.titles
+        )
         view["caret"], view["problems"] = student.source.caret, student.problems
         if student.source.exercise in student.exercises.by_name:
             view["outcome"] = _outcome(student)

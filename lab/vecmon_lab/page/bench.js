@@ -253,10 +253,10 @@ export class Bench {
   }
 
   /** Shows the seat's source; one that the teacher has just given is opened. */
-  showSource(/** @type {View} */ { seat, state, source, share, exercises }) {
+  showSource(/** @type {View} */ { seat, state, source, share }) {
     const { told } = this.source;
     const isGiven = told && told.versions !== source.versions && source.versions.at(-1)?.why === "given";
-    this.source.show(seat, source, exercises);
+    this.source.show(seat, source);
     this.mark(this.desk.past.moment?.state ?? state);
     this.source.showLanguage(share);
     this.takeLinked();

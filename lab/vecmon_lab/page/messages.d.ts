@@ -781,7 +781,7 @@ export interface SourceView {
   number: number;
   exercise: string;
   stands: boolean;
-  versions: Version[];
+  versions: VersionView[];
 }
 
 export interface Start {
@@ -973,19 +973,21 @@ export interface UnsentAnswer {
   read: string[];
 }
 
-export interface Version {
-  number: number;
-  time: number;
-  why: string;
-  language: number;
-  exercise: string;
-}
-
 /** A version of the source of the own or the observed seat. */
 export interface VersionRequest {
   id: number;
   ask: "version";
   number: number;
+}
+
+/** A version on a page. title: of its exercise, or the exercise's name where its title is unknown; "" for none */
+export interface VersionView {
+  number: number;
+  time: number;
+  why: string;
+  language: number;
+  exercise: string;
+  title: string;
 }
 
 /** The seat on the wall, or none. */

@@ -54,7 +54,7 @@ export class Shoulder {
     byId("lower-hand").hidden = !told.hand;
     byId("on-wall").ariaPressed = `${view.wall === seat}`;
     this.desk.show(seat, state, log, isOther);
-    this.source.show(seat, source, view.exercises);
+    this.source.show(seat, source);
     this.source.mark(state);
     const found = problems ? [...problems.mistakes, ...problems.warnings] : []; // by the last assembly
     if (isOther || problems !== before.problems) this.problems.show(found.map((each) => ({ ...each, fix: [] })));

@@ -9,9 +9,8 @@ import { textOf } from "./texts.js";
 
 /** @typedef {import("./types").Message} Message */
 /** @typedef {import("./messages").SourceView} SourceView */
-/** @typedef {import("./messages").Version} Version */
+/** @typedef {import("./messages").VersionView} Version */
 /** @typedef {import("./types").SourceText} SourceText */
-/** @typedef {Record<string, { title: string }>} Exercises */
 
 export const MOST_LETTERS = 65536;
 const PAUSE = 700; // ms in which nothing is typed, and then it is sent
@@ -21,10 +20,9 @@ const REASONS = { typed: textOf("source.typed"), written: textOf("source.assembl
 /** Equal for equal sources; "" for none. */
 const keyOf = (/** @type {SourceText | null} */ source) => (source ? `${source.language} ${source.text}` : "");
 
-/** A version in words, as `14:05 given, Doubles`; exercises have their titles. */
-/** @type {(version: Version, exercises: Exercises) => string} */
-const versionText = ({ time, why, exercise }, exercises) =>
-  [`${timeText(time)} ${REASONS[why]}`, exercise && (exercises[exercise]?.title ?? exercise)].filter(Boolean).join(", ");
+/** A version in words, as `14:05 given, Doubles`. */
+const versionText = (/** @type {Version} */ { time, why, title }) =>
+  [`${timeText(time)} ${REASONS[why]}`, title].filter(Boolean).join(", ");
 
 export class Source {
   seat = "";
@@ -127,15 +125,15 @@ export class Source {
     put(this.parts.left, this.isTooLong ? textOf("source.too-long", { most: MOST_LETTERS.toLocaleString(textOf("language")) }) : left);
   }
 
-  /** Shows what the server has, unless it is what was typed here. Versions are listed with the titles of exercises. */
-  /** @type {(seat: string, source: SourceView, exercises: Exercises) => void} */
-  show(seat, source, exercises) {
+  /** Shows what the server has, unless it is what was typed here. */
+  /** @type {(seat: string, source: SourceView) => void} */
+  show(seat, source) {
     const { editor, told } = this;
     const isNew = seat !== this.seat || !told;
     const isOwn = (/** @type {SourceText} */ each) => keyOf(each) === keyOf(told) || this.sent.has(keyOf(each));
     const isOther = !isNew && (source.exercise !== told.exercise || (source.number > told.number && !isOwn(source)));
-    const title = (/** @type {Version} */ version) => versionText(version, exercises);
-    if (told?.versions !== source.versions) offer(this.parts.versions, textOf("source.versions"), source.versions.map(title).reverse());
+    if (told?.versions !== source.versions)
+      offer(this.parts.versions, textOf("source.versions"), source.versions.map(versionText).reverse());
     if (isOther && this.isTooLong) return;
     Object.assign(this, { seat, told: source });
     if (isNew || editor.isReadOnly) {
