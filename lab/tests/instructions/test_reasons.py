@@ -222,7 +222,11 @@ REASONS: list[tuple[str, ControlRegisters, list[str]]] = [
         ],
     ),
     # no instruction
-    (".word 0x00000000", VILL, ["The word is 0, as in memory where nothing was written."]),
+    (
+        ".word 0x00000000",
+        VILL,
+        ["The word is 0, as in memory where nothing was written: is an ebreak or ret missing before it?"],
+    ),
     (
         ".word 0x00010001",
         VILL,

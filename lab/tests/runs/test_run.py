@@ -50,7 +50,11 @@ def test_exit_status_is_passed_on(lab: Lab, program: pathlib.Path, tmp_path: pat
         ("nop\nebreak", 133, "10004: ebreak: Stopped at the ebreak at 0x10004."),
         ("jr zero", 139, f"0: No instruction can be fetched at 0x0: {NOT_THERE} x."),
         ("li t0, 2\njr t0", 139, f"{JUMP}: The jump or branch at 0x10004 goes to 0x2, which isn't divisible by 4."),
-        (".word 0", 139, f"{ZERO} The word is 0, as in memory where nothing was written."),
+        (
+            ".word 0",
+            139,
+            f"{ZERO} The word is 0, as in memory where nothing was written: is an ebreak or ret missing before it?",
+        ),
         ("vid.v v8", 139, f"{VID} The vector type is vill: no vset instruction has set one that is supported."),
     ],
 )
