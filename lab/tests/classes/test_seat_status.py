@@ -129,19 +129,39 @@ async def test_unknown_instruction_has_no_name() -> None:
 
 
 async def test_requests_and_open_exercise_have_times(tmp_path: pathlib.Path) -> None:
+    """An exercise is open since the student opens it, also the first one; it stays open since then when it is opened again."""
     started = int(time.time())
     async with served(tmp_path / "a class", exercises=[pathlib.Path("doubles"), pathlib.Path("filter")]) as room:
         tab, teacher = await room.sit("A1"), await room.sit("teacher")
         assert (teacher.view["class_title"], tab.view["class_title"], tab.view["title"]) == ("a class", "a class", "")
         assert (seat(teacher, "1")["active"], seat(teacher, "1")["exercise"]) == (0, "doubles")
-        assert started <= seat(teacher, "1")["exercise_since"] <= time.time()
-        assert room.members
+        await tab.ask("run", text="nop")  # a first try of the machine, before any exercise
+        assert room.members and seat(teacher, "1")["exercise_since"] == 0
+        await tab.ask("open", exercise="doubles")
+        await teacher.until(lambda view: started <= seat(teacher, "1")["exercise_since"] <= time.time())
         room.members.students["A1"].source.opened = 1.0
+        await tab.ask("open", exercise="doubles")
+        await teacher.until(lambda view: seat(teacher, "1")["exercise_since"] == 1)
         await tab.ask("open", exercise="filter")
         await teacher.until(lambda view: seat(teacher, "1")["exercise"] == "filter")
         assert started <= seat(teacher, "1")["exercise_since"] <= time.time()
         assert started <= seat(teacher, "1")["active"] <= time.time()
-        assert seat(teacher, "2")["active"] == 0
+        assert seat(teacher, "2")["active"] == seat(teacher, "2")["exercise_since"] == 0
+
+
+async def test_checked_exercise_is_open(tmp_path: pathlib.Path) -> None:
+    """A check opens the first exercise; a choice of exercises opens one only at seats where another one was open."""
+    started = int(time.time())
+    async with served(tmp_path / "class", exercises=[pathlib.Path("doubles"), pathlib.Path("filter")]) as room:
+        tab, teacher = await room.sit("A1"), await room.sit("teacher")
+        await tab.ask("check", exercise="doubles", text="ret")
+        await teacher.until(lambda view: seat(teacher, "1")["exercise_since"] >= started)
+        assert room.members
+        room.members.students["A1"].source.opened = 1.0
+        await tab.until(lambda view: view["exercises"]["doubles"]["tries"] == 1)
+        await teacher.ask("exercises", on=["filter"])
+        await teacher.until(lambda view: seat(teacher, "1")["exercise"] == seat(teacher, "2")["exercise"] == "filter")
+        assert seat(teacher, "1")["exercise_since"] >= started and seat(teacher, "2")["exercise_since"] == 0
 
 
 async def test_long_work_with_failed_tries_is_stuck(tmp_path: pathlib.Path, monkeypatch: pytest.MonkeyPatch) -> None:

@@ -27,6 +27,9 @@ NEXT_IN_SIGHT = """((box, line) => line && line.top >= box.top && line.bottom <=
     id("source").nextSibling.getBoundingClientRect(), one("#editor .next")?.getBoundingClientRect())"""
 BOXES = "[...one(arguments[0]).querySelectorAll('.strip span[title]')].map((box) => box.firstChild.data)"
 
+KEEP_REQUESTS = """const requests = [], send = WebSocket.prototype.send;
+    WebSocket.prototype.send = function (text) { requests.push(JSON.parse(text)); return send.call(this, text); };"""
+OPENED = "requests.filter(({ ask }) => ask === 'open').map(({ exercise }) => exercise)"  # which pages have asked the server to open
 ANSWERS = "#seats [data-seat='A3'] button[value='doubles']"
 
 
@@ -59,7 +62,7 @@ def choose(tab: Tab, name: str) -> None:
 
 def test_first_visit_starts_with_a_step(tabs: "Chrome", course: Served) -> None:
     """The exercises are listed next to a sample; cards have the elements' place until the first step, and come back by Help."""
-    tab = Tab(tabs, course, "B1")
+    tab = Tab(tabs, course, "B1", before=KEEP_REQUESTS)
     tab.wait("id('welcome').checkVisibility()")
     assert tab.run("text()").startswith("# Doubles of the numbers 0 to 7.")
     assert tab.run("all('#welcome li').length") == 4 and not tab.run("one('#vectors .missing').checkVisibility()")
@@ -68,7 +71,7 @@ def test_first_visit_starts_with_a_step(tabs: "Chrome", course: Served) -> None:
     assert not tab.run("id('check').checkVisibility()") and tab.activate().execute_script(CONTRAST) == []
     tab.click("#step-once")
     tab.wait("id('step').textContent.includes('vsetivli zero, 8, e32') && !id('welcome').checkVisibility()")
-    assert tab.run("id('elements').checkVisibility() && !id('check').checkVisibility()")
+    assert tab.run("id('elements').checkVisibility() && !id('check').checkVisibility()") and tab.run(OPENED) == []
     assert tab.run("id('vectors').matches('.shown')"), "the pane that a phone shows"
     tab.click("#show-reference")
     tab.click("#show-welcome")
@@ -76,6 +79,7 @@ def test_first_visit_starts_with_a_step(tabs: "Chrome", course: Served) -> None:
     tab.click("#open-first")
     tab.wait("text().includes('a0: address of the doubles')")
     assert tab.text("#exercise-text h3") == "1 Doubles" and tab.run("id('check').checkVisibility()")
+    assert tab.run(OPENED) == ["doubles"], "the server counts the time at it from now on"
     tab.click("#one")
     tab.wait("!id('welcome').checkVisibility() && id('step').textContent.includes('ret')")
 

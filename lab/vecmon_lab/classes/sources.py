@@ -37,7 +37,7 @@ class SeatSource:
     own, number: as it is, and how often it has changed since the server began; versions: the last ones, in order
     exercise: the one that is open, whose source is `own`; "" for none. Each exercise has a source.
     case: the exercise and the number of the case that is tried with the source in the machine; None without one
-    opened: when it was opened, or the server started, in seconds since 1970
+    opened: when its student opened it, or the server started while it was open, in seconds since 1970; 0 before
     caret: the number of the line in which the student typed last; 0 if it is unknown
     """
 
@@ -47,7 +47,8 @@ class SeatSource:
         self._unsaved: dict[int, SourceText] = {}  # versions by number
         self._left: dict[str, SourceText] = {}  # sources of exercises that aren't open, unless they are saved
         self.versions = self._found()
-        self.exercise, self.opened = kept_exercise(store, name), time.time()
+        self.exercise = kept_exercise(store, name)
+        self.opened = time.time() if self.exercise else 0.0
         self.own = kept_source(store, self._place(self.exercise))
         self._saved = (self.exercise, self.own)
         self.written = self._saved_written = kept_source(store, f"{name}.written")
@@ -66,26 +67,26 @@ class SeatSource:
         if not exercises or self.exercise in exercises:
             return
         if self.exercise or kept_source(self._store, self._place(exercises[0])).text:
-            self.open(exercises[0])
+            self.open(exercises[0], is_students=False)
         else:
             self.exercise = exercises[0]
 
-    def open(self, exercise: str) -> None:
-        """Opens an exercise with its source as it was left, or an empty one; that of the exercise before stays with it."""
-        if exercise == self.exercise:
+    def open(self, exercise: str, is_students: bool = True) -> None:
+        """Opens an exercise with its source as it was left, or an empty one; that of the exercise before stays with it.
+
+        is_students: whether the student opens it; otherwise it counts as opened if the one before does
+        """
+        is_other = exercise != self.exercise
+        if self.opened and is_other or not self.opened and is_students:
+            self.opened = time.time()
+        if not is_other:
             return
         if not self.exercise:
             self._add_version(self.own, "typed")
         self._left[self.exercise] = self.own
         left = self._left.pop(exercise, None) or kept_source(self._store, self._place(exercise))
         self.own = left if left.text else SourceText("", self.own.language)
-        self.exercise, self.opened, self.caret, self.number, self._gift = (
-            exercise,
-            time.time(),
-            0,
-            self.number + 1,
-            None,
-        )
+        self.exercise, self.caret, self.number, self._gift = exercise, 0, self.number + 1, None
         self._newest, self._since = self._newest_of(exercise), time.time()
 
     def draft(self, source: SourceText, number: int, exercise: str = "", is_kept: bool = False) -> None:

@@ -127,7 +127,7 @@ class Student:
         """Open the first exercise, if the open one isn't among those that students have; none without any."""
         names = [*self.exercises.by_name]
         if self.source.exercise not in names:
-            self.source.open(names[0] if names else "")
+            self.source.open(names[0] if names else "", is_students=False)
 
     def restore(self) -> str:
         """Brings back which source is in the seat's machine, and which case is tried; why that fails, else an empty text."""
@@ -183,6 +183,8 @@ class Student:
                 return text_of(self.source.version(number))
             case Check(name, source):
                 self._check(self.seat.name, name, source)
+                if name == self.source.exercise:
+                    self.source.open(name)  # also where the page hasn't asked for it
             case TryCase(name, source, which):
                 return (yield from self._try(name, source, which))
         return {}

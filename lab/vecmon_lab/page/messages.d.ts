@@ -621,7 +621,7 @@ export interface SeatStatus {
  *
  * tabs: the number of open ones; active: when one of them made its last request; 0 without one
  * status, since: of its program, and since when it is so
- * exercise, exercise_since: the open one, or "", and since when it is open, or the server runs
+ * exercise, exercise_since: the first one or the one that the student opened, or "", and since when it is open; 0 if it isn't yet
  * stuck, stuck_since: whether its student may need somebody, and since when, which is missing otherwise: the program has problems, a
  *     fault, or ran too long, or the exercise has been open for 10 minutes, with 3 tries that failed
  * changed: whether its source differs from the newest version
