@@ -95,6 +95,33 @@ def test_stuck_students_are_listed_first(tabs: "Chrome", served: Served) -> None
     teacher.wait("one(\"[data-seat='D7'] .condition\").textContent === 'not begun'")
 
 
+def test_newer_hand_comes_before_students_looked_at(tabs: "Chrome", served: Served) -> None:
+    """N goes to the first student in the list whom the teacher hasn't looked at since; then on through the list."""
+    names = ("A5", "A6", "A7")
+    students, teacher = [Tab(tabs, served, name) for name in names], Tab(tabs, served, "teacher")
+    for name, tab in zip(names, students):
+        tab.command("enter", "step 1")  # a fault; each at another second, which orders them
+        teacher.wait(f"one(\"[data-seat='{name}']\").matches('.help')")
+        teacher.wait(f"one(\"[data-seat='{name}'] .minutes\").textContent !== '0 s'")
+
+    def press_n(name: str, key: str = "N") -> None:
+        press_key(teacher, key)
+        teacher.wait("one('#seats [aria-current=true]')?.dataset.seat === arguments[0]", name)
+
+    assert teacher.run(f"{SEATS}.slice(0, 3)") == [*names]
+    press_n("A5")
+    press_n("A6")
+    students[0].click("#hand")
+    teacher.wait("one(\"[data-seat='A5']\").matches('.hand')")
+    for name in ("A5", "A7", "A5", "A6", "A7"):  # the new hand, the one not yet looked at, and all again
+        press_n(name)
+    press_n("A6", "Shift+N")
+    for tab in students:
+        tab.command("leave")
+    students[0].click("#hand")
+    teacher.wait("!all('#seats :is(.hand, .help)').length")
+
+
 def test_source_is_offered_to_chosen_seats(tabs: "Chrome", served: Served) -> None:
     """Ticked rows are chosen; who opens the offer is counted; it is taken back from the one who hasn't read it."""
     tab, other, teacher = Tab(tabs, served, "C4"), Tab(tabs, served, "C5"), Tab(tabs, served, "teacher")

@@ -17,8 +17,7 @@ function show(/** @type {boolean} */ isByTicks) {
 
 /** Shows a frame, and those that called it, in full width. */
 function choose(/** @type {Element} */ button) {
-  const frames = elementsIn(byId("flame"), "li");
-  for (const frame of frames) frame.classList.toggle("chosen", frame.contains(button));
+  for (const frame of elementsIn(byId("flame"), "li")) frame.classList.toggle("chosen", frame.contains(button));
 }
 
 setWidths();

@@ -55,6 +55,7 @@ function columnHead(value, exercise, number) {
 class Row {
   told = /** @type {SeatView} */ ({});
   /** @type {Exercises} */ exercises = {};
+  seen = ""; // its rank when the teacher looked at it last
 
   constructor(/** @type {string} */ seat) {
     this.seat = seat;
@@ -70,6 +71,9 @@ class Row {
     const { run, stuck, tabs, name, hand } = this.told;
     return [hand, stuck, run !== "absent", tabs || name, true].findIndex(Boolean);
   }
+
+  /** A text that sorts rows: by their groups, and those who need help by the time since when they wait. */
+  get rank() { return `${this.group} ${this.group < 2 ? waitOf(this.told) : ""} ${this.seat}`; }
 
   /** @type {(told: SeatView, exercises: Exercises, names: string[]) => void} names: of exercises, in their order */
   show(told, exercises, names) {
@@ -95,6 +99,8 @@ class Row {
   }
 }
 
+const byRank = (/** @type {Row} */ one, /** @type {Row} */ other) => (one.rank < other.rank ? -1 : 1);
+
 export class Roster {
   /** @type {Row[]} */ rows = []; // those who need help first, longest first
 
@@ -118,6 +124,7 @@ export class Roster {
     for (const row of this.rows) {
       row.show(this.teacher.seatOf(row.seat), exercises, names);
       row.row.ariaCurrent = `${row.seat === shoulder}`;
+      if (row.seat === shoulder) row.seen = row.rank;
     }
     this.age();
     this.sort();
@@ -125,16 +132,16 @@ export class Roster {
 
   age = () => this.rows.forEach(({ group, told, minutes }) => put(minutes, group < 3 ? forHow(this.teacher.now() - waitOf(told)) : ""));
 
-  /** The rows of those who need help. */
-  get waiting() { return this.rows.filter(({ group }) => group < 2); }
+  /** The rows of those who need help, the longest wait first, also while the list stays as it is. */
+  get waiting() { return this.rows.filter(({ group }) => group < 2).sort(byRank); }
 
-  /** Looks at the next student who needs help, or with -1 at the one before. */
+  /** Looks at the first student who needs help and wasn't looked at since; without one at the next, or with -1 at the one before. */
   goOn(/** @type {number} */ step) {
-    const { waiting, teacher } = this;
-    const place = waiting.findIndex(({ seat }) => seat === teacher.shoulder.seat);
-    const row = waiting[(Math.max(place, step < 0 ? 0 : -1) + step + waiting.length) % waiting.length];
+    const rows = step < 0 ? this.waiting.reverse() : this.waiting;
+    const place = rows.findIndex(({ seat }) => seat === this.teacher.shoulder.seat);
+    const row = (step > 0 && rows.find(({ rank, seen }) => rank !== seen)) || rows[place + 1] || rows[0];
     row?.look.focus();
-    if (row) teacher.lookAt(row.seat);
+    if (row) this.teacher.lookAt(row.seat);
   }
 
   clicked(/** @type {HTMLElement} */ target) {
@@ -159,8 +166,7 @@ export class Roster {
   sort() {
     const [body, rows] = [byId("seats"), this.rows];
     if (body.childElementCount === rows.length && body.matches(":hover")) return;
-    const keyOf = (/** @type {Row} */ { group, told, seat }) => `${group} ${group < 2 ? waitOf(told) : ""} ${seat}`;
-    rows.sort((one, other) => (keyOf(one) < keyOf(other) ? -1 : 1));
+    rows.sort(byRank);
     if (rows.every(({ row }, place) => row === body.children[place])) return;
     const focused = /** @type {HTMLElement} */ (document.activeElement);
     body.replaceChildren(...rows.map(({ row }) => row));
