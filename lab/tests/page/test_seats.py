@@ -122,6 +122,24 @@ def test_newer_hand_comes_before_students_looked_at(tabs: "Chrome", served: Serv
     teacher.wait("!all('#seats :is(.hand, .help)').length")
 
 
+def test_shown_codes_move_no_button(tabs: "Chrome", served: Served) -> None:
+    """A second click at the place of *All codes* hits the same button, in wide and narrow windows."""
+    teacher = Tab(tabs, served, "teacher")
+    places = """['show-codes', 'open-sheet'].map((name) => id(name).getBoundingClientRect()).map(({ left, top }) => [left, top])"""
+    for width in (1280, 390):
+        size = {"width": width, "height": 800, "deviceScaleFactor": 1, "mobile": False}
+        teacher.activate().execute_cdp_cmd("Emulation.setDeviceMetricsOverride", size)
+        teacher.click("[data-dialog='join-class']")
+        before = teacher.run(places)
+        teacher.click("#show-codes")
+        teacher.wait("all('#codes a').length === 33")
+        assert teacher.run(places) == before
+        teacher.click("#show-codes")
+        teacher.wait("!one('#codes a')")
+        teacher.click("#join-class .done")
+    teacher.activate().execute_cdp_cmd("Emulation.clearDeviceMetricsOverride", {})
+
+
 def test_source_is_offered_to_chosen_seats(tabs: "Chrome", served: Served) -> None:
     """Ticked rows are chosen; who opens the offer is counted; it is taken back from the one who hasn't read it."""
     tab, other, teacher = Tab(tabs, served, "C4"), Tab(tabs, served, "C5"), Tab(tabs, served, "teacher")
