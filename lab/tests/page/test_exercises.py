@@ -30,6 +30,7 @@ BOXES = "[...one(arguments[0]).querySelectorAll('.strip span[title]')].map((box)
 KEEP_REQUESTS = """const requests = [], send = WebSocket.prototype.send;
     WebSocket.prototype.send = function (text) { requests.push(JSON.parse(text)); return send.call(this, text); };"""
 OPENED = "requests.filter(({ ask }) => ask === 'open').map(({ exercise }) => exercise)"  # which pages have asked the server to open
+ANSWER = "[id('answer-title').textContent, id('answer').checkVisibility()]"
 ANSWERS = "#seats [data-seat='A3'] button[value='doubles']"
 
 
@@ -263,10 +264,19 @@ def test_passed_cases_are_shown(tabs: "Chrome", course: Served) -> None:
     choose(tab, "strip_mined_copy")
     assert "# bytes of this strip" in tab.run("text()")
     assert tab.run("one('#course-list .passed').textContent") == "1Doubles✓"
-    teacher = Tab(tabs, course, "teacher")
+    other, teacher = Tab(tabs, course, "A7"), Tab(tabs, course, "teacher")
+    choose(other, "doubles")
+    check(other, "# A7's\nret", "It passes 1 of 5 cases.")
     teacher.wait("one(arguments[0])?.textContent === '✓2'", ANSWERS)
+    teacher.click(ANSWERS)  # which looks at the seat
+    teacher.wait("id('answer').textContent.includes('vadd.vv') && id('shoulder-title').textContent === 'seat A3'")
+    assert teacher.run(ANSWER) == ["seat A3: Doubles", True]
+    for seat, reason in (("A7", True), ("A8", False)):  # of the seat that is looked at, or none
+        look_at(teacher, seat)
+        teacher.wait("id('answer-title').textContent === arguments[0]", f"seat {seat}: Doubles")
+        assert "vadd.vv" not in teacher.text("#answer") and bool(teacher.text("#answer-says")) == reason
+    assert teacher.text("#answer") == "No answer was checked yet." and teacher.run("id('answer-try').hidden")
     look_at(teacher, "A3")
-    teacher.click(ANSWERS)
     teacher.wait("id('answer').textContent.includes('vadd.vv')")
     teacher.choose("#answer-try", "try 1")
     teacher.wait("id('answer').textContent.includes('vsetivli zero, 8')")

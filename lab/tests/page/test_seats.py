@@ -140,6 +140,19 @@ def test_shown_codes_move_no_button(tabs: "Chrome", served: Served) -> None:
     teacher.activate().execute_cdp_cmd("Emulation.clearDeviceMetricsOverride", {})
 
 
+def test_second_click_on_row_repeats_no_line(tabs: "Chrome", served: Served) -> None:
+    """The console of the seat that is looked at stays as it is."""
+    tab, teacher = Tab(tabs, served, "A8"), Tab(tabs, served, "teacher")
+    tab.command("enter", "peek 0 1")
+    look_at(teacher, "A8")
+    teacher.wait("id('log').textContent.includes('> peek 0 1')")
+    lines = teacher.run("all('#log li').length")
+    look_at(teacher, "A8")
+    tab.command("leave")
+    teacher.wait("id('log').textContent.includes('> leave')")
+    assert teacher.run("all('#log li').length") == lines + 2
+
+
 def test_source_is_offered_to_chosen_seats(tabs: "Chrome", served: Served) -> None:
     """Ticked rows are chosen; who opens the offer is counted; it is taken back from the one who hasn't read it."""
     tab, other, teacher = Tab(tabs, served, "C4"), Tab(tabs, served, "C5"), Tab(tabs, served, "teacher")

@@ -144,11 +144,15 @@ export class Roster {
     if (row) this.teacher.lookAt(row.seat);
   }
 
-  clicked(/** @type {HTMLElement} */ target) {
+  /** Looks at the seat of a row; with a click on an exercise, at its answers. */
+  async clicked(/** @type {HTMLElement} */ target) {
     const exercise = target.closest("button")?.value;
     const seat = target.closest("tr")?.dataset.seat ?? this.teacher.shoulder.seat;
-    if (!seat || target.matches("input")) return undefined;
-    return exercise ? this.teacher.shoulder.open(seat, exercise) : this.teacher.lookAt(seat);
+    if (!seat || target.matches("input")) return;
+    await this.teacher.lookAt(seat);
+    if (!exercise) return;
+    this.teacher.shoulder.panes.show("seat-answers");
+    this.teacher.shoulder.showAnswers(exercise);
   }
 
   /** Arrow keys go to the row above and the one below. */

@@ -14,7 +14,7 @@ import { textOf } from "./texts.js";
 /** @typedef {import("./messages").TeacherView} TeacherView */
 
 export class Shoulder {
-  answered = { seat: "", exercise: "" }; // whose answers are shown
+  exercise = ""; // whose answers are shown
 
   /** @param {HTMLElement} root of all its parts @param {import("./teacher.js").Teacher} teacher */
   constructor(root, teacher) {
@@ -57,6 +57,7 @@ export class Shoulder {
     this.source.show(seat, source);
     this.source.mark(state);
     const found = problems ? [...problems.mistakes, ...problems.warnings] : []; // by the last assembly
+    if (isOther) this.showAnswers();
     if (isOther || problems !== before.problems) this.problems.show(found.map((each) => ({ ...each, fix: [] })));
     if (caret && caret !== before.caret) this.editor.code.setCursor({ line: caret - 1, ch: 0 }); // where the student typed last
   }
@@ -64,23 +65,22 @@ export class Shoulder {
   /** The name of the seat. */
   get seat() { return this.teacher.view.shoulder; }
 
-  /** Shows a seat's answers to an exercise, the last one first. */
-  open(/** @type {string} */ seat, /** @type {string} */ exercise) {
-    const { title, seats } = this.teacher.view.exercises[exercise];
-    const { tries = 0 } = seats[seat] ?? {};
-    this.answered = { seat, exercise };
+  /** Shows the answers of the seat that is looked at to an exercise, by default the one that was chosen last; the last one first. */
+  showAnswers(exercise = this.exercise) {
+    const { tries = 0 } = this.teacher.view.exercises[exercise]?.seats[this.seat] ?? {};
+    this.exercise = exercise;
     offerTries(byId("answer-try"), tries);
     byId("answer-try").selectedIndex = tries - 1;
-    this.panes.show("seat-answers");
-    put(byId("answer-title"), `${this.teacher.withName(seat)}: ${title}`);
-    put(byId("answer"), tries ? "" : textOf("shoulder.no-answer"));
-    return tries && this.read(tries);
+    if (exercise) this.read(tries);
   }
 
+  /** Shows an answer with the name of its seat. number: of the try; 0 without one */
   async read(/** @type {number} */ number) {
-    const answer = await this.teacher.request({ ask: "answer", ...this.answered, number });
-    put(byId("answer"), answer?.text ?? "");
+    const { seat, exercise, teacher } = this;
+    const answer = number ? await teacher.request({ ask: "answer", seat, exercise, number }) : null;
+    put(byId("answer-title"), `${teacher.withName(seat)}: ${teacher.view.exercises[exercise]?.title ?? exercise}`);
+    put(byId("answer"), answer?.text ?? (number ? "" : textOf("shoulder.no-answer")));
     put(byId("answer-says"), answer?.told?.reason ?? "");
-    byId("answer-try").title = this.teacher.view.languages[answer?.language ?? 0];
+    byId("answer-try").title = teacher.view.languages[answer?.language ?? 0];
   }
 }

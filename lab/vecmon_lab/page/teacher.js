@@ -76,7 +76,7 @@ export class Teacher {
 
   /** Looks at a seat, which comes into sight. */
   async lookAt(/** @type {string} */ seat) {
-    await this.request({ ask: "shoulder", seat });
+    if (seat !== this.view.shoulder) await this.request({ ask: "shoulder", seat });
     byId("shoulder").scrollIntoView({ block: "nearest" });
   }
 
