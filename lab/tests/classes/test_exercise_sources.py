@@ -2,6 +2,7 @@
 
 import pathlib
 import shutil
+import time
 from typing import Any
 
 import pytest
@@ -55,7 +56,7 @@ async def test_source_waits_for_disk(tmp_path: pathlib.Path, monkeypatch: pytest
 
 async def test_exercises_have_separate_sources(tmp_path: pathlib.Path) -> None:
     """In all tabs, in a new one, and behind a restart, also where the open exercise was another one."""
-    folder = tmp_path / "class"
+    folder, started = tmp_path / "class", int(time.time())
     async with served(folder, exercises=TWO) as room:
         tab, other = await room.sit("A1"), await room.sit("A1")
         assert tab.view["source"]["exercise"] == "doubles"
@@ -76,7 +77,8 @@ async def test_exercises_have_separate_sources(tmp_path: pathlib.Path) -> None:
         assert (await room.sit("A2")).view["source"]["text"] == ""
         assert room.members
         room.members.save()
-    assert (folder / "A1.exercise").read_text() == "byte_sum"
+    name, opened = (folder / "A1.exercise").read_text().split()
+    assert name == "byte_sum" and started <= int(opened) <= time.time()
     for exercises in (TWO, TWO[:1]):
         async with served(folder, exercises=exercises) as room:
             tab = await room.sit("A1")
@@ -154,9 +156,11 @@ async def test_stored_sources_are_text_files(tmp_path: pathlib.Path) -> None:
     from vecmon_lab.machine.program import find_program
 
     store = Store(tmp_path / "class", find_program())
-    for text in ("", "../codes", "a" * 41, "doubles\n"):
+    for text in ("", "../codes", "a" * 41, "doubles\n", "doubles 1.5", "doubles -1", "doubles " + 13 * "1"):
         (store.folder / "A1.exercise").write_text(text)
-        assert kept_exercise(store, "A1") == ""
-    (store.folder / "A1.exercise").write_text("doubles")
-    assert kept_exercise(store, "A1") == "doubles"
+        assert kept_exercise(store, "A1") == ("", 0)
+    (store.folder / "A1.exercise").write_text("doubles")  # as version 1.0 wrote it
+    assert kept_exercise(store, "A1") == ("doubles", 0)
+    (store.folder / "A1.exercise").write_text("doubles 1796031290")
+    assert kept_exercise(store, "A1") == ("doubles", 1796031290)
     store.close()

@@ -167,7 +167,7 @@ async def test_killed_server_restarts_with_same_state(tmp_path: pathlib.Path) ->
         assert last.view["state"]["run"] == "running" and not last.view["own_slices"]
         now = teacher.view["machines"]["A"]
         assert now["clock"] == {"on": False, "slices": 3, "ms": 50, "limit": 50_000_000}
-        own = {name: seats["2"][name] for name in ("tabs", "since", "active", "exercise_since")}  # of each server
+        own = {name: seats["2"][name] for name in ("tabs", "since", "active")}  # of each server
         assert now["seats"]["2"] | own == seats["2"]
         assert await again.do("step 1") == [["stepped 1 pc=0000000000010000"]]
         await room.check_replay()

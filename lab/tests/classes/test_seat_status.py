@@ -164,6 +164,21 @@ async def test_checked_exercise_is_open(tmp_path: pathlib.Path) -> None:
         assert seat(teacher, "1")["exercise_since"] >= started and seat(teacher, "2")["exercise_since"] == 0
 
 
+async def test_exercise_stays_open_over_restart(tmp_path: pathlib.Path) -> None:
+    """Its time is that of the student, and not of the server; a seat where none was opened has none."""
+    folder, exercises = tmp_path / "class", [pathlib.Path("doubles"), pathlib.Path("filter")]
+    async with served(folder, exercises=exercises) as room:
+        tab = await room.sit("A1")
+        await tab.ask("open", exercise="filter")
+        assert room.members
+        room.members.students["A1"].source.opened = 1_796_000_000.75
+        room.members.save()
+    async with served(folder) as room:
+        teacher = await room.sit("teacher")
+        found = {digit: (seat(teacher, digit)["exercise"], seat(teacher, digit)["exercise_since"]) for digit in "12"}
+        assert found == {"1": ("filter", 1_796_000_000), "2": ("doubles", 0)}
+
+
 async def test_long_work_with_failed_tries_is_stuck(tmp_path: pathlib.Path, monkeypatch: pytest.MonkeyPatch) -> None:
     """Three tries at an exercise that has been open for ten minutes; a try that passes ends it."""
     async with served(tmp_path / "class", exercises=[pathlib.Path("doubles")]) as room:

@@ -2,8 +2,8 @@
 
 A3.s: the text, a second or two after it was typed; A3.written.s: the source in the machine, or nothing;
 A3.written.json: its compiled form; A3.case: the case of an exercise that is tried with it, as `doubles 1`, or nothing
-A3.exercise: the name of the exercise that is open; drafts/A3.doubles.s: the source of an exercise; A3.s is a copy
-while it is open
+A3.exercise: the name of the exercise that is open, and when its student opened it, in seconds since 1970; version 1.0 wrote no time
+drafts/A3.doubles.s: the source of an exercise; A3.s is a copy while it is open
 sources/A3.17.typed.s: version 17, and why it is one: it was typed, written into memory, or given; its time is the file's
 sources/A3.18.typed@doubles.s: version 18, of the exercise `doubles`
 A source that is compiled has the suffix .O2.c, which names its options, or .stock.s, in place of .s.
@@ -37,7 +37,7 @@ class SeatSource:
     own, number: as it is, and how often it has changed since the server began; versions: the last ones, in order
     exercise: the one that is open, whose source is `own`; "" for none. Each exercise has a source.
     case: the exercise and the number of the case that is tried with the source in the machine; None without one
-    opened: when its student opened it, or the server started while it was open, in seconds since 1970; 0 before
+    opened: when its student opened it, in seconds since 1970; 0 before, and where it is unknown
     caret: the number of the line in which the student typed last; 0 if it is unknown
     """
 
@@ -47,10 +47,9 @@ class SeatSource:
         self._unsaved: dict[int, SourceText] = {}  # versions by number
         self._left: dict[str, SourceText] = {}  # sources of exercises that aren't open, unless they are saved
         self.versions = self._found()
-        self.exercise = kept_exercise(store, name)
-        self.opened = time.time() if self.exercise else 0.0
+        self.exercise, self.opened = kept_exercise(store, name)
         self.own = kept_source(store, self._place(self.exercise))
-        self._saved = (self.exercise, self.own)
+        self._saved = (self.exercise, self.opened, self.own)
         self.written = self._saved_written = kept_source(store, f"{name}.written")
         self.case = self._saved_case = kept_case(store, name)
         self._gift: tuple[SourceText, SourceText] | None = None  # the teacher's last one, and the own before it
@@ -151,8 +150,9 @@ class SeatSource:
             self._add_version(self.own, "typed")
         for exercise in [each for each, source in self._left.items() if self._write(self._place(each), source)]:
             del self._left[exercise]
-        if (self.exercise, self.own) != self._saved and self._write_own():
-            self._saved = (self.exercise, self.own)
+        own = (self.exercise, self.opened, self.own)
+        if own != self._saved and self._write_own():
+            self._saved = own
         if self.case != self._saved_case and self._store.write_text(f"{self._name}.{CASE}", _case_text(self.case)):
             self._saved_case = self.case
         if self.written != self._saved_written:
@@ -171,7 +171,8 @@ class SeatSource:
         is_written = self._write(self._place(self.exercise), self.own)
         if is_written and self.exercise:
             is_written = self._write(self._name, self.own)
-            return is_written and self._store.write_text(f"{self._name}.{OPEN}", self.exercise)
+            opened = f" {int(self.opened)}" if self.opened else ""
+            return is_written and self._store.write_text(f"{self._name}.{OPEN}", f"{self.exercise}{opened}")
         return is_written
 
     def _place(self, exercise: str) -> str:
@@ -236,10 +237,10 @@ def kept_source(store: TextStore, name: str) -> SourceText:
     return SourceText(store.read_text(file), language)
 
 
-def kept_exercise(store: TextStore, seat: str) -> str:
-    """The exercise that was open at a seat; "" for none."""
-    name = store.read_text(f"{seat}.{OPEN}")
-    return name if re.fullmatch(r"[\w-]{1,40}", name, re.ASCII) else ""
+def kept_exercise(store: TextStore, seat: str) -> tuple[str, float]:
+    """The exercise that was open at a seat, "" for none; and when its student opened it, 0 if that is unknown."""
+    parts = re.fullmatch(r"([\w-]{1,40})(?: (\d{1,12}))?", store.read_text(f"{seat}.{OPEN}"), re.ASCII)
+    return (parts[1], float(parts[2] or 0)) if parts else ("", 0.0)
 
 
 def kept_case(store: TextStore, seat: str) -> tuple[str, int] | None:
