@@ -87,6 +87,9 @@ def without_checks(module, marks):
 def main(crate, out, copy=None):
     kit = installed_kit()
     clang, crates = f"{kit}/toolchain/bin/clang", os.path.abspath("crates")
+    if not os.path.isdir(f"{crates}/{crate}"):
+        sys.exit(f"{crate} isn't a crate in {crates}: give the name of its folder, as vecmon_record")
+    os.makedirs(os.path.dirname(os.path.abspath(out)), exist_ok=True)  # a build takes minutes before it links
     with tempfile.TemporaryDirectory() as room:
         kept, text, fast, made = (f"{room}/{it}" for it in ("kept.bc", "kept.ll", "fast.ll", "fast.o"))
         kit_with_stand_in(kit, f"{room}/kit", kept)
