@@ -80,48 +80,51 @@ def crate_places(encoded: dict[str, int]) -> Iterator[Place]:
     without = {name for name in encoded if re.fullmatch(WITHOUT_KERNEL, name)}
     kernels = of_families(encoded, re.findall(r'"(v\w+)', text_of("crates/test_kernels/src/**/*.rt")))
     yield "add it to the kernels of its family in crates/test_kernels/src", without | kernels
-    rows = re.findall(r"^\| `([a-z][^ `]*)", text_of("crates/test_assembler/stdout"), re.MULTILINE)
-    yield "add its row to the list in crates/test_assembler/stdout", {*rows}
+    stepped = re.findall(r"^(\S+)", text_of("crates/test_faults/data/vector_instructions"), re.MULTILINE)
+    scalars = {name for name, word in encoded.items() if word & 0x7F not in (OP_V, *VECTOR_ACCESSES)}
+    yield "add it to crates/test_faults/data/vector_instructions", scalars | {*stepped}
     spelled = re.findall(r"^[0-9a-f]{8} (\S+)", text_of("crates/test_assembler/data/spellings"), re.MULTILINE)
     yield "add words and texts to encodings and spellings in crates/test_assembler/data", {*spelled}
+    rows = re.findall(r"^\| `([a-z][^ `]*)", text_of("crates/test_assembler/stdout"), re.MULTILINE)
+    yield "add its row to the list in crates/test_assembler/stdout", {*rows}
 
 
-def record_places(encoded: dict[str, int]) -> Iterator[Place]:
-    """The lab's records and their examples."""
-    recorded = {name: records_of(name, {"instruction"}) for name in encoded}
-    yield "add its record to lab/vecmon_lab/tables/meanings", {name for name in encoded if len(recorded[name]) == 1}
+def table_places(encoded: dict[str, int]) -> Iterator[Place]:
+    """The tables of formulas, operations and records."""
+    rules = [re.compile(line.split(",", 1)[1]) for line in text_of("docs/instructions.csv").split()[1:]]
+    ruled = {name for name in encoded if sum(bool(it.fullmatch(name)) for it in rules) == 1}
+    yield "add it to one line of docs/instructions.csv", ruled
+    decoded = {name for name, word in encoded.items() if has_operation(word)}
+    yield "add its row to operations.txt or words.txt in lab/vecmon_lab/tables", decoded
+    recorded = {name for name in encoded if len(records_of(name, {"instruction"})) == 1}
+    yield "add its record to lab/vecmon_lab/tables/meanings", recorded
     absent = {name for name in encoded if records_of(name, {"absent"})}
     yield "remove it from lab/vecmon_lab/tables/meanings/absent.toml", encoded.keys() - absent
-    shown = {name for name, found in recorded.items() if any(it.name in examples() for it in found)}
+
+
+def generated_places(encoded: dict[str, int]) -> Iterator[Place]:
+    """The files that tools write from these tables, in the order of the tools."""
+    yield "run tools/pages, which adds it to lab/vecmon_lab/tables/instructions.txt", {*instruction_table()}
+    shown = {name for name in encoded if any(it.name in examples() for it in records_of(name, {"instruction"}))}
     yield (
         "run `python3 -m support.meaning_examples` in lab, which adds its family to the table instruction_examples.txt",
         shown | {name for name, word in encoded.items() if not is_vector(word)},
     )
-
-
-def lab_places(encoded: dict[str, int]) -> Iterator[Place]:
-    """The lab's tables and the data of its tests."""
-    decoded = {name for name, word in encoded.items() if has_operation(word)}
-    yield "add its row to operations.txt or words.txt in lab/vecmon_lab/tables", decoded
-    yield "run tools/pages, which adds it to lab/vecmon_lab/tables/instructions.txt", {*instruction_table()}
     stock = re.findall(r"^ +(\S+)", text_of("lab/tests/data/stock/instructions.s"), re.MULTILINE)
-    yield "run lab/tools/stock_records.py, which adds it to lab/tests/data/stock/instructions.s", {*stock}
+    yield "run `.venv/bin/python lab/tools/stock_records.py`, which adds it to lab/tests/data/stock", {*stock}
+
+
+def other_places(encoded: dict[str, int]) -> Iterator[Place]:
+    """The golden vectors and docs/COMMANDS.md."""
     yield "add results of another machine to lab/tests/data/golden_vectors", golden_names() | WITHOUT_GOLDEN_VECTORS
-
-
-def page_places(encoded: dict[str, int]) -> Iterator[Place]:
-    """The data of docs/INSTRUCTIONS.md, and docs/COMMANDS.md."""
-    rules = [re.compile(line.split(",", 1)[1]) for line in text_of("docs/instructions.csv").split()[1:]]
-    ruled = {name for name in encoded if sum(bool(it.fullmatch(name)) for it in rules) == 1}
-    yield "add it to one line of docs/instructions.csv", ruled
     section = text_of("docs/COMMANDS.md").partition("\n### Instructions\n")[2].partition("\n### ")[0]
     listed = of_families(encoded, re.findall(r"\bv\w+", section))
     yield "add it to the table of the section Instructions in docs/COMMANDS.md", listed
 
 
 def missing() -> list[str]:
-    """A line for each place that lacks mnemonics, with up to eight of these; nothing if no place lacks one."""
+    """A line for each place that lacks mnemonics, in the order of the changes, with up to eight of these."""
     encoded = words()
-    places = chain(crate_places(encoded), lab_places(encoded), record_places(encoded), page_places(encoded))
+    places = chain(crate_places(encoded), table_places(encoded), generated_places(encoded), other_places(encoded))
     found = [(change, [name for name in encoded if name not in there]) for change, there in places]
     return [f"{', '.join(names[:8])}{', ...' if names[8:] else ''}: {change}" for change, names in found if names]

@@ -318,7 +318,7 @@ def main() -> int:
     try:
         actual = with_rules(printed)
     except LabError as error:
-        sys.exit(f"{PAGE} can't be made: {error}")
+        sys.exit(f"{PAGE} can't be made{' before these changes' if lacking else ''}: {error}")
     if sys.argv[1:] == ["write"]:
         PAGE.write_text(actual, encoding="ascii")
     page = PAGE.read_text(encoding="ascii")
