@@ -287,8 +287,7 @@ export class Bench {
     sessionStorage.removeItem("linked");
     if (!hash) return;
     const linked = sourceOf(hash, this.editor.language);
-    if (linked) this.source.replace(linked);
-    if (linked) this.panes.show("editor");
+    if (linked) this.source.replace(linked), this.panes.show("editor");
     this.refuse(linked ? textOf("link.brought") : textOf("link.damaged"));
   }
 

@@ -71,10 +71,8 @@ export class Exercises {
     const isListed = !this.isOpen && name === this.name; // the seat has it already
     this.isOpen = true;
     this.bench.panes.select(byId("show-source"));
-    if (isListed) {
-      this.bench.connection.ask({ ask: "open", exercise: name });
-      return this.paint(), await this.takeStart(), this.bench.leaveOther();
-    }
+    if (isListed) this.bench.connection.ask({ ask: "open", exercise: name }), this.paint();
+    if (isListed) return await this.takeStart(), this.bench.leaveOther();
     byId("course-list").inert = true; // one at a time
     const isOpen = await this.bench.source.openExercise(name);
     byId("course-list").inert = false;

@@ -150,9 +150,7 @@ export class Roster {
     const seat = target.closest("tr")?.dataset.seat ?? this.teacher.shoulder.seat;
     if (!seat || target.matches("input")) return;
     await this.teacher.lookAt(seat);
-    if (!exercise) return;
-    this.teacher.shoulder.panes.show("seat-answers");
-    this.teacher.shoulder.showAnswers(exercise);
+    if (exercise) this.teacher.shoulder.panes.show("seat-answers"), this.teacher.shoulder.showAnswers(exercise);
   }
 
   /** Arrow keys go to the row above and the one below. */

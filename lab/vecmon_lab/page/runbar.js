@@ -41,10 +41,9 @@ export class RunBar {
   paint(view = this.view) {
     this.view = view;
     if (!view) return;
-    const { isReady, isStarting } = this.bench.connection;
     const present = this.isBuilding ? "Assembling" : view.condition;
-    const absent = isStarting ? "Starting" : "No connection";
-    this.condition = isReady ? present : absent;
+    const absent = this.bench.connection.isStarting ? "Starting" : "No connection";
+    this.condition = this.bench.connection.isReady ? present : absent;
     put(part(this.root, "run"), CONDITIONS[this.condition]);
     part(this.root, "run").dataset.condition = this.condition;
     put(part(this.root, "go"), this.condition === "Paused" && !this.bench.hasChanged ? textOf("run.continue") : textOf("run"));

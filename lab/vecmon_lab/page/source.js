@@ -21,8 +21,7 @@ const REASONS = { typed: textOf("source.typed"), written: textOf("source.assembl
 const keyOf = (/** @type {SourceText | null} */ source) => (source ? `${source.language} ${source.text}` : "");
 
 /** A version in words, as `14:05 given, Doubles`. */
-const versionText = (/** @type {Version} */ { time, why, title }) =>
-  [`${timeText(time)} ${REASONS[why]}`, title].filter(Boolean).join(", ");
+const versionText = (/** @type {Version} */ { time, why, title }) => `${timeText(time)} ${REASONS[why]}${title && ", "}${title}`;
 
 export class Source {
   seat = "";
@@ -132,8 +131,8 @@ export class Source {
     const isNew = seat !== this.seat || !told;
     const isOwn = (/** @type {SourceText} */ each) => keyOf(each) === keyOf(told) || this.sent.has(keyOf(each));
     const isOther = !isNew && (source.exercise !== told.exercise || (source.number > told.number && !isOwn(source)));
-    if (told?.versions !== source.versions)
-      offer(this.parts.versions, textOf("source.versions"), source.versions.map(versionText).reverse());
+    const versions = source.versions.map(versionText).reverse();
+    if (told?.versions !== source.versions) offer(this.parts.versions, textOf("source.versions"), versions);
     if (isOther && this.isTooLong) return;
     Object.assign(this, { seat, told: source });
     if (isNew || editor.isReadOnly) {
