@@ -340,7 +340,7 @@ def test_first_frame_introduces_lesson(opened: Callable[[str], "Chrome"], progra
     shown = """return ["introduction", "vectors"].map((id) =>
         document.getElementById(id).checkVisibility({ visibilityProperty: true }))"""
     assert browser.execute_script(shown) == [True, False]
-    assert text_of(browser, "#points").startswith("How many elements of 32 bits are worked on in this round")
+    assert text_of(browser, "#points").startswith("vl is the number of 32-bit elements of this iteration")
     assert text_of(browser, "#in-memory").startswith("x: 13 numbers of 32 bits: 9, 2, 7, 1, 8, 3, 6, 4, 5, 1, 12, 3, …")
     browser.find_element("id", "begin").click()
     assert browser.execute_script(shown) == [False, True] and text_of(browser, "#count").startswith("2 of ")
