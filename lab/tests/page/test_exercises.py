@@ -179,7 +179,7 @@ def test_exercise_is_solved(tabs: "Chrome", course: Served) -> None:
     tab.wait(
         "one('#mistakes button')?.textContent.startsWith('2:20: an operand is missing at the end; the form is vsetvli rd')"
     )
-    tab.wait(f"{VERDICT} === 'The source has mistakes.'")
+    tab.wait(f"{VERDICT} === 'The source has problems.'")
     assert not tab.run("id('editor').hidden")
     assert tab.text("#try-count") == "" and not tab.run("one('#exercise .hints h3')")
     tab.click("#mistakes button")
@@ -225,7 +225,7 @@ def test_exercise_is_solved_in_c(tabs: "Chrome", course: Served, sandboxed_clang
     tab.run(TYPE, good.replace("(first, vl)", "(frist, vl)"))
     tab.run("id('check').click()")
     tab.wait("one('#mistakes button')?.textContent.startsWith('7:48: use of undeclared identifier')")
-    tab.wait(f"{VERDICT} === 'The source has mistakes.'")
+    tab.wait(f"{VERDICT} === 'The source has problems.'")
     assert tab.text("#try-count") == "" and tab.text("#editor .problem") == "frist"
     check(tab, good.replace("vsadd", "vadd"), "It passes 2 of 5 cases.")
     assert "no room: element 0, i16 at 0x20200: expected 32767, found -32768" in tab.text("#exercise .said")
