@@ -126,6 +126,22 @@ def test_load_preserves_breakpoints_of_same_image() -> None:
     ]
 
 
+def test_restart_preserves_breakpoints(tmp_path: pathlib.Path) -> None:
+    output = shown(["break main", "run", "restart", "breaks", "run"], PREFIX_SUMS[0])
+    again = output[output.index("loaded pc=0000000000011528 pages=7") :]
+    assert again[1:4] == [
+        "=> 11528 _start  addi x2, x2, -16  (runtime.c:46)",
+        "11284 main  (prefix_sums.c:51)",
+        STOPPED.format("11284"),
+    ]
+    source = tmp_path / "own.s"
+    source.write_text(STRIP_MINED.read_text())
+    output = shown(["break next if a0 < 6", "run", "restart", "breaks", "run"], source)
+    again = output[output.index("=> 10000  addi x10, x0, 13", 1) :]
+    assert again[1:3] == ["10018 next if a0 < 6", STOPPED.format("10018")] and "x10/a0=5" in again[3]
+    assert shown(["restart"])[1].startswith("E08: there is no image image")
+
+
 def test_breakpoints_of_another_program_are_reported_as_removed() -> None:
     removed = "since the program is another one"
     lines = ["break main", "break 44", f"source {STRIP_MINED}", "break next", f"source {STRIP_MINED}", "breaks", "load"]

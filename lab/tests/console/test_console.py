@@ -161,6 +161,14 @@ def test_source_replaces_image_and_back() -> None:
     assert again[3].split()[:5] == ["11190", *"13 01 01 ff".split()] and again[4] == "328350"
 
 
+def test_help_explains_names_of_gdb() -> None:
+    output = shown(["help x", "help peek", "help restart", "help s"])
+    peek = output.index("gdb's x is `peek ADDR N` here") + 1
+    assert output[peek].startswith("peek ADDR N: prints 1 to 256 bytes") and output.count(output[peek]) == 2
+    assert [line for line in output if line.startswith("restart: reloads the program, ")]
+    assert "gdb's s is `step N` here" in output
+
+
 def test_remedies_name_commands() -> None:
     for own, names in GDB_COMMANDS.items():
         assert own in COMMANDS and not {*names.split()} & {*COMMANDS}, own
@@ -245,6 +253,7 @@ def test_breakpoint_at_end_of_round_stops(tmp_path: pathlib.Path) -> None:
         ("set zero 1", "E04: x0 is always 0; the form is set xN VALUE"),
         ("break 0", "ok"),
         ("run fast", "the form is run"),
+        ("restart now", "the form is restart"),
         ("source", "the form is source FILE"),
         ("source nothing.s", "nothing.s: No such file or directory"),
         ("source lab", "lab: Is a directory"),
@@ -349,10 +358,10 @@ def test_back_returns_to_instruction_or_write() -> None:
         "x10/a0=d" in output[at - 3]
         and output[at + 1] == "   11040  64 00 00 00 64 00 00 00 64 00 00 00 64 00 00 00  d...d...d...d..."
     )
-    assert [line for line in output if line.endswith("before.")] == ["This is the start: there is nothing before."] * 2
-    nobody = output.index("No instruction has changed 11040 y.")
-    assert output[nobody + 1] == "This is the start: there is nothing before."
-    assert positions[4:] == ["10000  addi x10, x0, 13", "10004  auipc x11, 1", "10000  addi x10, x0, 13"]
+    missing = output.index("No earlier instruction has changed 11040 y; the program stays here.")
+    assert output[missing + 1] == f"=> {positions[3]}", "and not at the start"
+    assert [line for line in output if line.endswith("before.")] == ["This is the start: there is nothing before."]
+    assert positions[4:] == [positions[3], "10030 next+0x18  sub x10, x10, x5", "10000  addi x10, x0, 13"]
     assert shown(["back", "leave", "back"], STRIP_MINED)[-1] == "This is the start: there is nothing before."
 
 
@@ -511,6 +520,21 @@ def test_ctrl_c_stops_program_not_machine(tmp_path: pathlib.Path, forever: pathl
         console.expect("vecmon> ")
         console.type("state\r")
         console.expect("state stopped pc=00000000000100")
+        console.expect("vecmon> ")
+        console.type(END)
+        assert console.end()[0] == 0
+
+
+@pytest.mark.parametrize("kind", ["xterm", "dumb"])
+def test_lines_typed_ahead_survive_ctrl_c(tmp_path: pathlib.Path, forever: pathlib.Path, kind: str) -> None:
+    with terminal(tmp_path, forever, TERM=kind) as console:
+        console.expect("vecmon> ")
+        console.type("run\r")
+        console.expect("ready")
+        console.type("state\rvcsr\r" + INTERRUPT)
+        console.expect("The program was stopped at 0x100")
+        console.expect("state stopped pc=00000000000100")
+        console.expect("vl=0 vtype=")
         console.expect("vecmon> ")
         console.type(END)
         assert console.end()[0] == 0

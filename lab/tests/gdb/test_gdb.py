@@ -382,8 +382,8 @@ def gdb() -> Callable[..., str]:
     if not shutil.which("gdb-multiarch"):
         leave_out(NO_GDB)
 
-    def said(image: pathlib.Path, *commands: str) -> str:
-        words = [f"target remote | exec {sys.executable} -m vecmon_lab gdb {image}", *commands]
+    def said(image: pathlib.Path, *commands: str, target: str = "remote", arguments: str = "") -> str:
+        words = [f"target {target} | exec {sys.executable} -m vecmon_lab gdb {image} {arguments}".rstrip(), *commands]
         options = [word for command in words for word in ("-ex", command)]
         command = ["gdb-multiarch", "-nx", "-batch", "-l", "120", "-d", str(STOCK), *options]
         command += [str(image)] * (image.suffix != ".c")  # else what is compiled of it, as the lab names it
@@ -468,6 +468,55 @@ def test_gdb_restarts_program(gdb: Callable[..., str]) -> None:
     output = gdb(SUM, "stepi", "stepi", again, "print $pc", "continue", "continue")
     assert "$1 = (void (*)()) 0x11190 <_start>" in output and "328350\nvecmon: it exits here with status 0; " in output
     assert output.endswith("[Inferior 1 (Remote target) exited normally]\n")
+
+
+def test_run_restarts_program(gdb: Callable[..., str]) -> None:
+    """The sum of the squares of the numbers below 100 is 328350; gdb keeps its breakpoints, and reads registers anew."""
+    commands = ["break 22", "continue", "set $a0 = 7", "run", "print $vl", "delete", "continue", "continue", "run"]
+    output = gdb(SUM_DWARF4, *commands, "reverse-continue", "print $pc", target="extended-remote")
+    _, _, third = output.split("Breakpoint 1, sum (")
+    assert "elements=0x122e8 <_start.squares>, count=100) at sum.c:22" in third and "$1 = 16" in third
+    after = third[third.index("328350\nvecmon: it exits here with status 0; ") :]
+    after = after[after.index("exited normally]\n") :]
+    assert after.count("328350\n") == 1, "a program that has exited runs again"
+    assert after.endswith("$2 = (void (*)()) 0x11190 <_start>\n")
+
+
+def test_run_passes_arguments(gdb: Callable[..., str], program: pathlib.Path, tmp_path: pathlib.Path) -> None:
+    make_image(program, tmp_path / "image", ARGUMENTS)
+    commands = ["run", "continue", "run two words", "continue", "set args", "run", "kill", "run", "detach", "run"]
+    output = gdb(tmp_path / "image", *commands, target="extended-remote", arguments="one")
+    assert re.findall("image\n((?:\\w+\n)*)vecmon: it exits here with status (.);", output) == [
+        ("one\n", "2"),
+        ("two\nwords\n", "3"),
+        *[("one\n", "2")] * 3,
+    ]
+
+
+def test_run_of_plain_target_is_refused(gdb: Callable[..., str]) -> None:
+    assert 'The "remote" target does not support "run".' in gdb(SUM, "run")
+
+
+def test_extended_packets_restart_program(squares: Packets) -> None:
+    assert [squares.ask("vRun;"), squares.ask("vKill;1"), squares.ask("R00")] == [""] * 3
+    assert [squares.ask("!"), squares.ask("s"), squares.ask("Z0,10180,4"), squares.ask("P5=" + little(9))][1:] == [
+        "S05",
+        *["OK"] * 2,
+    ]
+    assert [squares.ask("vKill;a410"), squares.ask("vRun;"), squares.ask("p20"), squares.ask("p5")] == [
+        *["OK", "S00"],
+        little(0x10174),
+        little(0),
+    ]
+    assert squares.ask("s") == "S05"
+    squares.send("R00")  # which has no answer
+    assert (squares.read(1), squares.ask("p20")) == (b"+", little(0x10174))
+    squares.send(f"vRun;{b'other'.hex()}")
+    assert squares.read(1) == b"+" and text(squares.packet()).startswith("vecmon: other isn't ")
+    assert [squares.packet(), squares.ask("vRun;zz"), squares.ask("D"), squares.ask("vRun;")] == [
+        *["E08", "E04"],
+        *["OK", "S00"],
+    ]
 
 
 def test_gdb_restarts_after_signal(gdb: Callable[..., str]) -> None:

@@ -6,6 +6,7 @@ import functools
 import os
 import pathlib
 import sys
+import termios
 from collections.abc import Callable, Iterator
 
 from .. import LabError
@@ -42,7 +43,9 @@ def run(arguments: argparse.Namespace) -> int:
         console.execution.show_place()
         while console.is_open:
             try:
-                console.do(prompt())
+                entry = prompt()
+                with _typed_ahead(is_terminal):
+                    console.do(entry)
             except EOFError:
                 break
             except KeyboardInterrupt:  # at the prompt; a running command handles Ctrl-C itself
@@ -75,6 +78,21 @@ def _console(arguments: argparse.Namespace, screen: Screen) -> Iterator[Console]
         if path is not None:
             console.source(path)
         yield console
+
+
+@contextlib.contextmanager
+def _typed_ahead(is_terminal: bool) -> Iterator[None]:
+    """Preserve lines that are typed while a command runs: by default a terminal deletes them at Ctrl-C (NOFLSH of termios)."""
+    if not is_terminal:
+        yield
+        return
+    terminal = sys.stdin.fileno()
+    saved = termios.tcgetattr(terminal)
+    termios.tcsetattr(terminal, termios.TCSANOW, [*saved[:3], saved[3] | termios.NOFLSH, *saved[4:]])
+    try:
+        yield
+    finally:
+        termios.tcsetattr(terminal, termios.TCSANOW, saved)
 
 
 def _plain_line(mark: str) -> str:

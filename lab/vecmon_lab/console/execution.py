@@ -78,10 +78,15 @@ class Execution:
     def back(self, number: int) -> None:
         """Go back a number of instructions."""
         self._guest.ask("stop")
-        self._tell_back(self._timeline.back(number))
+        if not self._timeline.back(number):
+            self._screen.say("This is the start: there is nothing before.")
+        self._tell_changes()
 
     def back_to_write(self, digits: str) -> None:
-        """Goes back to the last instruction that changed the bytes of a symbol, or else 8, from an address on."""
+        """Go back to the last instruction that changed the bytes of a symbol, or else 8, from an address on.
+
+        If there is none, the program stays where it is.
+        """
         address, symbols = int(digits, 16) if re.fullmatch(DIGITS, digits) else -1, self._names.symbols
         sizes = (symbols.sizes.get(name, 0) for name, at in symbols.addresses.items() if at == address)
         if not 0 <= address < 1 << 48:
@@ -89,14 +94,18 @@ class Execution:
         self._guest.ask("stop")
         self._timeline.watches = [Watch("watch", address, max(sizes, default=0) or 8)]
         try:
-            is_there = self._timeline.back_to_halt((), self.interrupt.is_set)
+            is_there = self._timeline.back_to_halt_if_any((), self.interrupt.is_set)
         finally:
             self._timeline.watches = []
+        if is_there is False:
+            self._screen.say(
+                f"No earlier instruction has changed {self._names.place(address)}; the program stays here."
+            )
+            self.show_place()
+            return
         if is_there:
             self._timeline.back()
-        elif is_there is False:
-            self._screen.say(f"No instruction has changed {self._names.place(address)}.")
-        self._tell_back(is_there)
+        self._tell_changes()
 
     def look(self) -> list[Change]:
         """Look at all registers again, if the machine shows them; return the changes."""
@@ -137,12 +146,6 @@ class Execution:
     def _tell_run(self, stop: Stop | None) -> None:
         """Why the program stopped, and what has changed since it began."""
         self._screen.say(self._guest.explain(stop) if stop else describe_stop(Position("stopped", self._guest.pc)))
-        self._tell_changes()
-
-    def _tell_back(self, is_there: bool | None) -> None:
-        """Shows what differs from the later instant, and the next instruction."""
-        if is_there is False:
-            self._screen.say("This is the start: there is nothing before.")
         self._tell_changes()
 
     def _tell_changes(self) -> None:

@@ -27,23 +27,18 @@ from ..machine.answers import (
 from ..machine.lines import check_text, is_look
 from ..machine.program import find_program
 from ..machine.session import Session
-from ..meanings.help import help_lines
 from ..meanings.stepped import why_stepped
 from ..meanings.why import read_name
 from .breakpoints import Breakpoints
 from .conditions import REGISTERS, Conditions
 from .execution import Execution
+from .help import help_on_console
 from .listing import SourceListing
 from .names import DIGITS, VECTORS, Names, remedy_of, state_of
 from .places import Places
 from .show import Screen, control_row, memory_rows, register_rows
 
 STEPS = [str(number) for number in range(1, 257)]  # that the machine takes
-HELP_ON_PLACES = {
-    "break": ["  ADDR may be a function or a line, as sum.c:12, and a condition may follow: break ADDR if a0 == 5"],
-    "unbreak": ["  ADDR may be a function or a line, as sum.c:12"],
-}
-"""Arguments that the console takes in addition to those of the monitor, by command."""
 HELP_ON_LOAD = "load reloads the console's image; source FILE loads an assembler source, vecmon-lab console FILE starts with an image"
 
 
@@ -110,13 +105,15 @@ class Console:
         """Execute a command of the console, or send it to the machine. Raises LabError and OSError."""
         match command:
             case ["help", *name]:
-                self._screen.say(*help_lines(" ".join(name)), *HELP_ON_PLACES.get(" ".join(name), []))
+                self._screen.say(*help_on_console(" ".join(name)))
             case ["quit"]:
                 self.is_open = False
             case ["why", element]:
                 self._screen.say(why_stepped(self._stepper, *read_name(element)).text)
             case ["run"]:
                 self._run(self.execution.run)
+            case ["restart"]:
+                self._restart()
             case ["until", place] if place in REGISTERS or place in VECTORS:
                 self._run(partial(self.execution.until_changed, place))
             case ["until", word]:
@@ -132,15 +129,13 @@ class Console:
             case ["changes"]:
                 self._screen.say(*self.execution.changes or ["nothing has changed"], kind="changed")
             case ["list", word]:
-                address = self._breakpoints.find(word).addresses[0]
-                at = int(address, 16) if re.fullmatch(DIGITS, address) else -1
-                self._screen.say(*self._source.rows(at, state_of(self._guest)[1]))
+                self._list(word)
             case ["source", path]:
                 self.source(pathlib.Path(path).expanduser())
                 self.execution.show_place()
             case ["step", number] if state_of(self._guest)[0] == "stopped" and number in STEPS:
                 self.execution.step(int(number))
-            case [("quit" | "run" | "source" | "until" | "changes" | "list" | "back" | "why") as name, *_]:
+            case [("quit" | "run" | "restart" | "source" | "until" | "changes" | "list" | "back" | "why") as name, *_]:
                 raise LabError(f"the form is {COMMANDS[name].form}")
             case words:
                 self._monitor(words)
@@ -203,6 +198,20 @@ class Console:
             self._monitor(["go"])
         else:
             run()
+
+    def _list(self, word: str) -> None:
+        """Print the source around a place. Raises LabError."""
+        address = self._breakpoints.find(word).addresses[0]
+        at = int(address, 16) if re.fullmatch(DIGITS, address) else -1
+        self._screen.say(*self._source.rows(at, state_of(self._guest)[1]))
+
+    def _restart(self) -> None:
+        """Load the program again: an assembler source, or else the image. Raises LabError and OSError."""
+        if self._source.own is None:
+            self._monitor(self.names.words("load"))
+        else:
+            self.source(self._source.own[0])
+            self.execution.show_place()
 
     def _until(self, word: str) -> None:
         """Run the program to a place; each of its addresses ends the run."""

@@ -111,5 +111,10 @@ def remedy_of(word: str) -> str:
     if word in COMMANDS or f"* {word}" in COMMANDS:
         return ""
     name = word.partition("/")[0]  # x/4w
-    own = next((own for own, names in GDB_COMMANDS.items() if name in names.split()), None)
+    own = gdb_command(name)
     return f"; gdb's {name} is `{COMMANDS[own].form}` here" if own else "; help lists the commands"
+
+
+def gdb_command(name: str) -> str | None:
+    """Return the console's command for the name of one of gdb's, or None if gdb has no such command."""
+    return next((own for own, names in GDB_COMMANDS.items() if name in names.split()), None)

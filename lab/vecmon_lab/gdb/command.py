@@ -1,9 +1,11 @@
-"""The remote serial protocol of gdb over standard input and output: `target remote | vecmon-lab gdb IMAGE`.
+"""The remote serial protocol of gdb over standard input and output: `target extended-remote | vecmon-lab gdb IMAGE`.
 
 gdb begins the command and speaks with it over a pipe, so that nothing listens. Packets and their answers are those of gdb's manual, "gdb
 Remote Serial Protocol": a stop is `S` and a signal's number, an exit `W` and the status, output `O` and its bytes, an error `E` and a
 number, which is that of the machine's refusal; an empty answer refuses a packet. `T05` reports a place that is
 watched, that there is nothing before the first instant, or that the next one is the program's end: there gdb can still go back.
+
+In the extended mode (`!`) gdb can kill the program and run it again from its start: `vKill`, `vRun` and `R`.
 """
 
 import argparse
@@ -11,11 +13,13 @@ import contextlib
 import os
 import pathlib
 import re
+from collections.abc import Callable, Sequence
 
 from .. import LabError
 from ..arguments import add_program
 from ..assembler.commands import explain_refusal
 from ..guest.guest import Guest, started
+from ..guest.input import input_of
 from ..guest.runner import Reporter
 from ..guest.symbols import Symbols
 from ..instructions.accesses import LINE_BYTES
@@ -40,7 +44,7 @@ from .packets import Link
 BEGUN = "S00"  # no signal: gdb would report a signal if the last machine was stopped by one
 INTERRUPTED, ILLEGAL, TRAPPED, MISALIGNED, UNMAPPED = "S02", "S04", "S05", "S0a", "S0b"  # SIGINT, ILL, TRAP, BUS, SEGV
 FAULTS = {0: MISALIGNED, 1: UNMAPPED, 2: ILLEGAL, 5: UNMAPPED, 7: UNMAPPED}  # by cause
-REFUSED, TOO_MANY, THERE_ALREADY = "E04", "E12", Refused("E13")
+REFUSED, NO_IMAGE, TOO_MANY, THERE_ALREADY = "E04", "E08", "E12", Refused("E13")
 FEATURES = "qXfer:features:read+;QStartNoAckMode+;ReverseStep+;ReverseContinue+;qXfer:exec-file:read+"
 FIRST_INSTANT, LAST_INSTANT = "T05replaylog:begin;", "T05replaylog:end;"
 WATCHES = {"2": "watch", "3": "rwatch", "4": "awatch"}  # by the number in a packet
@@ -58,31 +62,77 @@ def add_arguments(parser: argparse.ArgumentParser) -> None:
 
 def run(arguments: argparse.Namespace) -> int:
     """Serve gdb until it disconnects. Raises LabError and OSError for a bad image."""
-    link, words = Link(), [arguments.image.name, *arguments.words]
-    report, write = Reporter(Symbols.read(arguments.image).place), lambda data: link.send(f"O{data.hex()}")
-    with started(arguments.image, arguments=words, file=arguments.input, write=write, report=report) as guest:
-        target = Target(guest, link, arguments.image)
+    link, image = Link(), arguments.image
+    report, write = Reporter(Symbols.read(image).place), lambda data: link.send(f"O{data.hex()}")
+    own = [image.name, *arguments.words]
+    with started(image, arguments=own, file=arguments.input, write=write, report=report) as guest:
+
+        def restart(words: Sequence[str]) -> None:
+            data = input_of(image, arguments.input) if arguments.input else {}
+            guest.go_back(0, 0)
+            guest.start("image", arguments=[image.name, *words] if words else own, data=data)
+
+        target = Target(guest, link, image, restart)
         with contextlib.suppress(EOFError, BrokenPipeError):
             while target.is_attached:
-                link.send(target.answer(link.receive()))
+                if (reply := target.answer(link.receive())) is not None:
+                    link.send(reply)
     return 0
 
 
 class Target:
     """A guest, by gdb's packets. It is attached until gdb detaches."""
 
-    def __init__(self, guest: Guest, link: Link, image: pathlib.Path) -> None:
-        self.is_attached, self._image = True, image
+    def __init__(self, guest: Guest, link: Link, image: pathlib.Path, restart: Callable[[Sequence[str]], None]) -> None:
+        """restart: loads the program on a new machine, with these arguments, or with the command's own if there are none."""
+        self.is_attached, self._image, self._restart = True, image, restart
+        self._is_extended = False  # whether gdb can run the program again
         self._guest, self._link, self._timeline = guest, link, Timeline(guest)
         self._last = BEGUN  # the last stop
         self._exit = ""  # the answer if gdb resumes a program that has exited
 
-    def answer(self, packet: str) -> str:
-        """The answer to a packet; output comes before it, by itself. Raises EOFError where gdb ends the program."""
+    def answer(self, packet: str) -> str | None:
+        """The answer to a packet, or None if it has none; output comes before it. Raises EOFError if gdb ends the program."""
         try:
+            if packet[:1] in ("!", "v", "R", "D", "k"):
+                return self._answer_process(packet)
             return self._answer(packet[:1], re.split("[,:=]", packet[1:]))
         except ValueError:  # a field that should be a number isn't
             return REFUSED
+
+    def _answer_process(self, packet: str) -> str | None:
+        """The answer to a packet about the whole process; no text for an unsupported one."""
+        name, *fields = packet.split(";")
+        match name, fields:
+            case "!", _:
+                self._is_extended = True
+                return "OK"
+            case "vRun", [file, *words] if self._is_extended:
+                return self._run(*(os.fsdecode(bytes.fromhex(digits)) for digits in (file, *words)))
+            case "vKill", _ if self._is_extended:
+                return "OK"  # the next `vRun` loads the program anew
+            case _ if packet[0] == "R" and self._is_extended:
+                self._run("")
+                return None
+            case "D", _:
+                self.is_attached = self._is_extended
+                return "OK"
+            case "k", _:
+                raise EOFError
+        return ""
+
+    def _run(self, file: str, *words: str) -> str:
+        """Load the program anew, with these arguments, or its first ones; it stops before its first instruction."""
+        if pathlib.Path(file).name not in ("", self._image.name):
+            self._tell(f"{file} isn't {self._image.name}, which this machine runs: start the command with it")
+            return NO_IMAGE
+        try:
+            self._restart(words)
+        except (LabError, OSError) as error:
+            self._tell(str(error))
+            return REFUSED
+        self._timeline, self._last, self._exit = Timeline(self._guest), BEGUN, ""
+        return self._last
 
     def _answer(self, letter: str, words: list[str]) -> str:
         if letter in "bMP":  # it goes back, or what is written may keep it from exiting
@@ -117,11 +167,6 @@ class Target:
                 return self._do(f"{'break' if letter == 'Z' else 'unbreak'} {address}")
             case ("Z" | "z"), ["2" | "3" | "4" as kind, address, length]:
                 return self._watch(letter == "Z", Watch(WATCHES[kind], int(address, 16), int(length, 16)))
-            case "D", _:
-                self.is_attached = False
-                return "OK"
-            case "k", _:
-                raise EOFError
         return ""
 
     def _read_memory(self, address: str, length: int) -> str:

@@ -94,9 +94,16 @@ class Timeline:
         return True
 
     def back_to_halt(self, breaks: Sequence[int], is_interrupted: Callable[[], bool]) -> bool | None:
-        """Goes back to the last instruction at one of these addresses, or behind the last one that does what is watched for.
+        """As `back_to_halt_if_any`, but go back to the start if there is no such instruction. Raises LabError."""
+        is_there = self.back_to_halt_if_any(breaks, is_interrupted)
+        if is_there is False:
+            self._begin()
+        return is_there
 
-        Whether there was one, else to the start; None where it is interrupted, and stays where it is. Raises LabError.
+    def back_to_halt_if_any(self, breaks: Sequence[int], is_interrupted: Callable[[], bool]) -> bool | None:
+        """Go back to the last instruction at one of these addresses, or after the last one that does what is watched for.
+
+        Return whether there was one, or None if interrupted; the guest stays where it is unless there was one. Raises LabError.
         """
         self.hit = None
         self._catch_up()
@@ -109,7 +116,6 @@ class Timeline:
                 self._rewind(place, number)
                 self.hit = hit
                 return True
-        self._begin()
         return False
 
     def _halts(self, breaks: Sequence[int]) -> Iterator[tuple[int, list[Halt]]]:

@@ -1,0 +1,20 @@
+"""The console's `help NAME`: what the lab knows of a name, what the console adds to it, and names that gdb has for commands."""
+
+from ..assembler.commands import COMMANDS
+from ..meanings.describe import describe
+from ..meanings.help import help_lines
+from .names import gdb_command
+
+HELP_ON_PLACES = {
+    "break": ["  ADDR may be a function or a line, as sum.c:12, and a condition may follow: break ADDR if a0 == 5"],
+    "unbreak": ["  ADDR may be a function or a line, as sum.c:12"],
+}
+"""Arguments that the console takes in addition to those of the monitor, by command."""
+
+
+def help_on_console(name: str) -> list[str]:
+    """Return the description of a name; the command for one of gdb's names, unless an instruction has the name as well."""
+    own = gdb_command(name)
+    if own is None or describe(name):
+        return [*help_lines(name), *HELP_ON_PLACES.get(name, [])]
+    return [f"gdb's {name} is `{COMMANDS[own].form}` here", *help_on_console(own)]
