@@ -74,9 +74,8 @@ BODIES: dict[str, Callable[[ControlRegisters, int], range]] = {
     ),
 }
 SCALARS = {"rd": 7, "rs1": 15, "rs2": 20}  # the lowest bits of scalar registers in a word
-OPERANDS = (
-    16 << 7 | 24 << 15 | 8 << 20
-)  # registers that differ, aligned for groups of up to eight; 8 is also vstart as a control register
+# Different registers, aligned for groups of up to eight; 8 is also vstart as a control register.
+OPERANDS = 16 << 7 | 24 << 15 | 8 << 20
 NO_RESULT = ("ecall", "ebreak")  # whose opcode is that of instructions with a result; ecall has one for some calls
 SEW, VTYPE, V0 = 32, 0x11, bytes([0x16, 0x80]) + bytes(30)  # e32, m2: VLMAX is 16
 LENGTHS = [(vl, vstart) for vl in (0, 1, 5, 16) for vstart in (0, 1, 2)]

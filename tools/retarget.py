@@ -23,9 +23,8 @@ PACKED = re.compile(r"^<\{ (.*?) \}> <\{ (.*) \}>(, align \d+)?$")
 ATTRIBUTES = re.compile(r"( #\d+)? \{$", re.MULTILINE)  # of a definition; a group may have `alwaysinline`
 PROCESSOR = re.compile(r' "(?:frame-pointer|probe-stack|stack-probe-size|target-cpu)"="[^"]*"')
 POINTER_FACTS = re.compile(r", !(nonnull|align|dereferenceable|dereferenceable_or_null) !\d+")
-SIZED = re.compile(
-    r"^\s*(?:%\S+ = )?(?:load|store|getelementptr|alloca)\b(.*?)(?:, ptr [^}\]>].*)?$"
-)  # by the type that it names
+# A line whose size is that of the type that it names.
+SIZED = re.compile(r"^\s*(?:%\S+ = )?(?:load|store|getelementptr|alloca)\b(.*?)(?:, ptr [^}\]>].*)?$")
 STRING = re.compile(r'"[^"]*"')
 POINTER = re.compile(r'(?<![(\w.:"])ptr\b(?!:)')
 

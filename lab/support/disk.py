@@ -63,9 +63,8 @@ class Disk:
         self.before_each: Callable[[], object] = lambda: None
         self._folder = folder.resolve()
         self._names: dict[str, Inode] = {}  # that are on the disk
-        self._changes: list[
-            tuple[str, str, Inode | None]
-        ] = []  # of names since: the folder, the name, and what it names
+        # Changes of names since then: the folder, the name, and the file or folder that it names.
+        self._changes: list[tuple[str, str, Inode | None]] = []
         self._files: dict[int, Inode] = {}
         self._folders: dict[int, str] = {}
 

@@ -83,13 +83,14 @@ def step_in_c(tab: Tab) -> None:
     tab.wait("one('#listing .told')")
 
 
+# States of one tab, in this order.
 STUDENT: Mapping[str, Callable[[Tab], None]] = {
     "first": wait_for_exercises,
     "problems": make_problems,
     "failed cases": fail_exercise,
     "stepped": step,
     "C": step_in_c,
-}  # states of one tab, in this order
+}
 
 
 def write_pages(lab: Lab, program: pathlib.Path, folder: pathlib.Path) -> dict[str, str]:

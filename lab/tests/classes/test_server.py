@@ -529,9 +529,8 @@ async def test_excess_waiting_requests_are_refused(room: Served) -> None:
     await tab.socket.close()
     os.kill(machine, signal.SIGCONT)
     again = await room.sit("A1")
-    await again.until(
-        lambda view: view["state"].get("x", {}).get("5") == "40"
-    )  # the waiting requests aren't dropped with their tab
+    # the waiting requests aren't dropped with their tab
+    await again.until(lambda view: view["state"].get("x", {}).get("5") == "40")
     assert (await room.check_replay())[0] == b"1 enter\n" + b"".join(b"1 set x5 %x\n" % each for each in range(1, 65))
 
 

@@ -172,13 +172,8 @@ def test_condition_of_machine(desk: Desk) -> None:
         assert "error" not in ask(desk, **request)
         conditions.append(desk.seat.condition)
     assert conditions[:5] == ["Not begun", "Ready", "Paused", "Paused", "Paused"]
-    assert conditions[5:10] == [
-        "Paused",
-        "Ready",
-        "Ready",
-        "Ended",
-        "Running",
-    ]  # at the breakpoint; again; after the ebreak
+    # at the breakpoint; again; after the ebreak
+    assert conditions[5:10] == ["Paused", "Ready", "Ready", "Ended", "Running"]
     assert conditions[10:] == ["Paused", "Fault", "Paused", "Not begun"]
 
 

@@ -54,9 +54,8 @@ def test_functions_include_inlined_copies() -> None:
 def test_file_without_debug_data_has_no_lines(tmp_path: pathlib.Path) -> None:
     assert not SourceLines().stops and not SourceLines(SUM).stops and not SourceLines(SUM).warning
     damaged, header = bytearray(SUM_DWARF4.read_bytes()), b"\x01\x01\x01\xfb\x0e\x0d"  # of a line table: DWARF 4, 6.2.4
-    damaged[
-        damaged.index(header) + 5
-    ] = 255  # the first special opcode, so lengths of more opcodes should follow than there are
+    # the first special opcode, so lengths of more opcodes should follow than there are
+    damaged[damaged.index(header) + 5] = 255
     (tmp_path / "damaged").write_bytes(damaged)
     source = SourceLines(tmp_path / "damaged")
     assert source.at(0x11190) == "" and source.warning.count("\n") == 0 and "source lines of damaged" in source.warning

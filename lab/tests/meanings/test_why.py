@@ -1,6 +1,7 @@
 """Why an element has its value: sentences worked by hand, and every element of every step of the tour and the course."""
 
 import pathlib
+import pickle
 from collections import Counter
 from collections.abc import Iterator
 
@@ -18,7 +19,7 @@ from vecmon_lab.lessons.tour import tours
 from vecmon_lab.machine.answers import ControlRegisters, ScalarRegisters
 from vecmon_lab.machine.lines import BadLine, words_of
 from vecmon_lab.machine.session import Session
-from vecmon_lab.meanings.executed import Before
+from vecmon_lab.meanings.executed import Before, ElementOutcome
 from vecmon_lab.meanings.stepped import explanation_of
 from vecmon_lab.meanings.why import Explanation
 from vecmon_lab.tables.table import read_table
@@ -30,6 +31,11 @@ STEPS = {"tour": 35, "course": 81}  # vector steps that are explained, at least
 def group(*values: int) -> bytes:
     """A register of eight elements of 32 bits."""
     return b"".join((value % (1 << 32)).to_bytes(4, "little") for value in values).ljust(REGISTER_BYTES, b"\0")
+
+
+def test_outcome_has_its_name_when_pickled() -> None:
+    assert repr(ElementOutcome.TAIL).startswith("<ElementOutcome.TAIL: ")
+    assert [pickle.loads(pickle.dumps(each)) for each in ElementOutcome] == [*ElementOutcome]
 
 
 def explained(word: int, name: str, element: int | None, **other: int | bool) -> str:

@@ -131,9 +131,8 @@ def test_inlined_line_breakpoint_stops(tabs: "Chrome", with_c: Served) -> None:
     marks = f"{SIGNS}.split(',').filter((sign) => sign.includes('●')).join()"
     asked = "all('#log .asked').map((item) => item.textContent.slice(2).split(' ')[0]).join(' ')"
     click_number(tab, 10)
-    tab.wait(
-        f"{marks} === '●10,●54' && {asked}.endsWith('setpc break break')"
-    )  # line 54 calls it: the same instruction
+    # line 54 calls it: the same instruction
+    tab.wait(f"{marks} === '●10,●54' && {asked}.endsWith('setpc break break')")
     click_number(tab, 17)
     tab.wait(f"{marks} === '●10,●17,●54'")
     click_number(tab, 10)

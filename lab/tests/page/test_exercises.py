@@ -288,9 +288,8 @@ def test_all_exercises_are_solved(tabs: "Chrome", course: Served) -> None:
     for name in COURSE:
         choose(tab, name)
         check(tab, (OURS / name / "good.s").read_text(), "It passes all cases.")
-    assert tab.run("all('#course-list .passed').length") == 12 and not tab.run(
-        "one('#verdict button')"
-    )  # after the last one
+    # after the last one
+    assert tab.run("all('#course-list .passed').length") == 12 and not tab.run("one('#verdict button')")
 
 
 def test_endless_answer_blocks_no_other_seat(tabs: "Chrome", course: Served) -> None:

@@ -139,10 +139,8 @@ def test_element_formats_can_be_chosen(opened: Callable[[str], "Chrome"], progra
     def choose(name: str, text: str) -> None:
         Select(browser.find_element(By.ID, name)).select_by_visible_text(text)
 
-    assert row(2, 0)[:3] == ["v2", "−32767", "32767"] and row(2, 2)[:2] == [
-        "v3",
-        "−2",
-    ]  # 8 have room, and 16 of the others
+    # 8 have room, and 16 of the others
+    assert row(2, 0)[:3] == ["v2", "−32767", "32767"] and row(2, 2)[:2] == ["v3", "−2"]
     choose("form", "unsigned")
     assert row(2, 0)[1:3] == ["32769", "32767"] and row(2, 2)[1] == "65534"
     choose("form", "hexadecimal")

@@ -66,9 +66,8 @@ def test_stuck_students_are_listed_first(tabs: "Chrome", served: Served) -> None
     tab.click("#one")
     teacher.wait(f"{SEATS}[0] === 'D7'")
     assert teacher.text("[data-seat='D7'] .condition") == "↯fault: vle32.v"
-    assert teacher.run("one(\"[data-seat='D7'] .condition :last-child\").title").startswith(
-        "fault: vle32.v\n"
-    )  # where it is cut
+    # where it is cut
+    assert teacher.run("one(\"[data-seat='D7'] .condition :last-child\").title").startswith("fault: vle32.v\n")
     assert teacher.text("[data-seat='D7'] .minutes").endswith(" s")
     assert teacher.text("[data-seat='B1'] .condition") == "•paused: addi"
     assert teacher.run(f"{SEATS}[1]") == "B1"  # at work, before those that are empty

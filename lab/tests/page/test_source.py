@@ -196,9 +196,8 @@ def _give_to_all(teacher: Tab, tab: Tab, other: Tab) -> None:
 def _take_back(teacher: Tab, tab: Tab) -> None:
     """The teacher takes the source back; to no seat nothing can be given."""
     teacher.wait("one('#sent .given')?.textContent.startsWith('Given to all seats: ')")
-    numbers = teacher.run(
-        "/\\d of 8 editors/.exec(one('#sent .given').textContent)[0]"
-    )  # other tests wrote at seats, too
+    # other tests wrote at seats, too
+    numbers = teacher.run("/\\d of 8 editors/.exec(one('#sent .given').textContent)[0]")
     teacher.click("#sent .given button")
     tab.wait(f"{TEXT}.startsWith('# theirs')")
     teacher.wait(

@@ -71,9 +71,8 @@ def test_steps_back_and_forth(sit: Sit) -> None:
         and tab.text("[data-edit='set x10']") == "7"
         and tab.run("id('says-past').hidden")
     )
-    assert teacher.run(SHOWN_ADDRESS) == "10004" and "step 2 of 4" in teacher.text(
-        "#says-past"
-    )  # who stays in the past
+    # who stays in the past
+    assert teacher.run(SHOWN_ADDRESS) == "10004" and "step 2 of 4" in teacher.text("#says-past")
     teacher.click("#now")
     assert teacher.run(SHOWN_ADDRESS) == "1000c"
 

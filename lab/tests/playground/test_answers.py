@@ -19,15 +19,8 @@ from vecmon_lab.compilers.compiler import Compiler
 pytestmark = pytest.mark.site
 NAMES = ["doubles"]
 WEB = TOP / "lab" / "vecmon_lab" / "playground" / "web"
-OWN = (
-    "title",
-    "class_title",
-    "name",
-    "own_slices",
-    "no_c",
-    "clock",
-    "exercises",
-)  # parts of a view that differ in a page without a server
+# parts of a view that differ in a page without a server
+OWN = ("title", "class_title", "name", "own_slices", "no_c", "clock", "exercises")
 DIGITS = b"0123456789abcdef"  # in the machine's module
 COMPILE = (
     'int add(int a, int b) { return a + b; }\nvoid _start(void) { volatile int x = add(1, 2); __asm__("ebreak"); }\n'

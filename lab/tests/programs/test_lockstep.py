@@ -20,14 +20,8 @@ SOURCE = """\
         add a1, a0, t0
         ebreak
 """
-WRITTEN = [
-    "x10 5",
-    "x5 3",
-    "v8 2:1:0",
-    "v9 7:6:5",
-    "v10 31:24:19",
-    "x11 8",
-]  # by hand; elements of 32 bits, element 0 last
+# by hand; elements of 32 bits, element 0 last
+WRITTEN = ["x10 5", "x5 3", "v8 2:1:0", "v9 7:6:5", "v10 31:24:19", "x11 8"]
 BEFORE = "it was left otherwise before:"
 ONES = ":".join(["ffffffff"] * 5)
 

@@ -20,10 +20,8 @@ def test_generated_programs_exit_normally_on_vecmon(lab: Lab, tmp_path: pathlib.
         reference = (tmp_path / f"program_{number}.reference").read_text("ascii")
         status, output, errors = lab("run", tmp_path / f"program_{number}.elf")
         assert (status, output) == (0, f"{reference}00000000\n".encode())
-        assert [line.split()[2:4] for line in errors.splitlines()] == [
-            ["ecall", "132"],
-            ["ecall", "134"],
-        ]  # for signals on Linux
+        # for signals on Linux
+        assert [line.split()[2:4] for line in errors.splitlines()] == [["ecall", "132"], ["ecall", "134"]]
         state = json.loads((tmp_path / f"program_{number}.state").read_text("ascii"))
         assert len(state["v"]) == 32 and len(state["memory"]["20000"]) == 2 * 8192
 

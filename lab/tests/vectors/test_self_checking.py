@@ -103,10 +103,8 @@ def test_unavailable_cases_are_omitted(lab: Lab, tmp_path: pathlib.Path) -> None
     for environment in ("linux", "vecmon", "bare"):
         status, output, _ = lab("vectors", "vle8.v", "ecall", "ebreak", "--elf", tmp_path, "--environment", environment)
         expected[environment] = output.decode().splitlines()
-    assert expected["linux"] == [
-        "84 cases in 2 programs",
-        "left out: 32 of call",
-    ]  # 22 types, masked or not, and 8; 24 and 8
+    # 22 types, masked or not, and 8; 24 and 8
+    assert expected["linux"] == ["84 cases in 2 programs", "left out: 32 of call"]
     assert expected["vecmon"][0].endswith(" cases in 1 program")
     assert {line.rpartition(" of ")[2] for line in expected["vecmon"][1:]} == {"call", "ebreak", "fault 2", "fault 5"}
     assert {line.rpartition(" of ")[2] for line in expected["bare"][1:]} == {"call", "fault 5"}
@@ -125,9 +123,8 @@ def test_stock_assembler_makes_same_program(lab: Lab, tmp_path: pathlib.Path, en
         march = "-march=rv64im_zicsr_zve64x_zvl256b"
         subprocess.run(["riscv64-linux-gnu-as", march, "-o", made, source], check=True)
         link = ["riscv64-linux-gnu-ld", *options.split(","), "-o", f"{linked}", f"{made}"]
-        subprocess.run(
-            link, check=True, stderr=subprocess.DEVNULL
-        )  # it warns of a page that is writable and executable
+        # it warns of a page that is writable and executable
+        subprocess.run(link, check=True, stderr=subprocess.DEVNULL)
         if environment == "linux" and shutil.which("qemu-riscv64"):
             assert output_of([*on_qemu.QEMU, linked]) == output_of([*on_qemu.QEMU, source.with_suffix(".elf")])
     assert len(list(tmp_path.glob("*.linked"))) == (11 if environment == "linux" else 10)

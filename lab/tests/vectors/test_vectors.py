@@ -46,9 +46,8 @@ def test_load_faults_on_unmapped_page(session: Session) -> None:
 
 
 def test_store_faults_at_second_element(session: Session) -> None:
-    case = Case(
-        0x020350A7, ControlRegisters(2, E16), x={6: 0x20FFE}, v={1: b"\x01\x02\x03\x04" + bytes(28)}
-    )  # vse16.v v1, (x6)
+    # vse16.v v1, (x6)
+    case = Case(0x020350A7, ControlRegisters(2, E16), x={6: 0x20FFE}, v={1: b"\x01\x02\x03\x04" + bytes(28)})
     after = {"vstart": 1, "memory": {"20ffe": "0102"}}
     assert changes(session, "vse16.v", case) == {"end": "fault", "cause": 7, "value": "21000", "after": after}
 

@@ -28,7 +28,7 @@ class MachineThread:
     """
 
     def __init__(self, machine: SharedMachine, changed: Callable[[], None], replay_differs: Callable[[], None]) -> None:
-        """changed: called where seats have news; doubted: called where the machine is stopped, since a replay differs"""
+        """changed: called if seats have news; replay_differs: called if the machine is stopped because a replay differs"""
         self.lock = asyncio.Lock()  # which is given first come, first served
         self.stopped = self.down = self.rebuilding = ""
         self.changed, self.machine, self._replay_differs = changed, machine, replay_differs

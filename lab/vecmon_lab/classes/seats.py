@@ -29,11 +29,8 @@ BLOCK_DIGITS, BLOCKS = 2048, 64  # of output; a page has the last 64 KB of it
 
 Condition = Literal["Not begun", "Ready", "Running", "Paused", "Ended", "Fault"]
 """The condition of a machine. Ready: its program hasn't executed anything"""
-_ENDS: Mapping[str, Condition] = {
-    "fault": "Fault",
-    "exit": "Ended",
-    "ebreak": "Ended",
-}  # by the kind of a stop; others are pauses
+# By the kind of a stop; others are pauses.
+_ENDS: Mapping[str, Condition] = {"fault": "Fault", "exit": "Ended", "ebreak": "Ended"}
 
 Done = tuple[str, Sequence[str]]
 """An executed line, and its answer."""

@@ -101,9 +101,8 @@ class SharedMachine:
     def __init__(self, letter: str, session: Session, file: Recorder) -> None:
         self.letter, self.session, self.file, self.seats = letter, session, file, Seats(letter)
         self.has_run = False  # whether slices were granted since programs were looked at
-        self._runs: dict[
-            str, tuple[Session, int]
-        ] = {}  # by digit, the number of the script's line that ended the last run
+        # By the user's digit: the session, and the number of the script's line that ended the last run.
+        self._runs: dict[str, tuple[Session, int]] = {}
 
     def lines(self, seat: Seat, request: Lines, done: Answers) -> Steps[Answers]:
         """Executes lines, which join `done` with their answers, and slices; the answers to lines that look.

@@ -13,10 +13,8 @@ from .requests import BadRequest, Lines, StepKind
 from .seats import Seat
 from .shared_machine import Answers, SharedMachine, Steps, Turn
 
-LINE_BLOCKS, CALL_BLOCKS = (
-    256,
-    1024,
-)  # of code, that a step goes through: of a line, and over calls or out of a function
+# Blocks of code that a step executes at most: of a line, and over calls or out of a function.
+LINE_BLOCKS, CALL_BLOCKS = 256, 1024
 BLOCK_WORDS = 16  # a block's instructions at most
 MAX_LINES = 1000  # that a program is stepped through up to a line
 LEAVES = "bje"  # first letters of scalar instructions that may branch, jump or call: bne, jal, ecall

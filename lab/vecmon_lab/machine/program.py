@@ -13,9 +13,8 @@ from .image import MARCH, rights_of
 
 _CRATES = pathlib.Path(__file__).resolve().parents[3] / "crates"
 BUILT, BUILT_RECORDER = _CRATES / "vecmon" / "out" / "vecmon", _CRATES / "vecmon_record" / "out" / "vecmon_record"
-UNPROVED = (
-    _CRATES.parent / "build" / "unproved"
-)  # of tools/run: a folder for each state of the sources; `current` names one
+# Built by tools/run: a folder for each state of the sources; `current` names one.
+UNPROVED = _CRATES.parent / "build" / "unproved"
 RECORDER = "vecmon-record"
 HOW_TO_BUILD = dict(read_table("how_to_build"))
 

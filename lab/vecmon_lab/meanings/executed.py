@@ -15,13 +15,11 @@ from .formula import Assignment, Bits, Formula, evaluate, sext, zext
 from .record import Record, record_of
 
 WORD = (1 << 64) - 1
-ElementOutcome = enum.Enum("Fate", "RESULT KEPT MASKED TAIL BEFORE_START NO_ELEMENTS AFTER_FAULT SHORTENED")
+ElementOutcome = enum.Enum("ElementOutcome", "RESULT KEPT MASKED TAIL BEFORE_START NO_ELEMENTS AFTER_FAULT SHORTENED")
 """Why an element of a destination has its value: the formula; or it kept its value, unless policy ones sets what is agnostic."""
 
-_AGNOSTIC = {
-    ElementOutcome.MASKED: 0x80,
-    ElementOutcome.TAIL: 0x40,
-}  # the bit of vtype that makes elements of this fate agnostic
+# The bit of vtype that makes elements with this outcome agnostic.
+_AGNOSTIC = {ElementOutcome.MASKED: 0x80, ElementOutcome.TAIL: 0x40}
 _CONTROL_FIELDS = {  # of control registers that can be written, by number: the lowest bit and the largest value
     0x008: {"vstart": (0, 0xFF)},
     0x009: {"vxsat": (0, 1)},
@@ -164,7 +162,7 @@ class Execution:
         return self.record.kept is not None and bool(evaluate(self.record.kept, self.names))
 
     def outcome(self, element: int) -> ElementOutcome:
-        """The fate of an element of the destination, apart from a fault or a shortened length."""
+        """Return the outcome of an element of the destination, apart from a fault or a shortened length."""
         control, body = self.before.control, self.body
         if self.is_single:
             body = range(control.vl > control.vstart)
@@ -310,7 +308,7 @@ def _write(execution: Execution, after: After, operand: Operand, number: int, pl
 
 
 def agnostic(execution: Execution, outcome: ElementOutcome) -> bool:
-    """Whether an element of this fate becomes ones."""
+    """Return whether an element with this outcome becomes ones."""
     operand, vtype = execution.operand, execution.before.control.vtype
     if not execution.before.has_ones or operand is None or operand.noun != "destination" or operand.eew == 1:
         return False

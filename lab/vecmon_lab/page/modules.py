@@ -4,9 +4,10 @@ import re
 from collections.abc import Callable, Sequence
 
 _IMPORT = re.compile(r'^import \{ (.+) \} from "\./(\w+)\.js";\n', re.MULTILINE)
+# Lines that have only a comment: neither casts within code nor copyright notices.
 _COMMENTS = re.compile(
     r"^ *(?:/\*\*(?:(?!\*/).)*\*/|//(?![^\n]*(?:copyright|license))[^\n]*)\n", re.MULTILINE | re.DOTALL
-)  # lines of a comment alone, not a cast in code, and no notices
+)
 _TYPE = re.compile(r"/\*\* @(?:type|param) (?:(?!\*/).)*\*/ ?")  # within a line of code
 _EXPORT = re.compile(r"^export (?=(?:class|const|function) (\w+))", re.MULTILINE)
 

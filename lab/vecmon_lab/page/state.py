@@ -136,9 +136,8 @@ class WatchSet:
         self.breaks: set[int] = set()  # where the program stops, which a look at a running program doesn't show
         self.is_compiled = False  # whether a compiler made the program in memory
         self.trace: Sequence[int] = []  # as it was when it was looked at last
-        self.followed: set[
-            int
-        ] = set()  # addresses from which on words were listed, in memory that hasn't changed since
+        # First addresses of listings, in memory that hasn't changed since.
+        self.followed: set[int] = set()
 
     def follow(self, line: str) -> None:
         """Takes up the places that a user's line names, which was accepted."""

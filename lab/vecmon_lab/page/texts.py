@@ -10,14 +10,8 @@ from collections.abc import Mapping
 from ..tables.table import read_table
 
 LANGUAGE = "en"  # of all pages; its table is tables/texts.LANGUAGE.txt
-NUMBERS = (
-    "zero",
-    "one",
-    "two",
-    "few",
-    "many",
-    "other",
-)  # plural categories of Unicode CLDR, with which keys of forms end
+# Plural categories of Unicode CLDR; keys of plural forms end with one.
+NUMBERS = ("zero", "one", "two", "few", "many", "other")
 IN_HTML = re.compile(r"\{\{([\w.-]+)\}\}")
 IN_SCRIPT = re.compile(r'\b(textOf|contentOf)\(\s*"([\w.-]+)"(\))?')
 PLACE = re.compile(r"\{(\w+)\}")
