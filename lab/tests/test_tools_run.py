@@ -326,13 +326,12 @@ def test_folder_without_a_whole_program_is_replaced(clone: Clone) -> None:
 
 def test_concurrent_starts_build_once(clone: Clone) -> None:
     one, other = clone.start(), clone.start()
-    time.sleep(0.5)
+    assert other.stderr and "waiting for another tools/run" in other.stderr.readline()
     (clone.top / "wait").unlink()
     ended = [process.communicate(timeout=60) for process in (one, other)]
     assert [process.returncode for process in (one, other)] == [0, 0]
     assert [output for output, _ in ended] == [check.first_script()[1]] * 2
     assert clone.builds() == ["vecmon", "vecmon_record"] and len(clone.folders()) == 1
-    assert "waiting for another tools/run" in ended[1][1]
 
 
 def test_script_and_images_are_passed_on(clone: Clone, program: pathlib.Path, tmp_path: pathlib.Path) -> None:

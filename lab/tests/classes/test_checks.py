@@ -323,7 +323,7 @@ async def test_restarted_class_preserves_exercises(tmp_path: pathlib.Path, squar
 async def test_bad_exercise_is_reported(tmp_path: pathlib.Path, square: pathlib.Path) -> None:
     def start(*folders: pathlib.Path) -> str:
         with pytest.raises(LabError) as raised:
-            Class(Store(tmp_path / "class", find_program()), 5.0, exercises=folders)
+            Class(Store(tmp_path / "class", find_program()), SECONDS, exercises=folders)
         return str(raised.value)
 
     assert (

@@ -32,7 +32,7 @@ pytestmark = pytest.mark.asyncio
 
 
 async def test_killed_or_hanging_program_is_replaced(tmp_path: pathlib.Path) -> None:
-    async with process(tmp_path / "class", "--patience", "1") as room:
+    async with process(tmp_path / "class", "--patience", "3") as room:
         tab, other, teacher = await room.sit("A1"), await room.sit("A2"), await room.sit("teacher")
         await tab.do(*LOOP, "step 7")
         await other.do(*LOOP)
@@ -41,8 +41,8 @@ async def test_killed_or_hanging_program_is_replaced(tmp_path: pathlib.Path) -> 
             waiting = asyncio.create_task(tab.do("step 2"))
             await teacher.ask("rights", machine="A", own_slices=True)  # which never waits for the machine
             assert await waiting == [["stepped 2 pc=0000000000010004"]]
-            await teacher.until(lambda view: view["machines"]["A"]["restarts"] == count)
-        assert "says nothing for 1 s" in teacher.view["machines"]["A"]["loss"]
+            await teacher.until(lambda view: view["machines"]["A"]["restarts"] >= count)  # a slow one is replaced, too
+        assert "says nothing for 3 s" in teacher.view["machines"]["A"]["loss"]
         assert await other.do("step 1") == [["stepped 1 pc=0000000000010004"]]
         await room.check_replay()
         assert await room.end() == 0
@@ -190,12 +190,12 @@ async def test_changed_script_answers_are_refused(tmp_path: pathlib.Path, progra
         copy = tmp_path / str(len(changed))
         shutil.copytree(folder, copy)
         (copy / "A.script").write_bytes(changed)
-        members = Class(Store(copy, program), 5.0)
+        members = Class(Store(copy, program), SECONDS)
         assert members.store.lost == [f"A.script: {expected}"] and members.rooms["A"].session.script == changed
         assert expected in members.store.loss
         members.save()
         members.end()
-        members = Class(Store(copy, program), 5.0)  # whose notes are of the script as it is now
+        members = Class(Store(copy, program), SECONDS)  # whose notes are of the script as it is now
         assert not members.store.lost
         members.end()
     (folder / "A.script").write_bytes(script + b"1 step 1\n")  # not covered by the digest
@@ -203,7 +203,7 @@ async def test_changed_script_answers_are_refused(tmp_path: pathlib.Path, progra
         assert (await room.sit("A1")).view["state"]["pc"] == "10000"
     for broken in (b"9 enter\n", b"1 \xff\n", b"\n"):
         (folder / "A.script").write_bytes(script + broken)
-        members = Class(Store(folder, program), 5.0)
+        members = Class(Store(folder, program), SECONDS)
         assert members.store.lost[0].startswith("A.script is damaged behind line 7, and A.script.damaged")
         members.end()
 
@@ -213,7 +213,7 @@ async def test_differing_replay_stops_class(tmp_path: pathlib.Path) -> None:
     program.write_text(f"#!/bin/sh\n{find_program()} | sed -u s/00128293/$(cat {word})/\n")
     program.chmod(0o755)
     word.write_text("00128293")
-    members = Class(Store(tmp_path / "class", program), 5.0)
+    members = Class(Store(tmp_path / "class", program), SECONDS)
     room = members.rooms["A"]
     for line in LOOP:
         await room.lines(room.seats.users["1"], Lines("", [line], 0, []), [])
@@ -232,7 +232,7 @@ async def test_differing_replay_stops_class(tmp_path: pathlib.Path) -> None:
 async def test_temporarily_missing_program_is_retried(tmp_path: pathlib.Path) -> None:
     program = tmp_path / "vecmon"
     shutil.copy(find_program(), program)
-    members = Class(Store(tmp_path / "class", program), 5.0)
+    members = Class(Store(tmp_path / "class", program), SECONDS)
     room = members.rooms["A"]
     await room.lines(room.seats.users["1"], Lines("", LOOP, 0, []), [])
     program.rename(tmp_path / "elsewhere")
@@ -254,7 +254,7 @@ async def test_failure_of_cancelled_call_is_not_logged(tmp_path: pathlib.Path, p
     """The server ends while the clock waits for the machine, whose call then fails: asyncio would log that with a traceback."""
     logged = list[dict[str, Any]]()
     asyncio.get_running_loop().set_exception_handler(lambda _, context: logged.append(context))
-    members = Class(Store(tmp_path / "class", program), 5.0)
+    members = Class(Store(tmp_path / "class", program), SECONDS)
     begun, ending = threading.Event(), threading.Event()
 
     def fail() -> None:
@@ -279,7 +279,7 @@ async def test_failure_of_cancelled_call_is_not_logged(tmp_path: pathlib.Path, p
 
 async def test_files_at_end_are_consistent(tmp_path: pathlib.Path) -> None:
     """A server that ends while its clock grants slices keeps no number of lines with a digest of others."""
-    members, notes = Class(Store(tmp_path / "class", find_program()), 5.0), tmp_path / "class" / "A.json"
+    members, notes = Class(Store(tmp_path / "class", find_program()), SECONDS), tmp_path / "class" / "A.json"
     room = members.rooms["A"]
     await room.lines(room.seats.users["1"], Lines("", [*LOOP, "go"], 0, []), [])
     members.save()

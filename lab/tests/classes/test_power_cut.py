@@ -10,7 +10,7 @@ from types import SimpleNamespace
 
 import pytest
 
-from support.class_tabs import LOOP
+from support.class_tabs import LOOP, SECONDS
 from support.disk import Contents, Disk
 from vecmon_lab.classes import checks, durable, store, view
 from vecmon_lab.classes.languages import SourceText
@@ -60,7 +60,7 @@ class Lesson:
     def __init__(self, folder: pathlib.Path, program: pathlib.Path, disk: Disk) -> None:
         self.disk, self.now, self.done, self.cuts = disk, 0.0, Acknowledged(), list[Cut]()
         self._history = [(0.0, Acknowledged())]
-        self.members = Class(Store(folder, program), 5.0, clock=False, exercises=[EXERCISE])
+        self.members = Class(Store(folder, program), SECONDS, clock=False, exercises=[EXERCISE])
         self.disk.before_each = self._cut
 
     async def work(self) -> None:
@@ -165,7 +165,7 @@ def check(cut: Cut, folder: pathlib.Path, program: pathlib.Path) -> None:
         if not (folder / name).exists() or (folder / name).read_bytes() != data:
             (folder / name).write_bytes(data)
         os.utime(folder / name, (number, number))
-    members, known = Class(Store(folder, program), 5.0), cut.known
+    members, known = Class(Store(folder, program), SECONDS), cut.known
     lines, last = list[str](), list[str]()
     for number, start in enumerate(members.rooms["A"].scripts.set_up, 1):
         path = folder / script_name("A", number)

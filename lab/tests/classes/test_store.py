@@ -12,7 +12,7 @@ from typing import Any
 
 import pytest
 
-from support.class_tabs import LOOP, served
+from support.class_tabs import LOOP, SECONDS, served
 from support.places import SUM
 from vecmon_lab.__main__ import main
 from vecmon_lab.classes.folder_report import folder_report
@@ -152,7 +152,7 @@ async def test_damaged_file_is_set_aside(tmp_path: pathlib.Path, program: pathli
             has_lost == is_damaged and any(line.startswith(f"lost: {name} is damaged") for line in report) == is_damaged
         )
         assert {path: path.read_bytes() for path in folder.rglob("*") if path.is_file()} == before
-        members = Class(Store(folder, program), 5.0)
+        members = Class(Store(folder, program), SECONDS)
         assert [sentence.split(",")[0] for sentence in members.store.lost] == [f"{name} is damaged"] * is_damaged
         assert members.rooms["A"].session.script == script and members.store.images["sum"].exists()
         assert (f"{name} is damaged" in teacher_view(members, Tab("teacher"))["trouble"]) == is_damaged
@@ -176,7 +176,7 @@ def test_damaged_script_is_truncated(tmp_path: pathlib.Path, program: pathlib.Pa
     ):
         (folder / "A.script").write_bytes(damaged)
         (folder / "A.json").unlink(missing_ok=True)
-        members = Class(Store(folder, program), 5.0)
+        members = Class(Store(folder, program), SECONDS)
         assert sentence in members.store.lost[0] and len(members.store.lost) == 1
         assert members.rooms["A"].session.lines == lines == (folder / "A.script").read_bytes().count(b"\n")
         members.end()
@@ -195,7 +195,7 @@ def test_lost_set_up_loses_stops(
     (folder / "A.3.script").write_bytes(b"1 enter\n1 map 0 1 rx\n1 asm 0 ebreak\n1 setpc 0\n")
     notes = {"lines": set_up, "scripts": [0, 2, set_up], "stops": {"1": "ebreak pc=0000000000000000"}}
     (folder / "A.json").write_text(json.dumps(notes))
-    members = Class(Store(folder, program), 5.0)
+    members = Class(Store(folder, program), SECONDS)
     assert members.seat("A1").condition == condition and len(members.store.lost) == losses
     members.end()
 
@@ -211,7 +211,7 @@ def test_unreadable_file_is_refused(tmp_path: pathlib.Path, program: pathlib.Pat
             Store(folder, program, is_reading=is_reading)
     assert (folder / "class.json").read_bytes() == b""
     (folder / "A.script").write_bytes(b"1 enter\n")
-    members = Class(Store(folder, program), 5.0)
+    members = Class(Store(folder, program), SECONDS)
     assert len(members.store.lost) == 2 and members.rooms["A"].session.lines == 1
     members.end()
 
@@ -223,7 +223,7 @@ def test_lost_answer_preserves_other_numbers(tmp_path: pathlib.Path, program: pa
     for number in (1, 3):
         expected = {"time": number, "text": f"# {number}", "suffix": "s", "told": {"cases": [number == 3] * 5}}
         (answers / f"A1.doubles.{number}.json").write_text(json.dumps(expected))
-    members = Class(Store(tmp_path / "class", program), 5.0, exercises=[pathlib.Path("doubles")])
+    members = Class(Store(tmp_path / "class", program), SECONDS, exercises=[pathlib.Path("doubles")])
     progress = members.checks.exercises.progress("A1", "doubles")
     assert progress.tries == [(1, 0), (0, 0), (3, 5)] and progress.first == 3
     assert [members.checks.answer("A1", "doubles", number)["text"] for number in (1, 2, 3)] == ["# 1", "", "# 3"]
@@ -265,7 +265,7 @@ async def test_damaged_seat_program_is_dropped(tmp_path: pathlib.Path, program: 
     (folder / "A2.written.O2.c").write_text("int main(void) { return 0; }")
     for damage in (b"", b"{}", b"junk"):
         (folder / "A2.written.json").write_bytes(damage)
-        members = Class(Store(folder, program), 5.0)
+        members = Class(Store(folder, program), SECONDS)
         sentence = (
             "A2.written.*: the source of the seat's machine isn't listed, since the compiler's output can't be read"
         )

@@ -7,7 +7,7 @@ import pathlib
 import pytest
 import pytest_asyncio
 
-from support.class_tabs import LOOP
+from support.class_tabs import LOOP, SECONDS
 from vecmon_lab.classes.folder_report import folder_report
 from vecmon_lab.classes.requests import Lines
 from vecmon_lab.classes.solo import solo
@@ -31,7 +31,7 @@ async def folder(tmp_path: pathlib.Path, program: pathlib.Path) -> pathlib.Path:
     earlier = tmp_path / "earlier"
     earlier.write_bytes(program.read_bytes() + b"\0")
     earlier.chmod(0o755)
-    members = Class(Store(tmp_path / "class", earlier), 5.0)
+    members = Class(Store(tmp_path / "class", earlier), SECONDS)
     await do(members, *LOOP, "step 7")
     members.save()
     members.end()
@@ -55,7 +55,7 @@ def digest(program: pathlib.Path) -> str:
 @pytest.mark.asyncio
 async def test_program_with_same_answers_continues(folder: pathlib.Path, program: pathlib.Path) -> None:
     assert served_by(folder) == digest(folder.parent / "earlier") != digest(program)
-    members = Class(Store(folder, program), 5.0)
+    members = Class(Store(folder, program), SECONDS)
     assert members.store.has_new_program and not members.store.lost
     assert served_by(folder) == digest(program)
     assert members.rooms["A"].session.script == SCRIPT
@@ -76,13 +76,13 @@ async def test_program_with_other_answers_is_refused(
     other.chmod(0o755)
     before = contents(folder)
     with pytest.raises(BadFolder) as refusal:
-        Class(Store(folder, other), 5.0)
+        Class(Store(folder, other), SECONDS)
     assert str(refusal.value) == (
         f"{other} isn't the program that served {folder} before, and machine A's script has other answers now: "
         f"continue with the earlier program: VECMON=PATH vecmon-lab class {folder}"
     )
     assert contents(folder) == before
-    members = Class(Store(folder, tmp_path / "earlier"), 5.0)
+    members = Class(Store(folder, tmp_path / "earlier"), SECONDS)
     assert not members.store.has_new_program and members.rooms["A"].session.script == SCRIPT
     members.end()
 
