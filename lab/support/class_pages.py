@@ -36,7 +36,9 @@ def lab_command(takes_c: bool, before: str = "") -> list[str]:
 
     before: statements of Python that end with `; `
     """
-    compiles = "from vecmon_lab.compilers import sandbox; sandbox.check_sandbox = lambda: None; " if takes_c else ""
+    compiles = (
+        "from vecmon_lab.compilers import sandbox; sandbox.check_sandbox = lambda account: None; " if takes_c else ""
+    )
     checks = "from support.checked_requests import check_requests; check_requests(); "
     return [sys.executable, "-c", f"{compiles}{checks}{before}import vecmon_lab.__main__ as lab; lab.main()"]
 

@@ -1,6 +1,7 @@
 """`explore`: a private page for a source, served to this computer alone."""
 
 import asyncio
+import os
 import pathlib
 import re
 import shutil
@@ -45,10 +46,11 @@ async def _check_listings(session: aiohttp.ClientSession, url: str, code: str, t
 @pytest.mark.asyncio
 @pytest.mark.by_command("explore")
 async def test_explore_serves_file_to_one_seat(clang: Compiler, tmp_path: pathlib.Path) -> None:
-    """The file is the source of its one seat; another site gets nothing; and nothing is left of it."""
+    """The file is the source of its one seat; another site gets nothing; and nothing is left of it. Root compiles as nobody."""
     if shutil.which("bwrap") is None:
         leave_out(NO_SANDBOX)
-    arguments = [*lab_command(True), "explore", str(GREY), "--options", "O1", "--cc", clang.name]
+    account = [] if os.geteuid() else ["--as", "nobody"]
+    arguments = [*lab_command(False), "explore", str(GREY), "--options", "O1", "--cc", clang.name, *account]
     environment = {"PATH": "/usr/bin:/bin", "TMPDIR": str(tmp_path)}
     child = await asyncio.create_subprocess_exec(
         *arguments, cwd=TOP, stdout=subprocess.PIPE, env=_with_program(environment)

@@ -6,6 +6,7 @@ import sys
 from collections.abc import Sequence
 
 from .. import LabError
+from ..compilers.account import OWN, Account
 from ..compilers.compiled import IMAGE_BYTES, CompiledProgram, read_compiled_program
 from ..compilers.compiler import Compiler
 from ..compilers.compiling import words_for
@@ -23,10 +24,14 @@ class Builds:
     """
 
     def __init__(
-        self, compiler: Compiler | None = None, no_c: str = "no compiler was named", limit: int = IMAGE_BYTES
+        self,
+        compiler: Compiler | None = None,
+        no_c: str = "no compiler was named",
+        limit: int = IMAGE_BYTES,
+        account: Account = OWN,
     ) -> None:
-        """limit: bytes of an image that aren't zeros"""
-        self.compiler, self._limit = compiler, limit
+        """limit: bytes of an image that aren't zeros; account: the user who compiles"""
+        self.compiler, self._limit, self._account = compiler, limit, account
         self.others: Sequence[Compiler] = ()
         self.no_c = "" if compiler else no_c
         self._places = asyncio.Semaphore(os.cpu_count() or 1)
@@ -45,14 +50,17 @@ class Builds:
         with exclusive(seat, self._busy, BadRequest("a source of this seat is being compiled")):
             words = words_for(text, compiler, choice, is_answer)
             async with self._places:
-                answer = await run_in_sandbox_async(words, text)
+                answer = await run_in_sandbox_async(words, text, self._account)
             return await asyncio.to_thread(read_compiled_program, answer, self._limit)
 
 
-def builds_by(name: str | None, limit: int = IMAGE_BYTES, is_needed: bool = False) -> Builds:
-    """Return what compiles C sources, perhaps nothing. Raises LabError for a named or needed compiler that can't."""
+def builds_by(name: str | None, limit: int = IMAGE_BYTES, is_needed: bool = False, account: Account = OWN) -> Builds:
+    """Return what compiles C sources, perhaps nothing. Raises LabError for a named or needed compiler that can't.
+
+    account: the user who compiles
+    """
     try:
-        return Builds(sandboxed_compiler(name), limit=limit)
+        return Builds(sandboxed_compiler(name, account), limit=limit, account=account)
     except LabError as error:
         if name or is_needed:
             raise

@@ -9,6 +9,7 @@ from urllib.parse import urlsplit
 
 from .. import LabError
 from ..arguments import between
+from ..compilers.account import account_named, add_account
 from ..exercises.exercise import with_course
 from ..machine.program import find_program, images_of
 from ..page import codemirror
@@ -72,6 +73,7 @@ def _add_exercises(parser: argparse.ArgumentParser) -> None:
     parser.add_argument("--exercise", metavar="NAME|DIR", type=folder, action="append", default=[], help=help_text)
     parser.add_argument("--course", action="store_true", help="all exercises of the course, before those of --exercise")
     parser.add_argument("--cc", metavar="NAME", help="the compiler of sources in C, such as clang-19")
+    add_account(parser)
     limit = between(1, 512)
     parser.add_argument(
         "--image-size",
@@ -124,7 +126,7 @@ def _serve(arguments: argparse.Namespace) -> None:
     from .server import listening, serve  # these need aiohttp; --help doesn't
     from .tls import key_warning, tls_context
 
-    images, host = images_of(arguments.images), arguments.host
+    images, host, account = images_of(arguments.images), arguments.host, account_named(arguments.account)
     tls = tls_context(*arguments.tls) if arguments.tls else None
     if tls and (arguments.address or "https:").startswith("http:"):
         raise LabError(f"--tls serves HTTPS, so the address of the class begins with https://: {arguments.address}")
@@ -137,7 +139,7 @@ def _serve(arguments: argparse.Namespace) -> None:
     except LabError:
         store.close()
         raise
-    builds = builds_by(arguments.cc, arguments.image_size << 10)
+    builds = builds_by(arguments.cc, arguments.image_size << 10, account=account)
     exercises = with_course(arguments.exercise) if arguments.course else arguments.exercise
     members = Class(store, arguments.patience, _tell, not arguments.no_clock, arguments.spare, exercises, builds)
     if store.has_new_program:

@@ -8,6 +8,7 @@ import tempfile
 
 from .. import LabError
 from ..arguments import between
+from ..compilers.account import account_named, add_account
 from ..compilers.compiler import choice_for, find_compilers
 from ..lessons.lesson import add_compiler
 from ..machine.program import find_program
@@ -30,6 +31,7 @@ def add_arguments(parser: argparse.ArgumentParser) -> None:
         "--port", metavar="P", type=between(0, 65535), default=0, help="the port; by default a free one"
     )
     add_compiler(parser)
+    add_account(parser)
     parser.add_argument("--quantum", metavar="N", type=int, help="ticks of a slice, 1 to 1000; by default 100")
 
 
@@ -39,8 +41,9 @@ def run(arguments: argparse.Namespace) -> int:
 
     os.umask(0o077)
     path: pathlib.Path | None = arguments.source
+    account = account_named(arguments.account)
     source = read(path, arguments.options) if path else SourceText()
-    builds = builds_by(arguments.cc, is_needed=path is not None and path.suffix == ".c")
+    builds = builds_by(arguments.cc, is_needed=path is not None and path.suffix == ".c", account=account)
     builds.others = find_compilers()
     with tempfile.TemporaryDirectory(prefix="vecmon-") as folder:
         store = Store(pathlib.Path(folder) / "own", find_program(), quantum=arguments.quantum)

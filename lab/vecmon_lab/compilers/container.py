@@ -7,7 +7,6 @@ users can read, and no other file: so an exercise that it can read isn't graded.
 import asyncio
 import os
 import pathlib
-import shutil
 import subprocess
 import tempfile
 from collections.abc import Sequence
@@ -16,7 +15,7 @@ from subprocess import DEVNULL
 from .. import LabError
 from .failures import ToolError
 from .sandbox import MODULE, PROCESSES, SECONDS, run_inside
-from .sandbox_files import LAB, MODULES, elftools
+from .sandbox_files import copy_lab
 
 NOBODY = 65534  # Debian's user and group with the fewest rights
 _AS_NOBODY = ("/usr/bin/setpriv", f"--reuid={NOBODY}", f"--regid={NOBODY}", "--clear-groups", "--no-new-privs")
@@ -44,11 +43,8 @@ def answer_as_nobody(words: Sequence[str], text: str) -> bytes:
     """The output of `sandbox_main` with these arguments, which runs as the user nobody. Raises LabError, and ToolError."""
     with tempfile.TemporaryDirectory() as place:
         lab, folder = pathlib.Path(place, "lab"), pathlib.Path(place, "folder")
-        for module in MODULES:  # since the lab may be in a folder that root alone can read
-            (lab / module).parent.mkdir(parents=True, exist_ok=True)
-            shutil.copyfile(LAB / module, lab / module)
-        shutil.copytree(elftools(), lab / "elftools", ignore=shutil.ignore_patterns("__pycache__"))
-        subprocess.run(["/usr/bin/chmod", "-R", "a+rX", place], check=True)
+        os.chmod(place, 0o755)
+        copy_lab(lab)  # since only root may be able to read the lab's own folder
         folder.mkdir()
         os.chown(folder, NOBODY, NOBODY)
         variables = {"PATH": "/usr/bin", "PYTHONPATH": str(lab), "LC_ALL": "C.UTF-8", "TMPDIR": str(folder)}

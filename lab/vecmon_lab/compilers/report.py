@@ -1,6 +1,9 @@
 """Lines about C for `vecmon-lab check`: the compilers, and whether their sandbox starts."""
 
+import os
+
 from .. import LabError
+from .account import OWN, account_named
 from .compiler import find_compilers
 from .sandbox import sandboxed_compiler
 
@@ -11,8 +14,9 @@ def print_compilers() -> None:
     missing = "not installed: sudo apt install clang-19 lld-19 bubblewrap"
     print(f"compilers for sources in C: {', '.join(names) or missing}")
     try:
-        sandboxed_compiler(None)
-        state = "it starts"
+        account = OWN if os.geteuid() else account_named("nobody")
+        sandboxed_compiler(None, account)
+        state = "it starts" if account == OWN else "it starts with --as nobody, which root needs"
     except LabError as error:
         state = f"not available: {error}"
     print(f"sandbox for sources in C in class, explore and grade: {state}")

@@ -1,6 +1,7 @@
 """A sandbox around a compiler: no network, no file but those of `sandbox_files`, and limits of memory, time and output.
 
-A source can make a compiler read files (`#include`, `.incbin`), use all memory, and print without end.
+A source can make a compiler read files (`#include`, `.incbin`), use all memory, and print without end. If root starts it,
+the sandbox belongs to the user of an `Account`, so that it has no right of root's even outside.
 """
 
 import asyncio
@@ -16,9 +17,10 @@ from asyncio.subprocess import DEVNULL, PIPE
 from collections.abc import Mapping, Sequence
 
 from .. import LabError
+from .account import OWN, Account
 from .compiler import Compiler, find_compiler
 from .failures import ToolError
-from .sandbox_files import LAB, PLACE, TRUE, elftools, sandbox_files
+from .sandbox_files import IS_ROOT, LAB, PLACE, TRUE, elftools, readable_lab, sandbox_files
 
 SECONDS, ANSWER_BYTES, FOLDER_BYTES = 20, 4 << 20, 64 << 20  # by the clock; of the answer; of all files in /tmp
 COMPLAINT_BYTES = 4096  # of standard error, the last ones
@@ -33,48 +35,61 @@ _FOLDER = ("--perms", "755", "--dir", "/dev", "--dev-bind", "/dev/null", "/dev/n
 _VARIABLES = ("--setenv", "PATH", "/usr/bin", "--setenv", "PYTHONPATH", PLACE, "--setenv", "LC_ALL", "C.UTF-8")
 _PYTHON = ("/usr/bin/prlimit", f"--nproc={PROCESSES}", "/usr/bin/python3", "-B")
 _NOBODY = ("/usr/bin/setpriv", "--reuid=65534", "--regid=65534", "--clear-groups", "/usr/bin/unshare", "--user")
-_INSIDE = ("--unshare-user-try", "--", *_PYTHON) if os.geteuid() else ("--", *_NOBODY, *_PYTHON)  # root's don't count
+_INSIDE = ("--unshare-user-try", "--", *_PYTHON)
+_INSIDE_AS_ROOT = ("--", *_NOBODY, *_PYTHON)  # since no limit counts root's processes
 
 
-def check_sandbox() -> None:
-    """Raises LabError where there can be no sandbox."""
+class StartedAsRoot(LabError):
+    """Others' sources aren't compiled, since root has started this and named no other user."""
+
+
+def check_sandbox(account: Account = OWN) -> None:
+    """Raises LabError if there can be no sandbox of this user's, StartedAsRoot if it would be root's."""
     if shutil.which("bwrap") is None:
         raise LabError("others' C is compiled behind bwrap alone, which isn't here: sudo apt install bubblewrap")
-    if os.geteuid() == 0:
-        raise LabError(
-            "others' C isn't compiled as root: start this as another user; "
-            "in a container for one answer, `grade --no-sandbox` compiles it"
-        )
+    if account == OWN and os.geteuid() == 0:
+        raise StartedAsRoot("others' C isn't compiled as root: add `--as nobody`, or start this as another user")
 
 
-def check_start(compiler: Compiler) -> None:
-    """Starts the sandbox of a compiler once. Raises ToolError with bwrap's message where that fails."""
-    command = [*_sandbox(compiler), "--", TRUE]
+def check_start(compiler: Compiler, account: Account = OWN) -> None:
+    """Start the sandbox of a compiler once. Raises ToolError with bwrap's message if that fails."""
+    command = [*_sandbox(compiler, account), "--", TRUE]
     try:
-        completed = subprocess.run(command, stdin=DEVNULL, capture_output=True, timeout=SECONDS, env=_environment())
-    except (OSError, subprocess.TimeoutExpired) as error:
+        completed = subprocess.run(
+            command,
+            stdin=DEVNULL,
+            capture_output=True,
+            timeout=SECONDS,
+            cwd="/",
+            env=_environment(),
+            user=account.user,
+            group=account.group,
+            extra_groups=account.groups,
+        )
+    except (OSError, subprocess.SubprocessError) as error:
         raise ToolError(f"the sandbox of compilers doesn't start: {error}") from error
     if completed.returncode:
         raise _failure(completed.returncode, completed.stderr)
 
 
-def sandboxed_compiler(name: str | None) -> Compiler:
-    """The compiler of this name, or the first one, for others' sources. Raises LabError where its sandbox doesn't start."""
+def sandboxed_compiler(name: str | None, account: Account = OWN) -> Compiler:
+    """The compiler of this name, or the first one, for others' sources. Raises LabError if its sandbox doesn't start."""
     compiler = find_compiler(name)
-    check_sandbox()
-    check_start(compiler)
+    check_sandbox(account)
+    check_start(compiler, account)
     return compiler
 
 
-def answer_sandboxed(words: Sequence[str], text: str) -> bytes:
+def answer_sandboxed(words: Sequence[str], text: str, account: Account = OWN) -> bytes:
     """The output of `sandbox_main` with these arguments for a source of others. Raises LabError, and ToolError."""
-    return asyncio.run(run_in_sandbox_async(words, text))
+    return asyncio.run(run_in_sandbox_async(words, text, account))
 
 
-async def run_in_sandbox_async(words: Sequence[str], text: str) -> bytes:
+async def run_in_sandbox_async(words: Sequence[str], text: str, account: Account = OWN) -> bytes:
     """As `answer_sandboxed`, without blocking an event loop."""
-    files = await asyncio.to_thread(_sandbox, Compiler(words[0]))
-    return await run_inside([*files, *_INSIDE, *MODULE, *words], text, pathlib.Path("/"), _environment())
+    files = await asyncio.to_thread(_sandbox, Compiler(words[0]), account)
+    inside = _INSIDE_AS_ROOT if _is_of_root(account) else _INSIDE
+    return await run_inside([*files, *inside, *MODULE, *words], text, pathlib.Path("/"), _environment(), account)
 
 
 def answer_of_own(words: Sequence[str], text: str, headers: pathlib.Path, saved: pathlib.Path | None = None) -> bytes:
@@ -90,9 +105,15 @@ def answer_of_own(words: Sequence[str], text: str, headers: pathlib.Path, saved:
         )
 
 
-def _sandbox(compiler: Compiler) -> list[str]:
+def _is_of_root(account: Account) -> bool:
+    """Whether the processes of the sandbox belong to root before they change their user."""
+    return account == OWN and IS_ROOT
+
+
+def _sandbox(compiler: Compiler, account: Account) -> list[str]:
     """The command that starts a compiler's sandbox, up to the program that it runs. Raises ToolError."""
-    return ["bwrap", *_EMPTY, *sandbox_files(compiler), *_FOLDER, *_VARIABLES]
+    lab = LAB if account == OWN else readable_lab()
+    return ["bwrap", *_EMPTY, *sandbox_files(compiler, lab, _is_of_root(account)), *_FOLDER, *_VARIABLES]
 
 
 def _environment() -> dict[str, str]:
@@ -100,11 +121,22 @@ def _environment() -> dict[str, str]:
     return {"PATH": os.environ.get("PATH", os.defpath), "LC_ALL": "C.UTF-8"}
 
 
-async def run_inside(command: Sequence[str], text: str, folder: pathlib.Path, variables: Mapping[str, str]) -> bytes:
-    """The output of a command that runs `sandbox_main` for a text. Raises LabError where that is too much, and ToolError where it fails."""
+async def run_inside(
+    command: Sequence[str], text: str, folder: pathlib.Path, variables: Mapping[str, str], account: Account = OWN
+) -> bytes:
+    """The output of a command that runs `sandbox_main` for a text. Raises LabError if that is too much, and ToolError if it fails."""
     try:
         child = await asyncio.create_subprocess_exec(
-            *command, stdin=PIPE, stdout=PIPE, stderr=PIPE, cwd=folder, env=variables, start_new_session=True
+            *command,
+            stdin=PIPE,
+            stdout=PIPE,
+            stderr=PIPE,
+            cwd=folder,
+            env=variables,
+            start_new_session=True,
+            user=account.user,
+            group=account.group,
+            extra_groups=account.groups,
         )
     except OSError as error:
         raise ToolError(f"{command[0]} can't be started: {error.strerror}") from error

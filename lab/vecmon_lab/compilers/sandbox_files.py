@@ -4,6 +4,7 @@ The list has the compiler with its headers and libraries, Python with its standa
 run there, and the runtime with `vecmon.h`. It has no folder of exercises and no file of a user.
 """
 
+import atexit
 import functools
 import importlib.util
 import os
@@ -11,6 +12,7 @@ import pathlib
 import re
 import shutil
 import subprocess
+import tempfile
 from collections.abc import Iterable, Iterator, Sequence
 from subprocess import DEVNULL
 
@@ -32,17 +34,21 @@ MODULES = (
 """The files of the lab in the sandbox: `sandbox_main.py`, the modules that it imports, and what is linked to a source."""
 
 TRUE = "/usr/bin/true"  # which the sandbox runs once, to see whether it starts
-_PROGRAMS_OF_ROOT = () if os.geteuid() else ("/usr/bin/setpriv", "/usr/bin/unshare")
-_PROGRAMS = ("/usr/bin/python3", "/usr/bin/prlimit", TRUE, *_PROGRAMS_OF_ROOT)
+IS_ROOT = os.geteuid() == 0
+_PROGRAMS_OF_ROOT = ("/usr/bin/setpriv", "/usr/bin/unshare")  # by which root's sandbox changes its user
+_PROGRAMS = ("/usr/bin/python3", "/usr/bin/prlimit", TRUE)
 _LINKS = ("--symlink", "usr/lib", "/lib", "--symlink", "usr/lib64", "/lib64")
 _LIBRARY = re.compile(r"(/\S+) \(0x[0-9a-f]+\)")  # of ldd's output
 
 
 @functools.cache
-def sandbox_files(compiler: Compiler) -> Sequence[str]:
-    """The arguments of bwrap that make a compiler's files visible, read-only. Raises ToolError where one is missing."""
+def sandbox_files(compiler: Compiler, lab: pathlib.Path, is_of_root: bool) -> Sequence[str]:
+    """The arguments of bwrap that make a compiler's files visible, read-only. Raises ToolError if one is missing.
+
+    lab: the folder of the lab's files, LAB or `readable_lab`; is_of_root: whether root starts the sandbox as root
+    """
     programs, folders = _gcc_files(compiler) if not compiler.is_clang else _clang_files(compiler)
-    programs = [*_PROGRAMS, *programs]
+    programs = [*_PROGRAMS, *_PROGRAMS_OF_ROOT * is_of_root, *programs]
     python = pathlib.Path("/usr/bin/python3").resolve().name
     links, files = dict[str, str](), dict[str, str]()
     for program in programs:
@@ -50,9 +56,31 @@ def sandbox_files(compiler: Compiler) -> Sequence[str]:
     extensions = map(str, pathlib.Path("/usr/lib", python, "lib-dynload").glob("zlib.*"))  # unless it is built in
     files |= {_merged(path): path for path in _libraries([*programs, *_plugins(folders), *extensions])}
     files |= {folder: folder for folder in [*folders, f"/usr/lib/{python}"]}
-    files |= {f"{PLACE}/elftools": str(elftools())}
-    files |= {f"{PLACE}/{module}": str(LAB / module) for module in MODULES}
+    files |= {f"{PLACE}/elftools": str(elftools() if lab == LAB else lab / "elftools")}
+    files |= {f"{PLACE}/{module}": str(lab / module) for module in MODULES}
     return (*_folders([*files, *links]), *_arguments(links, files), *_LINKS)
+
+
+@functools.cache
+def readable_lab() -> pathlib.Path:
+    """Return a copy of the lab's files for the sandbox that all users can read, which exists until this process ends.
+
+    The lab itself may be in a folder that only root can enter, such as /root, and so may TMPDIR. Raises ToolError if
+    pyelftools is missing.
+    """
+    folder = tempfile.TemporaryDirectory(prefix="vecmon-lab-", dir="/tmp")
+    atexit.register(folder.cleanup)
+    copy_lab(pathlib.Path(folder.name))
+    return pathlib.Path(folder.name)
+
+
+def copy_lab(folder: pathlib.Path) -> None:
+    """Copy MODULES and pyelftools into a folder, readable for all users. Raises ToolError if pyelftools is missing."""
+    for module in MODULES:
+        (folder / module).parent.mkdir(parents=True, exist_ok=True)
+        shutil.copyfile(LAB / module, folder / module)
+    shutil.copytree(elftools(), folder / "elftools", ignore=shutil.ignore_patterns("__pycache__"))
+    subprocess.run(["/usr/bin/chmod", "-R", "a+rX", folder], check=True)
 
 
 def elftools() -> pathlib.Path:

@@ -12,11 +12,12 @@ from functools import partial
 
 from .. import LabError
 from ..arguments import check_outputs
+from ..compilers.account import account_named, add_account
 from ..compilers.compiled import Isolation
 from ..compilers.compiler import find_compiler
 from ..compilers.container import answer_as_nobody, check_container
 from ..compilers.failures import ToolError
-from ..compilers.sandbox import answer_sandboxed, sandboxed_compiler
+from ..compilers.sandbox import StartedAsRoot, answer_sandboxed, sandboxed_compiler
 from ..guest.entries import printable
 from ..machine.program import find_program
 from ..output import terminal_text
@@ -45,6 +46,7 @@ def add_arguments(parser: argparse.ArgumentParser) -> None:
     form.add_argument("--rows", action="store_true", help="the same without the header")
     counts = "print the instructions and the share of active elements of answers that pass, over all visible cases"
     parser.add_argument("--counts", action="store_true", help=counts)
+    add_account(parser)
     container = "compile C as the user nobody, without a sandbox: for root of a container for one answer"
     parser.add_argument("--no-sandbox", action="store_true", help=container)
     for option, report in (("--junit", "a report in JUnit's XML"), ("--gradescope", "Gradescope's results.json")):
@@ -85,14 +87,20 @@ def run(arguments: argparse.Namespace) -> int:
 
 def _isolation(arguments: argparse.Namespace, exercise: Exercise) -> Isolation:
     """The function that compiles answers in C. Raises LabError, before anything is graded, where that isn't possible."""
+    account = account_named(arguments.account)
+    if arguments.no_sandbox and arguments.account:
+        raise LabError("--as is for the sandbox, and --no-sandbox compiles as the user nobody: give one of them")
     if not any(path.suffix == C_SUFFIX for path in arguments.answers):
         return answer_sandboxed
     if arguments.no_sandbox:
         find_compiler(None)
         check_container(exercise.folder, *exercise.files.values())
         return answer_as_nobody
-    sandboxed_compiler(None)
-    return answer_sandboxed
+    try:
+        sandboxed_compiler(None, account)
+    except StartedAsRoot as error:
+        raise LabError(f"{error}; in a container for one answer, `grade --no-sandbox` compiles it") from error
+    return partial(answer_sandboxed, account=account)
 
 
 def _report(arguments: argparse.Namespace, exercise: Exercise, done: Sequence[tuple[pathlib.Path, Graded]]) -> None:

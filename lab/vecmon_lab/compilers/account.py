@@ -1,0 +1,54 @@
+"""The user that compiles others' sources, by `--as USER`: root starts the sandbox of compilers as a user with fewer rights."""
+
+import argparse
+import os
+import pwd
+from collections.abc import Sequence
+from dataclasses import dataclass
+
+from .. import LabError
+
+
+@dataclass(frozen=True)
+class Account:
+    """A user and its group, by their numbers; None for those of this process. The user has no other groups."""
+
+    user: int | None = None
+    group: int | None = None
+
+    @property
+    def groups(self) -> Sequence[int] | None:
+        """The additional groups of a process of the user; None for those of this process."""
+        return None if self.user is None else ()
+
+
+OWN = Account()
+"""The user of this process."""
+
+
+def add_account(parser: argparse.ArgumentParser) -> None:
+    """Add the option that names the user who compiles sources."""
+    help_text = "the user who compiles sources in C, such as nobody, if root starts this"
+    parser.add_argument("--as", metavar="USER", dest="account", help=help_text)
+
+
+def account_named(name: str | None) -> Account:
+    """Return the account of a user, or the process's own without a name.
+
+    Raises LabError for an unknown user, for root, and for another user than the own one unless this process is root's.
+    """
+    if name is None:
+        return OWN
+    try:
+        found = pwd.getpwnam(name)
+    except (KeyError, ValueError) as error:  # a name with a zero byte
+        raise LabError(
+            f"--as {name!r}: there is no such user; `--as nobody` names Debian's user without rights"
+        ) from error
+    if found.pw_uid == 0:
+        raise LabError(f"--as {name}: others' sources aren't compiled as root; name another user, such as nobody")
+    if os.geteuid() == 0:
+        return Account(found.pw_uid, found.pw_gid)
+    if os.geteuid() != found.pw_uid:
+        raise LabError(f"--as {name}: only root can compile as another user; leave out --as")
+    return OWN
