@@ -19,6 +19,12 @@ def test_examples_have_titles_and_sentences() -> None:
     assert flawed["title"] == "Sums not cleared"
     assert flawed["about"] == "Adds products to v8, which no instruction has set to 0."
     assert by_name["saxpy.c"]["title"] == "A multiple of one vector is added to another"
+    course = [
+        example["name"] for example in examples[1:13]
+    ]  # after their titles, not after the exercises that follow them
+    assert course[:3] == ["squares_of_five_numbers.s", "twenty_sevens.s", "darker_by_forty.s"]
+    assert by_name["losses_halved.s"]["title"] == "Losses halved" and "clamped_magnitude.s" not in by_name
+    assert by_name["end_of_a_line.s"]["title"] == "The end of a line, at the end of memory"
     assert all(example["about"].endswith(".") and "#" not in example["title"] for example in examples)
 
 

@@ -33,9 +33,12 @@ def test_example_begins_bench(page: Tab) -> None:
     page.wait("document.activeElement.id === 'new-program'")
     assert page.run(SHOWN) == [True, False] and not page.run("id('controls').checkVisibility()")
     names = page.run("all('.tile small').map((note) => note.textContent)")
-    assert len(names) == len(set(names)) == 25 and {"strip_mined.s", "doubles.s", "tail_added.s", "saxpy.c"} <= set(
-        names
-    )
+    assert len(names) == len(set(names)) == 25 and {
+        "strip_mined.s",
+        "squares_of_five_numbers.s",
+        "tail_added.s",
+        "saxpy.c",
+    } <= set(names)
     assert page.run("id('new-in-c').disabled") == (page.text("#why-no-c") != "")
     assert layout_faults(page.activate()) == {}
     assert nameless(accessible_nodes(page.browser), tab_stops(page.browser)) == []
@@ -64,7 +67,7 @@ def test_example_leaves_machine_of_another_source(page: Tab, tmp_path: pathlib.P
     page.command("state")  # behind all that the page sent before
     assert page.run(machine) == ended
     page.click("#to-start")
-    page.run("all('.tile').find((tile) => tile.textContent.endsWith('doubles.s')).click()")
+    page.run("all('.tile').find((tile) => tile.textContent.endsWith('squares_of_five_numbers.s')).click()")
     page.wait("text().includes('Squares of five numbers') && id('run').textContent === 'Not begun'")
     assert page.run(machine) == none
     page.click("#show-listing")
@@ -89,11 +92,14 @@ def test_recent_sources_come_back(page: Tab) -> None:
         "program.s",
         "Mine.",
     ]
-    page.run("all('.tile').find((tile) => tile.textContent.endsWith('doubles.s')).click()")
+    page.run("all('.tile').find((tile) => tile.textContent.endsWith('squares_of_five_numbers.s')).click()")
     page.wait("text().includes('Squares of five numbers') && id('desk').checkVisibility()")
     page.click("#to-start")
     page.wait("all('#recent .tile').length === 2")
-    assert page.run("all('#recent .tile b').map((each) => each.textContent)") == ["doubles.s", "program.s"]
+    assert page.run("all('#recent .tile b').map((each) => each.textContent)") == [
+        "squares_of_five_numbers.s",
+        "program.s",
+    ]
     page.run("all('#recent .tile')[1].click()")
     page.wait("text() === '# Mine.\\n nop\\n' && id('desk').checkVisibility()")
     page.click("#to-start")

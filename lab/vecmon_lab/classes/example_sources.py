@@ -11,6 +11,7 @@ from ..tables.table import read_table
 from .languages import C
 
 EXAMPLES = pathlib.Path(__file__).parents[2] / "examples"
+LESSON = "lesson.s"  # in the folder of an exercise
 
 
 class ExampleSource(TypedDict):
@@ -30,27 +31,34 @@ class ExampleSource(TypedDict):
 
 def example_sources() -> list[ExampleSource]:
     """The examples with their groups in order: assembler, with the course's lessons; flawed ones; C."""
-    lessons = {f"{name}.s": OURS / name / "lesson.s" for name, _ in read_table("course")}
-    programs = {path.name: path for path in sorted(EXAMPLES.glob("*.s"))} | lessons
-    flawed = {path.name: path for path in sorted(EXAMPLES.glob("unwritten/*.s"))}
-    kernels = {path.name: path for path in sorted(EXAMPLES.glob("kernels/*.c"))}
+    lessons = [OURS / name / LESSON for name, _ in read_table("course")]
     groups = {
-        page_text("author.assembler"): programs,
-        page_text("author.flawed"): flawed,
-        page_text("author.c"): kernels,
+        page_text("author.assembler"): [*sorted(EXAMPLES.glob("*.s")), *lessons],
+        page_text("author.flawed"): sorted(EXAMPLES.glob("unwritten/*.s")),
+        page_text("author.c"): sorted(EXAMPLES.glob("kernels/*.c")),
     }
-    return [_example(group, name, path) for group, paths in groups.items() for name, path in paths.items()]
+    return [_example(group, path) for group, paths in groups.items() for path in paths]
 
 
-def _example(group: str, name: str, path: pathlib.Path) -> ExampleSource:
-    """The example in a file: its title is in a line that begins with ##, and its sentence in the first comments."""
+def _example(group: str, path: pathlib.Path) -> ExampleSource:
+    """The example in a file: its title is in a line that begins with ##, and its sentence in the first comments.
+
+    A lesson of the course is named after its title, since its folder has the name of the exercise after it.
+    """
     text = path.read_text("utf-8")
     comments = _first_comments(text.splitlines())
     titles = [line.lstrip("/# ") for line in comments if line.startswith(("##", "//#"))]
     about = " ".join(line.lstrip("/# ") for line in comments if not line.startswith(("##", "//#", "//>")))
     title = titles[0] if titles else path.stem.replace("_", " ").capitalize()
     language = C if path.suffix == ".c" else 0
+    name = _file_name(title) if path.name == LESSON else path.name
     return {"group": group, "name": name, "title": title, "about": about, "text": text, "language": language}
+
+
+def _file_name(title: str) -> str:
+    """The name of a title's file: its words up to the first comma, without an article, as `losses_halved.s`."""
+    words = re.sub("^(The|An?) ", "", title.partition(",")[0])
+    return f"{words.lower().replace(' ', '_')}.s"
 
 
 def _first_comments(lines: Iterable[str]) -> list[str]:
