@@ -118,6 +118,11 @@ def test_cards_and_details_have_own_operands(shown: dict[str, dict[str, Any]]) -
     assert shown["store of segments"]["card"]["formula"] == "memory[a3 + (3 * i + f)] = v4[i]"
 
 
+def test_a_count_of_no_changes_has_no_colour(shown: dict[str, dict[str, Any]]) -> None:
+    """Of vfirst.m, which writes a scalar register alone."""
+    assert shown["first one"]["card"]["counts"] == [["active", "8 active"], ["", "0 changed"]]
+
+
 def test_cards_count_elements_around_a_fault(shown: dict[str, dict[str, Any]]) -> None:
     """By hand: element 5 of both loads is the first one without memory."""
     fault, cut = shown["load with a fault"], shown["load up to a fault"]

@@ -65,6 +65,15 @@ def test_page_of_explore_fits_and_has_no_words_of_classes(
         tab = Tab(tabs, served, "A1")
         step(tab)
         assert layout_faults(tab.activate()) == {}
+        tab.run("id('show-source').click()")
+        tab.open_menu("#versions")
+        tab.wait("id('versions').checkVisibility()")
+        own, button = tab.run("[id('versions').offsetWidth, id('save').offsetWidth]")  # of one menu
+        resize(tab.activate(), SIZES["dark"])
+        grounds = ["one('#source + .CodeMirror')", "one('#source + .CodeMirror .CodeMirror-scrollbar-filler')"]
+        panel, corner = (tab.run(f"getComputedStyle({each}).backgroundColor") for each in grounds)
+        assert (own, corner) == (button, panel)
+        reset(tab.activate())
         tab.click("#menu summary")
         titles = "all('[title]').filter((each) => each.checkVisibility()).map(({title}) => title).join(' ')"
         words = tab.run(f"`${{document.body.innerText}} ${{{titles}}}`")

@@ -76,7 +76,7 @@ function stopSentences({ state, before }, { isIllegal, earlier, name }) {
 }
 
 /**
- * Counts elements by their class.
+ * Counts elements by their class, which marks a count unless it is 0.
  * @param {Columns} columns
  * @param {View} view
  * @returns {[string, string][]}
@@ -90,7 +90,7 @@ function countsOf({ outcomes, changed, executed }, { state, before }) {
   const hasBefore = before !== state || (executed?.destination && executed.earlier.hasOld);
   const counts = COUNTS.map((kind) => ({ kind, number: outcomes.filter((each) => each === kind).length })).filter(({ number }) => number);
   if (hasBefore) counts.push({ kind: "changed", number: changed.filter(Boolean).length });
-  return counts.map(({ kind, number }) => [kind, textOf("card.count", { number, outcome: words[kind] })]);
+  return counts.map(({ kind, number }) => [number ? kind : "", textOf("card.count", { number, outcome: words[kind] })]);
 }
 
 /**

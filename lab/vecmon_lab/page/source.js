@@ -4,6 +4,7 @@ import { NO_MARKS } from "./editor.js";
 import { offerFile, part, parts, put, timeText } from "./elements.js";
 import { offer } from "./languages.js";
 import { languageOf, suffixOf } from "./links.js";
+import { roomText } from "./room.js";
 import { lineOf, stoppedLines } from "./source_lines.js";
 import { textOf } from "./texts.js";
 
@@ -114,12 +115,11 @@ export class Source {
     return Boolean(answer && !answer.error);
   }
 
-  /** Shows what the button does to a source in this language, and where that is compiled what is left of the seat's share. */
+  /** Shows what the button does to a source in this language, and what is left of the seat's share if a compiled source has little room. */
   showLanguage(share = this.share) {
     this.share = share;
     const isCompiled = this.editor.source.language > 0;
-    const bytes = share && (share.of - share.used).toLocaleString(textOf("language"));
-    const left = bytes && isCompiled ? textOf("source.room", { bytes }) : "";
+    const left = share && isCompiled ? roomText(share) : "";
     put(this.parts.assemble, isCompiled ? textOf("source.compile") : textOf("source.assemble"));
     put(this.parts.left, this.isTooLong ? textOf("source.too-long", { most: MOST_LETTERS.toLocaleString(textOf("language")) }) : left);
   }
