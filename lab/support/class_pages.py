@@ -199,6 +199,15 @@ class Tab:
         except TimeoutException as error:
             raise AssertionError(f"{script} {arguments}: {self.run('document.body.innerText')}") from error
 
+    def copied_link(self) -> str:
+        """The link that the page copies to the clipboard, which the browser lets it read here."""
+        permissions = ["clipboardReadWrite", "clipboardSanitizedWrite"]
+        self.activate().execute_cdp_cmd("Browser.grantPermissions", {"permissions": permissions})
+        self.click("#link")
+        self.wait("id('stop').textContent === 'The link is copied.'")
+        link: str = self.run("navigator.clipboard.readText()")
+        return link
+
     def open_menu(self, selector: str) -> None:
         """Opens the menu that an element is in, if any."""
         self.run("one(arguments[0])?.closest('.menu')?.setAttribute('open', '')", selector)

@@ -42,7 +42,7 @@ def test_c_kernel_is_built_and_shown(tabs: "Chrome", with_c: Served) -> None:
 
     tab, teacher = Tab(tabs, with_c, "A1"), Tab(tabs, with_c, "teacher")
     put_in(tab, SAXPY)
-    assert tab.text("#assemble") == "Compile" and "are left" in tab.text("#left")
+    assert tab.text("#assemble") == "Compile" and tab.text("#left") == ""
     tab.run("code().scrollTo(0, 0)")
     tab.wait(f"{PIECES}.join().includes('meta #include <riscv_vector.h>')")
     pieces = tab.run(PIECES)
@@ -184,11 +184,13 @@ def test_given_source_reaches_seats(tabs: "Chrome", with_c: Served, tmp_path: pa
     """A link fills the editor of the seat that opens it, with its language, and compiles nothing; so does a file."""
     tab = Tab(tabs, with_c, "A1")
     put_in(tab, "int main(void) { return 'é'; } // ÿ\n", "C, O3-scalar")
+    link = tab.copied_link()
+    assert link.startswith(with_c.address("A1").partition("#")[0] + "#source=") and not set(
+        link.partition("#source=")[2]
+    ) - set("ABCDEFGHIJKLMNOPQRSTUVWXYZabcdefghijklmnopqrstuvwxyz0123456789-_")
+    tab.run("Object.defineProperty(navigator, 'clipboard', { value: undefined })")  # as in a page without encryption
     tab.click("#link")
-    link = tab.activate().current_url
-    assert "#source=" in link and not set(link.partition("#source=")[2]) - set(
-        "ABCDEFGHIJKLMNOPQRSTUVWXYZabcdefghijklmnopqrstuvwxyz0123456789-_"
-    )
+    tab.wait("id('copy').open && id('copied').value.slice(id('copied').selectionStart) === arguments[0]", link)
     other = Tab(tabs, with_c, "A2")
     other.run(f"void (location.hash = {link.partition('#')[2]!r})")
     other.wait(f"{TEXT}?.includes('é') && id('language').selectedOptions[0].text === 'C, O3-scalar'")
@@ -207,7 +209,7 @@ def test_stock_assembler_source_is_shown(tabs: "Chrome", with_c: Served, tmp_pat
     """Its source is compiled, and coloured as assembler; links and files have its name."""
     tab, text = Tab(tabs, with_c, "A3"), "        .rept 2\n        addi a0, a0, 4\n        .endr\n        ebreak\n"
     put_in(tab, text, "assembler, stock")
-    assert tab.text("#assemble") == "Compile" and "are left" in tab.text("#left")
+    assert tab.text("#assemble") == "Compile" and tab.text("#left") == ""
     tab.wait(f"{PIECES}.filter((piece) => piece.startsWith('variable-2 ')).length === 2")
     tab.click("#assemble")
     tab.wait("id('editor').hidden && one('#listing .next')")
@@ -215,8 +217,7 @@ def test_stock_assembler_source_is_shown(tabs: "Chrome", with_c: Served, tmp_pat
     tab.click("#one")
     tab.wait("one('#listing .next').textContent.includes('ebreak')")
     tab.click("#show-source")
-    tab.click("#link")
-    link = tab.activate().current_url.partition("#")[2]
+    link = tab.copied_link().partition("#")[2]
     other = Tab(tabs, with_c, "A4")
     other.run(f"void (location.hash = {link!r})")
     other.wait(f"{TEXT} === arguments[0] && id('language').selectedOptions[0].text === 'assembler, stock'", text)

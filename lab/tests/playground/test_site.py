@@ -203,11 +203,10 @@ def test_links_carry_sources_and_no_markup(tabs: "Chrome", site: pathlib.Path) -
     address = (site / "playground.html").as_uri()
     tab = SiteTab(tabs, address)
     tab.write("# <img src=x onerror=alert(1)>\n")
-    tab.run("(id('show-source').click(), id('link').click())")
-    link = tab.run("location.hash")
+    link = tab.copied_link()
     tab.run("code().setValue('nop')")
     tab.activate().get("about:blank")
-    tab.open(address + link)
+    tab.open(link)
     tab.wait("text().startsWith('# <img')")
     assert tab.run("all('img').length") == 0
     for hash in ("#source=%%%", "#source=" + "A" * 200_000, "#source=e30"):

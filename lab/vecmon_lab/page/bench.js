@@ -3,7 +3,7 @@
 import { Desk } from "./desk.js";
 import { editDialog, followCursor } from "./edits.js";
 import { Editor } from "./editor.js";
-import { ask, part, parts, put } from "./elements.js";
+import { ask, copy, offerCopy, part, parts, put } from "./elements.js";
 import { goToPane } from "./keys.js";
 import { LineLinks } from "./line_links.js";
 import { offer, offerLanguages } from "./languages.js";
@@ -211,7 +211,13 @@ export class Bench {
   leaveOther = () => this.hasOther && this.leave();
 
   refuse(/** @type {string} */ words) {
-    this.desk.refusal = words;
+    Object.assign(this.desk, { refusal: words, notice: "" });
+    this.desk.showStage();
+  }
+
+  /** Shows a sentence that isn't about the machine, in place of why the program stopped, until the next request or stop. */
+  tell(/** @type {string} */ words) {
+    this.desk.notice = words;
     this.desk.showStage();
   }
 
@@ -274,11 +280,13 @@ export class Bench {
     put(this.parts["run-place"], texts.filter(Boolean).join(" · "));
   }
 
-  /** Puts the source into the page's address. */
-  link() {
+  /** Copies a link to this page with the source, or shows the link if the browser doesn't copy it. */
+  async link() {
     const hash = linkOf(this.editor.source, this.editor.language);
-    if (hash) history.replaceState(null, "", hash);
-    this.refuse(hash ? textOf("link.in-address") : textOf("link.too-long"));
+    if (!hash) return this.tell(textOf("link.too-long"));
+    const link = location.href.split("#")[0] + hash;
+    const isCopied = await copy(link);
+    return isCopied ? this.tell(textOf("link.copied")) : offerCopy(textOf("link.by-hand"), link);
   }
 
   /** Puts a source into the editor that a link has brought; it is compiled only where that is asked for. */
@@ -288,7 +296,7 @@ export class Bench {
     if (!hash) return;
     const linked = sourceOf(hash, this.editor.language);
     if (linked) this.source.replace(linked), this.panes.show("editor");
-    this.refuse(linked ? textOf("link.brought") : textOf("link.damaged"));
+    this.tell(linked ? textOf("link.brought") : textOf("link.damaged"));
   }
 
   /** Loads the source into a new machine, whose text becomes a version if it is another one; or does what another request says. */

@@ -26,6 +26,7 @@ export class Desk {
   before = this.state;
   /** @type {Set<number>} */ used = new Set(); // vector registers that weren't zero since the machine began
   refusal = ""; // of what was sent last
+  notice = ""; // in place of the refusal and of why the program stopped, until the state changes
   frame = 0; // in which it is painted
 
   /** root: has the machine, its stage and its past */
@@ -51,7 +52,7 @@ export class Desk {
     const isSetUp = !state.instruction && entries.some((entry) => /^>. setpc /.test(entry)); // as by a case
     if (isAnew || isSetUp) this.before = state;
     else if (isNew || !isAlike(state, this.state)) this.before = isNew ? newMachine(state) : this.state;
-    this.state = state;
+    Object.assign(this, { state, notice: "" });
     if (isAnew || isNew || !state.v) this.used = new Set();
     usedIn(state).forEach((number) => this.used.add(number));
     this.past.add({ state, before: this.before, used: this.used, entry: this.log.lastElementChild });
@@ -76,6 +77,6 @@ export class Desk {
   showStage() {
     const state = this.past.moment?.state ?? this.state;
     this.view.showStep(state, ...(state.run === "absent" ? [make("small", "", textOf("step.no-machine"))] : []));
-    this.view.showStop([this.past.moment ? "" : this.refusal, state.stop].filter(Boolean).join(" "));
+    this.view.showStop(this.notice || [this.past.moment ? "" : this.refusal, state.stop].filter(Boolean).join(" "));
   }
 }

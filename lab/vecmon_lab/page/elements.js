@@ -93,6 +93,26 @@ export function ask(question, yes, carryOut) {
   byId("ask").showModal();
 }
 
+/** Copies a text to the clipboard. Resolves to whether the browser took it: some allow that to no page, others only after a press. */
+/** @type {(text: string) => Promise<boolean>} */
+export const copy = async (text) => {
+  try {
+    await navigator.clipboard.writeText(text);
+    return true;
+  } catch {
+    return false;
+  }
+};
+
+/** Shows a text in a dialog, selected, so that it can be copied by hand. */
+/** @type {(label: string, text: string) => void} */
+export function offerCopy(label, text) {
+  put(byId("copied-name"), label);
+  byId("copied").value = text;
+  byId("copy").showModal();
+  byId("copied").select();
+}
+
 /** Shows a sentence in an element, or hides it. */
 export function say(/** @type {"gone" | "trouble" | "says-past"} */ id, /** @type {string} */ words) {
   put(byId(id), words);

@@ -17,14 +17,14 @@ export type Parts =
     | "until-go" | "yes"
   > &
   Ids<HTMLDListElement, "facts" | "keys" | "teacher-keys"> &
-  Ids<HTMLDialogElement, "ask" | "edit" | "exercises" | "join-class" | "key-list" | "settings"> &
+  Ids<HTMLDialogElement, "ask" | "copy" | "edit" | "exercises" | "join-class" | "key-list" | "settings"> &
   Ids<HTMLFieldSetElement, "controls" | "receivers"> &
   Ids<HTMLFormElement, "clocks" | "command" | "join" | "operate" | "sending" | "steps" | "until"> &
   Ids<
     HTMLInputElement,
-    | "called" | "code" | "find" | "gift-title" | "letters" | "moment" | "name" | "number" | "open" | "place" | "until-line" | "value"
+    | "called" | "code" | "copied" | "find" | "gift-title" | "letters" | "moment" | "name" | "number" | "open" | "place" | "until-line" | "value"
   > &
-  Ids<HTMLLabelElement, "edit-name"> &
+  Ids<HTMLLabelElement, "copied-name" | "edit-name"> &
   Ids<HTMLOListElement, "course-list" | "lessons" | "log" | "mistakes" | "operator-log" | "progress" | "slips"> &
   Ids<HTMLOutputElement, "count" | "moment-count"> &
   Ids<HTMLPreElement, "answer" | "c-start" | "output"> &

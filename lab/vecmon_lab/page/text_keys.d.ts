@@ -260,7 +260,8 @@ export interface Places {
   "editor.all": never;
   "editor.stop": never;
   "link.too-long": never;
-  "link.in-address": never;
+  "link.copied": never;
+  "link.by-hand": never;
   "link.damaged": never;
   "link.brought": never;
   "languages.no-c": "why";
