@@ -13,6 +13,30 @@ from support.places import DOCS, EXAMPLES
 from vecmon_lab.compilers.compiler import RUNTIME, Compiler
 
 GREY = EXAMPLES / "kernels" / "grey.c"
+ARGUMENTS = """
+#include "vecmon.h"
+int main(int argc, char **argv)
+{
+    for (char **each = argv; *each; each++) {
+        size_t length = 0;
+        while ((*each)[length])
+            length++;
+        put(*each, length);
+        put("\\n", 1);
+    }
+    return argc | (argv[argc] != 0) << 7;
+}
+"""
+PUTS = """
+#include "vecmon.h"
+static char text[1000];
+int main(void)
+{
+    for (size_t i = 0; i < sizeof text; i++)
+        text[i] = 'a' + i % 26;
+    return put(text, sizeof text) != 1000 || put(text, 0) != 0 || put((char *)8, 5) != -14;
+}
+"""
 
 
 @pytest.fixture(autouse=True)
@@ -35,6 +59,24 @@ def test_commands_accept_c_source(lab: Lab, clang: Compiler, tmp_path: pathlib.P
     status, output, _ = lab("run", GREY)
     pixels = [(5 * i % 256, (255 - 3 * i) % 256, i * i % 256) for i in range(45)]
     assert (status, output) == (0, bytes((77 * r + 150 * g + 29 * b) >> 8 for r, g, b in pixels))
+
+
+def test_main_receives_arguments(lab: Lab, clang: Compiler, tmp_path: pathlib.Path) -> None:
+    """As the standard has them (C11, 5.1.2.2.1): argv[0] names the program, and argv[argc] is null."""
+    source = tmp_path / "arguments.c"
+    source.write_text(ARGUMENTS, "ascii")
+    assert lab("run", source, "one", "--stats")[:2] == (3, b"arguments\none\n--stats\n")
+    assert lab("compare", source, "")[1].splitlines()[0].endswith(b"; 11 bytes: b'arguments\\n\\n'")
+    assert lab("profile", source, "one")[1].endswith(b"ticks; status 2\n")
+    source.write_text("int main(void) { return 7; }", "ascii")
+    assert lab("run", source, "one") == (7, b"", "")
+
+
+def test_put_writes_all_bytes(lab: Lab, clang: Compiler, tmp_path: pathlib.Path) -> None:
+    """A call writes 256 bytes at most, and returns -14 for bytes that can't be read."""
+    source = tmp_path / "puts.c"
+    source.write_text(PUTS, "ascii")
+    assert lab("run", source) == (0, bytes(97 + number % 26 for number in range(1000)), "")
 
 
 def test_source_with_start_label_runs(lab: Lab, clang: Compiler, tmp_path: pathlib.Path) -> None:
@@ -71,4 +113,4 @@ def test_temporary_files_are_removed(clang: Compiler, tmp_path: pathlib.Path, mo
     lines = b"until main\nlist\nlist _start\n"
     run = subprocess.run([sys.executable, "-m", "vecmon_lab", "console", GREY], input=lines, stdout=subprocess.PIPE)
     assert run.returncode == 0 and not [*tmp_path.iterdir()]
-    assert b"=>   25  {\n" in run.stdout and b"exit(main());" in run.stdout
+    assert b"=>   25  {\n" in run.stdout and b"exit(main((int)*stack, (char **)(stack + 1)));" in run.stdout

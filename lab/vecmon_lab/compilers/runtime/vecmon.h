@@ -5,7 +5,8 @@
 #include <stddef.h>
 #include <stdint.h>
 
-/* Writes bytes to the output. Returns the number of bytes written, which is smaller than count if the output is full. */
+/* Writes bytes to the output, by as many calls as they need. Returns the number of bytes written: count, or less if some
+   can't be read. If none of them can be read, returns -14. */
 long put(const void *bytes, size_t count);
 
 /* Ends the program with a status. */
