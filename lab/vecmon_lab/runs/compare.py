@@ -19,7 +19,7 @@ from ..machine.program import segments_of
 from ..machine.session import ScriptFull
 from .initial_state import InitialState, initial_state_of
 from .divergence import Pair, alike_until, explain, recorded
-from .run import status_of
+from .run import TICKS_RAN_OUT
 
 POLICIES, QUANTUMS = ("keep", "ones"), (1000, 7, 1)
 LOADED, ONES = "as loaded", "under ones"  # names of runs
@@ -56,7 +56,7 @@ def add_arguments(parser: argparse.ArgumentParser) -> None:
 
 
 def run(arguments: argparse.Namespace) -> int:
-    """Prints how the runs end; 1 where one ends otherwise, else 0, or what `run` has where the program didn't exit.
+    """Print how the runs end. Return 0 if they are alike, 1 if one differs, and 124 if alike runs have no end.
 
     Raises LabError and OSError for bad input.
     """
@@ -78,7 +78,9 @@ def run(arguments: argparse.Namespace) -> int:
     if not all(outcomes[policy, quantum].is_like(outcomes[policy, QUANTUMS[0]]) for policy, quantum in outcomes):
         print("the runs in short slices differ: a vector store that was cut has overwritten its own word")
     are_alike = all(outcome.is_like(outcomes["keep", QUANTUMS[0]]) for outcome in outcomes.values())
-    return status_of(stop) if are_alike and not is_dependent else 1
+    if is_dependent or not are_alike:
+        return 1
+    return 0 if stop else TICKS_RAN_OUT
 
 
 def filled(initial_state: InitialState, turned: int) -> InitialState:

@@ -5,7 +5,7 @@ import itertools
 from collections.abc import Callable, Iterator, Sequence
 from concurrent.futures import ThreadPoolExecutor
 from contextlib import ExitStack, contextmanager
-from dataclasses import dataclass
+from dataclasses import dataclass, replace
 from typing import TypeVar
 
 from ..guest.changes import NAMES, Registers, Stepper
@@ -14,10 +14,10 @@ from ..guest.runner import unreported
 from ..guest.symbols import Symbols
 from ..instructions.accesses import REGISTER_BITS
 from ..instructions.calls import ECALL
-from ..instructions.words import listed
+from ..instructions.words import VECTOR_ACCESSES, listed
 from ..machine.answers import CONTROL
 from .initial_state import InitialState
-from .counts import Counts
+from .counts import CountedWord, Counts
 from .dataflow import Cell, Executed, conditions, parts
 from .recorder import record
 
@@ -53,15 +53,24 @@ class CommonStep:
 
 
 def recorded(initial_state: InitialState, ticks: int | None) -> tuple[Counts, bytes]:
-    """The executed instructions of a run, and its output."""
+    """The executed instructions of a run, with the elements of those that access memory, and its output."""
     output = list[bytes]()
-    return record(initial_state, ticks, output.append), b"".join(output)
+    counts = record(initial_state, ticks, output.append)
+    return replace(counts, places=[_accessed(place) for place in counts.places]), b"".join(output)
+
+
+def _accessed(place: CountedWord) -> CountedWord:
+    """The executions at an address, with the elements of a load or store only.
+
+    A mask with agnostic bits may activate other elements of an operation, whose results nothing uses.
+    """
+    return place if place.word & 0x7F in VECTOR_ACCESSES else replace(place, elements=(0, 0, 0))
 
 
 def alike_until(pair: Pair, ticks: int) -> int:
     """The number of instructions that two runs execute before the divergence, if they diverge within these ticks.
 
-    They diverge in the next address, a stop, the output, or the number of active elements.
+    They diverge in the next address, a stop, the output, vl, or the number of active elements of a load or store.
     """
 
     def are_unlike(count: int) -> bool:
