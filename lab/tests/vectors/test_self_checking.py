@@ -76,6 +76,30 @@ def test_missing_qemu_is_reported(tmp_path: pathlib.Path) -> None:
     assert run.stderr == "on_qemu.py: qemu-riscv64 not found: sudo apt install qemu-user\n"
 
 
+@pytest.mark.parametrize(
+    "arguments, status, output, errors",
+    [
+        (["--help"], 0, "usage: on_qemu.py [-h] FILE\n", ""),
+        ([], 2, "", "on_qemu.py: error: the following arguments are required: FILE\n"),
+        (["none"], 2, "", "on_qemu.py: error: none: No such file or directory\n"),
+    ],
+)
+def test_on_qemu_states_its_usage(
+    monkeypatch: pytest.MonkeyPatch,
+    capsys: pytest.CaptureFixture[str],
+    arguments: list[str],
+    status: int,
+    output: str,
+    errors: str,
+) -> None:
+    monkeypatch.setattr(sys, "argv", ["on_qemu.py", *arguments])
+    monkeypatch.setattr(shutil, "which", lambda name: name)
+    with pytest.raises(SystemExit) as stopped:
+        on_qemu.main()
+    found = capsys.readouterr()
+    assert stopped.value.code == status and found.out.startswith(output) and found.err.endswith(errors)
+
+
 def test_qemu_differs_in_known_cases(lab: Lab, tmp_path: pathlib.Path) -> None:
     assert lab("vectors", *NAMES, "--cases", "12", "--seed", "3", "--elf", tmp_path)[0] == 0
     for name in NAMES:

@@ -4,6 +4,7 @@ All cases go through one process, and those behind a case that ends QEMU itself 
 them (on_qemu.txt) takes each from standard input; a signal ends it.
 """
 
+import argparse
 import functools
 import itertools
 import json
@@ -145,12 +146,24 @@ def qemu(policy: str = "keep") -> list[str]:
     return [*QEMU[:2], extensions + POLICIES[policy]]
 
 
-if __name__ == "__main__":
+def main() -> None:
+    """Print the word, the text and the differing parts of each case of a file that QEMU leaves otherwise."""
+    description = "Run golden vectors on QEMU's user mode, and print each case that it leaves otherwise, with the differing parts."
+    parser = argparse.ArgumentParser(prog="on_qemu.py", description=description)
+    parser.add_argument("file", metavar="FILE", type=pathlib.Path, help="golden vectors, a line of JSON each")
+    file: pathlib.Path = parser.parse_args().file
     if not shutil.which(QEMU[0]):
         sys.exit(f"on_qemu.py: {QEMU[0]} not found: sudo apt install qemu-user")
-    shown = [case for line in pathlib.Path(sys.argv[1]).open() if can_run(case := json.loads(line))]
+    try:
+        shown = [case for line in file.read_text("utf-8").splitlines() if can_run(case := json.loads(line))]
+    except OSError as error:
+        parser.error(f"{file}: {error.strerror}")
     for _, group in itertools.groupby(shown, key=lambda case: str(case["policy"])):
         while part := list(itertools.islice(group, 1000)):
             for case, differing in zip(part, differences(part)):
                 if differing:
                     print(case["word"], case["text"], *differing)
+
+
+if __name__ == "__main__":
+    main()
