@@ -156,7 +156,8 @@ def test_root_is_told_of_account(lab: Lab, sandboxed_clang: Compiler, monkeypatc
     status, _, errors = lab("explore", GREY)
     expected = "vecmon-lab: others' C isn't compiled as root: add `--as nobody`, or start this as another user\n"
     assert (status, errors) == (2, expected)
-    for command in (["explore", GREY], ["class", "monday"], ["grade", "doubles", GREY]):
+    commands: list[list[object]] = [["explore", GREY], ["class", "monday"], ["grade", "doubles", GREY]]
+    for command in commands:
         status, _, errors = lab(*command, "--as", "root")
         assert status == 2 and errors.startswith("vecmon-lab: --as root: ") and errors.count("\n") == 1
     assert not pathlib.Path("monday").exists()
