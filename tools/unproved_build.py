@@ -1,49 +1,37 @@
 #!/usr/bin/env python3
-"""Builds a program without its proofs, optimized: `tools/unproved_build.py CRATE OUT [MODULE]`, at the top of the repository.
+"""Builds a program without its proofs, at the top of the repository.
 
-So a change is measured before it is proved. `rt try` compiles a program with checks of its own; this keeps the module that it gives to
-clang, drops the checks, marks the functions that have `#[inline(..)]`, and compiles the rest at -O3. Counts of machine instructions lay
+    tools/unproved_build.py CRATE OUT [MODULE]          builds the optimized program OUT
+    tools/unproved_build.py --module CRATE MODULE       only writes the LLVM module that is compiled
+    tools/unproved_build.py --compile MODULE OUT [-O0]  compiles such a module: with -O0 in a fifth of the time, to a much slower program
+
+So a change is measured before it is proved. The kit's front end (tools/front_end.py) makes a module with checks of its own; this drops the
+checks, marks the functions that have `#[inline(..)]`, and compiles the rest at -O3. Counts of machine instructions lay
 within 3 % of the proved program's where both took the same functions in line; the compiler of the proved one drops some of those marks,
 and then they differ much. Nothing else may be concluded from it: the program that counts is the proved one.
 
-MODULE gets the LLVM module that is compiled, as text whose first line names the kit (tools/wasm).
+MODULE is text whose first line names the kit (tools/wasm).
 """
 
 import glob
 import os
 import re
-import shlex
-import shutil
 import subprocess
 import sys
 import tempfile
 
-from linked_kit import TARGET, installed_kit, kit_identity, link_kit, link_program, write_text
+from front_end import make_module
+from linked_kit import TARGET, installed_kit, kit_identity, link_program, write_text
 
-STAND_IN = """#!/bin/bash
-for word in "$@"; do
-    [ "$word" = module.bc ] && [ "$(stat -c %s module.bc)" -gt 100000 ] && {{ cp module.bc {kept}; exit 1; }}
-done
-exec {clang} "$@"
-"""
 FLAGS = (
     "-march=x86-64-v2 -mllvm -no-trap-after-noreturn -ffunction-sections -fdata-sections -mllvm -trap-unreachable "
     "-mllvm -no-x86-call-frame-opt -mllvm -disable-machine-licm -mllvm -disable-postra-machine-licm "
-    "-mllvm -sink-common-insts=false --no-default-config -no-canonical-prefixes -fno-crash-diagnostics -fPIE -O3"
+    "-mllvm -sink-common-insts=false --no-default-config -no-canonical-prefixes -fno-crash-diagnostics -fPIE"
 ).split()
 CHECK = re.compile(
     r'\s*call void @"rattle-llvm-checks::|\s*call void @llvm\.trap\(\)|\s*call void @llvm\.memset\.p0\.i64\(ptr %r\d+, i8 -86,'
 )
 COMMON = 'nounwind "frame-pointer"="all" "probe-stack"="inline-asm" "stack-probe-size"="3072" "target-cpu"="x86-64-v2"'
-
-
-def kit_with_stand_in(kit, room, kept):
-    """Makes a folder that is the kit but for its clang, which keeps the large module and goes no further."""
-    stand_in = f"{room}.clang"
-    with open(stand_in, "w", encoding="utf-8") as it:
-        it.write(STAND_IN.format(kept=shlex.quote(kept), clang=shlex.quote(f"{kit}/toolchain/bin/clang")))
-    os.chmod(stand_in, 0o755)
-    link_kit(kit, room, stand_in)
 
 
 def inlined(crates):
@@ -69,7 +57,9 @@ def inlined(crates):
 def without_checks(module, marks):
     """The lines of the module without its checks, and with the marks."""
     for line in module:
-        if CHECK.match(line):
+        if line.startswith(" "):  # an instruction, as nearly all lines are
+            if not CHECK.match(line):
+                yield line
             continue
         name = re.match(r'define internal .*?@"([^"]*)"\(', line)
         path = name[1].split("::<")[0].split("::") if name else []
@@ -84,31 +74,57 @@ def without_checks(module, marks):
             yield line.replace("sanitize_address ", "")
 
 
-def main(crate, out, copy=None):
-    kit = installed_kit()
-    clang, crates = f"{kit}/toolchain/bin/clang", os.path.abspath("crates")
+def write_module(crate, out):
+    """Writes the LLVM module of a crate's program as text, without its checks and with the marks."""
+    kit, crates = installed_kit(), os.path.abspath("crates")
     if not os.path.isdir(f"{crates}/{crate}"):
         sys.exit(f"{crate} isn't a crate in {crates}: give the name of its folder, as vecmon_record")
-    os.makedirs(os.path.dirname(os.path.abspath(out)), exist_ok=True)  # a build takes minutes before it links
+    make_folder(out)
     with tempfile.TemporaryDirectory() as room:
-        kept, text, fast, made = (f"{room}/{it}" for it in ("kept.bc", "kept.ll", "fast.ll", "fast.o"))
-        kit_with_stand_in(kit, f"{room}/kit", kept)
-        tried = subprocess.run(
-            [f"{room}/kit/bin/rt", "try", "--steps", "1"], cwd=f"{crates}/{crate}", capture_output=True, text=True
-        )
-        if not os.path.isfile(kept):
-            sys.exit(f"{tried.stdout}{tried.stderr}no module was made")
-        write_text(kit, kept, text)
-        with open(text, encoding="utf-8") as module, open(fast, "w", encoding="utf-8") as it:
+        made, text = f"{room}/made.bc", f"{room}/made.ll"
+        make_module(kit, f"{crates}/{crate}", made)
+        write_text(kit, made, text)
+        with open(text, encoding="utf-8") as module, open(out, "w", encoding="utf-8") as it:
             it.write(f"; {kit_identity()}\n")
             it.writelines(without_checks(module, inlined(crates)))
-        if copy:
-            shutil.copy(fast, copy)
-        subprocess.run([clang, f"--target={TARGET}", *FLAGS, "-c", "-x", "ir", fast, "-o", made], check=True)
-        link_program(kit, made, out)
+
+
+def compile_module(module, out, level="-O3"):
+    """Compiles the text of a module, and links it to a program."""
+    kit = installed_kit()
+    make_folder(out)
+    with tempfile.TemporaryDirectory() as room:
+        compiled = f"{room}/compiled.o"
+        clang = [f"{kit}/toolchain/bin/clang", f"--target={TARGET}", *FLAGS, level, "-c", "-x", "ir"]
+        subprocess.run([*clang, module, "-o", compiled], check=True)
+        link_program(kit, compiled, out)
+
+
+def build(crate, out, module=None):
+    """Builds a crate's optimized program, and keeps its module if a file is named."""
+    make_folder(out)  # a build takes minutes before it links
+    with tempfile.TemporaryDirectory() as room:
+        module = module or f"{room}/module.ll"
+        write_module(crate, module)
+        compile_module(module, out)
+
+
+def make_folder(file):
+    """Makes the folder of a file."""
+    os.makedirs(os.path.dirname(os.path.abspath(file)), exist_ok=True)
+
+
+def main(words):
+    match words:
+        case ["--module", crate, module]:
+            write_module(crate, module)
+        case ["--compile", module, out] | ["--compile", module, out, "-O0"]:
+            compile_module(module, out, *words[3:])
+        case [crate, out, *module] if not crate.startswith("-") and len(module) <= 1:
+            build(crate, out, *module)
+        case _:
+            sys.exit(__doc__)
 
 
 if __name__ == "__main__":
-    if len(sys.argv) not in (3, 4):
-        sys.exit(__doc__)
-    main(*sys.argv[1:])
+    main(sys.argv[1:])

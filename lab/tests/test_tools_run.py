@@ -1,5 +1,8 @@
-"""tools/run: the program it takes, when it builds, an interruption, and each refusal. A fake build takes no time."""
+"""tools/run: the program it takes, when it builds, the build in the background, interruptions, and each refusal.
 
+A stand-in for the build takes no time: each step writes what it was made of, and waits or fails if a file names the step."""
+
+import contextlib
 import os
 import pathlib
 import re
@@ -9,7 +12,7 @@ import signal
 import subprocess
 import sys
 import time
-from collections.abc import Callable
+from collections.abc import Callable, Iterator
 
 import pytest
 
@@ -17,17 +20,28 @@ from support.places import TOP
 from vecmon_lab import check
 
 BUILD = """\
-import pathlib, shutil, sys, time
-crate, out = sys.argv[1:]
+import pathlib, sys, time
+kind, source, out, *level = sys.argv[1:]
 top = pathlib.Path(__file__).parents[1]
+step = " ".join([kind.removeprefix("--"), pathlib.Path(source).stem, *level])
 with (top / "builds").open("a") as builds:
-    print(crate, file=builds)
-if (top / "fail").exists():
+    print(step, file=builds)
+def names_step(file):
+    return file.exists() and step in file.read_text().splitlines()
+if names_step(top / "fail"):
     sys.exit("no module was made")
-while (top / "wait").exists():
+while names_step(top / "wait"):
     time.sleep(0.02)
-shutil.copy("PROGRAM", out)
+made = pathlib.Path(out)
+if kind == "--module":
+    made.write_text(source)
+else:
+    made.write_text(f'#!/bin/sh\\n# {pathlib.Path(source).read_text()} {level}\\nexec PROGRAM "$@"\\n')
+    made.chmod(0o755)
 """
+FIRST = ["module vecmon", "compile vecmon -O0"]
+SECOND = ["compile vecmon", "module vecmon_record"]  # side by side
+ALL = sorted([*FIRST, *SECOND, "compile vecmon-record"])
 RT = """\
 #!/bin/sh
 top=TOP
@@ -63,7 +77,7 @@ class Clone:
         self.write("rattle/rt", RT.replace("TOP", shlex.quote(str(top))).replace("PROGRAM", shlex.quote(str(program))))
         self.write("lab/setup", SET_UP)
         self.write("tools/unproved_build.py", BUILD.replace("PROGRAM", str(program)))
-        for name in ("run", "source_digest", "proved_build.py", "linked_kit.py"):
+        for name in ("run", "complete_build", "source_digest", "proved_build.py", "linked_kit.py", "front_end.py"):
             shutil.copy(TOP / "tools" / name, top / "tools" / name)
         self.write("HANDLES", "Handles allowed: none.\n")
         self.write("crates.txt", "low: arrayvec\nvecmon: low # a comment\nvecmon_record: low\nother: low\n")
@@ -85,19 +99,47 @@ class Clone:
         command = [str(self.run_tool), *map(str, arguments)]
         return subprocess.run(command, env=environment, cwd=cwd or self.top.parent, capture_output=True, text=True)
 
-    def start(self) -> subprocess.Popen[str]:
-        """Starts tools/run with a build that waits, in a process group of its own, and returns once both builds wait."""
-        (self.top / "wait").touch()
-        process = subprocess.Popen(
-            ["env", "--default-signal=HUP,INT,TERM", self.run_tool],  # nohup makes its children ignore SIGHUP
-            env=self.environment,
-            stdout=subprocess.PIPE,
-            stderr=subprocess.PIPE,
-            text=True,
-            start_new_session=True,
-        )
-        until(lambda: len(self.builds()) >= 2)
-        return process
+    def complete(self, *arguments: object, cwd: pathlib.Path | None = None) -> Run:
+        """Runs tools/run to its end, and waits for its build in the background."""
+        ran = self.run(*arguments, cwd=cwd)
+        self.wait_for_background()
+        return ran
+
+    def start(self, *arguments: str, errors: pathlib.Path | None = None) -> subprocess.Popen[str]:
+        """Starts tools/run in a process group of its own. Standard error is a pipe, or goes to a file."""
+        with errors.open("w") if errors else contextlib.nullcontext(subprocess.PIPE) as stream:
+            return subprocess.Popen(
+                [
+                    "env",
+                    "--default-signal=HUP,INT,TERM",
+                    self.run_tool,
+                    *arguments,
+                ],  # nohup lets children ignore SIGHUP
+                env=self.environment,
+                stdin=subprocess.PIPE,
+                stdout=subprocess.PIPE,
+                stderr=stream,
+                text=True,
+                start_new_session=True,
+            )
+
+    def hold(self, *steps: str) -> None:
+        """Lets these steps of a build wait, and no others."""
+        new = self.top / "wait.new"
+        new.write_text("".join(f"{step}\n" for step in steps))
+        new.replace(self.top / "wait")
+
+    def fail(self, *steps: str) -> None:
+        """Lets these steps of a build fail, and no others."""
+        (self.top / "fail").write_text("".join(f"{step}\n" for step in steps))
+
+    def wait_for_step(self, *steps: str) -> None:
+        """Waits until these steps have started."""
+        until(lambda: set(steps) <= set(self.builds()))
+
+    def wait_for_background(self) -> None:
+        """Waits until nothing is built."""
+        until(lambda: not running_builds(self))
 
     def digest(self, *arguments: str) -> Run:
         """Runs tools/source_digest."""
@@ -105,9 +147,9 @@ class Clone:
         return subprocess.run(command, env=self.environment, capture_output=True, text=True)
 
     def builds(self) -> list[str]:
-        """The crates that were built so far."""
+        """The steps of builds so far, sorted."""
         log = self.top / "builds"
-        return sorted(line for line in log.read_text().split("\n") if line.startswith("vecmon")) if log.exists() else []
+        return sorted(line for line in log.read_text().splitlines() if line != "set up") if log.exists() else []
 
     def proofs(self) -> list[str]:
         """The calls of rt that prove or build so far."""
@@ -116,13 +158,29 @@ class Clone:
 
     def folders(self) -> list[str]:
         """The folders of programs."""
-        return sorted(path.name for path in self.unproved.iterdir() if path.is_dir())
+        return sorted(path.name for path in self.unproved.iterdir() if path.is_dir() and path not in self.rooms())
+
+    def rooms(self) -> list[pathlib.Path]:
+        """The folders of builds that run, or were killed."""
+        return list(self.unproved.glob("new.*"))
+
+    def programs(self) -> dict[str, str]:
+        """What each program in the only folder was made of: its crate and the level of optimization."""
+        (folder,) = self.folders()
+        return {path.name: path.read_text().split("\n")[1] for path in (self.unproved / folder).iterdir()}
+
+
+OPTIMIZED = {"vecmon": "# vecmon []", "vecmon-record": "# vecmon_record []"}
 
 
 @pytest.fixture
-def clone(tmp_path: pathlib.Path, program: pathlib.Path) -> Clone:
-    """A clone in a folder with a space in its name."""
-    return Clone(tmp_path / "a clone", program)
+def clone(tmp_path: pathlib.Path, program: pathlib.Path) -> Iterator[Clone]:
+    """A clone in a folder with a space in its name. No build is left at the end."""
+    made = Clone(tmp_path / "a clone", program)
+    yield made
+    made.hold()
+    made.wait_for_background()
+    assert not made.rooms()
 
 
 def until(holds: Callable[[], object]) -> None:
@@ -133,15 +191,17 @@ def until(holds: Callable[[], object]) -> None:
         time.sleep(0.02)
 
 
-def waiting_builds(clone: Clone) -> list[str]:
-    """The command lines of builds of this clone that run."""
-    texts = []
+def running_builds(clone: Clone) -> list[int]:
+    """The processes that build in this clone, in the background or for a start."""
+    found = []
     for file in pathlib.Path("/proc").glob("[0-9]*/cmdline"):
         try:
-            texts.append(file.read_bytes().replace(b"\0", b" ").decode("utf-8", "replace"))
+            text = file.read_bytes().decode("utf-8", "replace")
         except OSError:
-            pass  # it has ended
-    return [text for text in texts if "unproved_build.py" in text and str(clone.unproved) in text]
+            continue  # it has ended
+        if f"{clone.unproved}/new." in text:
+            found.append(int(file.parent.name))
+    return found
 
 
 def test_proved_programs_are_built_and_recorded(clone: Clone) -> None:
@@ -153,7 +213,7 @@ def test_proved_programs_are_built_and_recorded(clone: Clone) -> None:
     assert re.fullmatch(r"all check --jobs [1-9]\d* in crates", proof)
     assert builds == ["run -- --help in vecmon", "run -- --help in vecmon_record"]
     built = f"tools/run: built with proofs: {clone.top}/crates/vecmon/out/vecmon\n"
-    assert first.stderr.endswith(built) and clone.builds() == []
+    assert built in first.stderr and clone.builds() == []
     (copy,) = (clone.top / "cache" / "vecmon" / "kit-logic-0123" / "proved").iterdir()
     assert sorted(path.name for path in (copy / "crates").iterdir()) == ["low", "vecmon", "vecmon_record"]
     assert (copy / "crates.txt").read_text() == "low: arrayvec\nvecmon: low # a comment\nvecmon_record: low\n"
@@ -200,40 +260,93 @@ def test_one_crate_alone(clone: Clone) -> None:
     assert sorted(path.name for path in (copy / "crates").iterdir()) == ["low", "other"]
 
 
-def test_first_and_second_start(clone: Clone) -> None:
+def test_first_answer_comes_before_the_second_program(clone: Clone) -> None:
+    """A start during the build in the background takes the first program, and builds nothing."""
     answers = check.first_script()[1]
+    clone.hold(*SECOND)
     first = clone.run()
     assert (first.returncode, first.stdout) == (0, answers)
+    clone.wait_for_step(*SECOND)
+    assert clone.builds() == sorted([*FIRST, *SECOND]) and clone.programs() == {"vecmon": "# vecmon ['-O0']"}
     (folder,) = clone.folders()
     assert (clone.unproved / "current").read_text() == f"{folder}\n" and clone.digest().stdout.startswith(folder)
     built = f"tools/run: built without proofs: {clone.unproved}/{folder}/vecmon\n"
-    assert "ready: .venv/bin/vecmon-lab\ntools/run: building vecmon and vecmon-record" in first.stderr
-    assert first.stderr.endswith(built)
-    second = clone.run()
-    assert (second.returncode, second.stdout, second.stderr) == (0, answers, built)
-    assert (clone.top / "builds").read_text().count("\n") == 3  # one set-up and two programs, once
-    command = clone.top / ".venv" / "bin" / "vecmon"
-    completed = subprocess.run(
-        [command, clone.top / "crates" / "vecmon" / "first_vectors"], capture_output=True, text=True
-    )
-    assert (completed.stdout, completed.stderr) == (answers, "")
-    assert command.with_name("vecmon-record").read_text().endswith(f'/{folder}/vecmon-record "$@"\n')
+    assert "ready: .venv/bin/vecmon-lab\ntools/run: building vecmon without proofs" in first.stderr
+    assert f"vecmon-record in the background; the log is {clone.unproved}/log\n{built}" in first.stderr
+    meanwhile = clone.run()
+    assert (meanwhile.returncode, meanwhile.stdout) == (0, answers)
+    still = f"still being built in the background; the log is {clone.unproved}/log\n"
+    assert meanwhile.stderr.count("\n") == 2 and meanwhile.stderr.endswith(f"{still}{built}")
+    clone.hold()
+    clone.wait_for_background()
+    assert clone.builds() == ALL and clone.programs() == OPTIMIZED and clone.folders() == [folder]
+    last = clone.run()
+    assert (last.returncode, last.stdout, last.stderr) == (0, answers, built)
+    assert clone.builds() == ALL and (clone.top / "builds").read_text().count("set up\n") == 1
+    assert re.fullmatch(r"built in \d+ s\n", (clone.unproved / "log").read_text())
+
+
+def test_commands_of_the_environment(clone: Clone) -> None:
+    """.venv/bin/vecmon starts the first program and then the optimized one; vecmon-record says that it isn't built yet."""
+    clone.hold(*SECOND)
+    clone.run()
+    program, recorder = (clone.top / ".venv" / "bin" / name for name in ("vecmon", "vecmon-record"))
+    script = clone.top / "crates" / "vecmon" / "first_vectors"
+    for status, error in (
+        (2, "vecmon-record: not built yet: tools/run reports the state of its build\n"),
+        (0, ""),
+    ):
+        ran = subprocess.run([program, script], capture_output=True, text=True)
+        assert (ran.stdout, ran.stderr) == (check.first_script()[1], "")
+        ran = subprocess.run([recorder, script], capture_output=True, text=True)
+        assert (ran.returncode, ran.stderr) == (status, error)
+        clone.hold()
+        clone.wait_for_background()
+
+
+def test_first_start_names_the_next_commands(clone: Clone) -> None:
+    """Behind the output of the first start without arguments: with a path that works in the current folder."""
+    here = clone.complete(cwd=clone.top)
+    assert here.stderr.splitlines()[-1].startswith("tools/run: next: .venv/bin/vecmon-lab explore ")
+    assert " .venv/bin/vecmon-lab tour " in here.stderr and "next:" not in clone.run().stderr
+
+
+@pytest.mark.parametrize("arguments, lines", [([], 1), (["crates/vecmon/first_vectors"], 0)])
+def test_next_commands_elsewhere(clone: Clone, arguments: list[str], lines: int) -> None:
+    ran = clone.complete(*(clone.top / name for name in arguments))
+    assert ran.stderr.count("next:") == ran.stderr.count(f"next: {clone.top}/.venv/bin/vecmon-lab explore") == lines
+
+
+def test_wait_for_both_programs(clone: Clone) -> None:
+    ran = clone.run("--wait")
+    assert (ran.returncode, ran.stdout) == (0, check.first_script()[1])
+    assert clone.programs() == OPTIMIZED and clone.builds() == ALL and not running_builds(clone)
+
+
+def test_wait_for_a_build_of_another_start(clone: Clone) -> None:
+    clone.hold(*SECOND)
+    clone.run()
+    process = clone.start("--wait")
+    assert process.stderr and "waiting for another tools/run" in process.stderr.readline()
+    clone.hold()
+    assert process.communicate(timeout=60)[0] == check.first_script()[1]
+    assert process.returncode == 0 and clone.programs() == OPTIMIZED and clone.builds() == ALL
 
 
 def test_sources_select_program(clone: Clone) -> None:
-    clone.run()
+    clone.complete()
     first = clone.folders()
     clone.write("crates/other/src/lib.rt", "fn elsewhere() {}\n")  # neither program is built from it
     clone.run()
-    assert clone.folders() == first and len(clone.builds()) == 2
+    assert clone.folders() == first and clone.builds() == ALL
     source = clone.top / "crates" / "low" / "src" / "lib.rt"
     before = source.read_text()
     source.write_text("fn changed() {}\n")
-    clone.run()
-    assert len(clone.folders()) == 2 and len(clone.builds()) == 4
+    clone.complete()
+    assert len(clone.folders()) == 2 and clone.builds() == sorted(ALL * 2)
     source.write_text(before)
-    clone.run()
-    assert len(clone.builds()) == 4 and [(clone.unproved / "current").read_text().strip()] == first
+    clone.complete()
+    assert clone.builds() == sorted(ALL * 2) and [(clone.unproved / "current").read_text().strip()] == first
 
 
 @pytest.mark.parametrize(
@@ -244,6 +357,7 @@ def test_sources_select_program(clone: Clone) -> None:
         ("crates/vecmon/proofs/new.antt", "new\n"),
         ("tools/unproved_build.py", "pass\n"),
         ("tools/linked_kit.py", "pass\n"),
+        ("tools/front_end.py", "pass\n"),
     ],
 )
 def test_digest_follows_sources(clone: Clone, name: str, text: str) -> None:
@@ -268,7 +382,7 @@ def test_proved_program_is_preferred(clone: Clone, program: pathlib.Path) -> Non
     digest = clone.digest().stdout.strip()
     assert clone.digest("proved", digest).returncode == 1
     assert clone.digest("record", digest).returncode == 0 and clone.digest("proved", digest).returncode == 0
-    assert clone.run().stderr.endswith(f"ready: .venv/bin/vecmon-lab\n{proved}") and clone.builds() == []
+    assert f"ready: .venv/bin/vecmon-lab\n{proved}" in clone.run().stderr and clone.builds() == []
     assert '/crates/vecmon/out/vecmon "$@"\n' in (clone.top / ".venv" / "bin" / "vecmon").read_text()
     source = clone.top / "crates" / "low" / "src" / "lib.rt"
     before = source.read_text()
@@ -289,49 +403,146 @@ def test_program_without_record_is_ignored(clone: Clone, program: pathlib.Path) 
     assert clone.digest("dance").returncode == 2
 
 
-@pytest.mark.parametrize("number, status", [(signal.SIGHUP, 129), (signal.SIGINT, 130), (signal.SIGTERM, 143)])
-def test_interrupted_build_is_repeated(clone: Clone, number: int, status: int) -> None:
+@pytest.mark.parametrize(
+    "step, number, status",
+    [(FIRST[0], signal.SIGHUP, 129), (FIRST[1], signal.SIGINT, 130), (FIRST[0], signal.SIGTERM, 143)],
+)
+def test_interrupted_first_build_is_repeated(clone: Clone, step: str, number: int, status: int) -> None:
+    clone.hold(step)
     process = clone.start()
+    clone.wait_for_step(step)
     os.killpg(process.pid, number)
     process.communicate(timeout=60)
-    assert process.returncode == status and clone.folders() == []
-    until(lambda: not waiting_builds(clone))
-    (clone.top / "wait").unlink()
-    assert clone.run().returncode == 0 and len(clone.folders()) == 1
+    assert process.returncode == status
+    clone.wait_for_background()
+    assert clone.folders() == [] and not (clone.unproved / "current").exists()
+    clone.hold()
+    assert clone.complete().returncode == 0 and clone.programs() == OPTIMIZED
 
 
-def test_killed_build_is_repeated(clone: Clone) -> None:
+@pytest.mark.parametrize("step", FIRST)
+def test_killed_first_build_is_repeated(clone: Clone, step: str) -> None:
+    clone.hold(step)
     process = clone.start()
+    clone.wait_for_step(step)
     process.kill()
     process.communicate(timeout=60)
-    assert [name.split(".")[0] for name in clone.folders()] == ["new"]
-    (clone.top / "wait").unlink()
-    until(lambda: not waiting_builds(clone))
-    assert clone.run().returncode == 0
-    assert [name.split(".")[0] for name in clone.folders()] == [(clone.unproved / "current").read_text().strip()]
+    assert len(clone.rooms()) == 1 and clone.folders() == []
+    clone.hold()
+    clone.wait_for_background()
+    assert clone.complete().returncode == 0 and clone.programs() == OPTIMIZED
+    assert clone.folders() == [(clone.unproved / "current").read_text().strip()]
+
+
+@pytest.mark.parametrize(
+    "step, number",
+    [(SECOND[0], signal.SIGTERM), (SECOND[1], signal.SIGTERM), (SECOND[1], signal.SIGKILL), (ALL[2], signal.SIGTERM)],
+)
+def test_interrupted_background_build_is_repeated(clone: Clone, step: str, number: int) -> None:
+    """Not as a failure: the next start runs the first program at once, and builds the rest."""
+    clone.hold(step)
+    clone.run()
+    clone.wait_for_step(step)
+    group = int((clone.unproved / "background").read_text().split()[0])
+    os.kill(group, number)
+    if number == signal.SIGKILL:
+        until(lambda: not pathlib.Path(f"/proc/{group}").exists())
+        clone.hold()  # the steps that it started go on
+    clone.wait_for_background()
+    assert clone.programs() == {"vecmon": "# vecmon ['-O0']"}
+    clone.hold(*SECOND)
+    again = clone.run()
+    assert (again.returncode, again.stdout) == (0, check.first_script()[1])
+    assert "background failed" not in again.stderr
+    assert "building the optimized vecmon and vecmon-record in the background" in again.stderr
+    clone.hold()
+    clone.wait_for_background()
+    assert clone.programs() == OPTIMIZED and len(clone.folders()) == 1
+
+
+def test_interrupted_script_leaves_the_background_build(clone: Clone) -> None:
+    """Ctrl C while the script runs, and a terminal that is closed, end the script alone."""
+    clone.hold(*SECOND)
+    for number in (signal.SIGINT, signal.SIGHUP):
+        process = clone.start("/dev/stdin")
+        assert process.stdin and process.stdout
+        process.stdin.write("1 enter\n")
+        process.stdin.flush()
+        assert process.stdout.readline()
+        clone.wait_for_step(*SECOND)
+        os.killpg(process.pid, number)
+        process.communicate(timeout=60)
+        assert process.returncode == -number and running_builds(clone)
+    clone.hold()
+    clone.wait_for_background()
+    assert clone.programs() == OPTIMIZED and clone.builds() == ALL
+
+
+def test_failed_background_build_is_reported_at_the_next_start(clone: Clone) -> None:
+    clone.fail("compile vecmon-record")
+    first = clone.complete()
+    assert first.returncode == 0 and "background failed" not in first.stderr
+    assert clone.programs()["vecmon"] == "# vecmon ['-O0']" and not (clone.unproved / "background").exists()
+    clone.fail()
+    second = clone.complete()
+    assert (second.returncode, second.stdout) == (0, check.first_script()[1])
+    assert second.stderr.startswith(
+        "tools/run: the last build in the background failed, and starts again:\nno module was made\n"
+    )
+    assert clone.programs() == OPTIMIZED and clone.run().stderr.startswith("tools/run: built without proofs: ")
+
+
+def test_failed_build_is_reported_to_who_waits(clone: Clone) -> None:
+    clone.fail("module vecmon_record")
+    ran = clone.run("--wait")
+    assert (ran.returncode, ran.stdout) == (2, "")
+    message = "no module was made\ntools/run: the build in the background failed: see the lines above\n"
+    assert ran.stderr.endswith(message)
+
+
+def test_background_build_of_other_sources_is_ended(clone: Clone) -> None:
+    clone.hold(*SECOND)
+    clone.run()
+    clone.wait_for_step(*SECOND)
+    old = running_builds(clone)
+    clone.write("crates/low/src/lib.rt", "fn changed() {}\n")
+    ran = clone.run()
+    assert (ran.returncode, ran.stdout) == (0, check.first_script()[1])
+    assert "tools/run: ending the background build of other sources\n" in ran.stderr
+    assert not set(old) & set(running_builds(clone)) and len(clone.folders()) == 2
+    clone.hold()
+    clone.wait_for_background()
+    current = clone.unproved / (clone.unproved / "current").read_text().strip()
+    assert sorted(path.name for path in current.iterdir()) == ["vecmon", "vecmon-record"]
 
 
 def test_folder_without_a_whole_program_is_replaced(clone: Clone) -> None:
     """As after a power cut, or where a file was deleted."""
-    assert clone.run().returncode == 0
+    assert clone.complete().returncode == 0
     (name,) = clone.folders()
     recorder, program = (clone.unproved / name / each for each in ("vecmon-record", "vecmon"))
     recorder.unlink()
-    assert clone.run().returncode == 0 and recorder.stat().st_size
+    assert clone.complete().returncode == 0 and clone.programs() == OPTIMIZED
+    assert clone.builds() == sorted([*ALL, *SECOND, "module vecmon", "compile vecmon-record"])
     program.write_bytes(b"")
-    ran = clone.run()
+    ran = clone.complete()
     assert (ran.returncode, ran.stdout) == (0, check.first_script()[1]) and clone.folders() == [name]
-    assert len(clone.builds()) == 6
+    assert clone.programs() == OPTIMIZED
 
 
-def test_concurrent_starts_build_once(clone: Clone) -> None:
-    one, other = clone.start(), clone.start()
-    assert other.stderr and "waiting for another tools/run" in other.stderr.readline()
-    (clone.top / "wait").unlink()
-    ended = [process.communicate(timeout=60) for process in (one, other)]
-    assert [process.returncode for process in (one, other)] == [0, 0]
+def test_concurrent_starts_build_once(clone: Clone, tmp_path: pathlib.Path) -> None:
+    """One of them, whichever is later, waits until the other one has built the first program."""
+    clone.hold("module vecmon")
+    files = [tmp_path / name for name in ("one", "other")]
+    processes = [clone.start(errors=file) for file in files]
+    until(lambda: any("waiting for another tools/run" in file.read_text() for file in files))
+    clone.hold()
+    ended = [process.communicate(timeout=60) for process in processes]
+    assert [process.returncode for process in processes] == [0, 0]
     assert [output for output, _ in ended] == [check.first_script()[1]] * 2
-    assert clone.builds() == ["vecmon", "vecmon_record"] and len(clone.folders()) == 1
+    clone.wait_for_background()
+    assert clone.builds() == ALL and clone.programs() == OPTIMIZED
+    assert sum("waiting for another tools/run" in file.read_text() for file in files) == 1
 
 
 def test_script_and_images_are_passed_on(clone: Clone, program: pathlib.Path, tmp_path: pathlib.Path) -> None:
@@ -382,20 +593,40 @@ def test_unwritable_folder_is_reported(clone: Clone) -> None:
     assert f"{clone.unproved} isn't writable" in completed.stderr
 
 
-def test_failed_build_is_reported(clone: Clone) -> None:
-    (clone.top / "fail").touch()
+@pytest.mark.parametrize("step", FIRST)
+def test_failed_first_build_is_reported(clone: Clone, step: str) -> None:
+    clone.fail(step)
     completed = clone.run()
     assert (completed.returncode, completed.stdout, clone.folders()) == (2, "", [])
     assert completed.stderr.endswith("no module was made\ntools/run: the build failed: see the lines above\n")
 
 
-def test_changed_sources_during_build_are_detected(clone: Clone) -> None:
+def test_changed_sources_during_first_build_are_detected(clone: Clone) -> None:
+    clone.hold("compile vecmon -O0")
     process = clone.start()
+    clone.wait_for_step("compile vecmon -O0")
     clone.write("crates/low/src/lib.rt", "fn changed() {}\n")
-    (clone.top / "wait").unlink()
+    clone.hold()
     _, errors = process.communicate(timeout=60)
     assert (process.returncode, clone.folders()) == (2, [])
     assert errors.endswith("tools/run: the sources changed during the build: run tools/run again\n")
+
+
+def test_changed_sources_during_background_build_are_detected(clone: Clone) -> None:
+    """The recorder of changed sources isn't put next to the program; that is no failure to report."""
+    clone.hold("module vecmon_record")
+    clone.run()
+    clone.wait_for_step("module vecmon_record")
+    source = clone.top / "crates" / "low" / "src" / "lib.rt"
+    before = source.read_text()
+    source.write_text("fn changed() {}\n")
+    clone.hold()
+    clone.wait_for_background()
+    assert clone.programs() == {"vecmon": "# vecmon ['-O0']"}
+    assert (clone.unproved / "log").read_text() == "the sources changed during the build\n"
+    source.write_text(before)
+    again = clone.complete()
+    assert (again.returncode, clone.programs()) == (0, OPTIMIZED) and "background failed" not in again.stderr
 
 
 def test_help_shows_usage(clone: Clone) -> None:

@@ -1,6 +1,7 @@
 """Where the program is looked for, and what the program `vecmon-lab` does with its words."""
 
 import argparse
+import fcntl
 import pathlib
 import re
 import shutil
@@ -72,6 +73,27 @@ def test_recorder_built_by_tools_run_is_found(monkeypatch: pytest.MonkeyPatch, t
     monkeypatch.delenv("VECMON", raising=False)
     monkeypatch.delenv("VECMON_RECORD", raising=False)
     assert find_recorder() == recorder
+
+
+def test_recorder_that_is_being_built_is_reported(monkeypatch: pytest.MonkeyPatch, tmp_path: pathlib.Path) -> None:
+    """tools/run has its lock until the recorder is there; vecmon is there before."""
+    executable(tmp_path / "unproved" / "vecmon")
+    (tmp_path / "current").write_text("unproved\n")
+    for name, value in (("UNPROVED", tmp_path), ("BUILT", tmp_path / "none"), ("BUILT_RECORDER", tmp_path / "none")):
+        monkeypatch.setattr(places, name, value)
+    for name in ("VECMON", "VECMON_RECORD"):
+        monkeypatch.delenv(name, raising=False)
+    monkeypatch.setenv("PATH", str(tmp_path))
+    monkeypatch.setattr(places, "check_is_vecmon", lambda program: None)
+    with (tmp_path / "lock").open("w") as lock:
+        fcntl.flock(lock, fcntl.LOCK_EX)
+        still = (
+            f"^tools/run is still building vecmon-record in the background: try again when {tmp_path}/log says built$"
+        )
+        with pytest.raises(NoProgram, match=still):
+            find_recorder()
+    with pytest.raises(NoProgram, match="^there is no program vecmon-record; "):
+        find_recorder()
 
 
 def test_every_command_is_tested_with_proved_program() -> None:

@@ -49,6 +49,11 @@ def find_recorder() -> pathlib.Path:
     if found is None:
         if not os.environ.get("VECMON_RECORD"):
             check_is_vecmon(find_program())  # the recorder is missing next to it
+        if not named and _is_building():
+            log = UNPROVED / "log"
+            raise NoProgram(
+                f"tools/run is still building {RECORDER} in the background: try again when {log} says built"
+            )
         raise NoProgram(f"there is no program {named or RECORDER}; {HOW_TO_BUILD[RECORDER]}")
     return pathlib.Path(found).absolute()
 
@@ -56,6 +61,20 @@ def find_recorder() -> pathlib.Path:
 def _first_built(built: pathlib.Path, name: str) -> str | None:
     """Return the program that rt built, else the one of this name that tools/run built, else the one on PATH."""
     return shutil.which(str(built)) or shutil.which(str(_unproved(name))) or shutil.which(name)
+
+
+def _is_building() -> bool:
+    """Return whether tools/run is building programs now: it has a lock until the last of them is there."""
+    import fcntl  # which no browser has
+
+    try:
+        with (UNPROVED / "lock").open("rb") as lock:
+            fcntl.flock(lock, fcntl.LOCK_SH | fcntl.LOCK_NB)
+    except BlockingIOError:
+        return True
+    except OSError:
+        pass  # no tools/run was here
+    return False
 
 
 def _unproved(name: str) -> pathlib.Path:
