@@ -1,0 +1,85 @@
+"""What tools/site and tools/wasm build. Stand-ins record their arguments, and take no time."""
+
+import os
+import pathlib
+import re
+import shlex
+import shutil
+import subprocess
+
+import pytest
+
+from support.places import TOP
+
+RECORD = '#!/bin/sh\necho "$(basename "$0") $*" >> RECORD\n'
+
+
+class Tools:
+    """A folder with some of the repository's tools, and stand-ins for others."""
+
+    def __init__(self, top: pathlib.Path, *names: str) -> None:
+        self.top, self.record = top, top / "record"
+        (top / "tools").mkdir()
+        for name in names:
+            shutil.copy(TOP / "tools" / name, top / "tools")
+
+    def stand_in(self, *names: str, then: str = "") -> None:
+        """Writes commands that record their arguments, and then run a line of shell."""
+        for name in names:
+            file = self.top / name
+            file.parent.mkdir(parents=True, exist_ok=True)
+            file.write_text(RECORD.replace("RECORD", shlex.quote(str(self.record))) + then)
+            file.chmod(0o755)
+
+    def run(self, *command: str) -> subprocess.CompletedProcess[str]:
+        """Runs one of the tools, with the stand-ins of the folder `path` first on PATH."""
+        path = f"{self.top}/path:{os.environ['PATH']}"
+        return subprocess.run(
+            command, cwd=self.top, env={**os.environ, "PATH": path}, capture_output=True, text=True, check=False
+        )
+
+    def calls(self) -> list[str]:
+        """The names and arguments of the stand-ins that ran."""
+        return self.record.read_text().splitlines() if self.record.exists() else []
+
+
+def test_site_builds_one_module(tmp_path: pathlib.Path) -> None:
+    """Of vecmon, proved or else without proofs; no native program, and nothing of the recorder."""
+    tools = Tools(tmp_path, "site")
+    tools.stand_in("tools/debian_packages")
+    tools.stand_in("tools/wasm", then='echo "tools/wasm: no module" >&2; [ "$1" = --unproved ]')
+    ran = tools.run("tools/site", "out")
+    assert ran.returncode == 2 and "has no vecmon.wasm and PROVENANCE" in ran.stderr
+    packages, *calls = tools.calls()
+    assert packages.startswith("debian_packages ")
+    assert [re.sub(r"/\S+/", "", call) for call in calls] == [
+        "wasm --program vecmon wasm",
+        "wasm --unproved --program vecmon wasm",
+    ]
+
+
+@pytest.mark.parametrize(
+    "options, crates",
+    [([], ["vecmon"]), (["--program", "vecmon"], ["vecmon"]), (["--program", "vecmon-record"], ["vecmon_record"])],
+)
+def test_wasm_makes_modules_and_no_native_program(
+    tmp_path: pathlib.Path, options: list[str], crates: list[str]
+) -> None:
+    """The first module that can't be read ends it; without --program the recorder's would be the second."""
+    tools = Tools(tmp_path, "wasm", "linked_kit.py", "retarget.py", "wasm_binary.py")
+    tools.stand_in("path/wasm-ld-19", "path/wasm-opt")
+    (tmp_path / "tools" / "unproved_build.py").write_text(
+        "import pathlib, sys\nkind, crate, module = sys.argv[1:]\npathlib.Path(module).write_text('no module')\n"
+        f"with open({str(tools.record)!r}, 'a') as record:\n    print(kind, crate, file=record)\n"
+    )
+    ran = tools.run("python3", "tools/wasm", "--unproved", *options, "out")
+    assert ran.returncode == 2 and ran.stderr.endswith(".ll isn't a module of a Rattle kit\n")
+    both = [] if options else ["--module vecmon_record"]
+    assert tools.calls() == [*(f"--module {crate}" for crate in crates), *both]
+
+
+def test_wasm_refuses_an_unknown_program(tmp_path: pathlib.Path) -> None:
+    ran = Tools(tmp_path, "wasm", "linked_kit.py", "retarget.py", "wasm_binary.py").run(
+        "python3", "tools/wasm", "--program", "vecmon_record", "out"
+    )
+    assert ran.returncode == 2 and "'vecmon', 'vecmon-record'" in ran.stderr
