@@ -1,4 +1,4 @@
-"""What tools/site and tools/wasm build. Stand-ins record their arguments, and take no time."""
+"""What tools/site, tools/wasm and `tools/test crates` build and run. Stand-ins record their arguments, and take no time."""
 
 import os
 import pathlib
@@ -12,6 +12,7 @@ import pytest
 from support.places import TOP
 
 RECORD = '#!/bin/sh\necho "$(basename "$0") $*" >> RECORD\n'
+CRATES = "low:\nmiddle: low\nvecmon: middle\nrecording: low\nvecmon_record: recording\ntest_low: low\nother:\n"
 
 
 class Tools:
@@ -83,3 +84,55 @@ def test_wasm_refuses_an_unknown_program(tmp_path: pathlib.Path) -> None:
         "python3", "tools/wasm", "--program", "vecmon_record", "out"
     )
     assert ran.returncode == 2 and "'vecmon', 'vecmon-record'" in ran.stderr
+
+
+@pytest.fixture
+def tested(tmp_path: pathlib.Path) -> Tools:
+    """A folder in which tools/test runs, with stand-ins for all that it calls."""
+    tools = Tools(tmp_path, "test", "crates_above", "proved_build.py", "linked_kit.py")
+    tools.stand_in("tools/keep_modules", ".venv/bin/python")
+    for name in ("lab/setup", "tools/check_kit", "tools/left_behind.py"):
+        (tmp_path / name).parent.mkdir(exist_ok=True)
+        (tmp_path / name).write_text("#!/bin/sh\n")
+        (tmp_path / name).chmod(0o755)
+    (tmp_path / "tools" / "unproved_build.py").write_text("")
+    (tmp_path / "crates.txt").write_text(CRATES)
+    return tools
+
+
+@pytest.mark.parametrize(
+    "names, proved, outside",
+    [
+        (["middle"], "middle vecmon", "tests"),
+        (["recording"], "recording vecmon_record", "tests/recordings"),
+        (["low"], "low middle recording test_low vecmon vecmon_record", "tests"),
+        (["test_low", "other"], "test_low other", ""),
+    ],
+)
+def test_crates_are_tested_with_those_above(tested: Tools, names: list[str], proved: str, outside: str) -> None:
+    """They are listed first, then proved, and then the tests of the programs that are built from them run."""
+    ran = tested.run("tools/test", "crates", *names)
+    assert ran.returncode == 0, ran.stderr
+    first, second = (line for line in ran.stdout.splitlines() if line.startswith(("crates, ", "tests, ")))
+    crates = first.partition(": ")[2]
+    assert sorted(crates.split()) == sorted(proved.split())
+    assert second.partition(": ")[2] == (f"{outside}, and of the lab a test by command" if outside else "none")
+    kept, *python = tested.calls()
+    assert kept == f"keep_modules {crates}"
+    assert [call.split()[-1] for call in python] == ([outside, "lab"] if outside else [])
+    assert ran.stdout.endswith(f"passed: the proofs, edits and tests of {' '.join(names)}\n")
+
+
+@pytest.mark.parametrize(
+    "words, refusal",
+    [
+        (["crates", "low", "lower"], "tools/crates_above: crates.txt has no crate lower"),
+        (["crates", "--all"], "tools/crates_above: crates.txt has no crate --all"),
+        (["crates"], "tools/test: usage: tools/test [quick | crates NAME...]"),
+        (["slow"], "tools/test: usage: tools/test [quick | crates NAME...]"),
+        (["quick", "low"], "tools/test: usage: tools/test [quick | crates NAME...]"),
+    ],
+)
+def test_wrong_arguments_of_test(tested: Tools, words: list[str], refusal: str) -> None:
+    ran = tested.run("tools/test", *words)
+    assert (ran.returncode, ran.stdout, ran.stderr) == (2, "", f"{refusal}\n") and tested.calls() == []
