@@ -5,7 +5,7 @@ of the repository.
 A row for each group of pages in docs/book.toml, for messages, and for the comments of some folders has the words, the forms in a thousand
 words, the share of sentences above 30 words, and the page of 500 words or more with most forms. Messages are the strings of the lab, the
 tools and the crates, and the texts of exercises and lessons. Comments are those of Python with its docstrings, of scripts and styles of
-pages, of Rattle, of definitions and proofs, and of the texts of must-fail edits. The status is 1 if a figure is above its limit.
+pages, of Rattle, of definitions and proofs, and of the texts of edits that must fail. The status is 1 if a figure is above its limit.
 
 With --comments, the rows of comments and the files with forms in their comments are printed instead, most forms first. With --list, each
 place below PATH is printed instead: a form with its line, or a long sentence. tools/prose_allowed.txt lists places where a form is right.
@@ -67,6 +67,7 @@ COMMENTS = {
         "crates/*/src/**/*.rt",
         "crates/*/specs/**/*.antt",
         "crates/*/proofs/**/*.antt",
+        "crates/*/edits/*.edit",
         "crates/*/must-fail/*.edit",
     ),
 }

@@ -13,7 +13,7 @@ from collections.abc import Iterator
 from dataclasses import dataclass, field
 from pathlib import Path
 
-FILES = "*/must-fail/*.edit", "*/proofs/**/*.antt", "*/specs/**/*.antt", "*/src/**/*.rt"
+FILES = "*/edits/*.edit", "*/must-fail/*.edit", "*/proofs/**/*.antt", "*/specs/**/*.antt", "*/src/**/*.rt"
 ANSWERS = {"Answers.antt", "Invariants.antt", "Proof.antt"}
 IMPORT = re.compile(r"^ *(?:pub )?use [^{\n]*(?:\{[^}]*\})?.*$", re.MULTILINE)
 RENAMED = re.compile(r"([^\s{}.,]+) as ")

@@ -1,6 +1,6 @@
 #!/usr/bin/env python3
-"""Lists the must-fail edits that can break each clause of a public call: `tools/edit_clauses.py [CRATE.. | --page]`, at the top of the
-repository. With `--page` it writes the list of docs/PROOFS.md instead: each edit once, behind the function or constant that it changes.
+"""Lists the edits that can break each clause of a public call: `tools/edit_clauses.py [CRATE.. | --page]`, at the top of the
+repository. The edits are those in `crates/NAME/edits` and `crates/NAME/must-fail`, which the proof must refuse. With `--page` it writes the list of docs/PROOFS.md instead: each edit once, behind the function or constant that it changes.
 
 A public call is a function that a crate exports and whose contract has clauses `ensures`, or a method of another crate's trait that the
 crate implements. For each call the tool prints its clauses (`-` for one without a name), the edits of the function itself, and, behind
@@ -9,8 +9,8 @@ that no public call uses, and the number of calls without an edit. Without names
 
 It reads the text and proves nothing. An edit that isn't listed for a call changes nothing that the call uses, so it can't break the call's
 clauses. The check refuses an edit at the function that it changes, by the clauses of that function, so an edit below a call tries the
-call's own clauses only where the function that it changes has none. Which clause is broken is in the output of `rt must-fail CRATE`, which
-names the goals that stay open. A method counts as called wherever a method of its name is called, so the tool may list too much. It
+call's own clauses only where the function that it changes has none. Which clause is broken is in the output of `tools/try_edits CRATE` and
+`rt must-fail CRATE`, which name the first goal that stays open. A method counts as called wherever a method of its name is called, so the tool may list too much. It
 doesn't list edits of a definition alone.
 """
 
@@ -30,6 +30,8 @@ BLOCK = re.compile(
 )
 CALL = re.compile(r"(?:(?P<qualifier>\w+)(?:::<[^<>]*>)?::|(?P<dot>\.))?\b(?P<name>[A-Za-z_]\w*)\b")
 PAGE = Path("docs/PROOFS.md")
+BY_FUNCTION = "edits"  # the folder of a crate's edits that change the body of one function each
+FOLDERS = (BY_FUNCTION, "must-fail")
 LONGEST = 140  # characters of a line
 NO_CODE = re.compile(r"//[^\n]*|^\s*ghost [^;]*;", re.MULTILINE)
 
@@ -146,6 +148,17 @@ def changed(crate: str, edit: Path) -> set[Item]:
     return found
 
 
+def files_of_edits(crate: str) -> list[Path]:
+    """Return the files of a crate's edits in both folders, by their names."""
+    found = (it for folder in FOLDERS for it in (CRATES / crate / folder).glob("*.edit"))
+    return sorted(found, key=lambda it: it.name)
+
+
+def crates_with_edits() -> list[str]:
+    """Return the names of the crates that have edits, in order."""
+    return sorted({it.parent.name for folder in FOLDERS for it in CRATES.glob(f"*/{folder}")})
+
+
 def edits_of(item: Item, edits: dict[str, set[Item]]) -> str:
     """The edits of a function, and those of what it uses."""
     below = reached(item) - {item}
@@ -155,7 +168,7 @@ def edits_of(item: Item, edits: dict[str, set[Item]]) -> str:
 
 
 def print_crate(crate: str) -> None:
-    edits = {it.stem: changed(crate, it) for it in sorted((CRATES / crate / "must-fail").glob("*.edit"))}
+    edits = {it.stem: changed(crate, it) for it in files_of_edits(crate)}
     calls = list(public_calls(crate))
     print(f"{crate}: {len(edits)} edits, {len(calls)} public calls with clauses")
     for title, clauses, item in calls:
@@ -178,7 +191,7 @@ def changed_names(crate: str, edit: Path) -> str:
 def item_of_edits(crate: str) -> str:
     """Return the item of a crate's edits in the page's list: the edits by what they change, in lines of at most LONGEST characters."""
     edits: defaultdict[str, list[str]] = defaultdict(list)
-    for edit in sorted((CRATES / crate / "must-fail").glob("*.edit")):
+    for edit in files_of_edits(crate):
         edits[changed_names(crate, edit)].append(f"`{edit.stem}`")
     text = "; ".join(f"{names}: {', '.join(edits[names])}" for names in sorted(edits))
     return textwrap.fill(
@@ -190,7 +203,7 @@ def with_list(page: str) -> str:
     """Return docs/PROOFS.md with the list of all edits in place of the one that ends it."""
     before, heading, section = page.partition("\n## Edits that must fail\n")
     text = section.partition("\n- `")[0]
-    items = [item_of_edits(it.parent.name) for it in sorted(CRATES.glob("*/must-fail"))]
+    items = [item_of_edits(it) for it in crates_with_edits()]
     return "\n".join([f"{before}{heading}{text}", *items, ""])
 
 
@@ -200,7 +213,7 @@ def main(names: list[str]) -> int:
         return 0
     if any(it.startswith("-") for it in names):
         sys.exit(__doc__)
-    crates = names or sorted(it.parent.name for it in CRATES.glob("*/must-fail"))
+    crates = names or crates_with_edits()
     for crate in crates:
         if not (CRATES / crate / "src").is_dir():
             sys.exit(f"tools/edit_clauses.py: no crate {crate}; write a name of crates.txt")

@@ -2,9 +2,10 @@
 """Runs a command and prints the time of its proofs, crate by crate: `tools/gate_times.py OUT COMMAND...`, say
 `tools/gate_times.py /tmp/times bash .ci/run` at the top of a fresh clone.
 
-The file OUT gets a table in seconds of processor: each crate's own proof, that of its tests, and the checks of its must-fail edits with
-their number. The first edit of a crate takes as long as its proof, since the others use what it proved; the last check is of the crate
-without an edit. Below the table are the seconds of each edit, the largest first. The last line has the processor time of the whole command,
+The file OUT gets a table in seconds of processor: each crate's own proof, that of its tests, and the checks of its edits that must fail,
+with the number of these checks. `tools/try_edits` tries several edits in one check. Of the edits in `must-fail`, which `rt ci` tries, the
+first one of a crate takes as long as its proof, since the others use what it proved; the last check is of the crate without an edit. Below
+the table are the seconds of each check of edits, the largest first. The last line has the processor time of the whole command,
 with its programs, tests and compilers, and the time by the clock. Each process of the prover is observed twice a second, so the last half
 second of each may be missing above; the whole includes it.
 """
@@ -18,7 +19,9 @@ from collections import defaultdict
 from dataclasses import dataclass
 from pathlib import Path
 
-from check_edits import edited_texts
+from edit_checks import COPY, TITLES
+from edit_clauses import files_of_edits
+from edit_plans import edited_texts
 
 TICKS_A_SECOND = os.sysconf("SC_CLK_TCK")
 KINDS = ("proof", "tests", "edits")
@@ -26,25 +29,28 @@ KINDS = ("proof", "tests", "edits")
 
 @dataclass
 class Check:
-    """One process of the prover: its crate, its purpose, the edit it tries, if it tries one, and its seconds of processor so far, with
-    those of its children."""
+    """One process of the prover: its crate, its purpose, the edits it tries, and its seconds of processor so far, with those of its
+    children."""
 
     crate: str
     kind: str
-    edit: str
+    edits: str
     seconds: float
 
 
 def kind_of(words: list[str], folder: str) -> str:
     """The purpose of a check, by its arguments and its working folder."""
-    if os.path.basename(folder).startswith("rt-edit-"):
+    if os.path.basename(folder).startswith(("rt-edit-", COPY)):
         return "edits"
     return "tests" if "--test" in words else "proof"
 
 
-def edit_of(folder: str, crate: str) -> str:
-    """The name of the edit that a check in this folder tries: the one whose texts the folder has; "no edit" if there is none."""
-    for edit in sorted(Path("crates", crate, "must-fail").glob("*.edit")):
+def edits_in(folder: str, crate: str) -> str:
+    """Return the names of the edits that a check in this folder tries: those that the folder lists, as copies of tools/try_edits do, or
+    the one whose texts the folder has; "no edit" if there is none."""
+    if (titles := Path(folder, TITLES)).is_file():
+        return ", ".join(titles.read_text(encoding="utf-8").split())
+    for edit in files_of_edits(crate):
         texts = edited_texts(edit)
         if all(Path(folder, path).read_text(encoding="utf-8") == text for path, text in texts.items()):
             return edit.stem
@@ -86,7 +92,7 @@ def look_at(process: str, root: int, checks: dict[str, Check]) -> None:
     if name not in checks:
         crate, folder = words[words.index("--crate-name") + 1], os.readlink(f"/proc/{process}/cwd")
         kind = kind_of(words, folder)
-        checks[name] = Check(crate, kind, edit_of(folder, crate) if kind == "edits" else "", seconds)
+        checks[name] = Check(crate, kind, edits_in(folder, crate) if kind == "edits" else "", seconds)
     checks[name].seconds = seconds
 
 
@@ -107,12 +113,12 @@ def table(checks: list[Check]) -> str:
 
 
 def edit_lines(checks: list[Check]) -> str:
-    """A line an edit, with the dearest first."""
+    """A line a check of edits, with the dearest first."""
     taken: dict[str, float] = defaultdict(float)
     for check in checks:
-        if check.edit:
-            taken[f"{check.crate} {check.edit}"] += check.seconds
-    return "".join(f"{seconds:6.1f} {edit}\n" for edit, seconds in sorted(taken.items(), key=lambda it: -it[1]))
+        if check.edits:
+            taken[f"{check.crate} {check.edits}"] += check.seconds
+    return "".join(f"{seconds:6.1f} {edits}\n" for edits, seconds in sorted(taken.items(), key=lambda it: -it[1]))
 
 
 def main(out: str, command: list[str]) -> int:
