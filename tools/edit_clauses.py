@@ -19,7 +19,7 @@ import sys
 import textwrap
 from collections import defaultdict
 from collections.abc import Iterator
-from dataclasses import dataclass, field
+from dataclasses import dataclass, field, replace
 from functools import cache
 from pathlib import Path
 
@@ -47,6 +47,7 @@ class Item:
     text: str
     body: str
     uses: "set[Item]" = field(default_factory=set)
+    block: str = ""  # the first line of the `impl` or trait that it is in
 
     @property
     def title(self) -> str:
@@ -75,7 +76,8 @@ def items(crate: str) -> list[Item]:
             if block := BLOCK.match(lines[0]):
                 trait = (block["trait"] or "").rpartition("::")[2] if block["kind"] == "impl" else block["owner"]
                 inner = blocks_of("\n".join(lines[1:]), "    ")
-                found += [item_of(it, block["owner"], trait, path, body, "    ") for it, body in inner]
+                those = [item_of(it, block["owner"], trait, path, body, "    ") for it, body in inner]
+                found += [replace(it, block=lines[0]) for it in those]
             elif head[1] in ("fn", "const", "static"):
                 found.append(item_of(head, "", "", path, lines, ""))
     link(found)

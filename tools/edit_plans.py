@@ -12,6 +12,8 @@ from pathlib import Path
 from definitions import head_of
 from edit_clauses import BY_FUNCTION, Item, changed, items, reached
 
+TYPE = re.compile(r"^(?:pub(?:\(\w+\))? )?(?:struct|enum|union) (\w+)", re.MULTILINE)
+
 
 @dataclasses.dataclass(frozen=True)
 class Function:
@@ -102,18 +104,44 @@ def is_of_body(function: Function, edit: Path, texts: dict[str, str]) -> bool:
 def functions_of(crate: str) -> dict[Item, Function]:
     """Return the functions of a crate that have a body and a contract of their own, and whose path is unique."""
     found: defaultdict[str, list[Item]] = defaultdict(list)
+    types = files_of_types(crate)
     for item in items(crate):
         if re.search(r"\bfn\b", item.text.partition("{")[0]) and not (item.owner and item.owner == item.trait):
-            found[path_of(item, crate)].append(item)
+            found[path_of(item, crate, types)].append(item)
     placed = [locate(those[0], name) for name, those in found.items() if len(those) == 1]
     return {it.item: it for it in placed if it}
 
 
-def path_of(item: Item, crate: str) -> str:
-    """Return the path of a function as the prover prints it. The impl of a trait has the names of its type and of the trait in one."""
-    file = item.path.relative_to(Path("crates", crate, "src")).with_suffix("")
+def files_of_types(crate: str) -> dict[str, Path]:
+    """Return the file that declares each type of a crate, by the type's name."""
+    files = Path("crates", crate, "src").rglob("*.rt")
+    return {name: file for file in sorted(files) for name in TYPE.findall(file.read_text(encoding="utf-8"))}
+
+
+def path_of(item: Item, crate: str, types: dict[str, Path]) -> str:
+    """Return the path of a function as the prover prints it: a method is in the module that declares its type, whichever file has the
+    `impl`, and a method of a trait in the module of the `impl`."""
+    file = item.path if item.trait else types.get(item.owner, item.path)
+    file = file.relative_to(Path("crates", crate, "src")).with_suffix("")
     modules = [] if file.name in ("lib", "main") else file.parts
-    return "::".join(it for it in [*modules, item.owner + item.trait, item.name] if it)
+    owner = name_of_impl(item.block) if item.trait else item.owner
+    return "::".join(it for it in [*modules, owner, item.name] if it)
+
+
+def name_of_impl(head: str) -> str:
+    """Return the name that the prover gives the `impl` of a trait, by its first line: `GroupOfU8Show` for `impl Show for GroupOf<u8>`. It
+    has no lifetimes and no type parameters; a type that is one itself is `Any`."""
+    head = head.removeprefix("impl").partition(" where ")[0].rstrip(" {")
+    parameters = set[str]()
+    if head.startswith("<"):
+        ends = (at for at in range(len(head)) if head[:at].count("<") == head[:at].count(">") > 0)
+        end = next(ends)
+        parameters, head = set(re.findall(r"[<,] *(?:const )?(\w+) *(?=[:,>])", head[:end])), head[end:]
+    trait, _, owner = head.strip().partition(" for ")
+    names = [it for part in (owner, trait) for it in re.findall(r"(?<!')\b\w+\b(?!::)", part)]
+    if names[0] in parameters:
+        names[0] = "any"
+    return "".join(it[:1].upper() + it[1:] for it in names if it not in parameters)
 
 
 def locate(item: Item, name: str) -> Function | None:

@@ -108,5 +108,9 @@ def lists_of(edits: list[Edit], options: Options) -> list[list[Edit]]:
 
 
 def summary(check: Check) -> str:
-    """Return what a check took."""
-    return f"a check of {check.seconds:.1f} s of processor, {check.megabytes:,} MB"
+    """Return what a check took, and the last line of what the prover printed if it judged nothing."""
+    took = f"a check of {check.seconds:.1f} s of processor, {check.megabytes:,} MB"
+    if check.status in (0, 1):
+        return took
+    last = check.text.rstrip().rpartition("\n")[2]
+    return f"{took}, status {check.status}: {last[:300]}"

@@ -19,7 +19,7 @@ import edit_clauses
 import edit_self_test
 import gate_times
 from edit_checks import Check, Outcome, Prover, Result, refusal
-from edit_plans import Edit, batches, joined, read_edit
+from edit_plans import Edit, batches, joined, name_of_impl, read_edit
 from edit_self_test import CRATE, EXPECTED, write_example
 from edit_trials import Options, Trial, Trials
 from support.places import TOP
@@ -125,6 +125,29 @@ def test_edit_of_body_has_its_function(source: pathlib.Path) -> None:
     assert function and function.name == "CounterTwice::twice" and function.lines == (30, 32)
 
 
+def test_method_is_in_the_module_of_its_type(source: pathlib.Path) -> None:
+    source.with_name("counters.rt").write_text("pub struct Counter {\n    count: u16,\n}\n", encoding="utf-8")
+    methods = "impl Counter {\n    fn thrice(&self) -> u16 {\n        3 * self.count\n    }\n}\n"
+    source.write_text(f"{SOURCE}\n{methods}", encoding="utf-8")
+    edit = edit_with(("        3 * self.count", "        2 * self.count + 1"))
+    assert edit.function and edit.function.name == "counters::Counter::thrice"
+
+
+@pytest.mark.parametrize(
+    "head, name",  # as checks of devices, lane_arith and vec_unit print them, and as the folders of their proofs are named
+    [
+        ("impl Lane for u8 {", "U8Lane"),
+        ("impl From<AllocError> for ReadFault {", "ReadFaultFromAllocError"),
+        ("impl<R: Files + Input> Inputs for R {", "AnyInputs"),
+        ("impl<'a, S: io::Write> Sink for WriterSink<'a, S> {", "WriterSinkSink"),
+        ("impl TwoWidths for WithSources<WithRounding<ClipOp>> {", "WithSourcesWithRoundingClipOpTwoWidths"),
+        ("impl<C: CombineTo<L>, L: Lane> fmt::Display for lanes::Total<C, L> where C: Copy {", "TotalDisplay"),
+    ],
+)
+def test_name_of_a_trait_implementation(head: str, name: str) -> None:
+    assert name_of_impl(head) == name
+
+
 @pytest.mark.parametrize(
     "pair",
     [
@@ -225,9 +248,8 @@ def test_refused_edits_are_stored_until_something_changes(example: list[pathlib.
     assert prover.calls == ["harmless", "whole harmless"]
     example[1].write_text(example[1].read_text(encoding="utf-8").replace("+ 3", "+ 4"), encoding="utf-8")
     assert [it.is_earlier for it in tried(FakeProver(checks), example)] == [False, False]
-    pathlib.Path("crates.txt").write_text(
-        "sums: arrayvec\n", encoding="utf-8"
-    )  # of which the fake's sum of the crate is made
+    # The fake's sum of the crate is made of this file.
+    pathlib.Path("crates.txt").write_text("sums: arrayvec\n", encoding="utf-8")
     assert [it.is_earlier for it in tried(FakeProver(checks), example)] == [False, False]
     assert [it.is_earlier for it in tried(FakeProver(checks), example, Options(anew=True))] == [False, False]
     whole = tried(prover := FakeProver(checks), example, Options(whole=True))
