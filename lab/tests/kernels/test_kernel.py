@@ -184,7 +184,8 @@ def test_call_without_return_is_reported(kernel: Kernel, symbol: str, expected: 
     [
         ([0] * 9, {}, "a call has 8 arguments at most, and this one has 9"),
         ([1 << 64], {}, "argument 1, 18446744073709551616, doesn't fit into 64 bits"),
-        ([0, 1.5], {}, "argument 2: memoryview: a bytes-like object is required, not 'float'"),
+        ([0, 1.5], {}, "argument 2, 1.5, is no integer and no array: put it into an array"),
+        ([[0, 1]], {}, "argument 1: memoryview: a bytes-like object is required, not 'list'"),
         ([Placed(b"a", 4096)], {}, "argument 1: its offset in a page is 4096, and isn't from 0 to 4,095"),
         ([Placed(b"a", permissions="rq")], {}, "fifth: map 100000000 1 rq: E04: rq isn't one of r, w, x, "),
         ([bytes(1 << 20)], {}, "fifth: map 100000000 256 rw: E10: the user would have more than 256 pages"),
@@ -249,8 +250,51 @@ def test_kernel_calls_c_function(clang: Compiler, tmp_path: pathlib.Path) -> Non
     (tmp_path / "double.c").write_text("long twice(int n) { return 2L * m; }\n")
     with pytest.raises(LabError, match="double.c:1:33: use of undeclared identifier 'm'$"):
         Kernel(tmp_path / "double.c")
-    with pytest.raises(LabError, match="O9 aren't options"):
-        Kernel(tmp_path / "double.c", options="O9")
+
+
+def test_stock_assembler_takes_source(clang: Compiler, tmp_path: pathlib.Path) -> None:
+    """Of a form that the lab's assembler doesn't have: local labels with numbers, and another section."""
+    text = """
+        .section .rodata
+table:  .byte 3, 1, 4
+        .text
+        .globl total
+total:  li a2, 0
+1:      beqz a1, 2f
+        lbu t0, 0(a0)
+        add a2, a2, t0
+        addi a0, a0, 1
+        addi a1, a1, -1
+        j 1b
+2:      la t0, table
+        lbu t0, 2(t0)
+        add a0, a2, t0
+        ret
+"""
+    (tmp_path / "total.S").write_text(text)
+    with Kernel(tmp_path / "total.S", options="stock", compiler=clang.name) as kernel:
+        assert kernel.call("total", bytes([1, 2, 250]), 3, policy="both").value == 253 + 4
+    with pytest.raises(LabError, match="total.S:2:"):
+        Kernel(tmp_path / "total.S")
+    (tmp_path / "total.s").write_text("total: add a0, a0, a1\n ret a0\n")
+    with pytest.raises(LabError, match="total.s:2:6: invalid operand for instruction$"):
+        Kernel(tmp_path / "total.s", options="stock")
+
+
+@pytest.mark.parametrize("name", ["source.s", "source.S", "source.c", "image"])
+def test_unknown_options_are_refused(tmp_path: pathlib.Path, name: str) -> None:
+    (tmp_path / name).write_text("first: ret\n")
+    expected = "^O9 aren't options; there are O2, O0, O1, O3, O2-scalar, O3-scalar, stock$"
+    with pytest.raises(LabError, match=expected):
+        Kernel(tmp_path / name, options="O9")
+
+
+def test_stock_assembler_refuses_other_files(tmp_path: pathlib.Path) -> None:
+    for path in (tmp_path / "source.c", SQUARES_DWARF5):
+        with pytest.raises(
+            LabError, match=f"^{path}: stock is for assembler, and the name of such a source ends in .s$"
+        ):
+            Kernel(path, options="stock")
 
 
 def test_documented_example_passes(clang: Compiler, tmp_path: pathlib.Path) -> None:

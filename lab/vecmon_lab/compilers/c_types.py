@@ -1,6 +1,6 @@
 """Types of C by their entries in debug data: in C's words, and as numbers of a kind."""
 
-from typing import TYPE_CHECKING
+from typing import TYPE_CHECKING, NamedTuple
 
 from ..guest.entries import entry_at, name_of
 
@@ -8,10 +8,63 @@ if TYPE_CHECKING:
     from elftools.dwarf.die import DIE
 
 _QUALIFIERS = {f"DW_TAG_{word}_type": word for word in ("const", "volatile", "restrict")}
+_QUALIFIERS["DW_TAG_atomic_type"] = "_Atomic"
 _KINDS = {"DW_TAG_structure_type": "struct ", "DW_TAG_union_type": "union ", "DW_TAG_enumeration_type": "enum "}
 _NUMBERS = {2: "u", 5: "i", 6: "i", 7: "u", 8: "u"}  # by how a base type is encoded (DW_ATE_boolean and so on)
 _CHARACTERS = (6, 8)
+_UNICODE = 16  # DW_ATE_UTF, of char16_t and char32_t
+_POINTERS = {"DW_TAG_pointer_type": "*", "DW_TAG_reference_type": "&", "DW_TAG_rvalue_reference_type": "&&"}
 _COUNTS = (("DW_AT_count", 0), ("DW_AT_upper_bound", 1))  # and what is added
+
+
+class Integer(NamedTuple):
+    """An integer type, an enumeration or a pointer.
+
+    bits: 8, 16, 32 or 64; smallest, largest: the range of its values, which is 0 to 1 for `_Bool`
+    """
+
+    bits: int
+    smallest: int
+    largest: int
+
+
+WORD = Integer(64, -(1 << 63), (1 << 64) - 1)
+"""The 64 bits of a register, by a signed or an unsigned number."""
+
+
+BOOLEAN = Integer(8, 0, 1)
+"""`_Bool`."""
+
+
+def integer_of(bits: int, is_signed: bool) -> Integer:
+    """An integer type of this number of bits."""
+    return Integer(bits, -(1 << bits - 1), (1 << bits - 1) - 1) if is_signed else Integer(bits, 0, (1 << bits) - 1)
+
+
+def integer(entry: "DIE | None") -> Integer | None:
+    """The integer type that an entry is; None for void, and for types that are no integer, enumeration or pointer.
+
+    Raises RecursionError for a type that has itself in it.
+    """
+    if entry is None:
+        return None
+    if entry.tag in _POINTERS:
+        return WORD
+    if entry.tag in (*_QUALIFIERS, "DW_TAG_typedef"):
+        return integer(entry_at(entry, "DW_AT_type"))
+    if entry.tag == "DW_TAG_enumeration_type" and "DW_AT_type" in entry.attributes:
+        return integer(entry_at(entry, "DW_AT_type"))
+    size, encoding = (entry.attributes.get(f"DW_AT_{name}") for name in ("byte_size", "encoding"))
+    if size is None or size.value not in (1, 2, 4, 8):
+        return None
+    match entry.tag, encoding and encoding.value:
+        case "DW_TAG_enumeration_type", _:  # of DWARF 2, which leaves out its integer type
+            return integer_of(8 * size.value, False)
+        case "DW_TAG_base_type", 2:
+            return BOOLEAN
+        case "DW_TAG_base_type", kind if kind == _UNICODE or kind in _NUMBERS:
+            return integer_of(8 * size.value, _NUMBERS.get(kind) == "i")
+    return None
 
 
 def declaration(entry: "DIE | None", inner: str) -> str:
@@ -23,8 +76,8 @@ def declaration(entry: "DIE | None", inner: str) -> str:
         return f"void {inner}"
     of = entry_at(entry, "DW_AT_type")
     match entry.tag:
-        case "DW_TAG_pointer_type":
-            return declaration(of, f"*{inner}")
+        case tag if tag in _POINTERS:
+            return declaration(of, f"{_POINTERS[tag]}{inner}")
         case "DW_TAG_array_type" | "DW_TAG_subroutine_type":
             behind = "".join(f"[{count or ''}]" for count in _counts(entry)) or "()"
             return declaration(of, f"({inner}){behind}" if inner.startswith("*") else f"{inner}{behind}")

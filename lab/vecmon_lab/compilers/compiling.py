@@ -19,16 +19,19 @@ def compile_c(
     headers: pathlib.Path | None = None,
     is_answer: bool = False,
     isolation: Isolation | None = None,
+    saved: pathlib.Path | None = None,
 ) -> CompiledProgram:
     """Compiles a source, by the options of this number. Mistakes are in the program. Raises LabError, and ToolError.
 
     headers: the folder of your own source, which isn't isolated; None for a source of others
     is_answer: whether it is to answer an exercise
     isolation: compiles untrusted sources; None for the sandbox
+    saved: the folder that keeps your own source and its image; without it they are deleted
     """
     words = words_for(text, compiler, choice, is_answer)
     isolated = isolation or answer_sandboxed
-    return read_compiled_program(answer_of_own(words, text, headers) if headers else isolated(words, text))
+    answer = answer_of_own(words, text, headers, saved) if headers else isolated(words, text)
+    return read_compiled_program(answer)
 
 
 def compiled_image(path: pathlib.Path) -> pathlib.Path:

@@ -1,24 +1,24 @@
 """A program's functions called from Python, as tests of vector kernels do: arrays go into memory, and are read back."""
 
-import array
 import contextlib
 import html
-import numbers
 import os
 import pathlib
 import re
+import tempfile
 from collections.abc import Iterator, Sequence
 from concurrent.futures import ThreadPoolExecutor
 from dataclasses import dataclass
-from typing import Any, TypeAlias
+from typing import Any
 
 from .. import LabError, mistakes_in
 from ..assembler.commands import explain_refusal
 from ..compilers.compiling import compile_c
-from ..compilers.compiler import choice_of, find_compiler
+from ..compilers.compiler import C_SOURCE, CHOICES, IMAGE, choice_for, find_compiler
+from ..compilers.signatures import Signatures
 from ..exercises.answer import Answer, read_answer
 from ..guest.changes import Stepper
-from ..guest.guest import MAX_STEPS, QUANTUM, STACK_END, Guest, peeks, pokes
+from ..guest.guest import MAX_STEPS, QUANTUM, STACK_END, Guest
 from ..guest.notebook import registers_html
 from ..guest.runner import Reporter
 from ..guest.symbols import Symbols
@@ -31,51 +31,39 @@ from ..runs.initial_state import initial_state_at
 from ..runs.counts import Counts
 from ..runs.recorder import record
 from ..tables.table import html_table
+from .arguments import FIRST_ARGUMENT, Argument, Call, call_of, result_of
+from .arrays import Layout, Placed, like
 
-Array: TypeAlias = "bytes | bytearray | memoryview | array.array[Any]"
-
-ARRAYS = 0x1_0000_0000
-"""Where the first page of arrays is."""
+__all__ = ["CallStopped", "Kernel", "Placed", "PoliciesDiffer", "Result"]
 
 RETURN = STACK_END  # where there is no page: who returns is the one that can't be fetched there
-MAX_ARGUMENTS, FIRST_ARGUMENT = 8, 10  # in registers, x10 first
 RENEWED_BYTES = 2_000_000  # of a session's script, behind which another session takes its place
 
 _MAIN = "\nint main(void) { return 0; }\n"
 
 
 @dataclass(frozen=True)
-class Placed:
-    """An array, and where it lies in its pages, before and behind which there is no page.
-
-    offset: from the beginning of its first page on, 0 to 4,095; without one it ends where its last page does
-    permissions: of the program there: `r`, `w` or `rw`
-    """
-
-    data: Array
-    offset: int | None = None
-    permissions: str = "rw"
-
-
-@dataclass(frozen=True)
 class Result:
     """The results of a call.
 
-    value: a0, from 0 to 2^64 - 1
+    value: the result, as its C type has it; if that isn't known, a0, from 0 to 2^64 - 1; 0 for void
     arrays: those of the call, in their order, each of the type that it was given in
     output: of the call
     counts: of its instructions and their elements, where they were counted
+    bits: of the type of the result; 64 if that isn't known
     """
 
     value: int
-    arrays: Sequence[Array]
+    arrays: Sequence[Any]
     output: bytes
     counts: Counts | None = None
+    bits: int = 64
 
     @property
     def signed(self) -> int:
-        """The value as a number from -2^63 on."""
-        return self.value - (self.value >> 63 << 64)
+        """The bits of the value as a signed number: -1 for 0xffffffff of 32 bits."""
+        half = 1 << self.bits - 1
+        return (self.value + half) % (2 * half) - half
 
 
 class CallStopped(LabError):
@@ -90,17 +78,8 @@ class PoliciesDiffer(LabError):
     """A call that leaves something else where agnostic elements become ones than where they are kept."""
 
 
-@dataclass(frozen=True)
-class _Place:
-    """Bytes from an address on, and the lines that lay them there."""
-
-    address: int
-    data: bytes
-    lines: Sequence[str]
-
-
 _Left = tuple[int, list[bytes], bytes]
-"""The results of a call: a0, the bytes of the arrays, and the output."""
+"""The results of a call: its value, the bytes of the arrays, and the output."""
 
 
 class Kernel(contextlib.AbstractContextManager["Kernel"]):
@@ -111,10 +90,11 @@ class Kernel(contextlib.AbstractContextManager["Kernel"]):
     """
 
     def __init__(self, path: str | os.PathLike[str], options: str = "O2", compiler: str | None = None) -> None:
-        """options, compiler: of a source in C, as `vecmon-lab lesson` has them. Raises LabError and OSError."""
+        """options, compiler: as `vecmon-lab lesson` has them; `stock` assembles by clang. Raises LabError and OSError."""
         self._path = pathlib.Path(path)
+        choice = choice_for(self._path, options)
         with mistakes_in(path):
-            answer, self._symbols = _read(self._path, options, compiler)
+            answer, self._symbols, self._signatures = _read(self._path, choice, compiler)
         self._images = {"image": self._path} if answer.commands is None else {}
         self._begin = ["load image"] if answer.commands is None else ["leave", "enter", *answer.commands]
         self._begin.append(f"set x1 {RETURN:x}")
@@ -143,40 +123,38 @@ class Kernel(contextlib.AbstractContextManager["Kernel"]):
     def call(
         self,
         symbol: str,
-        *arguments: "int | Array | Placed",
+        *arguments: Argument,
         policy: str = "keep",
         ticks: int = 1_000_000,
         counted: bool = False,
     ) -> Result:
-        """Calls a function with whole numbers and the addresses of arrays, eight at most, in a0 to a7.
+        """Call a function with whole numbers and the addresses of arrays, eight at most, in a0 to a7.
 
-        An array that isn't `Placed` ends where a page does. policy: of agnostic elements, `keep` or
-        `ones`; `both` calls twice. counted: whether instructions are counted; of `both`, those under `keep`. Raises
-        CallStopped, PoliciesDiffer, and LabError for what can't be called so.
+        Debug data has the C types of the arguments and of the result. Without it an argument is a number of 64 bits, unless
+        it is an integer of ctypes, as `ctypes.c_uint32(7)`. An array that isn't `Placed` ends where a page does; arrays that
+        share memory share it in the call too. policy: of agnostic elements, `keep` or `ones`; `both` calls twice.
+        counted: whether instructions are counted; of `both`, those under `keep`. Raises CallStopped, PoliciesDiffer, and
+        LabError for arguments that don't fit the function.
         """
         if ticks < 1:
             raise LabError(f"a call has a tick at least, and not {ticks}")
-        values, places, given = self._placed(symbol, arguments)
-        registers = [f"set x{FIRST_ARGUMENT + number} {value:x}" for number, value in enumerate(values)]
-        lines = [*(line for place in places for line in place.lines), *registers]
+        call = self._call(symbol, arguments)
         policies = ("keep", "ones") if policy == "both" else (policy,)
-        (first, counts), *others = [self._left(symbol, each, lines, places, ticks, counted) for each in policies]
+        (first, counts), *others = [self._left(symbol, each, call, ticks, counted) for each in policies]
         if others and first != others[0][0]:
             raise PoliciesDiffer(f"{symbol}: {'; '.join(_differences(first, others[0][0]))}")
         value, found, output = first
-        return Result(value, [_like(data, each) for data, each in zip(given, found)], output, counts)
+        arrays = [like(each.given, data) for each, data in zip(call.layout.arrays.values(), found)]
+        return Result(value, arrays, output, counts, call.result.bits if call.result else 64)
 
-    def steps(
-        self, symbol: str, *arguments: "int | Array | Placed", policy: str = "keep", most: int = 100_000
-    ) -> Iterator[Step]:
+    def steps(self, symbol: str, *arguments: Argument, policy: str = "keep", most: int = 100_000) -> Iterator[Step]:
         """The instructions of a call, which is as `call` has it, one after another, up to its return or its stop.
 
         Each is executed when it is asked for; `step.why("v8", 5)` says why an element has its value then. Raises LabError.
         """
-        values, places, _ = self._placed(symbol, arguments)
-        registers = [f"set x{FIRST_ARGUMENT + number} {value:x}" for number, value in enumerate(values)]
+        call = self._call(symbol, arguments)
         self._renew()
-        self._begin_call(symbol, policy, [*(line for place in places for line in place.lines), *registers])
+        self._begin_call(symbol, policy, call.lines)
         guest, stepper, self._is_stopped = self._guest, Stepper(self._guest), True
         for _ in range(most):
             before = stepper.registers.copy()
@@ -193,13 +171,13 @@ class Kernel(contextlib.AbstractContextManager["Kernel"]):
         guest.ask("enter")
         return guest
 
-    def _placed(
-        self, symbol: str, arguments: Sequence["int | Array | Placed"]
-    ) -> tuple[list[int], list[_Place], list[Array]]:
-        """What `_placed` makes of the arguments of a function. Raises LabError where there is none of this name."""
+    def _call(self, symbol: str, arguments: Sequence[Argument]) -> Call:
+        """A call of a function. Raises LabError if there is none of this name, or it doesn't take these arguments."""
         if symbol not in self._symbols.addresses:
             raise LabError(f"{self._path} has no symbol {symbol}")
-        return _placed(arguments)
+        # a copy that gcc specialised, as `sum.constprop.0`, has other parameters than its source
+        signature = None if "." in symbol else self._signatures.at(self._symbols.addresses[symbol])
+        return call_of(symbol, arguments, signature)
 
     def _renew(self) -> None:
         """Takes another session where the script of this one is long, or its program may run."""
@@ -215,14 +193,12 @@ class Kernel(contextlib.AbstractContextManager["Kernel"]):
                 raise LabError(f"{symbol}: {command[:60]}: {explain_refusal(f'1 {command}', answer)[-1]}")
         return before
 
-    def _left(
-        self, symbol: str, policy: str, lines: Sequence[str], places: Sequence[_Place], ticks: int, counted: bool
-    ) -> tuple[_Left, Counts | None]:
+    def _left(self, symbol: str, policy: str, call: Call, ticks: int, counted: bool) -> tuple[_Left, Counts | None]:
         """The results of a call under a policy, and its counts."""
         self._renew()
         guest, self._is_stopped = self._guest, False
-        looks = ["regs", *(look for place in places for look in peeks(place.address, len(place.data)))]
-        before = self._begin_call(symbol, policy, lines)
+        looks = ["regs", *call.layout.looks()]
+        before = self._begin_call(symbol, policy, call.lines)
         counts = None
         if counted:
             counts = record(initial_state_at(guest, self._images.get("image"), [f"1 {line}" for line in before]), ticks)
@@ -233,86 +209,49 @@ class Kernel(contextlib.AbstractContextManager["Kernel"]):
         output = guest.output()
         self._is_stopped = True
         if stop is None or stop.pc != RETURN:
-            raise self._stopped(symbol if policy == "keep" else f"{symbol} under {policy}", stop, places)
+            raise self._stopped(symbol if policy == "keep" else f"{symbol} under {policy}", stop, call.layout)
         (registers,) = (each for each in found if isinstance(each, ScalarRegisters))
-        parts = iter(each.data for each in found if isinstance(each, Memory))
-        return (registers.x[FIRST_ARGUMENT], [_joined(place, parts) for place in places], output), counts
+        contents = call.layout.contents(each.data for each in found if isinstance(each, Memory))
+        return (result_of(registers.x[FIRST_ARGUMENT], call.result), contents, output), counts
 
-    def _stopped(self, what: str, stop: Stop | None, places: Sequence[_Place]) -> CallStopped:
+    def _stopped(self, what: str, stop: Stop | None, layout: Layout) -> CallStopped:
         """Why a call didn't return; for a fault in or near an array also the place in it."""
         text = f"{what}: " + self._guest.describe(stop, self._symbols.place(stop.pc if stop else self._guest.pc))
-        for number, place in enumerate(places, 1):
-            end = place.address + len(place.data)
-            if stop and stop.kind == "fault" and place.address - PAGE_BYTES <= stop.value < end + PAGE_BYTES:
-                text += f" Array {number} is from {place.address:#x} to {end:#x}."
+        for number, array in enumerate(layout.arrays.values(), 1):
+            end = array.address + array.size
+            if stop and stop.kind == "fault" and array.address - PAGE_BYTES <= stop.value < end + PAGE_BYTES:
+                text += f" Array {number} is from {array.address:#x} to {end:#x}."
                 break
         return CallStopped(text, stop)
 
 
-def _read(path: pathlib.Path, options: str, compiler: str | None) -> tuple[Answer, Symbols]:
-    """The program in a file, and its symbols. Raises LabError and OSError."""
-    if path.suffix == ".c":
-        text = path.read_text("utf-8", "replace")
-        text += "" if re.search(r"\bmain\s*\(", text) else _MAIN
-        with ThreadPoolExecutor(1) as thread:  # where another event loop, as a notebook's, isn't in the way
-            words = (text, find_compiler(compiler), choice_of(options), path.parent)
-            program = thread.submit(compile_c, *words).result()
-        program.check(path.name)
-        return Answer(path, program.lines), Symbols.of_labels(program.names())
+def _read(path: pathlib.Path, choice: int | None, compiler: str | None) -> tuple[Answer, Symbols, Signatures]:
+    """The program in a file, its symbols and its functions' types. Raises LabError and OSError.
+
+    choice: the number of a compiler's options; None for an image, and for a source of the lab's assembler
+    """
+    if choice is not None:
+        return _compiled(path, choice, compiler)
     answer = read_answer(path.resolve())
     if answer.source:
-        return answer, Symbols.of_labels(answer.source.labels)
+        return answer, Symbols.of_labels(answer.source.labels), Signatures(b"")
     if answer.commands is not None:
         raise LabError("it is no image, and no source: the name of one ends in .c, .s or .S")
-    return answer, Symbols.read(path)
+    return answer, Symbols.read(path), Signatures(path.read_bytes())
 
 
-def _placed(arguments: Sequence["int | Array | Placed"]) -> tuple[list[int], list[_Place], list[Array]]:
-    """The values of arguments as registers have them; the places of arrays; and the arrays as they were given."""
-    if len(arguments) > MAX_ARGUMENTS:
-        raise LabError(f"a call has {MAX_ARGUMENTS} arguments at most, and this one has {len(arguments)}")
-    values, places, given, page = list[int](), list[_Place](), list[Array](), ARRAYS
-    for number, argument in enumerate(arguments, 1):
-        if isinstance(argument, int | numbers.Integral):
-            if not -(1 << 63) <= argument < 1 << 64:
-                raise LabError(f"argument {number}, {argument}, doesn't fit into 64 bits")
-            values.append(int(argument) % (1 << 64))
-            continue
-        placed = argument if isinstance(argument, Placed) else Placed(argument)
-        with mistakes_in(f"argument {number}", TypeError, ValueError, LabError):
-            place, pages = _place(placed, page)
-            _like(placed.data, place.data)  # whether it can be handed back
-        page += (pages + 1) * PAGE_BYTES
-        values.append(place.address)
-        places.append(place)
-        given.append(placed.data)
-    return values, places, given
-
-
-def _place(placed: Placed, page: int) -> tuple[_Place, int]:
-    """Where an array lies whose first page is at an address, and how many pages it has, one at least."""
-    data, offset = memoryview(placed.data).tobytes(), placed.offset
-    if offset is not None and not 0 <= offset < PAGE_BYTES:
-        raise LabError(f"its offset in a page is {offset}, and isn't from 0 to {PAGE_BYTES - 1:,}")
-    pages = max(1, -(-((offset or 0) + len(data)) // PAGE_BYTES))
-    address = page + (pages * PAGE_BYTES - len(data) if offset is None else offset)
-    return _Place(address, data, [f"map {page:x} {pages} {placed.permissions}", *pokes(address, data)]), pages
-
-
-def _joined(place: _Place, parts: Iterator[bytes]) -> bytes:
-    """The bytes of an array, of what its looks show."""
-    return b"".join(next(parts) for _ in peeks(place.address, len(place.data)))
-
-
-def _like(given: Array, data: bytes) -> Array:
-    """Bytes in the type of an array that was given."""
-    if isinstance(given, bytes | bytearray):
-        return type(given)(data)
-    if isinstance(given, array.array):
-        return array.array(given.typecode, data)
-    view = memoryview(given)
-    form = view.format.removeprefix("<")  # as ctypes has it
-    return memoryview(bytearray(data)).cast(form, view.shape or (1,)) if data else view
+def _compiled(path: pathlib.Path, choice: int, compiler: str | None) -> tuple[Answer, Symbols, Signatures]:
+    """As `_read`, of a source that a compiler takes."""
+    text = path.read_text("utf-8", "replace")
+    if CHOICES[choice].source == C_SOURCE and not re.search(r"\bmain\s*\(", text):
+        text += _MAIN
+    with tempfile.TemporaryDirectory() as folder, ThreadPoolExecutor(1) as thread:
+        saved = pathlib.Path(folder)
+        # in a thread, so that another event loop, as a notebook's, isn't in the way
+        words = (text, find_compiler(compiler), choice, path.parent, False, None, saved)
+        program = thread.submit(compile_c, *words).result()
+        program.check(path.name)
+        return Answer(path, program.lines), Symbols.of_labels(program.names()), Signatures((saved / IMAGE).read_bytes())
 
 
 def _differences(kept: _Left, ones: _Left) -> Iterator[str]:

@@ -1,0 +1,150 @@
+"""The arguments and the result of a call in registers, by their C types and the integer calling convention of the RISC-V psABI."""
+
+import ctypes
+import numbers
+import sys
+from collections.abc import Sequence
+from dataclasses import dataclass
+from typing import TYPE_CHECKING, TypeAlias
+
+from .. import LabError
+from ..compilers.c_types import BOOLEAN, WORD, Integer, integer_of
+from ..compilers.signatures import Declared, Signature
+from .arrays import Layout, Placed
+
+if TYPE_CHECKING:
+    from _typeshed import ReadableBuffer
+
+Argument: TypeAlias = "int | ReadableBuffer | Placed"
+"""A whole number, also one of ctypes or numpy; or an array, whose address is passed."""
+
+MAX_ARGUMENTS, FIRST_ARGUMENT = 8, 10  # in registers, x10 first
+
+_SIGNED = (ctypes.c_byte, ctypes.c_short, ctypes.c_int, ctypes.c_long, ctypes.c_longlong)
+_UNSIGNED = (ctypes.c_ubyte, ctypes.c_ushort, ctypes.c_uint, ctypes.c_ulong, ctypes.c_ulonglong)
+
+
+@dataclass(frozen=True)
+class Call:
+    """What a call begins with, and its result.
+
+    layout: of the arrays; lines: the commands that place them and set the registers
+    result: the type of the result; None for void
+    """
+
+    layout: Layout
+    lines: Sequence[str]
+    result: Integer | None
+
+
+def call_of(symbol: str, arguments: Sequence[Argument], signature: Signature | None) -> Call:
+    """The registers and the memory of a call. Raises LabError for arguments that don't fit the function.
+
+    signature: of the function, or None if its types aren't known
+    """
+    result, parameters = _checked(symbol, len(arguments), signature)
+    values, placed = dict[int, int](), list[tuple[int, Placed]]()
+    for number, (argument, parameter) in enumerate(zip(arguments, parameters), 1):
+        read = _read(number, argument)
+        if isinstance(read, Placed):
+            placed.append((number, read))
+        else:
+            values[number] = _register(number, *read, parameter)
+    layout = Layout(placed)
+    for number, array in layout.arrays.items():
+        values[number] = _register(number, array.address, None, parameters[number - 1])
+    registers = [f"set x{FIRST_ARGUMENT + number - 1} {value:x}" for number, value in sorted(values.items())]
+    return Call(layout, [*layout.lines, *registers], result)
+
+
+def result_of(register: int, kind: Integer | None) -> int:
+    """The value of a result of a type, by the 64 bits of a0; 0 for void."""
+    if kind is None:
+        return 0
+    value = register % (1 << kind.bits)
+    return value - (1 << kind.bits) if kind.smallest < 0 and value > kind.largest else value
+
+
+def _checked(symbol: str, count: int, signature: Signature | None) -> tuple[Integer | None, Sequence[Declared | None]]:
+    """The type of a function's result, and the parameter of each argument, None if it isn't known.
+
+    Raises LabError if the function can't be called with this number of arguments.
+    """
+    if signature is not None:
+        _check_callable(symbol, count, signature)
+    if count > MAX_ARGUMENTS:
+        raise LabError(f"a call has {MAX_ARGUMENTS} arguments at most, and this one has {count}")
+    if signature is None:
+        return WORD, [None] * count
+    known = signature.parameters
+    return signature.result and signature.result.integer, [*known, *[None] * (count - len(known))]
+
+
+def _check_callable(symbol: str, count: int, signature: Signature) -> None:
+    """Raises LabError if a function doesn't take this number of arguments, or its types have no integer registers."""
+    parameters, result = signature.parameters, signature.result
+    if count < len(parameters) or count > len(parameters) and not signature.is_variadic:
+        listed = ", ".join(each.declaration for each in parameters) or "void"
+        least = "at least " * signature.is_variadic
+        naked = "" if parameters else "; clang lists none of a naked function: define that in assembler"
+        raise LabError(
+            f"{symbol} takes {least}{len(parameters)} arguments ({listed}), and this call has {count}{naked}"
+        )
+    for number, each in enumerate(parameters, 1):
+        if each.integer is None:
+            raise LabError(
+                f"{symbol}: argument {number}, {each.declaration}, is no integer or pointer: pass a pointer to it"
+            )
+    if result and result.integer is None:
+        raise LabError(f"{symbol}: its result, {result.declaration}, is no integer or pointer: store it by a pointer")
+    if not signature.is_callable:
+        raise LabError(
+            f"{symbol}: the compiler changed how this static function takes its arguments: compile it without static"
+        )
+
+
+def _read(number: int, argument: Argument) -> tuple[int, Integer | None] | Placed:
+    """The value of an argument that is a number, and its type if it has one; or an array.
+
+    number: of the argument. Raises LabError for a number that is no integer.
+    """
+    if typed := _of_ctypes(argument):
+        return typed
+    numpy = sys.modules.get("numpy")  # which the lab does without, unless the caller has imported it
+    if numpy and isinstance(argument, numpy.integer):
+        return int(argument), integer_of(8 * argument.itemsize, argument.dtype.kind == "i")
+    if numpy and isinstance(argument, numpy.bool_):
+        return int(argument), None
+    if isinstance(argument, int | numbers.Integral):
+        return int(argument), None
+    if isinstance(argument, numbers.Number | ctypes._SimpleCData):
+        raise LabError(f"argument {number}, {argument!r}, is no integer and no array: put it into an array")
+    return argument if isinstance(argument, Placed) else Placed(argument)
+
+
+def _of_ctypes(argument: Argument) -> tuple[int, Integer] | None:
+    """The value and the type of an integer of ctypes; None for another object."""
+    if isinstance(argument, _SIGNED):
+        return argument.value, integer_of(8 * ctypes.sizeof(argument), True)
+    if isinstance(argument, _UNSIGNED):
+        return argument.value, integer_of(8 * ctypes.sizeof(argument), False)
+    if isinstance(argument, ctypes.c_bool):
+        return int(argument.value), BOOLEAN
+    if isinstance(argument, ctypes.c_char):
+        return argument.value[0], integer_of(8, False)
+    if isinstance(argument, ctypes.c_void_p):
+        return argument.value or 0, WORD
+    return None
+
+
+def _register(number: int, value: int, kind: Integer | None, parameter: Declared | None) -> int:
+    """The 64 bits of the register of an argument. Raises LabError for a value that doesn't fit into its type.
+
+    Types of up to 32 bits are extended to 32 bits by their own sign, and then to 64 bits by bit 31, also unsigned ones.
+    kind: of the argument itself, if it has one; parameter: of the function, if it is known, which decides
+    """
+    kind = (parameter.integer if parameter else kind) or WORD
+    if not kind.smallest <= value <= kind.largest:
+        place = f"{parameter.declaration}: {kind.smallest} to {kind.largest}" if parameter else f"{kind.bits} bits"
+        raise LabError(f"argument {number}, {value}, doesn't fit into {place}")
+    return (value if kind.bits > 32 else (value + (1 << 31)) % (1 << 32) - (1 << 31)) % (1 << 64)

@@ -1,0 +1,172 @@
+"""The arrays of a call in the machine's memory: their pages, those that share memory, and their contents after the call."""
+
+import array
+import ctypes
+import sys
+from collections.abc import Iterator, Sequence
+from dataclasses import dataclass
+from typing import TYPE_CHECKING, Any, TypeAlias
+
+from .. import LabError, mistakes_in
+from ..guest.guest import peeks, pokes
+from ..instructions.accesses import PAGE_BYTES
+
+if TYPE_CHECKING:
+    from _typeshed import ReadableBuffer
+
+Array: TypeAlias = "ReadableBuffer"
+"""An object with the buffer protocol: bytes, bytearray, memoryview, and arrays of array, ctypes and numpy."""
+
+ARRAYS = 0x1_0000_0000
+"""The address of the first page of arrays."""
+
+
+@dataclass(frozen=True)
+class Placed:
+    """An array, and its place in its pages; the pages before and after them aren't mapped.
+
+    offset: from the start of its first page, 0 to 4,095; without it the array ends where its last page does
+    permissions: of the program there: `r`, `w` or `rw`
+    """
+
+    data: Array
+    offset: int | None = None
+    permissions: str = "rw"
+
+
+@dataclass(frozen=True)
+class _Given:
+    """An argument that is an array.
+
+    number: of the argument, from 1
+    host: the addresses of its bytes in this process; empty if a copy can't share memory: they are read-only or not contiguous
+    """
+
+    number: int
+    placed: Placed
+    data: bytes
+    host: range
+
+
+@dataclass(frozen=True)
+class PlacedArray:
+    """An array of a call: the object that was given, and the address and the number of its bytes in the machine."""
+
+    given: Array
+    address: int
+    size: int
+
+
+class Layout:
+    """The arrays of a call in the machine's memory. Arrays that share memory in this process share it in the machine too.
+
+    arrays: by the number of the argument
+    lines: the commands that map the pages and write the arrays
+    """
+
+    def __init__(self, given: Sequence[tuple[int, Placed]]) -> None:
+        """given: each array, with the number of its argument. Raises LabError for an array that can't be placed or returned."""
+        self.arrays = dict[int, PlacedArray]()
+        self.lines = list[str]()
+        page = ARRAYS
+        for group in _groups([_given(number, placed) for number, placed in given]):
+            page += (self._place(group, page) + 1) * PAGE_BYTES
+        self.arrays = dict(sorted(self.arrays.items()))
+
+    def _place(self, group: Sequence[_Given], page: int) -> int:
+        """Place arrays that share memory from a page on. Returns the number of pages, at least one."""
+        start, placed = group[0].host.start, group[0].placed
+        data = bytearray(max(each.host.start - start + len(each.data) for each in group))
+        offset = placed.offset
+        pages = max(1, -(-((offset or 0) + len(data)) // PAGE_BYTES))
+        address = page + (pages * PAGE_BYTES - len(data) if offset is None else offset)
+        for each in group:
+            first = each.host.start - start
+            data[first : first + len(each.data)] = each.data
+            self.arrays[each.number] = PlacedArray(each.placed.data, address + first, len(each.data))
+        self.lines += [f"map {page:x} {pages} {placed.permissions}", *pokes(address, bytes(data))]
+        return pages
+
+    def looks(self) -> list[str]:
+        """The commands that show the arrays' memory."""
+        return [look for each in self.arrays.values() for look in peeks(each.address, each.size)]
+
+    def contents(self, parts: Iterator[bytes]) -> list[bytes]:
+        """The bytes of each array, from the replies to `looks`."""
+        return [b"".join(next(parts) for _ in peeks(each.address, each.size)) for each in self.arrays.values()]
+
+
+def like(given: Array, data: bytes) -> Any:
+    """Bytes as an object of the type that was given. Raises TypeError and ValueError if there can be none."""
+    numpy = sys.modules.get("numpy")  # which the lab does without, unless the caller has imported it
+    if numpy and isinstance(given, numpy.ndarray):
+        return numpy.frombuffer(bytearray(data), given.dtype).reshape(given.shape).view(type(given))
+    if isinstance(given, bytes | bytearray):
+        return type(given)(data)
+    if isinstance(given, array.array):
+        return array.array(given.typecode, data)
+    if isinstance(given, ctypes.Array | ctypes.Structure | ctypes.Union):
+        return type(given).from_buffer_copy(data)
+    view = memoryview(given)
+    form = view.format.removeprefix("<")  # as ctypes has it
+    return memoryview(bytearray(data)).cast(form, view.shape or (1,)) if data else view
+
+
+def _given(number: int, placed: Placed) -> _Given:
+    """An array that is an argument. Raises LabError if its bytes can't be read or returned, or its place is none."""
+    offset = placed.offset
+    with mistakes_in(f"argument {number}", TypeError, ValueError, LabError):
+        data = memoryview(placed.data).tobytes()
+        if offset is not None and not 0 <= offset < PAGE_BYTES:
+            raise LabError(f"its offset in a page is {offset}, and isn't from 0 to {PAGE_BYTES - 1:,}")
+        like(placed.data, data)
+    return _Given(number, placed, data, _host_addresses(placed.data, len(data)))
+
+
+def _host_addresses(given: Array, size: int) -> range:
+    """The addresses of an array's bytes in this process; empty if they are read-only or not contiguous."""
+    view = memoryview(given)
+    if view.readonly or not view.c_contiguous:
+        return range(0)
+    start = ctypes.addressof((ctypes.c_char * size).from_buffer(view))
+    return range(start, start + size)
+
+
+def _groups(given: Sequence[_Given]) -> list[list[_Given]]:
+    """The arrays of each memory, in the order of their first arguments. Raises LabError for those that can't share theirs."""
+    groups, end = list[list[_Given]](), 0
+    for each in sorted(given, key=lambda each: each.host.start):
+        if each.host and each.host.start < end:
+            groups[-1].append(each)
+        else:
+            groups.append([each])
+        end = max(end, each.host.stop)
+    for group in groups:
+        _check_places(group)
+    _check_copies(given)
+    return sorted(groups, key=lambda group: min(each.number for each in group))
+
+
+def _check_places(group: Sequence[_Given]) -> None:
+    """Raises LabError if arrays that share memory are given different places."""
+    first = group[0]
+    for each in group[1:]:
+        is_moved = first.placed.offset is not None and each.host.start != first.host.start
+        if is_moved or (each.placed.offset, each.placed.permissions) != (first.placed.offset, first.placed.permissions):
+            raise LabError(f"{_numbers(first, each)} share memory: give them the same place, or give copies")
+
+
+def _check_copies(given: Sequence[_Given]) -> None:
+    """Raises LabError if an array that isn't contiguous, which is passed as a copy, is given twice."""
+    seen = dict[int, _Given]()
+    for each in given:
+        view = memoryview(each.placed.data)
+        if view.readonly or view.c_contiguous:
+            continue
+        if (first := seen.setdefault(id(each.placed.data), each)) is not each:
+            raise LabError(f"{_numbers(first, each)} are one array, which isn't contiguous: give a contiguous one")
+
+
+def _numbers(one: _Given, other: _Given) -> str:
+    """The numbers of two arguments, in rising order."""
+    return "arguments {} and {}".format(*sorted((one.number, other.number)))
