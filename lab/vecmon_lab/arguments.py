@@ -12,14 +12,27 @@ from typing import Any
 from . import LabError
 
 
-def image_path(word: str) -> pathlib.Path:
-    """The image that a word names; of a source in C one that is compiled of it. Raises LabError and OSError."""
-    path = pathlib.Path(word)
-    if path.suffix != ".c":
-        return path
-    from .compilers.compiling import compiled_image  # which an image doesn't need
+def image_path(word: str, any_vlen: bool = False) -> pathlib.Path:
+    """The image that a word names, about whose instruction set warnings are printed; of a source in C one that is compiled of it.
 
-    return compiled_image(path)
+    any_vlen: whether an image for longer vector registers is taken. Raises LabError and OSError.
+    """
+    path = pathlib.Path(word)
+    if path.suffix == ".c":
+        from .compilers.compiling import compiled_image  # which an image doesn't need
+
+        return compiled_image(path)
+    if path.suffix not in (".s", ".S") and path.is_file():  # a missing file is reported where it is read
+        from .machine.target import report_target
+
+        report_target(path, any_vlen)
+    return path
+
+
+def add_any_vlen(parser: argparse.ArgumentParser) -> None:
+    """The option that takes images for longer vector registers than the machine's."""
+    help_text = "run images that are compiled for longer vector registers, whose results may be wrong"
+    parser.add_argument("--any-vlen", action="store_true", help=help_text)
 
 
 class _Program(argparse.Action):
@@ -45,7 +58,7 @@ class _Program(argparse.Action):
                     f"{word} after {path} is an argument of the program; options of {parser.prog} go before {path}"
                 )
                 print(f"vecmon-lab: {help_text}", file=sys.stderr)
-        namespace.named, namespace.image = pathlib.Path(path), image_path(path)
+        namespace.named, namespace.image = pathlib.Path(path), image_path(path, namespace.any_vlen)
 
 
 def add_program(
@@ -58,6 +71,7 @@ def add_program(
     image = parser.add_argument("image", metavar=metavar, nargs=argparse.PARSER, action=_Program, help=help_text)
     image.required = is_needed
     parser.set_defaults(words=[])
+    add_any_vlen(parser)
     help_text = "write FILE to the image's memory at the symbol input, and its size to input_size"
     parser.add_argument("--in", dest="input", metavar="FILE", type=pathlib.Path, help=help_text)
 

@@ -8,7 +8,7 @@ import sys
 from urllib.parse import urlsplit
 
 from .. import LabError
-from ..arguments import between
+from ..arguments import add_any_vlen, between
 from ..compilers.account import account_named, add_account
 from ..exercises.exercise import with_course
 from ..machine.program import find_program, images_of
@@ -32,6 +32,7 @@ def add_arguments(parser: argparse.ArgumentParser) -> None:
     parser.add_argument(
         "--title", metavar="TEXT", type=_title, help="the title of the class; by default the name of DIR"
     )
+    add_any_vlen(parser)
     _add_addresses(parser)
     _add_exercises(parser)
     _add_machines(parser)
@@ -126,7 +127,8 @@ def _serve(arguments: argparse.Namespace) -> None:
     from .server import listening, serve  # these need aiohttp; --help doesn't
     from .tls import key_warning, tls_context
 
-    images, host, account = images_of(arguments.images), arguments.host, account_named(arguments.account)
+    images, host = images_of(arguments.images, arguments.any_vlen), arguments.host
+    account = account_named(arguments.account)
     tls = tls_context(*arguments.tls) if arguments.tls else None
     if tls and (arguments.address or "https:").startswith("http:"):
         raise LabError(f"--tls serves HTTPS, so the address of the class begins with https://: {arguments.address}")

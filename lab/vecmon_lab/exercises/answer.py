@@ -19,8 +19,8 @@ from ..lessons.script import Script, read_assembled, read_compiled, send
 from ..machine.answers import Position, ScalarRegisters, Stop
 from ..machine.lines import check_line, words_of
 from ..machine.process import Vecmon
-from ..machine.program import check_flags
 from ..machine.session import Session
+from ..machine.target import check_flags, check_kind, target_warnings
 from .exercise import UNLIMITED, Case, Exercise, Limits, Results
 
 RETURN = STACK_END
@@ -61,13 +61,18 @@ class Attempt:
 
 
 def read_answer(
-    path: pathlib.Path, limit: int = IMAGE_BYTES, is_own: bool = False, isolation: Isolation | None = None
+    path: pathlib.Path,
+    limit: int = IMAGE_BYTES,
+    is_own: bool = False,
+    isolation: Isolation | None = None,
+    any_vlen: bool = False,
 ) -> Answer:
     """The answer in a file of at most this number of bytes: an ELF image, a source (.s, .S, .c), or a script.
 
     Raises LabError with the reason, and ToolError where that isn't the answer's. Links, pipes and devices aren't read.
     is_own: whether it is your own file; C is compiled without a sandbox then, with the headers next to it
     isolation: compiles untrusted C; None for the sandbox
+    any_vlen: whether an image for longer vector registers is taken
     """
     try:
         with open(path, "rb", opener=_open) as file:
@@ -80,7 +85,9 @@ def read_answer(
     if len(data) > limit:
         raise LabError(f"it has more than {limit:,} bytes")
     if data.startswith(b"\x7fELF"):
+        check_kind(path)
         check_flags(path)
+        target_warnings(path, any_vlen)
         return Answer(path)
     try:
         text = data.decode("utf-8")

@@ -24,8 +24,9 @@ from ..machine.answers import (
     Word,
     read,
 )
-from ..machine.program import check_flags, find_program, image_refusal
+from ..machine.program import find_program, image_refusal
 from ..machine.session import TOGETHER, Session
+from ..machine.target import check_flags, check_kind
 from .input import input_of
 from .runner import OUTPUT_BYTES, SAFE_STEPS, Report, Reporter, Runner
 
@@ -263,6 +264,7 @@ def check_image(path: pathlib.Path) -> None:
     if path.suffix in (".s", ".S"):
         raise LabError(f"{path} is an assembler source, and no image: the console and lessons take it")
     with mistakes_in(path):
+        check_kind(path)
         check_flags(path)
 
 

@@ -5,6 +5,7 @@ import html
 import os
 import pathlib
 import re
+import sys
 import tempfile
 from collections.abc import Iterator, Sequence
 from concurrent.futures import ThreadPoolExecutor
@@ -26,6 +27,7 @@ from ..instructions.accesses import PAGE_BYTES
 from ..machine.answers import Memory, Refused, ScalarRegisters, Stop
 from ..machine.program import find_program
 from ..machine.session import Session
+from ..machine.target import target_warnings
 from ..meanings.stepped import Step
 from ..runs.initial_state import initial_state_at
 from ..runs.counts import Counts
@@ -89,12 +91,20 @@ class Kernel(contextlib.AbstractContextManager["Kernel"]):
     end of a `with`, ends the machine's process.
     """
 
-    def __init__(self, path: str | os.PathLike[str], options: str = "O2", compiler: str | None = None) -> None:
-        """options, compiler: as `vecmon-lab lesson` has them; `stock` assembles by clang. Raises LabError and OSError."""
+    def __init__(
+        self, path: str | os.PathLike[str], options: str = "O2", compiler: str | None = None, any_vlen: bool = False
+    ) -> None:
+        """options, compiler: as `vecmon-lab lesson` has them; `stock` assembles by clang. Raises LabError and OSError.
+
+        any_vlen: whether an image for longer vector registers is taken
+        """
         self._path = pathlib.Path(path)
         choice = choice_for(self._path, options)
         with mistakes_in(path):
             answer, self._symbols, self._signatures = _read(self._path, choice, compiler)
+            has_image = answer.commands is None
+            warnings = target_warnings(self._path, any_vlen, ", or give any_vlen=True") if has_image else []
+        sys.stderr.writelines(f"vecmon-lab: warning: {path}: {warning}\n" for warning in warnings)
         self._images = {"image": self._path} if answer.commands is None else {}
         self._begin = ["load image"] if answer.commands is None else ["leave", "enter", *answer.commands]
         self._begin.append(f"set x1 {RETURN:x}")
@@ -232,7 +242,7 @@ def _read(path: pathlib.Path, choice: int | None, compiler: str | None) -> tuple
     """
     if choice is not None:
         return _compiled(path, choice, compiler)
-    answer = read_answer(path.resolve())
+    answer = read_answer(path.resolve(), any_vlen=True)  # which the caller checks
     if answer.source:
         return answer, Symbols.of_labels(answer.source.labels), Signatures(b"")
     if answer.commands is not None:

@@ -6,7 +6,7 @@ import sys
 from collections.abc import Mapping
 
 from .. import LabError
-from ..arguments import check_output
+from ..arguments import add_any_vlen, check_output
 from ..compilers.compiling import compile_c
 from ..compilers.compiler import CHOICES, choice_for, find_compiler
 from ..machine.program import find_program, images_of
@@ -45,12 +45,13 @@ def add_arguments(parser: argparse.ArgumentParser) -> None:
     add_compiler(parser)
     against = "write two listings instead of a lesson: one with --options, one with these options or this compiler"
     parser.add_argument("--against", metavar="[NAME:]OPTIONS", help=against)
+    add_any_vlen(parser)
     parser.add_argument("--quantum", metavar="N", type=int, help="ticks of a slice, 1 to 1000; by default 100")
 
 
 def run(arguments: argparse.Namespace) -> int:
     """Writes the page. Raises LabError and OSError for bad input."""
-    path, images = arguments.script, images_of(arguments.images)
+    path, images = arguments.script, images_of(arguments.images, arguments.any_vlen)
     check_output(arguments.output, path, *images.values())
     page = _listings(arguments) if arguments.against else _lesson(arguments, images)
     if arguments.output is None:

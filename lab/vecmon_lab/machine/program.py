@@ -7,9 +7,10 @@ import shutil
 import struct
 from collections.abc import Iterator
 
-from .. import LabError, mistakes_in
+from .. import LabError
 from ..tables.table import read_table
-from .image import MARCH, rights_of
+from .image import rights_of
+from .target import report_target
 
 _CRATES = pathlib.Path(__file__).resolve().parents[3] / "crates"
 BUILT, BUILT_RECORDER = _CRATES / "vecmon" / "out" / "vecmon", _CRATES / "vecmon_record" / "out" / "vecmon_record"
@@ -19,7 +20,6 @@ RECORDER = "vecmon-record"
 HOW_TO_BUILD = dict(read_table("how_to_build"))
 
 PT_LOAD = 1
-_FLAGS = {1: "compressed instructions", 6: "a floating-point ABI"}  # by the bits of e_flags that say so
 
 
 class NoProgram(LabError):
@@ -97,8 +97,11 @@ def check_is_vecmon(program: pathlib.Path) -> None:
         raise NoProgram(f"{program} is no vecmon; VECMON=PATH names one")
 
 
-def images_of(words: list[str]) -> dict[str, pathlib.Path]:
-    """The images by name. Raises LabError for a word that names none."""
+def images_of(words: list[str], any_vlen: bool = False) -> dict[str, pathlib.Path]:
+    """The images by name, about whose instruction sets warnings are printed.
+
+    any_vlen: whether images for longer vector registers are taken. Raises LabError for a word that names no image.
+    """
     images = {}
     for word in words:
         name, separator, path = word.partition("=")
@@ -107,8 +110,7 @@ def images_of(words: list[str]) -> dict[str, pathlib.Path]:
         if not pathlib.Path(path).is_file():
             raise LabError(f"image {name}: there is no file {path}")
         images[name] = pathlib.Path(path)
-        with mistakes_in(f"image {name}"):
-            check_flags(images[name])
+        report_target(images[name], any_vlen, f"image {name}")
     return images
 
 
@@ -129,14 +131,3 @@ def segments_of(image: bytes) -> Iterator[tuple[int, str, int, bytes]]:
 def digest_of(path: pathlib.Path) -> str:
     """The SHA-256 of a file, in hexadecimal digits."""
     return hashlib.sha256(path.read_bytes()).hexdigest()
-
-
-def check_flags(image: pathlib.Path) -> None:
-    """Raise LabError for an image compiled for features that the machine lacks, by its e_flags."""
-    with image.open("rb") as file:
-        header = file.read(64)
-    is_riscv = header[:6] == b"\x7fELF\2\1" and header[18:20] == b"\xf3\0"
-    kinds = [kind for bits, kind in _FLAGS.items() if is_riscv and int.from_bytes(header[48:52], "little") & bits]
-    if kinds:
-        message = f"it is compiled for {' and '.join(kinds)}, and the machine has none"
-        raise LabError(f"{message}: compile with {MARCH} -mabi=lp64")

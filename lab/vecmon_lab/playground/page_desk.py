@@ -25,8 +25,9 @@ from ..machine.answers import Refused, is_stop, read
 from ..machine.lines import words_of
 from ..machine.process import Vecmon
 from ..machine.image import MARCH
-from ..machine.program import check_flags, image_refusal
+from ..machine.program import image_refusal
 from ..machine.session import Session, recorded_lines
+from ..machine.target import check_flags, check_kind, target_warnings
 from .desk import Desk
 
 SCRIPT, SET_UP = "A.script", "A.set_up"  # the machine's lines, and how many of the first ones set it up
@@ -155,7 +156,9 @@ class PageDesk(Desk):
             )
         path = ROOM / name
         self._put_file(path, content)
+        check_kind(path)
         check_flags(path)
+        target_warnings(path)
         with self._opening({name: path}) as trial:
             answer = read(trial.do_all(["1 enter", f"1 load {name}"])[1])
         if isinstance(answer, Refused):

@@ -8,11 +8,13 @@ from collections import deque
 from collections.abc import Iterator, Sequence
 
 from .. import LabError, mistakes_in
+from ..arguments import add_any_vlen
 from ..guest.changes import Retired, Stepper, vtype_text
 from ..guest.guest import Guest, started
 from ..guest.symbols import Symbols
 from ..instructions.accesses import REGISTER_BYTES
 from ..instructions.calls import ECALL
+from ..machine.target import report_target
 from ..runs.dataflow import Cell
 from .differences import differences
 from .logs import Commit, Kind, Log
@@ -29,11 +31,13 @@ def add_arguments(parser: argparse.ArgumentParser) -> None:
     parser.add_argument(
         "--policy", choices=("keep", "ones"), default="keep", help="the policy for agnostic elements; by default keep"
     )
+    add_any_vlen(parser)
 
 
 def run(arguments: argparse.Namespace) -> int:
     """Prints the first difference, with status 1; or how many instructions agree. Raises LabError and OSError."""
     image, symbols = arguments.image, Symbols.read(arguments.image)
+    report_target(image, arguments.any_vlen)
     with arguments.log.open(errors="replace") as lines, started(image, policy=arguments.policy) as guest:
         lockstep = _Lockstep(guest, Log(lines), symbols)
         with mistakes_in(arguments.log):

@@ -25,7 +25,7 @@ def add_arguments(parser: argparse.ArgumentParser) -> None:
     add_image(parser)
     parser.add_argument("-o", dest="page", metavar="FILE.html", type=pathlib.Path, help="write a page, and FILE.csv")
     help_ = "compare with another image, such as one of an earlier source"
-    parser.add_argument("--against", metavar="IMAGE", type=image_path, help=help_)
+    parser.add_argument("--against", metavar="IMAGE", type=pathlib.Path, help=help_)
 
 
 def run(arguments: argparse.Namespace) -> int:
@@ -33,10 +33,12 @@ def run(arguments: argparse.Namespace) -> int:
 
     Raises LabError and OSError for bad input.
     """
-    image, page, other = arguments.image, arguments.page, arguments.against
+    image, page = arguments.image, arguments.page
+    other = image_path(f"{arguments.against}", arguments.any_vlen) if arguments.against else None
+    inputs: list[pathlib.Path | None] = [arguments.input, other]
     if page and page.suffix != ".html":
         raise LabError(f"-o names a page, FILE.html, and {page} is none")
-    check_outputs([page, page and page.with_suffix(".csv")], image, *filter(None, [arguments.input, other]))
+    check_outputs([page, page and page.with_suffix(".csv")], image, *filter(None, inputs))
     counts, symbols, ticks_spent, summary = _profiled(arguments, image)
     tables = [table for table in ticks_spent.tables() if table.rows]
     if other:

@@ -1,0 +1,184 @@
+"""The instruction set that an image is compiled for, by its section .riscv.attributes (RISC-V ELF psABI, "Attributes")."""
+
+import pathlib
+import re
+import sys
+from collections.abc import Iterable, Iterator
+from typing import Literal
+
+from .. import LabError, mistakes_in
+from ..tables.table import read_table
+from .image import MARCH
+
+VLEN = 256  # bits of a vector register
+_MACHINE, _OBJECT_FILE = 243, 1  # EM_RISCV of e_machine, and ET_REL of e_type
+_FLAGS = {1: "compressed instructions", 6: "a floating-point ABI"}  # by the bits of e_flags that say so
+_MACHINES = {"EM_386": "x86", "EM_X86_64": "x86-64", "EM_ARM": "Arm", "EM_AARCH64": "AArch64"}  # by their usual names
+_FORMAT, _VENDOR = b"A", b"riscv"  # of the section, and of the attributes that the psABI defines
+_SCOPE_FILE, _ARCH = 1, 5  # Tag_File, and Tag_RISCV_arch
+_SINGLE_LETTERS, _OTHER = re.compile(r"rv(?:32|64)((?:[a-z](?:\d+p\d+)?)+)"), re.compile(r"([a-z]\w*?)(?:\d+p\d+)?")
+_TITLES = {"v": "the floating point of V"}  # of which the machine has all else
+_LEAST_VLEN = re.compile(r"zvl(\d+)b")
+
+
+def check_kind(image: pathlib.Path) -> None:
+    """Raise LabError for an ELF file that is no program for RISC-V: one for another machine, or one that isn't linked; and OSError."""
+    with image.open("rb") as file:
+        header = file.read(20)
+    if header[:4] != b"\x7fELF" or len(header) < 20:
+        return
+    order: Literal["little", "big"] = "big" if header[5] == 2 else "little"
+    kind, machine = (int.from_bytes(header[at : at + 2], order) for at in (16, 18))
+    if machine != _MACHINE and (name := _machine_name(machine)):
+        raise LabError(f"it is for {name}, and not for RISC-V: compile with {MARCH} -mabi=lp64")
+    if machine == _MACHINE and kind == _OBJECT_FILE:
+        raise LabError("it is an object file, and no program: link it with -nostdlib -static -no-pie")
+
+
+def _machine_name(number: int) -> str:
+    """The name of a machine by e_machine; "" for 0 and for numbers that no machine has."""
+    from elftools.elf.enums import ENUM_E_MACHINE  # which an image for RISC-V doesn't need
+
+    names = [str(name) for name, value in ENUM_E_MACHINE.items() if value == number != 0]
+    return next((_MACHINES.get(name) or name.removeprefix("EM_") for name in names), "")
+
+
+def check_flags(image: pathlib.Path) -> None:
+    """Raise LabError for an image compiled for features that the machine lacks, by its e_flags, and OSError."""
+    with image.open("rb") as file:
+        header = file.read(64)
+    is_riscv = header[:6] == b"\x7fELF\2\1" and header[18:20] == _MACHINE.to_bytes(2, "little")
+    kinds = [kind for bits, kind in _FLAGS.items() if is_riscv and int.from_bytes(header[48:52], "little") & bits]
+    if kinds:
+        message = f"it is compiled for {' and '.join(kinds)}, and the machine has none"
+        raise LabError(f"{message}: compile with {MARCH} -mabi=lp64")
+
+
+def report_target(image: pathlib.Path, any_vlen: bool = False, name: object = None) -> None:
+    """Print warnings about an image's instruction set on standard error.
+
+    any_vlen: whether an image for longer vector registers is taken; name: what messages call the image, by default its path
+
+    Raises LabError if it is for longer vector registers, or its e_flags are for another machine, and OSError.
+    """
+    with mistakes_in(name or image):
+        check_flags(image)
+        warnings = target_warnings(image, any_vlen, ", or run it as it is with --any-vlen")
+    sys.stderr.writelines(f"vecmon-lab: warning: {name or image}: {warning}\n" for warning in warnings)
+
+
+def target_warnings(image: pathlib.Path, any_vlen: bool = False, override: str = "") -> list[str]:
+    """Return what the machine lacks of an image's instruction set, a clause each; none for a file without the section.
+
+    any_vlen: whether an image for longer vector registers is taken; override: how the user sets that, if it can be set
+
+    Raises LabError if the image is compiled for longer vector registers, unless any_vlen is set, and OSError.
+    """
+    try:
+        arch = _arch_of(image)
+        names = [] if arch is None else extensions_of(arch)
+    except ValueError:
+        return ["its section .riscv.attributes is damaged, so the instruction set that it is compiled for is unknown"]
+    vlen = max((int(found[1]) for name in names if (found := _LEAST_VLEN.fullmatch(name))), default=0)
+    needs = f"it is compiled for vector registers of at least {vlen} bits (zvl{vlen}b), and the machine's have {VLEN}"
+    if vlen > VLEN and not any_vlen:
+        raise LabError(f"{needs}: compile with {MARCH}{override}")
+    warnings = [f"{needs}: its results may be wrong"] if vlen > VLEN else []
+    if missing := [_TITLES.get(name, name.capitalize()) for name in _lacking(names)]:
+        *others, last = missing
+        lacking = f"{', '.join(others)} and {last}" if others else last
+        warnings.append(f"it is compiled for {lacking}, which the machine lacks: compile with {MARCH}")
+    return warnings
+
+
+def extensions_of(arch: str) -> list[str]:
+    """Return the names of the extensions in an arch string, as `rv64i2p1_m2p0_zve64x1p0`, without their versions.
+
+    Raises ValueError if the string isn't in this form.
+    """
+    first, *others = arch.lower().split("_")
+    letters, names = _SINGLE_LETTERS.fullmatch(first), [_OTHER.fullmatch(other) for other in others]
+    if letters is None or None in names:
+        raise ValueError(f"{arch} is no instruction set of RISC-V")
+    return [*re.findall(r"([a-z])(?:\d+p\d+)?", letters[1]), *(name[1] for name in names if name)]
+
+
+def _lacking(names: Iterable[str]) -> Iterator[str]:
+    """The extensions that the machine lacks, without those that another one of them implies."""
+    kinds, implied = {}, {}
+    for name, kind, *others in read_table("extensions"):
+        kinds[name], implied[name] = kind, " ".join(others).split()
+    lacking = [name for name in names if kinds.get(name, "lacks") == "lacks" and not _LEAST_VLEN.fullmatch(name)]
+    left_out = {each for name in lacking for each in implied.get(name, ())}
+    yield from (name for name in lacking if name not in left_out)
+
+
+def _arch_of(image: pathlib.Path) -> str | None:
+    """Return the arch string of an image; None if it has none. Raises ValueError if the section is damaged, and OSError."""
+    from elftools.elf.elffile import ELFFile  # which an import of this module doesn't need
+
+    with image.open("rb") as file:
+        try:
+            elf = ELFFile(file)
+            found = [each for each in elf.iter_sections() if each.name == ".riscv.attributes"]
+        except Exception:  # pylint: disable=broad-except  # no ELF file, or its headers are damaged: `load` refuses it
+            return None
+        try:
+            content = found[0].data() if found else b""
+        except Exception as error:  # pylint: disable=broad-except  # pyelftools raises what its parts do
+            raise ValueError("the section is outside the file") from error
+    if not found:
+        return None
+    values = [value for vendor, value in _subsections(content) if vendor == _VENDOR]
+    return next((arch for value in values for arch in _archs(value)), None)
+
+
+def _subsections(content: bytes) -> Iterator[tuple[bytes, bytes]]:
+    """The subsections of a section of attributes: the vendor, and its content. Raises ValueError."""
+    if content[:1] != _FORMAT:
+        raise ValueError("another format")
+    at = 1
+    while at < len(content):
+        length = int.from_bytes(content[at : at + 4], "little")
+        vendor, ending, value = content[at + 4 : at + length].partition(b"\0")
+        if not ending or at + length > len(content):
+            raise ValueError("a subsection is cut off")
+        yield vendor, value
+        at += length
+
+
+def _archs(value: bytes) -> Iterator[str]:
+    """The arch strings in the attributes of the file. Raises ValueError."""
+    at = 0
+    while at < len(value):
+        scope, length = value[at], int.from_bytes(value[at + 1 : at + 5], "little")
+        if length < 5 or at + length > len(value):
+            raise ValueError("attributes are cut off")
+        if scope == _SCOPE_FILE:
+            yield from _values_of(_ARCH, value[at + 5 : at + length])
+        at += length
+
+
+def _values_of(wanted: int, attributes: bytes) -> Iterator[str]:
+    """The texts of a tag, which is odd: even tags have a number (ULEB128), odd ones a text that ends with 0. Raises ValueError."""
+    rest = attributes
+    while rest:
+        tag, rest = _number(rest)
+        if tag % 2 == 0:
+            _, rest = _number(rest)
+            continue
+        text, ending, rest = rest.partition(b"\0")
+        if not ending:
+            raise ValueError("a text is cut off")
+        if tag == wanted:
+            yield text.decode("ascii")
+
+
+def _number(data: bytes) -> tuple[int, bytes]:
+    """Return a number in ULEB128, and the bytes after it. Raises ValueError if it is cut off."""
+    number = 0
+    for at, byte in enumerate(data):
+        number |= (byte & 0x7F) << 7 * at
+        if byte < 0x80:
+            return number, data[at + 1 :]
+    raise ValueError("a number is cut off")
