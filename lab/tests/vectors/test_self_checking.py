@@ -3,6 +3,7 @@
 import copy
 import json
 import pathlib
+import re
 import shutil
 import subprocess
 import sys
@@ -58,7 +59,8 @@ def differing(lines: list[str], reference: pathlib.Path) -> list[int]:
 
 
 def test_vecmon_passes_all_cases(lab: Lab, tmp_path: pathlib.Path) -> None:
-    status, output, _ = lab("vectors", *NAMES, "--cases", "12", "--elf", tmp_path, "--environment", "vecmon")
+    words = ["--cases", "12", "--choices", "--elf", tmp_path, "--environment", "vecmon"]
+    status, output, _ = lab("vectors", *NAMES, *words)
     assert status == 0 and output.decode().splitlines()[0].endswith("cases in 10 programs")
     for name in NAMES:
         if name == "jal":  # all go to other pages
@@ -101,7 +103,7 @@ def test_on_qemu_states_its_usage(
 
 
 def test_qemu_differs_in_known_cases(lab: Lab, tmp_path: pathlib.Path) -> None:
-    assert lab("vectors", *NAMES, "--cases", "12", "--seed", "3", "--elf", tmp_path)[0] == 0
+    assert lab("vectors", *NAMES, "--cases", "12", "--seed", "3", "--choices", "--elf", tmp_path)[0] == 0
     for name in NAMES:
         cases = cases_of(tmp_path, name)
         expected = [number for number, found in enumerate(on_qemu.differences(cases), 1) if found]
@@ -117,7 +119,7 @@ def test_planted_fault_is_reported_at_its_case(lab: Lab, program: pathlib.Path, 
         wrong = copy.deepcopy(right)
         register, digits = next(iter(wrong[number - 1]["after"]["v"].items()))
         wrong[number - 1]["after"]["v"][register] = f"{digits[:-1]}{int(digits[-1], 16) ^ 1:x}"
-        Writer(tmp_path, None, "vecmon").write("wrong", wrong)
+        Writer(tmp_path, None, "vecmon", has_choices=True).write("wrong", wrong)
         status, output, _ = lab("run", tmp_path / "wrong.elf")
         assert status == number == int(output.split()[-1], 16)
 
@@ -125,7 +127,8 @@ def test_planted_fault_is_reported_at_its_case(lab: Lab, program: pathlib.Path, 
 def test_unavailable_cases_are_omitted(lab: Lab, tmp_path: pathlib.Path) -> None:
     expected = {}
     for environment in ("linux", "vecmon", "bare"):
-        status, output, _ = lab("vectors", "vle8.v", "ecall", "ebreak", "--elf", tmp_path, "--environment", environment)
+        words = ["--choices", "--elf", tmp_path, "--environment", environment]
+        status, output, _ = lab("vectors", "vle8.v", "ecall", "ebreak", *words)
         expected[environment] = output.decode().splitlines()
     # 22 types, masked or not, and 8; 24 and 8
     assert expected["linux"] == ["84 cases in 2 programs", "left out: 32 of call"]
@@ -134,12 +137,49 @@ def test_unavailable_cases_are_omitted(lab: Lab, tmp_path: pathlib.Path) -> None
     assert {line.rpartition(" of ")[2] for line in expected["bare"][1:]} == {"call", "fault 5"}
 
 
+OPEN_NAMES = ["vslideup.vi", "csrrw", "vl1re8.v", "vsseg3e8.v"]
+"""Instructions with cases that the standard leaves open, and that QEMU 7.2 ends in another way than the machine."""
+
+
+@pytest.mark.usefixtures("qemu")
+def test_qemu_agrees_without_choices(lab: Lab, tmp_path: pathlib.Path) -> None:
+    """With all choices each of these programs differs; without them each case agrees."""
+    for option, expected in {"--choices": OPEN_NAMES, "--environment=linux": []}.items():
+        folder, differ = tmp_path / option, list[str]()
+        assert lab("vectors", *OPEN_NAMES, option, "--cases", "24", "--seed", "1", "--elf", folder)[0] == 0
+        for name in OPEN_NAMES:
+            assert len(cases_of(folder, name)) >= 8
+            status, lines = output_of([*on_qemu.QEMU, folder / f"{name}.elf"])
+            differ += [name] if status or differing(lines, folder / f"{name}.reference") else []
+        assert differ == expected
+
+
+def test_open_cases_are_omitted(lab: Lab, tmp_path: pathlib.Path) -> None:
+    """None has vstart, and where it had one it is tried without; the summary says what is left out and why."""
+    status, output, _ = lab("vectors", "vadd.vv", "vsse16.v", "--elf", tmp_path)
+    lines = output.decode().splitlines()
+    assert status == 0 and lines[0].endswith(" cases in 2 programs")
+    open_result = "left out: {} since the standard leaves the result open: "
+    assert all(re.match(open_result.format(r"\d+"), line) for line in lines[1:])
+    assert any("the order of stores to the same address is open" in line for line in lines)
+    cases = cases_of(tmp_path, "vadd.vv")
+    assert {case["vstart"] for case in cases} == {0}
+    kinds = {(int(case["vtype"], 16) & 0x3F, int(case["word"], 16) >> 25 & 1) for case in cases if case["end"] == "ran"}
+    assert len(kinds) == 44  # all types, masked and not
+    assert {case["vtype"] for case in cases if case["end"] == "fault"} <= {"8000000000000000"}
+
+
+def test_choices_need_programs(lab: Lab) -> None:
+    text = "--choices is for --elf and --asm: JSON lines have these cases always"
+    assert lab("vectors", "vadd.vv", "--choices") == (2, b"", f"vecmon-lab: {text}\n")
+
+
 @pytest.mark.parametrize("environment", ["linux", "bare"])
 def test_stock_assembler_makes_same_program(lab: Lab, tmp_path: pathlib.Path, environment: str) -> None:
     """Of each kind of instruction; and the programs leave the same signature."""
     if not shutil.which("riscv64-linux-gnu-ld"):
         leave_out(NO_BINUTILS)
-    arguments = ["--cases", "12", "--environment", environment, "--asm", tmp_path, "--elf", tmp_path]
+    arguments = ["--cases", "12", "--choices", "--environment", environment, "--asm", tmp_path, "--elf", tmp_path]
     assert lab("vectors", *NAMES, *arguments)[0] == 0
     for source in tmp_path.glob("*.s"):
         made, linked = source.with_suffix(".o"), source.with_suffix(".linked")

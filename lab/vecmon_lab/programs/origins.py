@@ -1,14 +1,13 @@
 """Where a difference from another device's log comes from: the instruction that left it open, and what the standard says there."""
 
-import re
 from collections.abc import Sequence
 from dataclasses import dataclass
 
 from ..instructions.accesses import vector_instruction
+from ..instructions.left_open import left_open
 from ..instructions.reserved import registers_of_two_widths
 from ..machine.answers import CONTROL
 from ..runs.dataflow import Cell, Executed, Part, parts
-from ..tables.table import read_table
 from .logs import Commit
 
 LOOKS_BACK = 20_000  # the number of instructions that are examined before a difference
@@ -61,6 +60,5 @@ def _left_open(
     instruction = vector_instruction(step.retired.word, step.before.control.vtype)
     holds |= {"reserved": instruction is not None and bool(registers_of_two_widths(instruction))}
     holds |= {"control": last.retired.text.startswith("csr") and not names.isdisjoint(CONTROL)}
-    rows = read_table("left_open")
-    fitting = (row for row in rows if holds[row[0]] and re.match(row[1], text))
-    return next((row[2] if row[2].startswith("reserved: ") else f"perhaps allowed: {row[2]}" for row in fitting), None)
+    sentence = left_open(text, {kind for kind, is_there in holds.items() if is_there})
+    return sentence if sentence is None or sentence.startswith("reserved: ") else f"perhaps allowed: {sentence}"

@@ -10,6 +10,7 @@ from collections.abc import Sequence
 from dataclasses import dataclass, field, replace
 from fractions import Fraction
 
+from ..instructions.accesses import base_address
 from ..instructions.reasons import illegal_reasons
 from ..instructions.reserved import registers_of_two_widths
 from ..instructions.table import Row
@@ -147,6 +148,18 @@ def moved(case: Case, row: Row, base: int) -> Case:
     address = 11 if row.name == "ecall" else case.register("rs1")
     x = case.x | ({address: (case.x[address] + base) % (1 << 64)} if touches_memory(row) else {})
     return replace(case, x=x, memory={base + first: data for first, data in case.memory.items()})
+
+
+def without_choices(case: Case, row: Row) -> Case:
+    """A case with vstart 0, and with an address and a stride that are multiples of 8: the standard fixes the result of more of these."""
+    x = dict(case.x)
+    if row.opcode in _LOADS + _STORES:
+        address = base_address(case.word, [x.get(number, 0) for number in range(32)]) or 0
+        x[case.register("rs1")] = (x.get(case.register("rs1"), 0) - address % 8) % (1 << 64)
+    if _is_strided(row):
+        x[case.register("rs2")] = x.get(case.register("rs2"), 0) & ~7
+    x.pop(0, None)
+    return replace(case, control=replace(case.control, vstart=0), x=x)
 
 
 def _is_vector(row: Row) -> bool:

@@ -13,11 +13,12 @@ from .. import LabError
 from ..guest.changes import Registers, Stepper, runs
 from ..guest.guest import Guest, pokes
 from ..harness.environments import ENVIRONMENTS
+from ..instructions.left_open import open_result
 from ..instructions.table import Row, instruction_table
 from ..machine.program import find_program
 from ..machine.session import Session
-from .cases import CODE, DATA, DATA_END, PC, READ_ONLY, Case, draw_case, moved, plan, touches_memory
-from .self_checking import Writer
+from .cases import CODE, DATA, DATA_END, PC, READ_ONLY, Case, draw_case, moved, plan, touches_memory, without_choices
+from .self_checking import Writer, executed
 
 _CASES_OF_A_SESSION = 500
 _PROLOGUE = "5770b5807390a6007310970073108600"  # vsetvl x0, x10, x11; csrrw x0, and vxrm, x13; vxsat, x14; vstart, x12
@@ -40,6 +41,10 @@ def add_arguments(parser: argparse.ArgumentParser) -> None:
     parser.add_argument(
         "--asm", metavar="DIR", type=pathlib.Path, help="write their sources, for stock assemblers, to DIR"
     )
+    help_text = (
+        "also write cases whose results the standard leaves open to programs and sources; JSON lines have them always"
+    )
+    parser.add_argument("--choices", action="store_true", help=help_text)
     parser.add_argument(
         "--environment",
         choices=ENVIRONMENTS,
@@ -63,10 +68,21 @@ def run(arguments: argparse.Namespace) -> int:
         raise LabError(f"there is no instruction {invalid[0]}: docs/INSTRUCTIONS.md lists them, and all means each one")
     if arguments.cases is not None and arguments.cases < 1:
         raise LabError("--cases takes a number from 1 up")
-    writer = Writer(arguments.elf, arguments.asm, arguments.environment) if arguments.elf or arguments.asm else None
+    has_programs = bool(arguments.elf or arguments.asm)
+    if arguments.choices and not has_programs:
+        raise LabError("--choices is for --elf and --asm: JSON lines have these cases always")
+    writer = Writer(arguments.elf, arguments.asm, arguments.environment, arguments.choices) if has_programs else None
     base = ENVIRONMENTS[arguments.environment].base if writer else 0
     for name in names:
-        results = golden_results(program, table[name], arguments.cases, arguments.seed, arguments.policy, base)
+        results = golden_results(
+            program,
+            table[name],
+            arguments.cases,
+            arguments.seed,
+            arguments.policy,
+            base,
+            not writer or arguments.choices,
+        )
         if writer:
             writer.write(name, list(results))
         else:
@@ -77,17 +93,28 @@ def run(arguments: argparse.Namespace) -> int:
 
 
 def golden_results(
-    program: pathlib.Path, row: Row, cases: int | None = None, seed: int = 0, policy: str = "keep", base: int = 0
+    program: pathlib.Path,
+    row: Row,
+    cases: int | None = None,
+    seed: int = 0,
+    policy: str = "keep",
+    base: int = 0,
+    has_choices: bool = True,
 ) -> Iterator[dict[str, object]]:
     """A number of cases of an instruction, or its whole plan, with the machine's results. Raises as `Session` does.
 
     base: how much further on than the page on the format says all addresses lie
+    has_choices: whether all cases are tried as they are drawn; else those whose results are open, with vstart 0 and aligned
     """
     count = len(plan(row, seed)) if cases is None else cases
     for first in range(0, count, _CASES_OF_A_SESSION):
         with Session(program) as session:
             for number in range(first, min(count, first + _CASES_OF_A_SESSION)):
-                yield execute_case(session, row, moved(draw_case(row, number, seed), row, base), policy, base)
+                case = moved(draw_case(row, number, seed), row, base)
+                golden = execute_case(session, row, case, policy, base)
+                if not has_choices and open_result(executed(golden)):
+                    golden = execute_case(session, row, without_choices(case, row), policy, base)
+                yield golden
 
 
 def execute_case(session: Session, row: Row, case: Case, policy: str = "keep", base: int = 0) -> dict[str, object]:

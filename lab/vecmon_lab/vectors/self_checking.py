@@ -10,6 +10,8 @@ from ..guest.changes import runs
 from ..harness.environments import BLOCK_BYTES, CODE, ENVIRONMENTS, LIST, MEMORY, SPARE, Environment, Harness, digest
 from ..harness.environments import harness, signature_text
 from ..instructions.accesses import PAGE_BYTES
+from ..instructions.left_open import Executed, open_result
+from ..machine.answers import ControlRegisters
 from ..machine.image import MARCH
 from .on_qemu import LAYOUT, Case, expected, object_in, state
 
@@ -25,18 +27,24 @@ class Writer:
     elf, asm: the folders of ELF files and of sources
     """
 
-    def __init__(self, elf: pathlib.Path | None, asm: pathlib.Path | None, environment: str) -> None:
-        """An environment has a name. Makes the folders."""
+    def __init__(
+        self, elf: pathlib.Path | None, asm: pathlib.Path | None, environment: str, has_choices: bool = False
+    ) -> None:
+        """An environment has a name. Makes the folders.
+
+        has_choices: whether cases are written whose results the standard leaves open
+        """
         self._folders, self._environment = {".elf": elf, ".s": asm}, ENVIRONMENTS[environment]
+        self._has_choices = has_choices
         self._programs, self._cases, self._left_out = 0, 0, Counter[str]()
         for folder in filter(None, self._folders.values()):
             folder.mkdir(parents=True, exist_ok=True)
 
     def write(self, name: str, goldens: Sequence[Case]) -> None:
         """Write the programs of an instruction's cases, and next to each its cases and its signature."""
-        kinds = [kind_of(golden, self._environment.base) for golden in goldens]
-        shown = [golden for golden, kind in zip(goldens, kinds) if kind in self._environment.ends]
-        self._left_out.update(kind for kind in kinds if kind not in self._environment.ends)
+        reasons = [self._reason_to_leave_out(golden) for golden in goldens]
+        shown = [golden for golden, reason in zip(goldens, reasons) if not reason]
+        self._left_out.update(filter(None, reasons))
         self._cases += len(shown)
         for first in range(0, len(shown), CASES_OF_A_PROGRAM):
             part = shown[first : first + CASES_OF_A_PROGRAM]
@@ -46,7 +54,15 @@ class Writer:
         """The written files, and the cases that can't run in the environment, each in a line."""
         counts = [(self._cases, "case"), (self._programs, "program")]
         yield " in ".join(f"{number:,} {unit}{'s' * (number != 1)}" for number, unit in counts)
-        yield from (f"left out: {count:,} of {kind}" for kind, count in sorted(self._left_out.items()))
+        yield from (f"left out: {count:,} {reason}" for reason, count in sorted(self._left_out.items()))
+
+    def _reason_to_leave_out(self, golden: Case) -> str:
+        """Why a case isn't written, as the summary has it; "" for one that is."""
+        kind = kind_of(golden, self._environment.base)
+        if kind not in self._environment.ends:
+            return f"of {kind}"
+        choice = None if self._has_choices else open_result(executed(golden))
+        return f"since the standard leaves the result open: {choice}" if choice else ""
 
     def _write_part(self, name: str, part: Sequence[Case]) -> None:
         self._programs += 1
@@ -82,6 +98,17 @@ def kind_of(golden: Case, base: int) -> str:
     if str(golden["name"]).endswith("ff.v") and "vl" in after:
         return "shortened load"
     return str(golden["end"])
+
+
+def executed(golden: Case) -> Executed:
+    """A case as an instruction with the state before it, and its fault."""
+    before, after = state(golden), object_in(golden, "after")
+    control = ControlRegisters(*(int(before[name]) for name in vars(ControlRegisters())))
+    x = [0, *(int(before[f"x{number}"]) for number in range(1, 32))]
+    cause = int(str(golden["cause"])) if golden["end"] == "fault" else None
+    element = int(str(after.get("vstart", golden["vstart"])))
+    word, text = int(str(golden["word"]), 16), str(golden["text"])
+    return Executed(word, text, x, control, bytes(before["v"]), cause, element)
 
 
 def case_words(golden: Case, environment: Environment) -> tuple[list[int], int]:
