@@ -23,7 +23,10 @@ def image_path(word: str, any_vlen: bool = False) -> pathlib.Path:
 
         return compiled_image(path)
     if path.suffix not in (".s", ".S") and path.is_file():  # a missing file is reported where it is read
+        from .compilers.compiler import refuse_cxx
         from .machine.target import report_target
+
+        refuse_cxx(path)
 
         report_target(path, any_vlen)
     return path

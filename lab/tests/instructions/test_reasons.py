@@ -271,6 +271,14 @@ REASONS: list[tuple[str, ControlRegisters, list[str]]] = [
         VILL,
         ["There is no control register 0xc00: there are vstart, vxsat, vxrm, vcsr, vl, vtype and vlenb alone."],
     ),
+    (
+        "csrrw x0, 0xc00, x0",
+        VILL,
+        [
+            "It is unimp, a trap that compilers emit: for __builtin_trap, for code that can't be reached, and for failed"
+            " checks of -fsanitize."
+        ],
+    ),
     ("csrrw x0, vl, x0", VILL, ["It writes vl, which can only be read."]),
     ("csrrci x5, vtype, 1", VILL, ["It writes vtype, which can only be read."]),
     ("csrrsi x5, vlenb, 0", VILL, []),
@@ -302,6 +310,28 @@ def test_illegal_reasons_equal_hand_worked_reasons(program: pathlib.Path) -> Non
     words = [int(answer.split()[2], 16) for answer in completed.stdout.decode().splitlines()[2:]]
     given = [(text, state, illegal_reasons(word, state)) for word, (text, state, _) in zip(words, REASONS)]
     assert given == REASONS
+
+
+# As llvm-mc 19 assembles them, without masks; masked ones of OP-V have bit 25 clear.
+OTHER_EXTENSIONS = {
+    "Zvkb": "vandn.vv=06950457 vandn.vx=06954457 vbrev8.v=4a942457 vrev8.v=4a94a457 vrol.vv=56950457 vrol.vx=56954457 vror.vv=52950457 vror.vx=52954457 vror.vi=5292b457 vror.vi=5692b457",
+    "Zvbb": "vbrev.v=4a952457 vclz.v=4a962457 vctz.v=4a96a457 vcpop.v=4a972457 vwsll.vv=d6a60457 vwsll.vx=d6a54457 vwsll.vi=d6a1b457",
+    "Zvbc": "vclmul.vv=32952457 vclmul.vx=32956457 vclmulh.vv=36952457 vclmulh.vx=36956457",
+    "Zvkg": "vghsh.vv=b2952477 vgmul.vv=a298a477",
+    "Zvkned": "vaesdf.vv=a290a477 vaesdf.vs=a690a477 vaesdm.vv=a2902477 vaesdm.vs=a6902477 vaesef.vv=a291a477 vaesef.vs=a691a477 vaesem.vv=a2912477 vaesem.vs=a6912477 vaesz.vs=a693a477 vaeskf1.vi=8a91a477 vaeskf2.vi=aa91a477",
+    "Zvknha or Zvknhb": "vsha2ms.vv=b6952477 vsha2ch.vv=ba952477 vsha2cl.vv=be952477",
+    "Zvksed": "vsm4k.vi=8691a477 vsm4r.vv=a2982477 vsm4r.vs=a6982477",
+    "Zvksh": "vsm3c.vi=ae91a477 vsm3me.vv=82952477",
+}
+
+
+@pytest.mark.parametrize("extension", OTHER_EXTENSIONS)
+def test_instructions_of_vector_cryptography_are_named(extension: str) -> None:
+    for name, digits in (each.split("=") for each in OTHER_EXTENSIONS[extension].split()):
+        reason = [f"It would be {name} of {extension}, which the machine lacks: compile with {MARCH}."]
+        assert illegal_reasons(int(digits, 16), view(32, "m1")) == reason
+        if int(digits, 16) & 0x7F == 0x57:
+            assert illegal_reasons(int(digits, 16) & ~(1 << 25), VILL) == reason
 
 
 STOPS = [
@@ -363,6 +393,18 @@ def test_vector_access_fault_names_element() -> None:
     stop = position_of("1 fault cause=5 pc=0000000000010008 value=0000000000020000")
     assert describe_stop(stop, 0x02056407, view(32, "m2", 5)).endswith("no permission r. It stopped at element 5.")
     assert describe_stop(stop, 0x00053283, view(32, "m2", 5)).endswith("no permission r.")
+
+
+@pytest.mark.parametrize("cause", [5, 7])
+@pytest.mark.parametrize(
+    "address, is_full", [(0x7FFFAFFF, True), (0x7FEFB000, True), (0x7FEFAFFF, False), (0x7FFFF000, False), (0, False)]
+)
+def test_fault_below_stack_is_called_overflow(cause: int, address: int, is_full: bool) -> None:
+    """The stack is from 7fffb000 to 7ffff000 (docs/IMAGES.md), and a user has 1 MiB of memory."""
+    stop = position_of(f"1 fault cause={cause} pc=0000000000010008 value={address:016x}")
+    text = " The stack is full: it has 16 KiB, from 0x7fffb000 on."
+    assert (text in describe_stop(stop)) == is_full
+    assert (text in describe_stop(stop, 0x02056407, view(32, "m2", 5))) == is_full
 
 
 @pytest.mark.parametrize("line", ["", "1 ok", "1 E07", "1 out 0", "1 fault cause=3 pc=0000000000010008", "* granted 1"])

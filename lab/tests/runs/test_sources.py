@@ -11,6 +11,7 @@ import pytest
 from support.commands import Lab
 from support.places import DOCS, EXAMPLES
 from vecmon_lab.compilers.compiler import RUNTIME, Compiler
+from vecmon_lab.compilers.hints import NO_MAIN
 
 GREY = EXAMPLES / "kernels" / "grey.c"
 ARGUMENTS = """
@@ -99,7 +100,7 @@ def test_source_mistakes_and_missing_compiler_are_reported(
     expected = [f"{bad}:3:13: use of undeclared identifier 'y'", f"{bad}:4:12: use of undeclared identifier 'z'"]
     assert lab("run", bad) == (2, b"", "".join(f"vecmon-lab: {line}\n" for line in expected))
     bad.write_text("int twice(int x) { return 2 * x; }\n")
-    assert lab("profile", bad) == (2, b"", f"vecmon-lab: {bad}: undefined symbol: main\n")
+    assert lab("profile", bad) == (2, b"", f"vecmon-lab: {bad}: undefined symbol: main: {NO_MAIN}\n")
     assert lab("run", tmp_path / "none.c") == (2, b"", f"vecmon-lab: {tmp_path}/none.c: No such file or directory\n")
     status, _, errors = lab("run", "--trace", GREY, GREY)
     assert status == 2 and errors.startswith(f"vecmon-lab: {GREY} would be overwritten")

@@ -9,7 +9,7 @@ import tempfile
 from .. import LabError
 from ..arguments import between
 from ..compilers.account import account_named, add_account
-from ..compilers.compiler import choice_for, find_compilers
+from ..compilers.compiler import choice_for, find_compilers, refuse_cxx
 from ..lessons.lesson import add_compiler
 from ..machine.program import find_program
 from ..page.texts import page_text
@@ -59,6 +59,7 @@ def run(arguments: argparse.Namespace) -> int:
 
 def read(path: pathlib.Path, options: str) -> SourceText:
     """The source of a file, which these options may be for. Raises LabError where they aren't, or it is none."""
+    refuse_cxx(path)
     if path.suffix not in (".c", ".s", ".S"):
         raise LabError(f"{path}: the name of a source ends in .c or .s")
     choices = [language.choice for language in LANGUAGES]

@@ -18,6 +18,9 @@ OWN_SOURCES = (C_SOURCE, ASSEMBLER_SOURCE)
 FUNCTION = "answer"
 """The function that begins an image which is to answer an exercise; others begin with `main`."""
 
+CXX_SUFFIXES = (".cc", ".cpp", ".cxx", ".c++", ".C")
+"""Of sources in C++, which the lab doesn't compile."""
+
 MIN_CLANG, MIN_GCC = 17, 14  # which have the intrinsics of vectors by their present names
 
 INSTALLER = pathlib.Path(__file__).resolve().parents[3] / "tools" / "debian_packages"
@@ -110,8 +113,16 @@ def choice_of(name: str) -> int:
     return names.index(name)
 
 
+def refuse_cxx(path: pathlib.Path) -> None:
+    """Raise LabError for a source in C++."""
+    if path.suffix in CXX_SUFFIXES:
+        advice = "compile it to an image with clang++-19 and the options in docs/COMPILING.md"
+        raise LabError(f"{path} is a source in C++, which the lab doesn't compile: {advice}")
+
+
 def choice_for(path: pathlib.Path, name: str) -> int | None:
     """The number of a file's options by their name; None where no compiler takes it. Raises LabError where they don't fit."""
+    refuse_cxx(path)
     choice = choice_of(name)
     if CHOICES[choice].source == C_SOURCE:
         return choice if path.suffix == ".c" else None

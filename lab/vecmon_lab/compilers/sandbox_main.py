@@ -20,6 +20,7 @@ from typing import NamedTuple
 from .compiler import FUNCTION, IMAGE, OWN_SOURCES, Compiler, source_of
 from .debug import MESSAGE_LETTERS, MAX_MESSAGES, Image, image_of
 from .failures import without_folders
+from .hints import undefined_reference, with_advice
 
 COMPLAINT_BYTES = 1 << 16
 CPU_SECONDS, MEMORY_BYTES, FILE_BYTES = 10, 512 << 20, 32 << 20
@@ -60,6 +61,10 @@ def read_messages(errors: str) -> list[Diagnostic]:
     """The messages of a compiler and its linker, without folders of this system."""
     messages = []
     for line in errors.split("\n"):
+        if reference := undefined_reference(line.strip()):
+            file, at, symbol = reference
+            place = (at, 1) if at and file in OWN_SOURCES else (0, 0)
+            messages.append(Diagnostic(*place, True, with_advice(f"undefined symbol: {symbol}")))
         if found := _MESSAGE.fullmatch(line.strip()):
             file, number, column, kind, text = found.groups()
             if text.startswith("linker command failed"):  # which has said why
@@ -67,7 +72,8 @@ def read_messages(errors: str) -> list[Diagnostic]:
             is_own = file in OWN_SOURCES
             text = text if is_own or not file else f"{file}:{number}: {text}"
             place = (int(number), int(column or 1)) if is_own else (0, 0)
-            messages.append(Diagnostic(*place, kind.lower() != "warning", without_folders(text)[:MESSAGE_LETTERS]))
+            text = with_advice(without_folders(text)[:MESSAGE_LETTERS])
+            messages.append(Diagnostic(*place, kind.lower() != "warning", text))
     return list(dict.fromkeys(messages))[:MAX_MESSAGES]
 
 

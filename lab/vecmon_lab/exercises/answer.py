@@ -12,6 +12,7 @@ from random import Random
 
 from .. import LabError, mistakes_in
 from ..compilers.compiled import STACK, CompiledProgram, Isolation
+from ..compilers.compiler import find_compiler, refuse_cxx
 from ..guest.entries import printable
 from ..guest.guest import IMAGE_BYTES, MAX_STEPS, QUANTUM, SET_UP_ADDRESS, STACK_END, Guest, pokes
 from ..guest.runner import Reporter
@@ -93,8 +94,8 @@ def read_answer(
         text = data.decode("utf-8")
     except UnicodeDecodeError as error:
         raise LabError(f"it is no image and no text: byte {error.start + 1} is {data[error.start]:#04x}") from error
+    refuse_cxx(path)
     if path.suffix == C_SUFFIX:
-        from ..compilers.compiler import find_compiler
         from ..compilers.compiling import compile_c  # which needs subprocesses
 
         headers = path.parent if is_own else None

@@ -24,6 +24,7 @@ from ..machine.answers import (
     Word,
     read,
 )
+from ..machine.image import STACK_PAGES
 from ..machine.program import find_program, image_refusal
 from ..machine.session import TOGETHER, Session
 from ..machine.target import check_flags, check_kind
@@ -38,7 +39,7 @@ PACES = ((MAX_STEPS, OUTPUT_BYTES - 1), (SAFE_STEPS, OUTPUT_BYTES))
 
 VECTOR_LOOKS = [f"vreg v{number} 64" for number in range(32)]
 
-STACK_POINTER, STACK_END, STACK_BYTES = 0x7FFF_EFC0, 0x7FFF_F000, 0x4000  # as `load` leaves them
+STACK_POINTER, STACK_END, STACK_BYTES = 0x7FFF_EFC0, STACK_PAGES.stop, len(STACK_PAGES)  # as `load` leaves them
 SET_UP_ADDRESS = STACK_END + 4  # of the instruction that sets up a case of an exercise: no listing has it
 
 AnswerType = TypeVar("AnswerType", bound=Answer)

@@ -7,6 +7,7 @@ from collections.abc import Iterator, Sequence
 from fractions import Fraction
 
 from ..machine.answers import ControlRegisters, ProgramState
+from ..machine.image import STACK_PAGES
 from ..tables.table import read_table
 from .words import VECTOR_ACCESSES, NoInstruction, Operand, Trait, VectorInstruction, decode, listed
 
@@ -115,6 +116,7 @@ def _emul(operand: Operand, view: ControlRegisters) -> str:
 
 
 _SENTENCES = dict(read_table("stops"))
+_MEMORY_BYTES = 1 << 20  # that a user has at most, so that no stack can reach further down
 
 
 def describe_stop(
@@ -130,7 +132,9 @@ def describe_stop(
     if view and where.what == "fault cause=2":
         return " ".join([sentence, *illegal_reasons(where.value, view)])
     if view and has_elements(where, word):
-        return f"{sentence} It stopped at element {view.vstart}."
+        sentence = f"{sentence} It stopped at element {view.vstart}."
+    if where.cause in (5, 7) and STACK_PAGES.start - _MEMORY_BYTES <= where.value < STACK_PAGES.start:
+        return f"{sentence} {_SENTENCES['stack'].format(size=len(STACK_PAGES) >> 10, first=f'{STACK_PAGES.start:#x}')}"
     return sentence
 
 

@@ -3,6 +3,9 @@
 MARCH = "-march=rv64im_zicsr_zve64x_zvl256b"
 """The compiler's option for the machine's instruction set, as docs/COMPILING.md has it."""
 
+STACK_PAGES = range(0x7FFF_B000, 0x7FFF_F000)
+"""The addresses of the stack that `load` maps, and that compiled sources have."""
+
 RIGHTS = {"r": 4, "w": 2, "x": 1}  # by the bits of p_flags
 
 

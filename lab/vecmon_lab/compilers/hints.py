@@ -1,0 +1,59 @@
+"""Advice for messages of compilers and linkers whose cause is the machine: it has no C library and no floating point.
+
+The texts of these messages are the only source: neither a compiler nor a linker gives them a code. So the patterns are whole messages
+of clang, GCC, lld and GNU ld, and no message with another text gets advice.
+"""
+
+import re
+
+_NO_HEADER = re.compile(r"(?:\S+:\d+: )?(?:'([^']+)' file not found|(\S+): No such file or directory)")
+_UNDEFINED = re.compile(r"undefined symbol: (\S+)")
+_REFERENCE = re.compile(r"(?:\S*/)?([^/:\s]+):(?:(\d+)|\(\S+\)): undefined reference to [`']([^`']+)'")
+
+_LIBRARY_HEADERS = frozenset(
+    "assert complex ctype errno fenv inttypes locale math pthread setjmp signal stdio stdlib string strings tgmath"
+    " threads time uchar unistd wchar wctype".split()
+)
+"""Headers of C and POSIX that need a C library, without `.h`; compilers have all others of C themselves."""
+
+_OF_GLIBC = (
+    "bits/",
+    "gnu/",
+    "sys/",
+)  # folders of headers that its own headers include, here the ones of another system
+
+# The functions of libgcc's manual, "Routines for floating point emulation", by their modes: hf, sf, df, tf, xf, bf
+_SOFT_FLOAT = re.compile(
+    r"__(?:(?:add|sub|mul|div)[a-z]f3|neg[a-z]f2|powi[a-z]f2|(?:mul|div)[a-z]c3"
+    r"|(?:cmp|unord|eq|ne|lt|le|gt|ge)[a-z]f2|(?:extend|trunc)[a-z]f[a-z]f2"
+    r"|fix(?:uns)?[a-z]f[a-z]i|float(?:un)?[a-z]i[a-z]f)"
+)
+
+NO_LIBRARY = (
+    'there is no C library here. "vecmon.h" declares put, exit, memcpy and memset; docs/COMPILING.md links picolibc'
+)
+NO_FLOATS = "the machine has no floating point, and nothing computes it in software: use integers"
+NO_MAIN = "a program begins with a function main, or with a function _start of its own"
+
+
+def with_advice(message: str) -> str:
+    """A message of a compiler or a linker, followed by advice if the machine is the cause."""
+    advice = _advice(message)
+    return f"{message}: {advice}" if advice else message
+
+
+def undefined_reference(line: str) -> tuple[str, int, str] | None:
+    """A message of GNU ld, which doesn't call it an error: the file, the line or 0, and the symbol; None for any other line."""
+    found = _REFERENCE.fullmatch(line)
+    return (found[1], int(found[2] or 0), found[3]) if found else None
+
+
+def _advice(message: str) -> str:
+    """Advice for a message, or ""."""
+    if found := _NO_HEADER.fullmatch(message):
+        header = found[1] or found[2]
+        is_library = header.removesuffix(".h") in _LIBRARY_HEADERS or header.startswith(_OF_GLIBC)
+        return NO_LIBRARY if is_library else ""
+    if found := _UNDEFINED.fullmatch(message):
+        return NO_MAIN if found[1] == "main" else NO_FLOATS if _SOFT_FLOAT.fullmatch(found[1]) else ""
+    return ""
