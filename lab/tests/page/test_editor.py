@@ -109,6 +109,24 @@ def test_keys_comment_and_find(sit: Sit) -> None:
     assert tab.run("text()") == SOURCE and tab.run("document.activeElement.id") == "assemble"
 
 
+def test_control_characters_are_not_typed_and_are_shown(sit: Sit) -> None:
+    """WebKitGTK has a keypress of Escape, as this event; a character of a file or a paste is shown by its sign and number."""
+    tab = sit("A1")
+    tab.write("nop")
+    press = "code().getInputField().dispatchEvent(new KeyboardEvent('keypress', arguments[0]))"
+    tab.run("(code().focus(), code().setCursor(0, 3))")
+    for character, key in ((0x1B, "Escape"), (0x20, " "), (0x78, "x"), (0x7F, "Delete")):
+        tab.run(press, {"charCode": character, "key": key, "bubbles": True, "cancelable": True})
+    assert tab.run("text()") == "nop x"
+    tab.run("code().setValue('li a0, 1\\x1b # \\x7f\\u200b\\tend')")
+    shown = (
+        "all('#editor .cm-invalidchar').map((sign) => [sign.textContent, sign.title, sign.getAttribute('aria-label')])"
+    )
+    tab.wait(f"{shown}.length === 3")
+    numbers = ["U+001B", "U+007F", "U+200B"]
+    assert tab.run(shown) == [[sign, *[number] * 2] for sign, number in zip(["␛", "␡", "U+200B"], numbers)]
+
+
 def test_editor_is_named_text_box(sit: Sit) -> None:
     """In the accessibility tree, with its lines and without their numbers."""
     tab = sit("A4")

@@ -10,7 +10,7 @@ import pytest
 
 from playground.test_site import LOOP
 from support.class_pages import PATIENCE, close_all
-from support.site import SiteTab, built_site, served_files
+from support.site import TITLE, SiteTab, built_site, served_files
 
 if TYPE_CHECKING:
     from selenium.webdriver import Chrome
@@ -120,3 +120,75 @@ def test_another_version_of_the_storage(browser: "Chrome", address: str) -> None
     assert "x11 1f" in again.text("#log")
     again.command("set x12 2f")
     assert not any("set x12 2f" in entry["text"] for entry in entries(again))
+
+
+def sources(tab: SiteTab) -> dict[str, str]:
+    """The stored sources and versions, by name."""
+    return {entry["name"]: entry["text"] for entry in entries(tab) if entry["name"].endswith(".s")}
+
+
+def test_second_tab_takes_over(browser: "Chrome", address: str) -> None:
+    """It saves once the first one is closed. The text of both tabs is there: one in the editor, the other one in Versions."""
+    page = f"{address}/play/index.html"
+    first, second = SiteTab(browser, page), SiteTab(browser, page)
+    second.write("# of the second tab\n" + LOOP)
+    second.wait("id('run').textContent === 'Ready'")
+    first.write("# of the first tab\n" + LOOP)
+    wait_for_text(first, "# of the first tab")
+    assert not any("second" in text for text in sources(first).values())
+    third = SiteTab(browser, page)
+    first.activate().close()
+    browser.switch_to.window(second.handle)
+    second.wait("id('stored').textContent.startsWith('The other tab is closed, and this tab saves now.')")
+    assert second.run("text().startsWith('# of the second tab') && id('versions').options.length") == 3
+    stored = sources(second)
+    assert stored["free/A1.s"].startswith("# of the second tab")
+    assert any(name.startswith("sources/") and "# of the first tab" in text for name, text in stored.items())
+    assert third.text("#stored").startswith("The playground is open in another tab")
+    second.activate().close()
+    browser.switch_to.window(third.handle)
+    third.wait("id('stored').textContent.startsWith('The other tab is closed. This tab has taken up its work')")
+    third.wait("id('gone').hidden && text().startsWith('# of the second tab')")
+    third.command("set x11 1f")
+    wait_for_text(third, "set x11 1f")
+
+
+def test_text_of_the_last_moment_comes_back(browser: "Chrome", address: str) -> None:
+    """A reload at once loses nothing of what was typed."""
+    page = f"{address}/play/index.html"
+    tab = SiteTab(browser, page)
+    tab.write(LOOP)
+    wait_for_text(tab, "A loop")
+    for text in ("nop\n", "ret\n"):
+        tab.run("(id('show-source').click(), code().setValue(arguments[0]), location.reload())", text)
+        tab.wait("document.title === arguments[0] && id('gone').hidden && text() === arguments[1]", TITLE, text)
+    wait_for_text(tab, "ret")
+    tab.wait("localStorage.getItem('vecmon-unsaved') === 'null'")
+
+
+def test_free_program_is_no_answer(browser: "Chrome", address: str) -> None:
+    """An exercise starts with its own text and without the program's machine, and the program is there again afterwards."""
+    page = f"{address}/play/index.html"
+    tab = SiteTab(browser, page)
+    tab.run("(id('to-start').click(), id('new-program').click())")
+    tab.wait("id('desk').checkVisibility()")
+    tab.run("code().setValue(arguments[0])", LOOP)
+    tab.click("#go")
+    tab.wait("id('run').textContent === 'Ended' && id('stop').textContent.includes('Stopped at the ebreak')")
+    versions = tab.run("[...id('versions').options].map((option) => option.text).slice(1)")
+    assert len(versions) == 1 and versions[0].endswith(" assembled")
+    tab.run("location.hash = 'exercise=doubles'")
+    tab.wait("text().includes('double') && id('run').textContent === 'Not begun'")
+    assert tab.run("[id('stop').textContent, id('check').disabled]") == ["", False]
+    tab.run("code().setValue('ret\\n')")
+    tab.click("#to-start")
+    tab.run("all('#recent .tile').find((tile) => tile.textContent.startsWith('Your program')).click()")
+    tab.wait("id('desk').checkVisibility() && text() === arguments[0] && id('check').disabled", LOOP)
+    tab.run("all('#course-list button')[0].click()")
+    tab.wait("text() === 'ret\\n' && !id('check').disabled")
+    tab.run("(id('to-start').click(), all('.tile').find((tile) => tile.textContent.endsWith('strip_mined.s')).click())")
+    tab.wait("text().startsWith('## A strip-mined loop')")
+    wait_for_text(tab, "## A strip-mined loop")
+    tab.open(page)
+    tab.wait("text().startsWith('## A strip-mined loop')")
+    assert sources(tab)["drafts/A1.doubles.s"] == "ret\n"

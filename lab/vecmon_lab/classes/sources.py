@@ -39,7 +39,10 @@ class SeatSource:
     case: the exercise and the number of the case that is tried with the source in the machine; None without one
     opened: when its student opened it, in seconds since 1970; 0 before, and where it is unknown
     caret: the number of the line in which the student typed last; 0 if it is unknown
+    has_free_program: whether a program without an exercise can be opened next to the exercises
     """
+
+    has_free_program = False
 
     def __init__(self, name: str, store: TextStore) -> None:
         self._name, self._store, self.number = name, store, 0
@@ -80,7 +83,7 @@ class SeatSource:
             self.opened = time.time()
         if not is_other:
             return
-        if not self.exercise:
+        if not self.exercise and self.own.text:
             self._add_version(self.own, "typed")
         self._left[self.exercise] = self.own
         left = self._left.pop(exercise, None) or kept_source(self._store, self._place(exercise))

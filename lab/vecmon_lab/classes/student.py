@@ -114,11 +114,17 @@ class Student:
     """
 
     def __init__(
-        self, machine: SharedMachine, seat: Seat, texts: TextStore, exercises: Exercises, check: Checker
+        self,
+        machine: SharedMachine,
+        seat: Seat,
+        texts: TextStore,
+        exercises: Exercises,
+        check: Checker,
+        source: SeatSource | None = None,
     ) -> None:
-        """texts: keeps the seat's source and its versions"""
+        """texts: keeps the seat's source and its versions; source: None for that of a class"""
         self.machine, self.seat, self.exercises = machine, seat, exercises
-        self.source = SeatSource(seat.name, texts)
+        self.source = source or SeatSource(seat.name, texts)
         self.problems: SourceResult = {"mistakes": [], "warnings": []}
         self._texts, self._check = texts, check
         self.source.settle([*exercises.by_name])
@@ -177,7 +183,8 @@ class Student:
             case Draft():
                 self._draft(request)
             case OpenExercise(name):
-                self.exercises.exercise(name)
+                if name or not self.source.has_free_program:
+                    self.exercises.exercise(name)
                 self.source.open(name)
             case ReadVersion(number):
                 return text_of(self.source.version(number))

@@ -295,7 +295,10 @@ export class Bench {
     sessionStorage.removeItem("linked");
     if (!hash) return;
     const linked = sourceOf(hash, this.editor.language);
-    if (linked) this.source.replace(linked), this.panes.show("editor");
+    if (linked) {
+      this.source.openFree().then(() => this.source.replace(linked));
+      this.panes.show("editor");
+    }
     this.tell(linked ? textOf("link.brought") : textOf("link.damaged"));
   }
 

@@ -82,7 +82,7 @@ export interface Editor {
   on(event: "change", heard: (editor: Editor, change: Change) => unknown): void;
   on(event: "changes", heard: (editor: Editor, changes: Change[]) => unknown): void;
   on(event: "gutterClick", heard: (editor: Editor, line: number) => unknown): void;
-  on(event: "keydown", heard: (editor: Editor, event: KeyboardEvent & { codemirrorIgnore?: boolean }) => unknown): void;
+  on(event: "keydown" | "keypress", heard: (editor: Editor, event: KeyboardEvent & { codemirrorIgnore?: boolean }) => unknown): void;
   on(event: "cursorActivity" | "focus" | "blur" | "mousedown", heard: (editor: Editor) => unknown): void;
   operation<Result>(perform: () => Result): Result;
   posFromIndex(index: number): Position;

@@ -10,6 +10,8 @@ export const MARGIN = 60; // px around a line that is scrolled into sight
 const [INDENT, INDENT_OF_C] = [8, 4]; // columns
 const TOGETHER = 1000; // ms: what is typed without a longer pause is undone at once
 const MOST_CHANGES = 300; // that undo goes back to
+const CONTROL = /[\x01-\x08\x0b\x0c\x0e-\x1f\x7f]/; // characters that no key types: all but tabs and ends of lines
+const [PICTURES, DELETE, DELETE_PICTURE] = [0x2400, 0x7f, "␡"]; // Unicode has a sign for each control character
 const ALSO_PAINTED = 80; // lines above and below those in sight: a screen reader has only what is painted
 
 /** @typedef {import("./types").SourceText} SourceText */
@@ -24,6 +26,21 @@ const PHRASES = { // of CodeMirror's dialogs
   "Replace with:": textOf("editor.replace-with"), "Replace?": textOf("editor.is-replaced"),
   Yes: textOf("editor.yes"), No: textOf("editor.no"), All: textOf("editor.all"), Stop: textOf("editor.stop"),
 };
+
+/** Ignores a key without Ctrl that would type a control character. */
+function refuseControl(/** @type {KeyboardEvent & { codemirrorIgnore?: boolean }} */ event) {
+  if (event.ctrlKey || event.metaKey || !CONTROL.test(String.fromCharCode(event.charCode))) return;
+  event.preventDefault();
+  event.codemirrorIgnore = true;
+}
+
+/** The sign of a control character in a source, as ␛; its number is in the title. */
+function controlSign(/** @type {string} */ character) {
+  const code = character.charCodeAt(0);
+  const number = `U+${code.toString(16).toUpperCase().padStart(4, "0")}`;
+  const sign = code < 0x20 ? String.fromCharCode(PICTURES + code) : code === DELETE ? DELETE_PICTURE : number;
+  return Object.assign(make("span", "cm-invalidchar", sign), { title: number, ariaLabel: number });
+}
 
 export class Editor {
   /** @type {(line: number) => void} */ toggleBreakpoint = () => {};
@@ -70,6 +87,7 @@ export class Editor {
       readOnly, screenReaderLabel: ariaLabel, indentUnit: INDENT, tabSize: INDENT, historyEventDelay: TOGETHER, undoDepth: MOST_CHANGES,
       viewportMargin: ALSO_PAINTED, matchBrackets: true, autoCloseBrackets: true, styleActiveLine: true,
       extraKeys: readOnly ? { Esc: false } : extraKeys, phrases: PHRASES,
+      specialCharPlaceholder: controlSign,
     };
   }
 
@@ -81,6 +99,7 @@ export class Editor {
     code.on("cursorActivity", () => this.moved());
     code.on("gutterClick", (_, line) => this.toggleBreakpoint(line + 1));
     code.on("keydown", (_, event) => this.pressed(event));
+    code.on("keypress", (_, event) => refuseControl(event)); // WebKitGTK has one of Escape, too
     code.on("focus", () => (this.isLeaving = true)); // so Tab passes by, until something is typed or clicked
     box.addEventListener("pointerup", () => (this.isLeaving = false));
     new ResizeObserver(() => (code.refresh(), this.bringIntoSight())).observe(box); // it has another size, or is shown

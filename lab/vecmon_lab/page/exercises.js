@@ -26,7 +26,8 @@ const isStart = (exercise, text) => Boolean(exercise?.starts.some((start) => sta
 export class Exercises {
   /** @type {All} */ all = {};
   /** @type {string[]} */ names = []; // in the course's order
-  name = ""; // of the exercise whose source the seat has
+  name = ""; // of the exercise whose source the seat has; the first one's if that is a program without an exercise
+  isFree = false; // whether the source is such a program, as the playground has it
   isOpen = false; // whether one is open; at a first visit they are listed
   awaited = ""; // the exercise that is being checked
 
@@ -46,12 +47,13 @@ export class Exercises {
   show(/** @type {All} */ all, /** @type {SourceView} */ source) {
     const names = Object.keys(all).sort((one, other) => all[one].number - all[other].number);
     const name = names.includes(source.exercise) ? source.exercise : names[0];
-    const isOther = Boolean(this.name) && name !== this.name;
-    const isOpen = this.isOpen || isOther || this.hasBegun(all, source);
+    const isFree = !source.exercise;
+    const isOther = Boolean(this.name) && (name !== this.name || isFree !== this.isFree);
+    const isOpen = !isFree && (this.isOpen || isOther || this.hasBegun(all, source));
     if (all === this.all && !isOther && isOpen === this.isOpen) return;
     const item = (/** @type {string} */ own) => make("li", "", Object.assign(make("button", ""), { onclick: () => this.choose(own) }));
     if (`${names}` !== `${this.names}`) byId("course-list").replaceChildren(...names.map(item));
-    Object.assign(this, { all, names, name, isOpen });
+    Object.assign(this, { all, names, name, isOpen, isFree });
     byId("tab-exercise").hidden = byId("exercise").hidden = !names.length;
     document.body.classList.toggle("exercising", names.length > 0);
     if (!names.length) return;
@@ -68,8 +70,8 @@ export class Exercises {
 
   /** Opens an exercise, in all tabs of the seat: each has a source, at first the one to begin with. A machine of another source is left. */
   async choose(/** @type {string} */ name) {
-    const isListed = !this.isOpen && name === this.name; // the seat has it already
-    this.isOpen = true;
+    const isListed = !this.isOpen && !this.isFree && name === this.name; // the seat has it already
+    this.isOpen ||= !this.isFree;
     this.bench.panes.select(byId("show-source"));
     if (isListed) this.bench.connection.ask({ ask: "open", exercise: name }), this.paint();
     if (isListed) return await this.takeStart(), this.bench.leaveOther();

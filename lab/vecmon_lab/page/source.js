@@ -30,6 +30,7 @@ export class Source {
   /** @type {Set<string>} */ sent = new Set(); // keys of what is under way
   isTyped = false;
   timer = 0;
+  /** @type {() => Promise<unknown>} */ openFree = async () => undefined; // opens the program without an exercise, where there is one
   /** @type {{ of: number, used: number } | undefined} */ share; // the seat's, of the script
 
   /**
@@ -43,7 +44,8 @@ export class Source {
     this.file = part(root, "open");
     this.parts = parts(root, "versions", "assemble", "left");
     const { versions } = this.parts;
-    document.addEventListener("visibilitychange", () => this.send());
+    document.addEventListener("visibilitychange", () => (this.keepUnsaved(), this.send()));
+    addEventListener("pagehide", () => this.keepUnsaved());
     versions.addEventListener("change", () => this.showVersion(versions.selectedIndex));
     part(root, "save").addEventListener("click", () => this.save());
     part(root, "open-file").addEventListener("click", () => this.file.click());
@@ -55,8 +57,9 @@ export class Source {
     offerFile(`${this.seat}.${suffixOf(language, this.editor.language)}`, new Blob([text]));
   }
 
-  /** Puts a file into the editor, where undo takes it back. */
+  /** Puts a file into the editor, where undo takes it back. From the start page it is no answer to an exercise. */
   async open(/** @type {File | undefined} */ file) {
+    if (file && document.body.matches(".starting")) await this.openFree();
     if (file) await this.replace({ text: await file.text(), language: languageOf(file.name, this.editor.language) });
     this.file.value = ""; // so that the same file can be opened again
   }
@@ -77,6 +80,12 @@ export class Source {
     if (!this.told || !this.isTyped || this.isTooLong || !this.connection.isReady || keyOf(source) === keyOf(this.told)) return;
     if (this.sent.size) this.timer = setTimeout(() => this.send(), PAUSE);
     else await this.bringOwn({ line: this.editor.caretLine });
+  }
+
+  /** Hands the typed text to a page that keeps it in the browser, since the page may be closed before the text is sent. */
+  keepUnsaved() {
+    const exercise = this.told?.exercise;
+    if (exercise !== undefined && this.isTyped && !this.isTooLong) this.connection.keepUnsaved?.({ ...this.editor.source, exercise });
   }
 
   /** Does what brings a source to the server; the answer. */

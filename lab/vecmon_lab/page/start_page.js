@@ -31,6 +31,7 @@ export class StartPage {
     part(root, "new-program").addEventListener("click", beginner("program.s", part(root, "source").defaultValue));
     part(root, "new-in-c").addEventListener("click", beginner("program.c", part(root, "c-start").textContent));
     part(root, "open-source").addEventListener("click", () => source.file.click());
+    source.openFree = () => this.openFree();
     source.file.addEventListener("change", () => (this.keep(), bench.leave(), this.leave(source.file.files?.[0]?.name)));
     part(root, "to-start").addEventListener("click", () => this.open());
     part(root, "to-start").hidden = false;
@@ -49,7 +50,9 @@ export class StartPage {
 
   /** Shows the bench once an exercise was opened, or a machine has begun. */
   show(/** @type {View} */ view) {
-    const isOther = view.source.exercise !== this.view.source.exercise || view.state.run !== this.view.state.run;
+    const isOtherWork = view.source.exercise !== this.view.source.exercise;
+    const isOther = isOtherWork || view.state.run !== this.view.state.run;
+    if (isOtherWork) this.keep(); // what is in the editor yet
     this.view = view;
     if (isOther && !part(this.root, "start-page").hidden) this.leave();
   }
@@ -62,12 +65,24 @@ export class StartPage {
     return Object.assign(make("button", "tile", ...words), { disabled, onclick: () => this.begin(source) });
   }
 
+  /** Opens the program that belongs to no exercise, unless it is open. */
+  async openFree() {
+    if (this.view.source.exercise) await this.bench.source.openExercise("");
+  }
+
+  /** A button that leads from an exercise back to the program. */
+  ownTile() {
+    const words = [make("b", "", textOf("author.own")), make("span", "", textOf("author.own.about"))];
+    return Object.assign(make("button", "tile", ...words), { onclick: async () => (await this.openFree(), this.bench.leaveOther()) });
+  }
+
   open() {
     this.keep();
     const tiles = recent().map(({ time, ...source }) => {
       const saved = new Date(time).toLocaleString("en-GB", { dateStyle: "medium", timeStyle: "short" });
       return this.tile(source.name, /[^\s/#].*/.exec(source.text)?.[0] ?? "", saved, source);
     });
+    if (this.view.source.exercise) tiles.unshift(this.ownTile());
     part(this.root, "recent").replaceChildren(...group(textOf("author.recent"), tiles));
     this.toggle(true);
     part(this.root, "new-program").focus();
@@ -75,6 +90,7 @@ export class StartPage {
 
   /** Puts a source into the editor, where what was there becomes a version; a machine that has another source is left. */
   async begin(/** @type {NamedSource} */ { name, text, language }) {
+    await this.openFree();
     await this.bench.source.replace({ text, language });
     if (this.bench.hasChanged) this.bench.leave();
     this.leave(name);
@@ -96,7 +112,7 @@ export class StartPage {
   /** Keeps the source in the editor among the recent ones. */
   keep() {
     const name = sessionStorage.getItem(NAME);
-    if (!name) return;
+    if (!name || this.view.source.exercise) return; // an answer isn't a program of this name
     const others = recent().filter((each) => each.name !== name);
     store(KEY, [{ name, ...this.bench.editor.source, time: Date.now() }, ...others].slice(0, MOST));
   }

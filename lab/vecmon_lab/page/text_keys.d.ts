@@ -49,6 +49,8 @@ export interface Places {
   "author.exercises": never;
   "author.no-c": "reason";
   "author.recent": never;
+  "author.own": never;
+  "author.own.about": never;
   "author.assembler": never;
   "author.flawed": never;
   "author.c": never;
@@ -659,6 +661,8 @@ export interface Places {
   "listings.instructions": never;
   "listings.other-files": never;
   "playground.elsewhere": never;
+  "playground.took-up": never;
+  "playground.joined": never;
   "playground.newer": never;
   "playground.file.too-large": "file" | "most";
   "playground.file.unknown": "file";

@@ -17,6 +17,9 @@ export interface SourceText {
   language: number;
 }
 
+/** A source in the editor, and the exercise that it belongs to; "" for none. */
+export type UnsavedSource = SourceText & { exercise: string };
+
 /** A request without the number that the connection gives it. */
 export type Request = Without<Messages.StudentRequestForm | Messages.TeacherRequestForm, "id">;
 
@@ -47,6 +50,8 @@ export interface Connection {
   download(place: string, name: string): Promise<boolean>;
   /** The exercise that the page's address names, once; "" without one. Only the playground has such addresses. */
   takeWanted?(): string;
+  /** Keeps a typed source that may not be saved yet, before the page is closed. Only the playground saves sources itself. */
+  keepUnsaved?(source: UnsavedSource): void;
 }
 
 /** The owner of a connection, which reports to it. */

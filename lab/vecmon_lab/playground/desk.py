@@ -28,6 +28,7 @@ from ..classes.requests import (
 from ..classes.requests import ReadVersion, Request, RunProgram, Settings, Source, StepLine, StepProgram
 from ..classes.requests import ToggleBreakpoints, TryCase, Why, read_request
 from ..classes.shared_machine import Answers, MakeProgram, Returned, SharedMachine, Steps, Turn, WorkApart
+from ..classes.sources import SeatSource
 from ..classes.student import ClassView, Student, try_result
 from ..classes.text_store import TextStore
 from ..exercises.check import check, lesson, lesson_before
@@ -71,13 +72,17 @@ class Desk:
         exercises: Mapping[str, Exercise],
         starts: Mapping[str, list[Start]],
         limit: int = Settings.limit,
+        source: SeatSource | None = None,
     ) -> None:
-        """texts: keeps the seat's source and its versions; starts: of each exercise the sources to start with"""
+        """texts: keeps the seat's source and its versions; starts: of each exercise the sources to start with
+
+        source: None for that of a class's seat
+        """
         self.program, self.texts, self.limit = program, texts, limit
         self.exercises = Exercises(exercises, starts)
         self.machine = SharedMachine("A", session, NoRecorder())
         self.seat = self.machine.seats.users["1"]
-        self.student = Student(self.machine, self.seat, texts, self.exercises, self._begin_check)
+        self.student = Student(self.machine, self.seat, texts, self.exercises, self._begin_check, source)
         self._sent, self._good = Updates(), dict[str, AnswerCost]()
         self._checks: list[Callable[[], None]] = []
         self._looked = 0.0  # when a running program was looked at last

@@ -4,6 +4,7 @@
 `{"request": "..."}` is a request of the page (docs/CLASS_PROTOCOL.md).
 `{"turn": true}` does a part of the work without a request.
 `{"keep": true}` sends each changed text to the worker, which saves it.
+`{"join": TEXTS}` takes up what another tab has changed, as `begin` has texts; null for a removed one.
 `{"image": NAME, "path": P}` is an image that was dropped, in the file P.
 `{"lesson": TICKET}` returns a lesson, in HTML.
 `{"forget": true}` drops the desk, for a snapshot.
@@ -87,6 +88,8 @@ def _message(asked: dict[str, Any]) -> object:
             return _desk.drop(name, pathlib.Path(path).read_bytes())
         case {"lesson": ticket}:
             return {"kind": "lesson", **_lesson(_desk, ticket)}
+        case {"join": theirs}:
+            return {**_desk.join(theirs), "joined": True}
         case {"turn": _}:
             return _desk.turn() or {}
     return {}

@@ -5,7 +5,7 @@ import contextlib
 import json
 import pathlib
 import re
-from collections.abc import Callable, Mapping
+from collections.abc import Callable, Iterator, Mapping, Sequence
 from functools import partial
 
 from .. import LabError, mistakes_in
@@ -29,6 +29,8 @@ from ..machine.program import image_refusal
 from ..machine.session import Session, recorded_lines
 from ..machine.target import check_flags, check_kind, target_warnings
 from .desk import Desk
+from .kept_texts import KeptTexts
+from .page_source import PageSource
 
 SCRIPT, SET_UP = "A.script", "A.set_up"  # the machine's lines, and how many of the first ones set it up
 STOP = "A.stop"  # the last stop when those were made, unless something had changed since
@@ -73,7 +75,9 @@ class PageDesk(Desk):
             Session, program, quantum=int(quantum) if re.fullmatch("[1-9][0-9]{0,2}", quantum) else None
         )
         session = self._opening(self._kept_images(texts))
-        super().__init__(program, session, texts, exercises, starts)
+        self.source = PageSource("A1", texts)
+        super().__init__(program, session, texts, exercises, starts, source=self.source)
+        self.source.take_unsaved()
         self._set_up, self._stops = 0, dict[str, str]()
         self._restore_tries()
         self._restore_machine()
@@ -89,6 +93,18 @@ class PageDesk(Desk):
         self.texts.write_text(SCRIPT, self.machine.session.script.decode("ascii"))
         self.texts.write_text(SET_UP, f"{self._set_up}")
         self.texts.write_text(STOP, self._stops.get(self.seat.digit, ""))
+
+    def join(self, theirs: Mapping[str, Sequence[object] | None]) -> News:
+        """Take up what another tab has saved since this page opened: sources, versions, tries and images. Return the changes.
+
+        theirs: the texts that the other tab has changed, as KeptTexts takes them; None for a removed one
+        """
+        other = KeptTexts({name: entry for name, entry in theirs.items() if entry})
+        self.source.join(other, [*self.exercises.by_name])
+        for name, file in self._files_of_tries(other):
+            self._join_try(name, file, other.read_text(file))
+        self._join_files(other)
+        return with_changes(News(kind="news"), self.news())
 
     def drop(self, name: str, content: bytes) -> News:
         """Loads an image that was dropped on the page, or says why it isn't loaded; what is new then."""
@@ -247,6 +263,32 @@ class PageDesk(Desk):
             _set_aside(self.texts, file)
             self.lost.append(f"try {number} at {name} is damaged, and counts as one in which nothing passes")
             return attempt()
+
+    def _files_of_tries(self, texts: TextStore) -> Iterator[tuple[str, str]]:
+        """The files of tries in a store, each after the name of its exercise."""
+        for name in self.exercises.by_name:
+            files = {file for file, _ in texts.files(f"{ANSWERS}/{self.seat.name}.{name}.*.json")}
+            numbered = (self._file_of_try(name, number) for number in range(1, MAX_TRIES + 1))
+            yield from ((name, file) for file in numbered if file in files)
+
+    def _join_try(self, name: str, file: str, text: str) -> None:
+        """Add another tab's try to those at an exercise, unless it is there; a damaged one is set aside."""
+        own = (self.texts.read_text(each) for exercise, each in self._files_of_tries(self.texts) if exercise == name)
+        if text in own or len(self.exercises.progress(self.seat.name, name).tries) >= MAX_TRIES:
+            return
+        try:
+            done = attempt(**json.loads(text))
+        except (ValueError, TypeError, RecursionError):
+            self.texts.write_text(f"damaged/{file.replace('/', '-')}", text)
+        else:
+            self.add_try(name, self.exercises.with_case_names(name, done))
+
+    def _join_files(self, other: TextStore) -> None:
+        """Save another tab's images and damaged texts, unless there are some of these names."""
+        names = [name for pattern in (f"{IMAGES}/*", "damaged/*") for name, _ in other.files(pattern)]
+        for name in names:
+            if not self.texts.read_text(name):
+                self.texts.write_text(name, other.read_text(name))
 
     def _file_of_try(self, name: str, number: int) -> str:
         return f"{ANSWERS}/{self.seat.name}.{name}.{number}.json"

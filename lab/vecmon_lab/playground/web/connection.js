@@ -32,7 +32,7 @@ function takeExercise() {
   const [, name = ""] = /^#exercise=(.{1,40})/.exec(location.hash) ?? [];
   if (!name) return "";
   history.replaceState(null, "", location.pathname);
-  sessionStorage.setItem("begun", ""); // in place of the start page
+  if (sessionStorage.getItem("begun") === null) sessionStorage.setItem("begun", ""); // in place of the start page
   return name;
 }
 
@@ -53,6 +53,7 @@ export class Connection {
   pending = new Pending();
   /** @type {Worker | null} */ worker = null;
   /** @type {Window | null} */ tab = null; // for a lesson
+  /** @type {import("./playground").TextChanges} */ theirs = {}; // of another tab, which this page joins with its own
   saveRest = () => offerFile("vecmon-damaged.json", jsonFile(this.work.rest));
   damaged = button(textOf("playground.damaged"), textOf("playground.damaged.label"), this.saveRest);
   words = Object.assign(make("p", ""), { id: "stored", hidden: true });
@@ -61,7 +62,7 @@ export class Connection {
   constructor(code, listener) {
     current = this;
     this.listener = listener;
-    this.work = new KeptWork((words) => this.say(words));
+    this.work = new KeptWork((words) => this.say(words), (stored) => this.takeOver(stored));
     this.addElements();
     document.addEventListener("click", (event) => this.openLesson(event), true);
     document.addEventListener("dragover", (event) => event.preventDefault());
@@ -114,6 +115,26 @@ export class Connection {
     this.begin();
   }
 
+  /** Saves in place of a tab that is closed, with its stored texts: as they are, or next to the work on this page. */
+  async takeOver(/** @type {Texts} */ stored) {
+    await this.ask({ ask: "lines", do: [], look: [] }, { keep: true }); // so that the texts are those of the work on this page
+    this.theirs = this.work.changesOf(stored);
+    if (this.work.hasChanged) return this.send({ join: this.theirs, keep: true });
+    this.work.adopt(stored);
+    if (!Object.keys(this.theirs).length) return undefined;
+    await this.restart(stored);
+    return this.say(textOf("playground.took-up"));
+  }
+
+  /** Saves the joined work of both tabs. */
+  async saveJoined() {
+    const names = Object.keys(this.theirs);
+    await this.work.saveInPlace(names);
+    if (names.length && !this.work.isFull) this.say(textOf("playground.joined"));
+  }
+
+  keepUnsaved = (/** @type {import("./types").UnsavedSource} */ source) => this.work.keepUnsaved(source);
+
   fail(/** @type {string} */ words) {
     Object.assign(this, { isReady: false, isStarting: false });
     this.pending.drop();
@@ -132,6 +153,7 @@ export class Connection {
       if (message.lost.length) this.say([this.work.trouble, ...message.lost.map((words) => `${words}.`)].join(" "));
     }
     this.listener.told(message);
+    if (message.kind === "news" && message.joined) this.saveJoined();
     if (message.kind === "answer") this.pending.settle(message);
   }
 

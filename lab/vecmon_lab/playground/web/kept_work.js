@@ -1,13 +1,18 @@
 // The work of this page in the browser's storage (IndexedDB): texts by name, each with its time in seconds since 1970; and files of them.
 
+import { store, stored } from "./preferences.js";
 import { textOf } from "./texts.js";
 
 /** @typedef {import("./playground").Entry} Entry */
 /** @typedef {import("./playground").Texts} Texts */
+/** @typedef {import("./types").UnsavedSource} UnsavedSource */
 
 const [DATABASE, STORE] = ["vecmon playground", "texts"]; // the tab that saves holds a lock of the database's name
 const [FORMAT, FORMAT_VERSION] = ["vecmon work", 1];
-const NEWER = textOf("playground.newer");
+const [NEWER, ELSEWHERE] = [textOf("playground.newer"), textOf("playground.elsewhere")];
+const [UNSAVED, UNSAVED_KEY] = ["A1.unsaved", "vecmon-unsaved"]; // the source in the editor as the page was closed; its key in localStorage
+const OPEN_SOURCE = /^A1\.(?!written)/; // the text that has the source of the open work
+const RETRY_PAUSE = 3000; // ms after which what the storage didn't take is written again
 const [MOST_FILE_BYTES, MOST_TEXTS] = [64 << 20, 20000];
 const NAME = /^[\w.@-]+(\/[\w.@-]+)?$/; // of a text, with one folder at most
 
@@ -50,9 +55,21 @@ export const textsOf = async (/** @type {File} */ file) => {
   return byName(entries);
 };
 
-/** The storage of this page. If it is refused, `trouble` has a sentence, and texts are only in memory. `readOnly`: why nothing is saved. */
+/** The names of texts that differ between two states of the work. */
+/** @type {(before: Texts, after: Texts) => string[]} */
+const changedNames = (before, after) =>
+  Object.keys({ ...before, ...after }).filter((name) => before[name]?.[0] !== after[name]?.[0]);
+
+/** Whether a text is that of a page in which nothing was done: no lines of a machine, and their number. */
+const isBlank = (/** @type {string | undefined} */ text) => ["", "0", undefined].includes(text);
+
+/**
+ * The storage of this page. If it is refused, `trouble` has a sentence, and texts are only in memory. `readOnly`: why nothing is saved.
+ * Of several tabs one saves. When it is closed, the next one takes over: `tookOver` is called with the texts that are stored then.
+ */
 export class KeptWork {
   /** @type {Texts} */ texts = {};
+  /** @type {Texts} */ first = {}; // as this page read them
   /** @type {Partial<Entry>[]} */ rest = []; // entries that can't be read
   trouble = "";
   readOnly = "";
@@ -60,28 +77,40 @@ export class KeptWork {
   /** @type {IDBDatabase | null} */ database = null;
   /** @type {Map<string, Entry | null>} */ due = new Map(); // entries that aren't written yet
   /** @type {Promise<void> | null} */ writing = null;
+  timer = 0; // until what failed is written again
 
-  /** @param {(trouble: string) => unknown} changed is called when `trouble` has changed */
-  constructor(changed) {
+  /** @param {(trouble: string) => unknown} changed is called when `trouble` has changed @param {(stored: Texts) => unknown} tookOver */
+  constructor(changed, tookOver) {
     this.changed = changed;
+    this.tookOver = tookOver;
   }
 
   /** Opens the storage, and reads what it has. */
   async open() {
-    if (!(await this.holdLock())) this.readOnly = textOf("playground.elsewhere");
+    const isSaving = await this.holdLock({ ifAvailable: true });
+    if (!isSaving) this.readOnly = ELSEWHERE;
     try {
       const database = (this.database = await this.openDatabase());
       database.onversionchange = () => (database.close(), this.say((this.readOnly = NEWER))); // a newer page opens it
-      /** @type {Partial<Entry>[]} */
-      const entries = await resultOf(database.transaction(STORE).objectStore(STORE).getAll());
-      this.texts = byName(entries.filter(isEntry));
-      this.rest = entries.filter((entry) => !isEntry(entry));
+      this.first = await this.read(isSaving);
+      this.texts = { ...this.first };
       const damaged = this.rest.length ? textOf("playground.unreadable", { count: this.rest.length }) : "";
       this.say(`${damaged} ${this.readOnly}`.trim());
     } catch (error) {
       this.database = null;
       this.say(textOf("playground.no-storage", { cause: /** @type {Error} */ (error).name }));
     }
+    if (!isSaving) this.takeOver();
+  }
+
+  /** The stored texts; entries that can't be read become the rest. isSaving: whether the unsaved source is this page's */
+  async read(isSaving = true) {
+    /** @type {Partial<Entry>[]} */
+    const entries = await resultOf(/** @type {IDBDatabase} */ (this.database).transaction(STORE).objectStore(STORE).getAll());
+    this.rest = entries.filter((entry) => !isEntry(entry));
+    const { time, ...source } = stored(UNSAVED_KEY) ?? {};
+    const unsaved = { name: UNSAVED, text: JSON.stringify(source), time };
+    return byName([...entries.filter(isEntry), ...(isSaving && isEntry(unsaved) ? [unsaved] : [])]);
   }
 
   openDatabase() {
@@ -94,14 +123,56 @@ export class KeptWork {
     });
   }
 
-  /** Whether this tab gets the lock, and so is the one that saves. */
-  /** @type {() => Promise<boolean>} */
-  holdLock() {
+  /** Whether this tab gets the lock, and so is the one that saves. Without ifAvailable it waits for the lock. */
+  /** @type {(options: LockOptions) => Promise<boolean>} */
+  holdLock(options) {
     return new Promise((done) => {
       const hold = (/** @type {unknown} */ lock) => (done(Boolean(lock)), lock && new Promise(() => {}));
       if (!navigator.locks) return done(true);
-      return navigator.locks.request(DATABASE, { ifAvailable: true }, hold).catch(() => done(true)); // of a page without an origin
+      return navigator.locks.request(DATABASE, options, hold).catch(() => done(true)); // of a page without an origin
     });
+  }
+
+  /** Waits until the tab that saves is closed, and takes over. */
+  async takeOver() {
+    await this.holdLock({});
+    if (!this.database || this.readOnly !== ELSEWHERE) return;
+    try {
+      this.tookOver(await this.read());
+    } catch (error) {
+      this.say(textOf("playground.no-storage", { cause: /** @type {Error} */ (error).name }));
+    }
+  }
+
+  /** Whether something was done on this page. */
+  get hasChanged() {
+    return changedNames(this.first, this.texts).some((name) => this.first[name] || !isBlank(this.texts[name]?.[0]));
+  }
+
+  /** The texts that another tab has changed, as they are stored; null for a removed one. */
+  /** @type {(stored: Texts) => Record<string, Texts[string] | null>} */
+  changesOf(stored) {
+    return Object.fromEntries(changedNames(this.first, stored).map((name) => [name, stored[name] ?? null]));
+  }
+
+  /** Takes up the stored texts of another tab in place of this page's, and saves from now on. */
+  adopt(/** @type {Texts} */ stored) {
+    this.due.clear();
+    this.texts = { ...stored };
+    this.say((this.readOnly = ""));
+  }
+
+  /** Saves from now on, in place of another tab; the texts of these names as well, which that tab has changed. */
+  saveInPlace(/** @type {string[]} */ names) {
+    for (const name of names) if (!this.due.has(name)) this.due.set(name, this.entry(name));
+    this.say((this.readOnly = ""));
+    return this.save();
+  }
+
+  /** A text as the database has it; null without one. */
+  entry(/** @type {string} */ name) {
+    const [text, time] = this.texts[name] ?? [];
+    return text === undefined || time === undefined ? null : { name, text, time };
   }
 
   /** Saves a text, or removes it where it is null, soon after. */
@@ -109,8 +180,14 @@ export class KeptWork {
   keep(name, text, time) {
     if (text === null) delete this.texts[name];
     else this.texts[name] = [text, time];
-    this.due.set(name, text === null ? null : { name, text, time });
-    this.writing ??= this.write();
+    this.due.set(name, this.entry(name));
+    this.save();
+  }
+
+  /** Keeps the source in the editor in a storage that is written at once, since the page may be closed now. */
+  keepUnsaved(/** @type {UnsavedSource} */ source) {
+    const isKept = Object.entries(this.texts).some(([name, [text]]) => OPEN_SOURCE.test(name) && text === source.text);
+    if (this.database && !this.readOnly && !isKept) store(UNSAVED_KEY, { ...source, time: Date.now() / 1000 });
   }
 
   /** Replaces all texts. */
@@ -120,24 +197,50 @@ export class KeptWork {
     await this.writing;
   }
 
-  /** Writes what is due, in one transaction. */
+  /** Writes what is due; a promise that it is written, or isn't taken. */
+  save() { return (this.writing ??= this.write()); }
+
+  /** Writes what is due, one transaction after the other; what the storage doesn't take stays due, and is tried again. */
   async write() {
+    clearTimeout(this.timer);
     await null; // so that what is kept together is written together
+    let failure = "";
+    while (this.due.size && this.database && !this.readOnly && !failure) failure = await this.put([...this.due]);
+    if (failure) await this.putApart(failure);
+    if (!this.due.size) this.forgetUnsaved();
+    if (this.isFull && !this.due.size) this.say((this.isFull = ""));
+    if (this.isFull) this.timer = setTimeout(() => this.save(), RETRY_PAUSE);
     this.writing = null;
-    if (!this.database || this.readOnly) return;
-    const entries = [...this.due];
-    this.due.clear();
+  }
+
+  /** Writes what is due in transactions of one entry each, the smallest first, after one with all failed. */
+  async putApart(/** @type {string} */ failure) {
+    this.say((this.isFull = textOf("playground.full", { cause: failure })));
+    const sizeOf = (/** @type {[string, Entry | null]} */ [, entry]) => entry?.text.length ?? -1;
+    const entries = [...this.due].sort((one, other) => sizeOf(one) - sizeOf(other));
+    for (const entry of entries) await this.put([entry]);
+  }
+
+  /** Writes due entries in one transaction; they are due again if it fails. Returns the name of the error, "" without one. */
+  async put(/** @type {[string, Entry | null][]} */ entries) {
+    for (const [name] of entries) this.due.delete(name);
     try {
-      const transaction = this.database.transaction(STORE, "readwrite");
-      const store = transaction.objectStore(STORE);
-      for (const [name, entry] of entries) entry ? store.put(entry) : store.delete(name);
+      const transaction = /** @type {IDBDatabase} */ (this.database).transaction(STORE, "readwrite");
+      const texts = transaction.objectStore(STORE);
+      for (const [name, entry] of entries) entry ? texts.put(entry) : texts.delete(name);
       await new Promise((done, fail) => Object.assign(transaction, { oncomplete: done, onabort: () => fail(transaction.error) }));
-      if (this.isFull) this.say((this.isFull = ""));
+      return "";
     } catch (error) {
-      for (const [name, entry] of entries) if (!this.due.has(name)) this.due.set(name, entry); // for the next transaction
-      const { name = "" } = /** @type {Partial<Error>} */ (error ?? {});
-      this.say((this.isFull = textOf("playground.full", { cause: name })));
+      for (const [name, entry] of entries) if (!this.due.has(name)) this.due.set(name, entry);
+      return /** @type {Error | null} */ (error)?.name || "AbortError";
     }
+  }
+
+  /** Forgets the source that wasn't saved, once it is stored. */
+  forgetUnsaved() {
+    const { text } = stored(UNSAVED_KEY) ?? {};
+    const isKept = !this.texts[UNSAVED] && Object.values(this.texts).some(([each]) => each === text);
+    if (isKept) store(UNSAVED_KEY, null);
   }
 
   say(/** @type {string} */ words) {

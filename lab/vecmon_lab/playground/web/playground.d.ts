@@ -5,6 +5,9 @@ import type { ExampleSource, Message } from "../../page/messages";
 /** Texts by name, each with its time in seconds since 1970. */
 export type Texts = Record<string, [text: string, time: number]>;
 
+/** Texts that were changed, by name; null for a removed one. */
+export type TextChanges = Record<string, Texts[string] | null>;
+
 /** A text as the database has it. */
 export interface Entry {
   name: string;
@@ -40,6 +43,7 @@ export interface ToWorker {
   content?: ArrayBuffer;
   path?: string;
   lesson?: string;
+  join?: TextChanges;
   forget?: boolean;
 }
 
@@ -50,7 +54,8 @@ export type FromWorker =
   | { kind: "failed"; text: string }
   | { kind: "lesson"; page?: string; error?: string }
   | (Message & { kind: "hello"; lost: string[] })
-  | (Message & { kind: "answer" | "news" });
+  | (Message & { kind: "news"; joined?: true })
+  | (Message & { kind: "answer" });
 
 /** What Python asks of the page that it is in. */
 export interface Host {
