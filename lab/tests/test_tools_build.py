@@ -90,7 +90,9 @@ def test_wasm_refuses_an_unknown_program(tmp_path: pathlib.Path) -> None:
 def tested(tmp_path: pathlib.Path) -> Tools:
     """A folder in which tools/test runs, with stand-ins for all that it calls."""
     tools = Tools(tmp_path, "test", "crates_above", "proved_build.py", "linked_kit.py")
-    tools.stand_in("tools/keep_modules", ".venv/bin/python")
+    tools.stand_in("tools/keep_modules", then="echo /a/kit\n")
+    tools.stand_in("tools/gate_part", then=f'echo "${{PATH%%:*}}" >> {shlex.quote(str(tools.record))}\n')
+    tools.stand_in(".venv/bin/python")
     for name in ("lab/setup", "tools/check_kit", "tools/left_behind.py"):
         (tmp_path / name).parent.mkdir(exist_ok=True)
         (tmp_path / name).write_text("#!/bin/sh\n")
@@ -117,8 +119,8 @@ def test_crates_are_tested_with_those_above(tested: Tools, names: list[str], pro
     crates = first.partition(": ")[2]
     assert sorted(crates.split()) == sorted(proved.split())
     assert second.partition(": ")[2] == (f"{outside}, and of the lab a test by command" if outside else "none")
-    kept, *python = tested.calls()
-    assert kept == f"keep_modules {crates}"
+    kit, proofs, path, *python = tested.calls()
+    assert (kit, proofs, path) == ("keep_modules --kit", f"gate_part {crates}", "/a/kit/bin")
     assert [call.split()[-1] for call in python] == ([outside, "lab"] if outside else [])
     assert ran.stdout.endswith(f"passed: the proofs, edits and tests of {' '.join(names)}\n")
 
