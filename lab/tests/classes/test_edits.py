@@ -65,8 +65,16 @@ def test_line_gets_all_its_breakpoints_or_loses_them() -> None:
     with pytest.raises(BadRequest) as raised:
         breakpoint_lines(STOPS, full[:15], 4)
     assert str(raised.value) == "Line 4 needs 2 breakpoints, and 1 of 16 are left: none was set."
-    with pytest.raises(BadRequest, match="Line 5 has no instruction"):
+    with pytest.raises(BadRequest, match="Line 5 has no instruction to stop at, and no line after it has one."):
         breakpoint_lines(STOPS, [], 5)
+
+
+def test_line_without_instruction_takes_the_next_one() -> None:
+    """A second press removes what the first one set; breakpoints that are only set stay."""
+    assert breakpoint_lines(STOPS, [], 1) == ["break 10000"]
+    assert breakpoint_lines(STOPS, ["10000"], 2) == ["unbreak 10000"]
+    assert breakpoint_lines(STOPS, ["10000"], 2, is_only_set=True) == []
+    assert breakpoint_lines(STOPS, ["10010"], 4, is_only_set=True) == ["break 10008"]
 
 
 @pytest.fixture
@@ -87,3 +95,36 @@ def test_edit_changes_machine_or_is_refused(desk: Desk) -> None:
     assert "is a text" in ask(desk, ask="edit", edit="setpc")["error"]
     for breaks in (["10000"], []):
         assert "error" not in ask(desk, ask="breakpoint", line=1) and desk.seat.state["breaks"] == breaks
+
+
+COUNT = """# Counts down.
+        li a0, 3
+loop:
+        addi a0, a0, -1
+        bnez a0, loop
+        ebreak
+"""  # without labels 10000, 10004, 10008 and 1000c
+
+
+@pytest.mark.parametrize("how", [{"ask": "run"}, {"ask": "step", "count": 20}])
+def test_first_run_stops_at_lines_of_the_request(desk: Desk, how: dict[str, object]) -> None:
+    """Line 3 is a label: its breakpoint is that of line 4, which the run comes to first."""
+    answer = ask(desk, text=COUNT, breaks=[3, 5], **how)
+    desk.settle()
+    assert answer["mistakes"] == [] and desk.seat.state["breaks"] == ["10004", "10008"]
+    assert desk.seat.state["pc"] == "10004"
+
+
+def test_breakpoint_after_all_instructions_is_reported(desk: Desk) -> None:
+    """The others are set, and the program waits at its start; a source with mistakes sets none."""
+    assert ask(desk, ask="run", text="vad.vv v1, v2, v3", breaks=[1])["mistakes"] and desk.seat.state["run"] == "absent"
+    answer = ask(desk, ask="run", text=COUNT, breaks=[4, 7, 9])
+    text = "Line {} has no instruction to stop at, and no line after it has one."
+    loaded = "The program is loaded and hasn't run yet."
+    assert answer["error"] == f"{text.format(7)} {text.format(9)} {loaded}"
+    assert (desk.seat.state["pc"], desk.seat.state["breaks"]) == ("10000", ["10004"])
+
+
+@pytest.mark.parametrize("breaks", [3, [0.5], ["3"], [-1]])
+def test_lines_of_breakpoints_are_whole_numbers(desk: Desk, breaks: object) -> None:
+    assert "breaks is" in ask(desk, ask="source", text=COUNT, breaks=breaks)["error"]

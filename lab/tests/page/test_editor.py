@@ -58,10 +58,33 @@ def test_breakpoint_is_set_at_line(started: Tab) -> None:
     ActionChains(started.browser).click(number).perform()
     started.wait(f"{SIGNS} === '▶2' && id('log').textContent.includes('> unbreak 10004')")
     started.run("code().setCursor(0, 0)")
-    started.type(Keys.F9)  # a comment has none
+    started.type(Keys.F9)  # a comment has that of the next line
+    started.wait(f"{SIGNS} === '●▶2' && id('log').textContent.includes('> break 10000')")
     started.click("#one")
-    started.wait(f"{SIGNS} === '▶3'")
-    assert started.run("id('log').textContent.split('> break').length") == 2 and started.text("#run") == "Paused"
+    started.wait(f"{SIGNS} === '●2,▶3' && id('run').textContent === 'Paused'")
+
+
+def test_breakpoints_wait_for_the_program(sit: Sit) -> None:
+    """They are shown before the first run, follow their lines, and stop the run; a change that is undone sets them, too."""
+    from selenium.webdriver.common.keys import Keys
+
+    tab = sit("A3")
+    tab.write(SOURCE)
+    for line in (0, 4, 3):  # from 0 on: a comment, ebreak, and vid.v
+        tab.run("(code().focus(), code().setCursor(arguments[0], 0))", line)
+        tab.type(Keys.F9)
+    assert tab.run(SIGNS) == "○1,○4,○5" and tab.text("#stop") == ""
+    tab.type(Keys.F9)  # which takes one back
+    tab.run("code().replaceRange('# More.\\n', { line: 3, ch: 0 })")
+    assert tab.run(SIGNS) == "○1,○6"
+    tab.click("#many")  # ten instructions, of which the breakpoint lets three execute
+    tab.wait(f"{SIGNS} === '●2,●▶6' && id('run').textContent === 'Paused'")
+    tab.run("code().replaceRange(' ', { line: 0, ch: 0 })")
+    tab.run("(code().focus(), code().setCursor(2, 0))")
+    tab.type(Keys.F9)
+    tab.wait(f"{SIGNS} === '○3'")
+    tab.run("code().undo()")
+    tab.wait(f"{SIGNS} === '●2,●3,●▶6'")
 
 
 def test_problems_are_shown_while_typing(sit: Sit) -> None:

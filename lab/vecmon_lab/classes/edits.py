@@ -44,20 +44,26 @@ def _value(text: str, is_decimal: bool, bits: int) -> int:
     raise BadRequest(f"`{text}` isn't a {kind} number of {bits} bits: nothing was sent.")
 
 
-def breakpoint_lines(stops: Mapping[str, Sequence[str]], breaks: Sequence[str], line: int) -> list[str]:
+def breakpoint_lines(
+    stops: Mapping[str, Sequence[str]], breaks: Sequence[str], line: int, is_only_set: bool = False
+) -> list[str]:
     """Return the lines that set all breakpoints of a line of the source, or remove those that are there.
 
+    A line without instructions has the breakpoints of the next line with one.
     stops: the addresses of each line's breakpoints, by its number; breaks: those of all breakpoints in the machine
-    Raises BadRequest for a line without instructions, and where not all of its breakpoints can be set.
+    is_only_set: whether those that are there stay
+    Raises BadRequest if neither the line nor one after it has an instruction, and if not all of its breakpoints can be set.
     """
-    addresses = stops.get(f"{line}", [])
-    if there := [address for address in addresses if address in breaks]:
+    place = min((number for number in map(int, stops) if number >= line), default=0)
+    if not place:
+        raise BadRequest(f"Line {line} has no instruction to stop at, and no line after it has one.")
+    addresses = stops[f"{place}"]
+    there = [address for address in addresses if address in breaks]
+    if there and not is_only_set:
         return [f"unbreak {address}" for address in there]
-    if not addresses:
-        raise BadRequest(f"Line {line} has no instruction to stop at.")
-    needed, left = len(addresses), MAX_BREAKPOINTS - len(breaks)
+    needed, left = len(addresses) - len(there), MAX_BREAKPOINTS - len(breaks)
     if needed > left:
         raise BadRequest(
-            f"Line {line} needs {needed} breakpoints, and {left} of {MAX_BREAKPOINTS} are left: none was set."
+            f"Line {place} needs {needed} breakpoints, and {left} of {MAX_BREAKPOINTS} are left: none was set."
         )
-    return [f"break {address}" for address in addresses]
+    return [f"break {address}" for address in addresses if address not in there]

@@ -44,10 +44,15 @@ class LinesRequest(NumberedRequest, LinesFields):
 
 
 class SourceRequest(NumberedRequest, SourceFields):
-    """A source for a new machine. number: that the seat's source had where it was typed"""
+    """A source for a new machine.
+
+    number: that the seat's source had where it was typed
+    breaks: the numbers of lines that get breakpoints once the program is loaded, by default none
+    """
 
     ask: Literal["source"]
     number: NotRequired[int]
+    breaks: NotRequired[list[int]]
 
 
 class AgainRequest(NumberedRequest):
@@ -65,13 +70,14 @@ class ProblemsRequest(NumberedRequest, SourceFields):
 class RunRequest(NumberedRequest):
     """A program to run; it is built first where there is a source that isn't in the machine, and one that has ended starts again.
 
-    number: as in SourceRequest
+    number, breaks: as in SourceRequest
     """
 
     ask: Literal["run"]
     text: NotRequired[str]
     language: NotRequired[int]
     number: NotRequired[int]
+    breaks: NotRequired[list[int]]
 
 
 class StepRequest(NumberedRequest):
@@ -86,6 +92,7 @@ class StepRequest(NumberedRequest):
     text: NotRequired[str]
     language: NotRequired[int]
     number: NotRequired[int]
+    breaks: NotRequired[list[int]]
     kind: NotRequired[Literal["into", "over", "out"]]
     by: NotRequired[Literal["instruction", "line"]]
     count: NotRequired[int]
@@ -113,10 +120,15 @@ class EditRequest(NumberedRequest):
 
 
 class BreakpointRequest(NumberedRequest):
-    """All breakpoints of a line of the loaded source, which are set, or removed if any is there. line: its number"""
+    """All breakpoints of a line of the loaded source, which are set, or removed if any is there.
+
+    line: its number; a line without instructions has those of the next line with one
+    set: whether breakpoints that are there stay, by default not
+    """
 
     ask: Literal["breakpoint"]
     line: int
+    set: NotRequired[bool]
 
 
 class LastInstructionRequest(NumberedRequest):
@@ -175,11 +187,16 @@ class CheckRequest(NumberedRequest, SourceFields):
 
 
 class CaseRequest(NumberedRequest, SourceFields):
-    """A source for a new machine with the inputs of a case. case: its place in `cases`, from 0 on; by default the first failed one"""
+    """A source for a new machine with the inputs of a case.
+
+    case: its place in `cases`, from 0 on; by default the first failed one
+    breaks: as in SourceRequest
+    """
 
     ask: Literal["case"]
     exercise: str
     case: NotRequired[int]
+    breaks: NotRequired[list[int]]
 
 
 class AnswerRequest(NumberedRequest):

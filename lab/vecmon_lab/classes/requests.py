@@ -56,10 +56,12 @@ class Source:
     """A source for a new machine of the student's; None for that of the machine that there is.
 
     number: that the seat's source had where it was typed; -1 where the request doesn't say it
+    breaks: numbers of lines that get breakpoints once the program is loaded
     """
 
     source: SourceText | None
     number: int = -1
+    breaks: Sequence[int] = ()
 
 
 @dataclass(frozen=True)
@@ -75,11 +77,12 @@ class RunProgram:
 
     One that has ended starts again.
 
-    number: as in Source
+    number, breaks: as in Source
     """
 
     source: SourceText | None
     number: int
+    breaks: Sequence[int]
 
 
 @dataclass(frozen=True)
@@ -92,6 +95,7 @@ class StepProgram:
 
     source: SourceText | None
     number: int
+    breaks: Sequence[int]
     kind: StepKind
     by_lines: bool
     count: int
@@ -114,9 +118,10 @@ class Edit:
 
 @dataclass(frozen=True)
 class ToggleBreakpoints:
-    """All breakpoints of a line of the loaded source are set, or those that are there are removed."""
+    """All breakpoints of a line of the loaded source are set, or those that are there are removed unless they are only set."""
 
     line: int
+    is_only_set: bool
 
 
 @dataclass(frozen=True)
@@ -281,9 +286,13 @@ class Check(_OfExercise):
 
 @dataclass(frozen=True)
 class TryCase(_OfExercise):
-    """A source for a new machine of the student's, which is given a case of an exercise; None for the one that failed first."""
+    """A source for a new machine of the student's, which is given a case of an exercise; None for the one that failed first.
+
+    breaks: as in Source
+    """
 
     case: int | None
+    breaks: Sequence[int]
 
 
 @dataclass(frozen=True)
@@ -361,14 +370,14 @@ _OF_ALL: Mapping[str, Reader] = {
 _OF_STUDENTS: Mapping[str, Reader] = {
     **_OF_ALL,
     "lines": lambda it: _lines(it, is_teacher=False),
-    "source": lambda it: Source(_source(it), _number(it) if "number" in it else -1),
+    "source": lambda it: Source(_source(it), *_source_to_build(it)[1:]),
     "again": lambda it: Source(None),
     "problems": lambda it: FindProblems(_source(it)),
     "run": lambda it: RunProgram(*_source_to_build(it)),
     "step": lambda it: _step(it),
     "step-line": lambda it: StepLine(),
     "edit": lambda it: Edit(_text(it, "edit"), _text(it, "text"), bool(it.get("decimal"))),
-    "breakpoint": lambda it: ToggleBreakpoints(_line(it)),
+    "breakpoint": lambda it: ToggleBreakpoints(_line(it), bool(it.get("set"))),
     "last-instruction": lambda it: FindLastRead(),
     "why": lambda it: Why(_name(it, "name")),
     "draft": lambda it: Draft(_source(it), _number(it), _name(it, "exercise"), bool(it.get("keep")), _line(it)),
@@ -378,7 +387,7 @@ _OF_STUDENTS: Mapping[str, Reader] = {
     "hand": lambda it: SetHand(bool(it.get("up")), _sentence(it) if it.get("text") else ""),
     "listings": lambda it: Compare(_source(it), _number(it, "other")),
     "check": lambda it: Check(_name(it, "exercise"), _source(it)),
-    "case": lambda it: TryCase(_name(it, "exercise"), _source(it), _number(it, "case") if "case" in it else None),
+    "case": lambda it: _case(it),
 }
 _OF_TEACHERS: Mapping[str, Reader] = {
     **_OF_ALL,
@@ -447,9 +456,18 @@ def _source(message: JsonObject) -> SourceText:
     return SourceText(text.encode("utf-8", "replace").decode(), int(language))
 
 
-def _source_to_build(message: JsonObject) -> tuple[SourceText | None, int]:
-    """The source of a message, if it has one, and its number, -1 by default."""
-    return _source(message) if "text" in message else None, _number(message) if "number" in message else -1
+def _source_to_build(message: JsonObject) -> tuple[SourceText | None, int, Sequence[int]]:
+    """The source of a message, if it has one, its number, -1 by default, and the lines of its breakpoints."""
+    number = _number(message) if "number" in message else -1
+    return _source(message) if "text" in message else None, number, _breaks(message)
+
+
+def _breaks(message: JsonObject) -> Sequence[int]:
+    """The numbers of the lines that get breakpoints, each once, in rising order."""
+    lines = message.get("breaks", [])
+    if not isinstance(lines, list) or len(lines) > SOURCE_LETTERS:
+        raise BadRequest("breaks is a list of numbers of lines")
+    return tuple(sorted({_line({"breaks": line}, "breaks") for line in lines}))
 
 
 def _text(message: JsonObject, name: str) -> str:
@@ -472,6 +490,12 @@ def _step(message: JsonObject) -> StepProgram:
         raise BadRequest(f"a request steps 1 to {MAX_STEPS} times")
     found = next(each for each in STEP_KINDS if each == kind)
     return StepProgram(*_source_to_build(message), found, by == "line", count, _line(message, "until"))
+
+
+def _case(message: JsonObject) -> TryCase:
+    """The source of a message, and the case to try with it."""
+    case = _number(message, "case") if "case" in message else None
+    return TryCase(_name(message, "exercise"), _source(message), case, _breaks(message))
 
 
 def _give(message: JsonObject) -> Give | OfferSource:

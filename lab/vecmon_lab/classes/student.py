@@ -161,12 +161,12 @@ class Student:
         Lines are the operator's as well: `SharedMachine.lines`.
         """
         match request:
-            case Source(source, number):
-                return (yield from self._write(source, number))
+            case Source(source, number, breaks):
+                return (yield from self._write(source, number, breaks))
             case FindProblems(source):
                 return (yield from self._find_problems(source))
-            case RunProgram(source, number):
-                return (yield from self._run(source, number))
+            case RunProgram(source, number, breaks):
+                return (yield from self._run(source, number, breaks))
             case StepProgram():
                 return (yield from self._step(request))
             case StepLine():
@@ -174,8 +174,8 @@ class Student:
             case Edit(edit, text, is_decimal):
                 line = edit_line(edit, text, is_decimal, self.seat.state.get("v", {}))
                 yield from execute_line(self.machine, self.seat, line)
-            case ToggleBreakpoints(number):
-                yield from self._toggle_breakpoints(number)
+            case ToggleBreakpoints(number, is_only_set):
+                yield from self._toggle_breakpoints(number, is_only_set)
             case FindLastRead():
                 yield from self.machine.find_last_read(self.seat)
             case Why(name):
@@ -192,8 +192,8 @@ class Student:
                 self._check(self.seat.name, name, source)
                 if name == self.source.exercise:
                     self.source.open(name)  # also where the page hasn't asked for it
-            case TryCase(name, source, which):
-                return (yield from self._try(name, source, which))
+            case TryCase():
+                return (yield from self._try(request))
         return {}
 
     def _find_problems(self, source: SourceText) -> Steps[SourceResult]:
@@ -203,9 +203,9 @@ class Student:
         self.problems = problems_of(program, source)
         return self.problems
 
-    def _run(self, source: SourceText | None, number: int) -> Steps[SourceResult]:
+    def _run(self, source: SourceText | None, number: int, breaks: Sequence[int]) -> Steps[SourceResult]:
         """Runs a source, from its start if the program has ended; the problems that the source has."""
-        problems = yield from self._build(source, number)
+        problems = yield from self._build(source, number, breaks)
         if not problems["mistakes"] and self.seat.condition == "Ended" and self.seat.program:
             problems = yield from self._write(None)
         if not problems["mistakes"]:
@@ -214,18 +214,29 @@ class Student:
 
     def _step(self, request: StepProgram) -> Steps[SourceResult]:
         """Steps a source, up to an instruction or by a count; the problems that the source has."""
-        problems = yield from self._build(request.source, request.number)
+        problems = yield from self._build(request.source, request.number, request.breaks)
         if not problems["mistakes"] and request.until:
             yield from step_until(self.machine, self.seat, request.until)
         elif not problems["mistakes"]:
             yield from step(self.machine, self.seat, request.kind, request.by_lines, request.count)
         return problems
 
-    def _toggle_breakpoints(self, number: int) -> Steps[None]:
-        """Sets the breakpoints of a line of the source, or deletes them where all are set."""
+    def _toggle_breakpoints(self, number: int, is_only_set: bool) -> Steps[None]:
+        """Sets the breakpoints of a line of the source, or deletes those that are there, unless they are only set."""
         stops, breaks = self.seat.named.get("stops", {}), self.seat.state.get("breaks", [])
-        for line in breakpoint_lines(stops, breaks, number):
+        for line in breakpoint_lines(stops, breaks, number, is_only_set):
             yield from execute_line(self.machine, self.seat, line)
+
+    def _set_breakpoints(self, lines: Sequence[int]) -> Steps[None]:
+        """Sets the breakpoints of lines of the source in the machine. Raises BadRequest if any can't be set; all others are."""
+        refusals = list[str]()
+        for number in lines:
+            try:
+                yield from self._toggle_breakpoints(number, is_only_set=True)
+            except BadRequest as error:
+                refusals.append(str(error))
+        if refusals:
+            raise BadRequest(" ".join([*refusals, page_text("breakpoints.loaded")]))
 
     def _draft(self, draft: Draft) -> None:
         """Keeps the text in the editor, and its caret's line. Raises BadRequest for an unknown exercise."""
@@ -234,25 +245,30 @@ class Student:
         self.source.draft(draft.source, draft.number, draft.exercise, draft.is_kept)
         self.source.caret = draft.line
 
-    def _try(self, name: str, source: SourceText, which: int | None) -> Steps[SourceResult]:
+    def _try(self, tried: TryCase) -> Steps[SourceResult]:
         """Starts the machine anew with a case of an exercise, at its call; the problems that the source has."""
-        case = self.exercises.case(self.seat.name, name, which, source)
-        return (yield from self._write(source, case=case))
+        case = self.exercises.case(self.seat.name, tried.exercise, tried.case, tried.source)
+        return (yield from self._write(tried.source, breaks=tried.breaks, case=case))
 
-    def _build(self, source: SourceText | None, number: int) -> Steps[SourceResult]:
+    def _build(self, source: SourceText | None, number: int, breaks: Sequence[int]) -> Steps[SourceResult]:
         """Starts the machine anew with a source that isn't in it; breakpoints stay. The mistakes that the source has."""
         if source is None or source == self.seat.written and self.seat.program:
+            yield from self._set_breakpoints(breaks)
             return {"mistakes": [], "warnings": []}
-        return (yield from self._write(source, number, keeps_breakpoints=True))
+        return (yield from self._write(source, number, breaks, keeps_breakpoints=True))
 
     def _write(
         self,
         source: SourceText | None,
         number: int = -1,
+        breaks: Sequence[int] = (),
         case: TriedCase | None = None,
         keeps_breakpoints: bool = False,
     ) -> Steps[SourceResult]:
-        """Starts the machine anew with a source, or with the one that is there and its case; the mistakes that it has."""
+        """Starts the machine anew with a source, or with the one that is there and its case; the mistakes that it has.
+
+        breaks: the lines that get breakpoints. Raises BadRequest if the machine refuses the source, or any breakpoint.
+        """
         if source:
             self.source.write(source, number)
         is_answer, case = case is not None, case if source else self.seat.case
@@ -264,6 +280,8 @@ class Student:
             entry = int(self.seat.state["pc"], 16)
             yield from self.machine.lines(self.seat, Lines("", case.commands(entry), 0, []), [])
         self.problems = problems_json(source or self.seat.written, mistakes, warnings)
+        if not mistakes:
+            yield from self._set_breakpoints(breaks)
         return self.problems
 
     def view(self, others: ClassView) -> StudentView:

@@ -1,5 +1,6 @@
 // One person's work at a machine: buttons, the command line, values to change, the source and the reference become requests.
 
+import { WaitingBreakpoints } from "./breakpoints.js";
 import { Desk } from "./desk.js";
 import { editDialog, followCursor } from "./edits.js";
 import { Editor } from "./editor.js";
@@ -41,6 +42,7 @@ export class Bench {
   timer = 0; // until problems are asked for
   isEdited = false; // whether the source was changed since the machine began
   isImage = false; // whether the machine began with an image
+  /** @type {number[]} */ due = []; // lines whose breakpoints are set once nothing is being built
   /** @type {State["read"]} */ askedRead; // that lacked registers, which were asked for
 
   /** @param {HTMLElement} root @param {import("./types").Connection} connection */
@@ -54,6 +56,7 @@ export class Bench {
     this.panes = new Panes(root, root.matches(".alone") ? "author" : "student");
     this.editor = new Editor(part(root, "source"), () => this.typed(), part(root, "language"));
     this.source = new Source(root, this.editor, connection);
+    this.waiting = new WaitingBreakpoints(this.editor.code);
     this.links = new LineLinks(root, this.editor);
     this.problems = new Problems(root, this.editor, (panel) => this.panes.show(panel));
     this.askValue = editDialog(root, (edit, text) => this.request({ ask: "edit", edit, text, decimal: numbers.value === "signed" }));
@@ -173,9 +176,11 @@ export class Bench {
     const { source } = this.editor;
     const [size, most] = [source.text.length, MOST_LETTERS].map((each) => each.toLocaleString(textOf("language")));
     if (this.source.isTooLong) return this.refuse(textOf("source.not-sent", { size, most }));
-    const request = /** @type {Request} */ ({ ...action, ...source });
+    const breaks = action.ask === "listings" ? {} : { breaks: this.waiting.lines };
+    const request = /** @type {Request} */ ({ ...action, ...source, ...breaks });
     const answer = await this.source.bring(source, () => this.bar.building(this.request(request)));
     if (source.text === this.editor.source.text) this.showMistakes(answer?.mistakes, answer?.warnings);
+    this.mark(this.desk.past.moment?.state ?? this.desk.state);
     return answer;
   }
 
@@ -246,9 +251,18 @@ export class Bench {
     return (isPresent && (await this.connection.ask({ ask: "why", name }))?.why) || "";
   }
 
-  /** Sets all breakpoints of a line of the source in the machine, or removes those that are there. */
+  /** Sets all breakpoints of a line of the source, or removes those that are there. They wait unless the machine has the source. */
   breakAt(/** @type {number} */ line) {
-    return this.source.stands ? this.request({ ask: "breakpoint", line }) : this.refuse(textOf("breakpoints.no-program"));
+    return this.source.stands ? this.request({ ask: "breakpoint", line }) : this.waiting.toggle(line);
+  }
+
+  /** Sets the breakpoints that wait once the machine has the source; those that came there with it stay. */
+  setWaiting() {
+    if (!this.source.stands) return;
+    this.due.push(...this.waiting.lines);
+    this.waiting.clear(); // before the machine's are marked
+    if (this.bar.isBuilding) return;
+    for (const line of this.due.splice(0)) this.connection.ask({ ask: "breakpoint", line, set: true });
   }
 
   /** Shows the reference, or what is found in it. */
@@ -273,6 +287,7 @@ export class Bench {
 
   /** Marks a state's lines in the source, and names them in the status line. */
   mark(/** @type {State} */ state) {
+    this.setWaiting();
     const { last, next } = this.source.mark(state);
     this.links.show(this.source.stands ? state.starts : undefined);
     const done = state.faulted ? textOf("run.at-line", { line: last }) : textOf("run.after-line", { line: last });

@@ -70,6 +70,8 @@ export interface Editor {
   getCursor(): Position;
   getInputField(): HTMLElement;
   getLine(line: number): string;
+  getLineHandle(line: number): LineHandle | null;
+  getLineNumber(line: LineHandle): number | null; // null: the line isn't in the text anymore
   getOption(name: string): unknown;
   getRange(from: Position, to: Position): string;
   getValue(): string;
@@ -79,6 +81,7 @@ export interface Editor {
   lastLine(): number;
   lineCount(): number;
   markText(from: Position, to: Position, options: object): Clearable;
+  on(event: "beforeChange", heard: (editor: Editor, change: Change) => unknown): void;
   on(event: "change", heard: (editor: Editor, change: Change) => unknown): void;
   on(event: "changes", heard: (editor: Editor, changes: Change[]) => unknown): void;
   on(event: "gutterClick", heard: (editor: Editor, line: number) => unknown): void;

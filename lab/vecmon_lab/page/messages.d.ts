@@ -32,14 +32,25 @@ export interface Beat {
   kind: "beat";
 }
 
-/** All breakpoints of a line of the loaded source, which are set, or removed if any is there. line: its number */
+/**
+ * All breakpoints of a line of the loaded source, which are set, or removed if any is there.
+ *
+ * line: its number; a line without instructions has those of the next line with one
+ * set: whether breakpoints that are there stay, by default not
+ */
 export interface BreakpointRequest {
   id: number;
   ask: "breakpoint";
   line: number;
+  set?: boolean;
 }
 
-/** A source for a new machine with the inputs of a case. case: its place in `cases`, from 0 on; by default the first failed one */
+/**
+ * A source for a new machine with the inputs of a case.
+ *
+ * case: its place in `cases`, from 0 on; by default the first failed one
+ * breaks: as in SourceRequest
+ */
 export interface CaseRequest {
   id: number;
   text: string;
@@ -47,6 +58,7 @@ export interface CaseRequest {
   ask: "case";
   exercise: string;
   case?: number;
+  breaks?: number[];
 }
 
 /** A case of an exercise by its name, and whether an answer passes it. */
@@ -573,7 +585,7 @@ export interface RightsRequest {
 /**
  * A program to run; it is built first where there is a source that isn't in the machine, and one that has ended starts again.
  *
- * number: as in SourceRequest
+ * number, breaks: as in SourceRequest
  */
 export interface RunRequest {
   id: number;
@@ -581,6 +593,7 @@ export interface RunRequest {
   text?: string;
   language?: number;
   number?: number;
+  breaks?: number[];
 }
 
 /** Addresses of code, from `first` up to, and without, `end`. */
@@ -754,13 +767,19 @@ export interface SourceAnswer {
   warnings: Mistake[];
 }
 
-/** A source for a new machine. number: that the seat's source had where it was typed */
+/**
+ * A source for a new machine.
+ *
+ * number: that the seat's source had where it was typed
+ * breaks: the numbers of lines that get breakpoints once the program is loaded, by default none
+ */
 export interface SourceRequest {
   id: number;
   text: string;
   language?: number;
   ask: "source";
   number?: number;
+  breaks?: number[];
 }
 
 /** The mistakes of a source that goes into a new machine, and a compiler's warnings. */
@@ -859,6 +878,7 @@ export interface StepRequest {
   text?: string;
   language?: number;
   number?: number;
+  breaks?: number[];
   kind?: "into" | "over" | "out";
   by?: "instruction" | "line";
   count?: number;

@@ -267,7 +267,8 @@ export interface Places {
   "link.damaged": never;
   "link.brought": never;
   "languages.no-c": "why";
-  "breakpoints.no-program": never;
+  "breakpoints.waiting": never;
+  "breakpoints.loaded": never;
   "listing.program.label": never;
   "listing.width.label": never;
   "listing.label": never;
