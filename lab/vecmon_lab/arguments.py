@@ -10,25 +10,39 @@ from itertools import combinations
 from typing import Any
 
 from . import LabError
+from .compilers.compiler import ASSEMBLER_SUFFIXES, CHOICES, choice_for
 
 
-def image_path(word: str, any_vlen: bool = False) -> pathlib.Path:
-    """The image that a word names, about whose instruction set warnings are printed; of a source in C one that is compiled of it.
+def add_compiler(parser: argparse.ArgumentParser) -> None:
+    """The compiler of a source, and its options."""
+    parser.add_argument("--cc", metavar="NAME", help="the compiler, such as clang-19")
+    help_text = "options of the compiler; by default O2 for C, and the lab's assembler for .s"
+    parser.add_argument("--options", choices=[choice.name for choice in CHOICES], help=help_text)
 
-    any_vlen: whether an image for longer vector registers is taken. Raises LabError and OSError.
+
+def image_path(word: str, arguments: argparse.Namespace, assembles: bool = True) -> pathlib.Path:
+    """The image that a word names, about whose instruction set warnings are printed; or one of the source that it names.
+
+    arguments: those of `add_compiler` and `add_any_vlen`; assembles: whether an assembler source becomes an image, unless a
+    compiler takes it. Raises LabError and OSError.
     """
     path = pathlib.Path(word)
-    if path.suffix == ".c":
+    choice = choice_for(path, arguments.options)
+    if choice is not None:
         from .compilers.compiling import compiled_image  # which an image doesn't need
 
-        return compiled_image(path)
-    if path.suffix not in (".s", ".S") and path.is_file():  # a missing file is reported where it is read
-        from .compilers.compiler import refuse_cxx
-        from .machine.target import report_target
+        return compiled_image(path, arguments.cc, choice)
+    if arguments.cc:
+        raise LabError(f"{path}: --cc is for a source that is compiled: in C, or with --options stock in assembler")
+    if path.suffix not in ASSEMBLER_SUFFIXES:
+        if path.is_file():  # a missing file is reported where it is read
+            from .machine.target import report_target
 
-        refuse_cxx(path)
+            report_target(path, arguments.any_vlen)
+    elif assembles:
+        from .harness.assembled import assembled_image
 
-        report_target(path, any_vlen)
+        return assembled_image(path)
     return path
 
 
@@ -61,18 +75,30 @@ class _Program(argparse.Action):
                     f"{word} after {path} is an argument of the program; options of {parser.prog} go before {path}"
                 )
                 print(f"vecmon-lab: {help_text}", file=sys.stderr)
-        namespace.named, namespace.image = pathlib.Path(path), image_path(path, namespace.any_vlen)
+        namespace.named, namespace.image = pathlib.Path(path), image_path(path, namespace, bool(self.const))
+
+
+SOURCES = "a source in C (.c) or assembler (.s, .S)"
 
 
 def add_program(
-    parser: argparse.ArgumentParser, help_text: str = "an ELF file, or a source in C (.c)", is_needed: bool = True
+    parser: argparse.ArgumentParser,
+    help_text: str = f"an ELF file, or {SOURCES}",
+    is_needed: bool = True,
+    assembles: bool = False,
 ) -> None:
-    """An image, and all words behind it as the program's own, options too; and a file as its input."""
+    """An image, and all words behind it as the program's own, options too; the compiler of a source; a file as its input.
+
+    assembles: whether an assembler source becomes an image, too
+    """
     parser.allow_abbrev = False  # so that no argument of the program is looked up among the options
     help_text = f"{help_text}; the arguments after it are the program's"
     metavar = "IMAGE" if is_needed else "[IMAGE]"
-    image = parser.add_argument("image", metavar=metavar, nargs=argparse.PARSER, action=_Program, help=help_text)
+    image = parser.add_argument(
+        "image", metavar=metavar, nargs=argparse.PARSER, action=_Program, const=assembles, help=help_text
+    )
     image.required = is_needed
+    add_compiler(parser)
     parser.set_defaults(words=[])
     add_any_vlen(parser)
     help_text = "write FILE to the image's memory at the symbol input, and its size to input_size"
@@ -81,7 +107,7 @@ def add_program(
 
 def add_image(parser: argparse.ArgumentParser) -> None:
     """The words of all commands that run an image to its end."""
-    add_program(parser)
+    add_program(parser, assembles=True)
     parser.set_defaults(policy="keep")
     parser.add_argument("--ticks", metavar="N", type=between(1, 1 << 63), help="stop after N ticks")
 

@@ -263,10 +263,17 @@ def test_stock_assembler_mistakes_have_locations(clang: Compiler) -> None:
 def test_options_match_file_suffix() -> None:
     kernel, source = pathlib.Path("kernel.c"), pathlib.Path("kernel.s")
     assert choice_for(kernel, "O0") == choice_of("O0") and choice_for(source, "stock") == choice_of("stock")
-    assert choice_for(source, "O0") is None and choice_for(pathlib.Path("script"), "O0") is None
+    assert [choice_for(path, None) for path in (kernel, source, pathlib.Path("script"))] == [
+        choice_of("O2"),
+        None,
+        None,
+    ]
     for path in (kernel, pathlib.Path("script")):
         with pytest.raises(LabError, match="stock is for assembler"):
             choice_for(path, "stock")
+    for path in (source, pathlib.Path("script")):
+        with pytest.raises(LabError, match="O0 is for C, and the name of such a source ends in .c"):
+            choice_for(path, "O0")
 
 
 @pytest.mark.parametrize("name", ["/bin/sh", "@file", "", "clang-19 -fplugin=x"])

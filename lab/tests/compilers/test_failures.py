@@ -153,7 +153,7 @@ INSTEAD = """
 import resource
 from vecmon_lab.compilers import sandbox_main
 sandbox_main.LIMITS[resource.RLIMIT_CPU] = (1, 2)
-def instead(command):
+def instead(command, own):
     {code}
 sandbox_main.compile_source = instead
 sandbox_main.main()

@@ -28,7 +28,7 @@ FORKS = """
 import os, time
 from vecmon_lab.compilers import sandbox_main
 
-def fork(command):
+def fork(command, own):
     made = 0
     try:
         while made < 500:

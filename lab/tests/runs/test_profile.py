@@ -162,6 +162,32 @@ def test_profiles_are_compared(lab: Lab, program: pathlib.Path, tmp_path: pathli
     assert tables[1][0].split()[0] == "function" and tables[1][1].split() == ["_start", "721", "721", "0"]
 
 
+def test_unmatched_lines_and_functions_are_reported(lab: Lab, tmp_path: pathlib.Path) -> None:
+    """Each program against one of another file, then also of another function, and against itself."""
+    for name, label in (("old", "first"), ("new", "first"), ("other", "second")):
+        (tmp_path / f"{name}.s").write_text(f"{label}: li a0, 0\n{EXIT}\n", "ascii")
+    lines = "the lines of {}.s and {}.s are in one program only: they are compared with 0"
+    functions = "no function is in both programs: each is compared with 0"
+    new, old = tmp_path / "new.s", tmp_path / "old.s"
+    cases: dict[str, list[str]] = {
+        "old": [lines.format("new", "old")],
+        "other": [lines.format("new", "other"), functions],
+        "new": [],
+    }
+    for against, expected in cases.items():
+        output = lab("profile", "--against", tmp_path / f"{against}.s", new)[1].decode()
+        found = output.partition("\nagainst ")[2].splitlines()
+        assert found[1:] == [f"against {against}: {sentence}" for sentence in expected]
+    assert lab("profile", "-o", tmp_path / "page.html", "--against", old, new)[0] == 0
+    assert lines.format("new", "old") in (tmp_path / "page.html").read_text("utf-8")
+
+
+def test_help_says_ticks(lab: Lab) -> None:
+    """The tables are ordered by ticks, as RUNNING.md states."""
+    output = lab("profile", "--help")[1].decode()
+    assert "Show where a program spends its ticks" in output and "spends its instructions" not in output
+
+
 @pytest.mark.parametrize("scheme", ["light", "dark"])
 def test_profile_page_is_written(
     browser: "Chrome", lab: Lab, program: pathlib.Path, tmp_path: pathlib.Path, scheme: str

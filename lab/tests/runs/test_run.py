@@ -9,7 +9,7 @@ import pytest
 
 from support.commands import Lab
 from support.images import MARCH, make_image
-from support.places import DATA, EXAMPLES, SORT, SQUARES, SQUARES_DWARF5, STOCK, SUM, TOP
+from support.places import DATA, SORT, SQUARES, SQUARES_DWARF5, STOCK, SUM, TOP
 from support.sources import ARGUMENTS, EXIT, FOREVER, WRITES
 
 QEMU = DATA / "qemu"  # the output of qemu-riscv64 7.2.22 of Debian 12
@@ -148,10 +148,8 @@ def test_output_streams_and_ctrl_c_ends_run(program: pathlib.Path, tmp_path: pat
         (["--dance", SUM], "vecmon-lab run: unrecognized arguments: --dance"),
         (["none"], "vecmon-lab: none: No such file or directory"),
         ([STOCK], f"vecmon-lab: {STOCK}: Is a directory"),
-        (
-            [EXAMPLES / "strip_mined.s"],
-            f"vecmon-lab: {EXAMPLES}/strip_mined.s is an assembler source, and no image: ",
-        ),
+        (["--options", "O0", SUM], f"vecmon-lab: {SUM}: O0 is for C, and the name of such a source ends in .c"),
+        (["--cc", "clang-19", SUM], f"vecmon-lab: {SUM}: --cc is for a source that is compiled: "),
         (
             [STOCK / "short"],
             f"vecmon-lab: {STOCK}/short: the machine refuses image (E09 Short): the file has less than",

@@ -7,10 +7,9 @@ import pathlib
 import tempfile
 
 from .. import LabError
-from ..arguments import between
+from ..arguments import add_compiler, between
 from ..compilers.account import account_named, add_account
 from ..compilers.compiler import choice_for, find_compilers, refuse_cxx
-from ..lessons.lesson import add_compiler
 from ..machine.program import find_program
 from ..page.texts import page_text
 from .builds import builds_by
@@ -57,8 +56,8 @@ def run(arguments: argparse.Namespace) -> int:
     return 0
 
 
-def read(path: pathlib.Path, options: str) -> SourceText:
-    """The source of a file, which these options may be for. Raises LabError where they aren't, or it is none."""
+def read(path: pathlib.Path, options: str | None) -> SourceText:
+    """The source of a file, with these options if any. Raises LabError where they don't fit, or it is none."""
     refuse_cxx(path)
     if path.suffix not in (".c", ".s", ".S"):
         raise LabError(f"{path}: the name of a source ends in .c or .s")

@@ -15,6 +15,9 @@ C_SOURCE, ASSEMBLER_SOURCE, IMAGE = "source.c", "source.s", "image"
 OWN_SOURCES = (C_SOURCE, ASSEMBLER_SOURCE)
 """The names that sources and their image always have."""
 
+C_SUFFIX, ASSEMBLER_SUFFIXES = ".c", (".s", ".S")
+"""The ends of the names of users' sources."""
+
 FUNCTION = "answer"
 """The function that begins an image which is to answer an exercise; others begin with `main`."""
 
@@ -93,6 +96,8 @@ class Compiler:
             plain = _PLAIN_CLANG if self.is_clang else _PLAIN_GCC
             own += ["-DVECMON_ANSWER", f"-Wl,--entry={FUNCTION}", *plain]
         places = {str(RUNTIME): "runtime", source: named or source}  # so that an image is the same in each folder
+        if named and source == ASSEMBLER_SOURCE:  # whose name a line marker has, since assemblers map only folders
+            places = {**places, ".": str(pathlib.PurePath(named).parent)}
         folder = (f"-I{RUNTIME}", *(f"-fdebug-prefix-map={place}={name}" for place, name in places.items()))
         linked = (source,) if is_alone or source != C_SOURCE else (source, str(RUNTIME / "runtime.c"))
         return [self.name, *_ALL, *_TOLD, *own, *folder, "-o", IMAGE, *linked]
@@ -120,14 +125,19 @@ def refuse_cxx(path: pathlib.Path) -> None:
         raise LabError(f"{path} is a source in C++, which the lab doesn't compile: {advice}")
 
 
-def choice_for(path: pathlib.Path, name: str) -> int | None:
-    """The number of a file's options by their name; None where no compiler takes it. Raises LabError where they don't fit."""
+def choice_for(path: pathlib.Path, name: str | None) -> int | None:
+    """The number of a file's options by their name; without one, of the first options for C, or None for any other file.
+
+    Raises LabError where they don't fit.
+    """
     refuse_cxx(path)
+    if name is None:
+        return 0 if path.suffix == C_SUFFIX else None
     choice = choice_of(name)
-    if CHOICES[choice].source == C_SOURCE:
-        return choice if path.suffix == ".c" else None
-    if path.suffix not in (".s", ".S"):
-        raise LabError(f"{path}: {name} is for assembler, and the name of such a source ends in .s")
+    is_c = CHOICES[choice].source == C_SOURCE
+    if path.suffix not in ((C_SUFFIX,) if is_c else ASSEMBLER_SUFFIXES):
+        language, suffix = ("C", C_SUFFIX) if is_c else ("assembler", ASSEMBLER_SUFFIXES[0])
+        raise LabError(f"{path}: {name} is for {language}, and the name of such a source ends in {suffix}")
     return choice
 
 

@@ -6,10 +6,11 @@ import tempfile
 
 from .. import LabError, mistakes_in
 from .compiled import CompiledProgram, Isolation, read_compiled_program
-from .compiler import C_SOURCE, FUNCTION, IMAGE, Compiler, find_compiler
+from .compiler import FUNCTION, IMAGE, Compiler, find_compiler, source_of
 from .sandbox import answer_of_own, answer_sandboxed
 
 SOURCE_BYTES = 1 << 16
+ENTRY_AT = 24  # the offset of e_entry in an image
 
 
 def compile_c(
@@ -34,21 +35,26 @@ def compile_c(
     return read_compiled_program(answer)
 
 
-def compiled_image(path: pathlib.Path) -> pathlib.Path:
-    """The image of your own C source, by the first compiler, which is there until the command ends.
+def compiled_image(path: pathlib.Path, compiler: str | None = None, choice: int = 0) -> pathlib.Path:
+    """The image of your own source, which is there until the command ends. It has the source's name without its suffix.
 
-    It has the source's name without `.c`. Raises LabError where there is no compiler, or the source has mistakes, and OSError.
+    compiler: its name; None for the first one; choice: the number of its options. Raises LabError where there is no
+    compiler, or the source has mistakes, and OSError.
     """
     with mistakes_in(path):
         text = path.read_text("utf-8", "replace")
-        words = [*words_for(text, find_compiler(None), 0), f"{path.absolute()}"]
+        words = [*words_for(text, find_compiler(compiler), choice), f"{path.absolute()}"]
         saved = tempfile.TemporaryDirectory()
         atexit.register(saved.cleanup)
         folder = pathlib.Path(saved.name)
         program = read_compiled_program(answer_of_own(words, text, path.parent, folder))
     program.check(f"{path}")
-    (folder / C_SOURCE).rename(folder / path.name)  # where its lines are looked for
-    return (folder / IMAGE).rename(folder / path.stem)
+    (folder / source_of(choice)).rename(folder / path.name)  # where its lines are looked for
+    image = (folder / IMAGE).rename(folder / path.stem)
+    with image.open("r+b") as file:  # an assembler source is linked without an entry
+        file.seek(ENTRY_AT)
+        file.write(program.entry.to_bytes(8, "little"))
+    return image
 
 
 def words_for(text: str, compiler: Compiler, choice: int, is_answer: bool = False) -> list[str]:

@@ -13,11 +13,11 @@ import re
 import resource
 import signal
 import sys
-from collections.abc import Sequence
+from collections.abc import Collection, Sequence
 from subprocess import DEVNULL, PIPE, Popen
 from typing import NamedTuple
 
-from .compiler import FUNCTION, IMAGE, OWN_SOURCES, Compiler, source_of
+from .compiler import ASSEMBLER_SOURCE, FUNCTION, IMAGE, OWN_SOURCES, Compiler, source_of
 from .debug import MESSAGE_LETTERS, MAX_MESSAGES, Image, image_of
 from .failures import without_folders
 from .hints import undefined_reference, with_advice
@@ -33,6 +33,7 @@ LIMITS = {
 }
 CRASHED = "that is a fault of the compiler, which another form of the source may avoid"
 MEMORY = f"it took more than {MEMORY_BYTES >> 20} MB of memory"
+MARKABLE = re.compile(r"[\w.+-]+", re.ASCII)  # a file's name that may be in a line marker, and in messages
 OWN_BEGIN = re.compile(rb"\bvoid\s+_start\s*\(")  # of a source that has no need of the runtime's
 
 _MESSAGE = re.compile(
@@ -57,8 +58,8 @@ class Diagnostic(NamedTuple):
     text: str
 
 
-def read_messages(errors: str) -> list[Diagnostic]:
-    """The messages of a compiler and its linker, without folders of this system."""
+def read_messages(errors: str, own: Collection[str] = OWN_SOURCES) -> list[Diagnostic]:
+    """The messages of a compiler and its linker, without folders of this system. own: the names of the source"""
     messages = []
     for line in errors.split("\n"):
         if reference := undefined_reference(line.strip()):
@@ -69,7 +70,7 @@ def read_messages(errors: str) -> list[Diagnostic]:
             file, number, column, kind, text = found.groups()
             if text.startswith("linker command failed"):  # which has said why
                 continue
-            is_own = file in OWN_SOURCES
+            is_own = file in own
             text = text if is_own or not file else f"{file}:{number}: {text}"
             place = (int(number), int(column or 1)) if is_own else (0, 0)
             text = with_advice(without_folders(text)[:MESSAGE_LETTERS])
@@ -77,8 +78,8 @@ def read_messages(errors: str) -> list[Diagnostic]:
     return list(dict.fromkeys(messages))[:MAX_MESSAGES]
 
 
-def compile_source(command: Sequence[str]) -> list[Diagnostic]:
-    """Compiles the source of this folder, and returns the compiler's messages. Raises Failure."""
+def compile_source(command: Sequence[str], own: Collection[str] = OWN_SOURCES) -> list[Diagnostic]:
+    """Compile the source of this folder, and return the compiler's messages. own: the names of the source. Raises Failure."""
     try:
         with Popen(command, stdin=DEVNULL, stdout=DEVNULL, stderr=PIPE) as child:
             assert child.stderr
@@ -92,7 +93,7 @@ def compile_source(command: Sequence[str]) -> list[Diagnostic]:
         raise Failure(f"{command[0]} can't be started: {error.strerror}") from error
     if status == 127 and "error while loading shared libraries" in stderr:
         raise Failure(f"{command[0]} can't be started: {stderr.strip()[:MESSAGE_LETTERS]}")
-    messages = read_messages(stderr)
+    messages = read_messages(stderr, own)
     if not status:
         return messages
     usage = resource.getrusage(resource.RUSAGE_CHILDREN)
@@ -130,10 +131,12 @@ def ending_of(status: int, stderr: str, seconds: float) -> str:
 
 def compiled(compiler: Compiler, choice: int, is_answer: bool, named: str) -> tuple[list[Diagnostic], Image | None]:
     """Compiles the source on standard input: the messages, and the image where there is one. Raises Failure."""
-    text = sys.stdin.buffer.read()
-    pathlib.Path(source_of(choice)).write_bytes(text)
+    text, source = sys.stdin.buffer.read(), source_of(choice)
+    marker = line_marker(named) if source == ASSEMBLER_SOURCE else ""
+    pathlib.Path(source).write_bytes(marker.encode("ascii") + text)
     is_alone = not is_answer and OWN_BEGIN.search(text) is not None
-    messages, image = compile_source(compiler.words(choice, is_answer, is_alone, named)), None
+    own = (*OWN_SOURCES, pathlib.PurePath(named).name) if marker else OWN_SOURCES
+    messages, image = compile_source(compiler.words(choice, is_answer, is_alone, named), own), None
     try:
         if not any(message.is_error for message in messages):
             image = image_of(pathlib.Path(IMAGE))
@@ -144,6 +147,12 @@ def compiled(compiler: Compiler, choice: int, is_answer: bool, named: str) -> tu
     except (ValueError, OSError) as error:
         messages.append(Diagnostic(0, 0, True, f"the image can't be read: {error}"))
     return messages, image
+
+
+def line_marker(named: str) -> str:
+    """The line before an assembler source that names it in messages and debug data; "" without a name that can be there."""
+    name = pathlib.PurePath(named).name
+    return f'# 1 "{name}"\n' if MARKABLE.fullmatch(name) else ""
 
 
 def main() -> None:

@@ -11,10 +11,10 @@ from collections.abc import Callable, Iterator
 
 from .. import LabError
 from ..arguments import add_program
+from ..compilers.compiler import ASSEMBLER_SUFFIXES
 from ..guest.guest import QUANTUM, Guest, started
 from ..guest.runner import Reporter
 from ..guest.symbols import Symbols
-from ..lessons.lesson import SOURCE_SUFFIXES
 from ..machine.program import find_program
 from ..machine.session import Session
 from .lines import Console
@@ -59,7 +59,7 @@ def run(arguments: argparse.Namespace) -> int:
 def _console(arguments: argparse.Namespace, screen: Screen) -> Iterator[Console]:
     """A console at a machine of its own with what is named. Raises LabError where a source is given words or input."""
     path: pathlib.Path | None = arguments.image
-    if path is not None and path.suffix not in SOURCE_SUFFIXES:
+    if path is not None and path.suffix not in ASSEMBLER_SUFFIXES:
         words, symbols = [path.name, *arguments.words], Symbols.read(path)
         report = Reporter(lambda address: console.names.symbols.place(address))
         with started(path, arguments=words, file=arguments.input, write=screen.write, report=report) as guest:

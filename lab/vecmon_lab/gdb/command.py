@@ -16,7 +16,7 @@ import re
 from collections.abc import Callable, Sequence
 
 from .. import LabError
-from ..arguments import add_program
+from ..arguments import SOURCES, add_program
 from ..assembler.commands import explain_refusal
 from ..guest.guest import Guest, started
 from ..guest.input import input_of
@@ -57,7 +57,7 @@ VCSR = FIRST_VECTOR + 32
 
 def add_arguments(parser: argparse.ArgumentParser) -> None:
     """The words of `vecmon-lab gdb`."""
-    add_program(parser, "the image that the machine loads, or a source in C (.c)")
+    add_program(parser, f"the image that the machine loads, or {SOURCES}", assembles=True)
 
 
 def run(arguments: argparse.Namespace) -> int:

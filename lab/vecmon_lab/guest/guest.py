@@ -263,7 +263,9 @@ def check_image(path: pathlib.Path) -> None:
         if len(opened.read(IMAGE_BYTES + 1)) > IMAGE_BYTES:
             raise LabError(f"{path} has more than {IMAGE_BYTES:,} bytes")
     if path.suffix in (".s", ".S"):
-        raise LabError(f"{path} is an assembler source, and no image: the console and lessons take it")
+        raise LabError(
+            f"{path} is an assembler source, and no image: run, profile, compare, gdb, the console and lessons take it"
+        )
     with mistakes_in(path):
         check_kind(path)
         check_flags(path)

@@ -78,7 +78,7 @@ class Symbols:
         at = bisect.bisect_left(self._places, address, key=lambda place: place[0])
         if self.sizes.get(name) or not self._places[at : at + 1] or self._places[at][0] != address:
             return self.sizes.get(name, 0)
-        return min(self._places[at][1], *(place for place, _, _ in self._places[at + 1 : at + 2])) - address
+        return min([self._places[at][1], *(place for place, _, _ in self._places[at + 1 : at + 2])]) - address
 
     def line(self, address: int) -> str:
         """The source line of an instruction, as `sum.c:12`; "" if the file doesn't have it."""

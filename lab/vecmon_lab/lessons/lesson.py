@@ -6,25 +6,14 @@ import sys
 from collections.abc import Mapping
 
 from .. import LabError
-from ..arguments import add_any_vlen, check_output
+from ..arguments import add_any_vlen, add_compiler, check_output
 from ..compilers.compiling import compile_c
-from ..compilers.compiler import CHOICES, choice_for, find_compiler
+from ..compilers.compiler import ASSEMBLER_SUFFIXES, C_SUFFIX, choice_for, find_compiler
 from ..machine.program import find_program, images_of
 from .frames import make_frames
 from .listings import CompiledListing, listing_of, listings_page
 from .page import lesson_page
 from .script import read_assembled, read_compiled, read_script
-
-SOURCE_SUFFIXES, C_SUFFIX = (".s", ".S"), ".c"
-
-
-def add_compiler(parser: argparse.ArgumentParser) -> None:
-    """The compiler of a source, and its options."""
-    parser.add_argument("--cc", metavar="NAME", help="the compiler, such as clang-19")
-    names = [choice.name for choice in CHOICES]
-    parser.add_argument(
-        "--options", choices=names, default=names[0], help="options of the compiler; by default %(default)s"
-    )
 
 
 def add_arguments(parser: argparse.ArgumentParser) -> None:
@@ -72,7 +61,7 @@ def _lesson(arguments: argparse.Namespace, images: Mapping[str, pathlib.Path]) -
         program = compile_c(text, find_compiler(arguments.cc), choice, path.parent)
         script = read_compiled(text, path.name, program, path.suffix == C_SUFFIX)
     else:
-        script = read_assembled(text, path.name) if path.suffix in SOURCE_SUFFIXES else read_script(text)
+        script = read_assembled(text, path.name) if path.suffix in ASSEMBLER_SUFFIXES else read_script(text)
     if not script.steps:
         raise LabError(f"{path}: a lesson needs a line of a script, and this file has none")
     frames = make_frames(script, find_program(), images, arguments.quantum)

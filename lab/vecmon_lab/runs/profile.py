@@ -13,7 +13,7 @@ from ..page.texts import page_text
 from ..tables.table import spreadsheet_row, table_lines
 from .counts import Counts
 from .profile_page import profile_page
-from .tick_profile import ELEMENTS, TickProfile, Table, TableRow, compared, elements_row, share
+from .tick_profile import ELEMENTS, TickProfile, Table, TableRow, compared, elements_row, share, unmatched
 from .run import counted, ending, report_calls, status_of
 
 HEAD = ("address", "place", "source", "instruction", "times", "ticks", *ELEMENTS)
@@ -24,8 +24,8 @@ def add_arguments(parser: argparse.ArgumentParser) -> None:
     """The words of `vecmon-lab profile`."""
     add_image(parser)
     parser.add_argument("-o", dest="page", metavar="FILE.html", type=pathlib.Path, help="write a page, and FILE.csv")
-    help_ = "compare with another image, such as one of an earlier source"
-    parser.add_argument("--against", metavar="IMAGE", type=pathlib.Path, help=help_)
+    help_ = "compare with another image or source, such as an earlier one"
+    parser.add_argument("--against", metavar="IMAGE", help=help_)
 
 
 def run(arguments: argparse.Namespace) -> int:
@@ -34,17 +34,17 @@ def run(arguments: argparse.Namespace) -> int:
     Raises LabError and OSError for bad input.
     """
     image, page = arguments.image, arguments.page
-    other = image_path(f"{arguments.against}", arguments.any_vlen) if arguments.against else None
-    inputs: list[pathlib.Path | None] = [arguments.input, other]
+    other = image_path(arguments.against, arguments) if arguments.against else None
     if page and page.suffix != ".html":
         raise LabError(f"-o names a page, FILE.html, and {page} is none")
-    check_outputs([page, page and page.with_suffix(".csv")], image, *filter(None, inputs))
+    inputs: list[pathlib.Path] = [path for path in (image, arguments.input, other) if path]
+    check_outputs([page, page and page.with_suffix(".csv")], *inputs)
     counts, symbols, ticks_spent, summary = _profiled(arguments, image)
     tables = [table for table in ticks_spent.tables() if table.rows]
     if other:
         _, _, theirs, more = _profiled(arguments, other)
         tables = [*compared(ticks_spent, theirs), *tables]
-        summary += [f"against {other.name}: {line}" for line in more]
+        summary += [f"against {other.name}: {line}" for line in [*more, *unmatched(ticks_spent, theirs)]]
     rows = [*_rows(counts, symbols)]
     lines = [line for table in tables for line in (*_shown(table), "")]
     print("\n".join([*lines, *table_lines([HEAD, *rows], 4), "", *_histogram(counts), "", *summary]))

@@ -1,11 +1,13 @@
 """Where a run has spent its ticks: its loops, its functions with their calls, and its source lines."""
 
 import bisect
+import functools
 from collections import Counter, defaultdict
 from collections.abc import Iterable, Iterator, Sequence
 from dataclasses import dataclass
 
 from ..guest.symbols import Symbols
+from ..instructions.words import listed
 from ..tables.table import html_table
 from .callers import Callers
 from .counts import CountedWord, Counts
@@ -77,10 +79,11 @@ class TickProfile:
             ticks[name or self.function(place.address)] += place.ticks
         return ticks
 
-    @property
-    def has_lines(self) -> bool:
-        """Whether some executed instruction has a source line."""
-        return any(self._symbols.line(place.address) for place in self._counts.places)
+    @functools.cached_property
+    def source_files(self) -> set[str]:
+        """The source files of the executed instructions, as far as they have lines."""
+        lines = (self._symbols.line(place.address) for place in self._counts.places)
+        return {line.rpartition(":")[0] for line in lines if line}
 
     def _loops(self) -> Iterator[TableRow]:
         """A row for each address that a jump leads back to in its function; a loop ends with the last such jump."""
@@ -135,12 +138,21 @@ def share(number: int, whole: int) -> str:
 
 def compared(ours: TickProfile, theirs: TickProfile) -> Iterator[Table]:
     """The ticks of two runs side by side, largest savings first: by source lines, if both have some, and functions."""
-    for by_line in (True, False) if ours.has_lines and theirs.has_lines else (False,):
+    for by_line in (True, False) if ours.source_files and theirs.source_files else (False,):
         mine, others = ours.ticks(by_line), theirs.ticks(by_line)
         rows = [(name, mine[name], others[name], mine[name] - others[name]) for name in dict.fromkeys([*mine, *others])]
         what, title = ("source", "Source lines") if by_line else ("function", "Functions")
         head = (what, "ticks", "against", "change")
         yield Table(f"{title} against the other image", head, 1, sorted(rows, key=lambda row: row[3]))
+
+
+def unmatched(ours: TickProfile, theirs: TickProfile) -> Iterator[str]:
+    """Sentences about rows of `compared` that can't match: of source files that one program lacks, and of all functions."""
+    mine, others = ours.source_files, theirs.source_files
+    if mine and others and mine != others:
+        yield f"the lines of {listed(sorted(mine ^ others))} are in one program only: they are compared with 0"
+    if not ours.ticks(False).keys() & theirs.ticks(False).keys():
+        yield "no function is in both programs: each is compared with 0"
 
 
 def _sorted(rows: Iterable[TableRow], column: int) -> list[TableRow]:

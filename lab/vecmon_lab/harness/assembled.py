@@ -1,0 +1,43 @@
+"""Images of assembler sources: `run`, `profile`, `compare` and `gdb` load one in place of its source."""
+
+import atexit
+import pathlib
+import tempfile
+
+from ..guest.guest import Guest
+from ..instructions.accesses import PAGE_BYTES
+from ..lessons.script import read_assembled, send
+from ..machine.program import find_program
+from ..machine.session import Session
+from .elf import EXECUTE, READ, WRITE, Segment, elf
+from .line_table import debug_sections
+
+
+def assembled_image(path: pathlib.Path) -> pathlib.Path:
+    """The image of your own assembler source, by the lab's assembler, which is there until the command ends.
+
+    It has the source's name without `.s`, its labels as symbols, and the lines of its instructions. The source's `#>` lines
+    are for lessons. Raises LabError where the source has mistakes, and OSError.
+    """
+    script = read_assembled(path.read_text("utf-8", "replace"), f"{path}")
+    program = script.program
+    assert program
+    with Session(find_program()) as session:
+        guest = Guest(session)
+        send(guest, [line.removeprefix("1 ") for line in script.steps[0].lines], script)
+        segments = [_segment(guest, *line.split()[1:]) for line in program.lines if line.startswith("map ")]
+    rows = [(statement.address, statement.line) for statement in program.statements]
+    saved = tempfile.TemporaryDirectory()
+    atexit.register(saved.cleanup)
+    image = pathlib.Path(saved.name, path.stem)
+    image.write_bytes(elf(program.entry, segments, program.labels, debug_sections(path.absolute(), rows)))
+    return image
+
+
+def _segment(guest: Guest, digits: str, pages: str, permissions: str) -> Segment:
+    """The pages that a line of the monitor mapped, with all of their bytes, or none if all are 0."""
+    address, size = int(digits, 16), int(pages) * PAGE_BYTES
+    data, is_text = guest.peek(address, size), "x" in permissions
+    data = data if is_text or any(data) else b""
+    section = ".text" if is_text else ".data" if data else ".bss"
+    return Segment(address, data, size, READ | (EXECUTE if is_text else WRITE), section)
