@@ -138,5 +138,5 @@ def test_tour_kernel_equals_compiler_output(clang: Compiler) -> None:
 
 def test_tour_ends_with_kernel() -> None:
     script = tours()[KERNEL]
-    assert list(tours())[-1] == KERNEL and script.labels["112a0"] == ["_start"]
+    assert list(tours())[-1] == KERNEL and script.labels["112ec"] == ["_start"]
     assert script.said["111e8"].endswith("length = __riscv_vsetvl_e32m1(count);  (saxpy, inlined)")
