@@ -89,7 +89,8 @@ def _message(asked: dict[str, Any]) -> object:
         case {"lesson": ticket}:
             return {"kind": "lesson", **_lesson(_desk, ticket)}
         case {"join": theirs}:
-            return {**_desk.join(theirs), "joined": True}
+            news: dict[str, object] = {**_desk.join(theirs)}
+            return news | {"joined": True}
         case {"turn": _}:
             return _desk.turn() or {}
     return {}
