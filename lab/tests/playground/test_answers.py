@@ -53,7 +53,7 @@ def _common(message: Mapping[str, Any]) -> dict[str, Any]:
     patch = {name: part for name, part in message.get("patch", {}).items() if name not in OWN}
     patch.get("source", {}).pop("exercise", None)
     for version in patch.get("source", {}).get("versions", []):
-        version["exercise"] = ""
+        version["exercise"] = version["title"] = ""  # of the free program there are none
     return {**message, "patch": patch, "lost": []}
 
 
