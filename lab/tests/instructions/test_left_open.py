@@ -43,7 +43,7 @@ FIXED = [
 ]
 
 
-@pytest.mark.parametrize("given", FIXED, ids=lambda given: given.text)
+@pytest.mark.parametrize("given", FIXED, ids=[given.text for given in FIXED])
 def test_fixed_results_have_no_reason(given: Executed) -> None:
     if given.text.startswith("vcompress"):
         given = step(0x5E31A0D7, "vcompress.vm v1, v3, v3", control=ControlRegisters(4, 0))

@@ -103,12 +103,14 @@ def kind_of(golden: Case, base: int) -> str:
 def executed(golden: Case) -> Executed:
     """A case as an instruction with the state before it, and its fault."""
     before, after = state(golden), object_in(golden, "after")
+    v = before["v"]
+    assert isinstance(v, bytes)
     control = ControlRegisters(*(int(before[name]) for name in vars(ControlRegisters())))
     x = [0, *(int(before[f"x{number}"]) for number in range(1, 32))]
     cause = int(str(golden["cause"])) if golden["end"] == "fault" else None
     element = int(str(after.get("vstart", golden["vstart"])))
     word, text = int(str(golden["word"]), 16), str(golden["text"])
-    return Executed(word, text, x, control, bytes(before["v"]), cause, element)
+    return Executed(word, text, x, control, v, cause, element)
 
 
 def case_words(golden: Case, environment: Environment) -> tuple[list[int], int]:
