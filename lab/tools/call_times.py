@@ -14,7 +14,7 @@ from vecmon_lab import Kernel
 
 ROUNDS, CALLS = 5, 200
 SOURCE = TOP / "lab" / "examples" / "tested" / "add_scaled.c"
-NUMBERS = array("i", range(37))
+NUMBERS, SUMS = array("i", range(37)), array("i", range(37))  # two arrays: one given twice would be one in memory
 
 
 def children() -> float:
@@ -26,10 +26,10 @@ def children() -> float:
 def seconds(counted: bool) -> float:
     """Return the seconds of processor of one round in a process of its own machine."""
     with Kernel(SOURCE) as kernel:
-        kernel.call("add_scaled", 37, 3, NUMBERS, NUMBERS, counted=counted)
+        kernel.call("add_scaled", 37, 3, NUMBERS, SUMS, counted=counted)
         of_lab, of_others = time.process_time(), children()
         for _ in range(CALLS):
-            kernel.call("add_scaled", 37, 3, NUMBERS, NUMBERS, counted=counted)
+            kernel.call("add_scaled", 37, 3, NUMBERS, SUMS, counted=counted)
         of_lab = time.process_time() - of_lab
     return of_lab + children() - of_others
 

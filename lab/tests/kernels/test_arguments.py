@@ -194,9 +194,9 @@ def test_type_of_parameter_decides(kernel: Kernel) -> None:
         ("swapped", [1], "swapped: argument 1, struct pair p, is no integer or pointer: pass a pointer to it"),
         ("both", [1], "both: its result, struct pair, is no integer or pointer: store it by a pointer"),
         ("large", [1], "large: argument 1, __int128 x, is no integer or pointer: pass a pointer to it"),
-        ("sum_u32", [1, 2.5], "argument 2, 2.5, is no integer and no array: put it into an array"),
+        ("sum_u32", [1, 2.5], "argument 2, 2.5, is no integer and no array: pass array.array('i', [7]), for example"),
         ("sum_u32", [1, ctypes.c_float(2)], "argument 2, c_float(2.0), is no integer and no array: "),
-        ("sum_u32", [1, b"ab"], "argument 2, 4294971390, doesn't fit into uint32_t y: 0 to 4294967295"),
+        ("sum_u32", [1, b"ab"], "argument 2 is an array, and uint32_t y is no pointer"),
         ("changed", [1, 2], "changed: the compiler changed how this static function takes its arguments: "),
     ],
 )

@@ -184,8 +184,9 @@ def test_call_without_return_is_reported(kernel: Kernel, symbol: str, expected: 
     [
         ([0] * 9, {}, "a call has 8 arguments at most, and this one has 9"),
         ([1 << 64], {}, "argument 1, 18446744073709551616, doesn't fit into 64 bits"),
-        ([0, 1.5], {}, "argument 2, 1.5, is no integer and no array: put it into an array"),
-        ([[0, 1]], {}, "argument 1: memoryview: a bytes-like object is required, not 'list'"),
+        ([0, 1.5], {}, "argument 2, 1.5, is no integer and no array: pass array.array('i', [7]), for example"),
+        ([[0, 1]], {}, "argument 1, [0, 1], is no integer and no array: pass array.array("),
+        ([Placed("a")], {}, "argument 1: memoryview: a bytes-like object is required, not 'str'"),
         ([Placed(b"a", 4096)], {}, "argument 1: its offset in a page is 4096, and isn't from 0 to 4,095"),
         ([Placed(b"a", permissions="rq")], {}, "fifth: map 100000000 1 rq: E04: rq isn't one of r, w, x, "),
         ([bytes(1 << 20)], {}, "fifth: map 100000000 256 rw: E10: the user would have more than 256 pages"),

@@ -43,18 +43,16 @@ def call_of(symbol: str, arguments: Sequence[Argument], signature: Signature | N
     signature: of the function, or None if its types aren't known
     """
     result, parameters = _checked(symbol, len(arguments), signature)
-    values, placed = dict[int, int](), list[tuple[int, Placed]]()
-    for number, (argument, parameter) in enumerate(zip(arguments, parameters), 1):
-        read = _read(number, argument)
-        if isinstance(read, Placed):
-            placed.append((number, read))
+    read = [_read(number, argument) for number, argument in enumerate(arguments, 1)]
+    layout = Layout([(number, each) for number, each in enumerate(read, 1) if isinstance(each, Placed)])
+    lines = [*layout.lines]
+    for number, (each, parameter) in enumerate(zip(read, parameters), 1):
+        if isinstance(each, Placed):
+            value = _address(number, layout, parameter)
         else:
-            values[number] = _register(number, *read, parameter)
-    layout = Layout(placed)
-    for number, array in layout.arrays.items():
-        values[number] = _register(number, array.address, None, parameters[number - 1])
-    registers = [f"set x{FIRST_ARGUMENT + number - 1} {value:x}" for number, value in sorted(values.items())]
-    return Call(layout, [*layout.lines, *registers], result)
+            value = _register(number, *each, parameter)
+        lines.append(f"set x{FIRST_ARGUMENT + number - 1} {value:x}")
+    return Call(layout, lines, result)
 
 
 def result_of(register: int, kind: Integer | None) -> int:
@@ -117,9 +115,25 @@ def _read(number: int, argument: Argument) -> tuple[int, Integer | None] | Place
         return int(argument), None
     if isinstance(argument, int | numbers.Integral):
         return int(argument), None
-    if isinstance(argument, numbers.Number | ctypes._SimpleCData):
-        raise LabError(f"argument {number}, {argument!r}, is no integer and no array: put it into an array")
-    return argument if isinstance(argument, Placed) else Placed(argument)
+    if isinstance(argument, Placed):
+        return argument
+    if isinstance(argument, numbers.Number | ctypes._SimpleCData) or not _has_buffer(argument):
+        shown = repr(argument)[:40]
+        raise LabError(
+            f"argument {number}, {shown}, is no integer and no array: pass array.array('i', [7]), for example"
+        )
+    return Placed(argument)
+
+
+def _has_buffer(argument: object) -> bool:
+    """Whether an object has Python's buffer protocol."""
+    try:
+        memoryview(argument)  # type: ignore[arg-type]
+    except TypeError:
+        return False
+    except ValueError:  # numpy's, for elements that buffers don't have
+        pass
+    return True
 
 
 def _of_ctypes(argument: Argument) -> tuple[int, Integer] | None:
@@ -135,6 +149,14 @@ def _of_ctypes(argument: Argument) -> tuple[int, Integer] | None:
     if isinstance(argument, ctypes.c_void_p):
         return argument.value or 0, WORD
     return None
+
+
+def _address(number: int, layout: Layout, parameter: Declared | None) -> int:
+    """The register of an argument that is an array. Raises LabError if the parameter has no room for an address."""
+    kind = parameter.integer if parameter else None
+    if parameter and kind and kind.bits < WORD.bits:
+        raise LabError(f"argument {number} is an array, and {parameter.declaration} is no pointer")
+    return layout.arrays[number].address
 
 
 def _register(number: int, value: int, kind: Integer | None, parameter: Declared | None) -> int:

@@ -137,23 +137,21 @@ def _groups(given: Sequence[_Given]) -> list[list[_Given]]:
     groups, end = list[list[_Given]](), 0
     for each in sorted(given, key=lambda each: each.host.start):
         if each.host and each.host.start < end:
+            _check_places(groups[-1][0], each)
             groups[-1].append(each)
         else:
             groups.append([each])
         end = max(end, each.host.stop)
-    for group in groups:
-        _check_places(group)
     _check_copies(given)
     return sorted(groups, key=lambda group: min(each.number for each in group))
 
 
-def _check_places(group: Sequence[_Given]) -> None:
+def _check_places(one: _Given, other: _Given) -> None:
     """Raises LabError if arrays that share memory are given different places."""
-    first = group[0]
-    for each in group[1:]:
-        is_moved = first.placed.offset is not None and each.host.start != first.host.start
-        if is_moved or (each.placed.offset, each.placed.permissions) != (first.placed.offset, first.placed.permissions):
-            raise LabError(f"{_numbers(first, each)} share memory: give them the same place, or give copies")
+    offset, permissions = one.placed.offset, one.placed.permissions
+    is_moved = offset is not None and one.host.start != other.host.start
+    if is_moved or (offset, permissions) != (other.placed.offset, other.placed.permissions):
+        raise LabError(f"{_numbers(one, other)} share memory: give them the same place, or give copies")
 
 
 def _check_copies(given: Sequence[_Given]) -> None:
