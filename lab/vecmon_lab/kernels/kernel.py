@@ -92,9 +92,13 @@ class Kernel(contextlib.AbstractContextManager["Kernel"]):
     """
 
     def __init__(
-        self, path: str | os.PathLike[str], options: str = "O2", compiler: str | None = None, any_vlen: bool = False
+        self,
+        path: str | os.PathLike[str],
+        options: str | None = None,
+        compiler: str | None = None,
+        any_vlen: bool = False,
     ) -> None:
-        """options, compiler: as `vecmon-lab lesson` has them; `stock` assembles by clang. Raises LabError and OSError.
+        """options, compiler: as `vecmon-lab lesson` has them, for C without options O2; `stock` assembles by clang. Raises LabError and OSError.
 
         any_vlen: whether an image for longer vector registers is taken
         """
