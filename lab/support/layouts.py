@@ -55,7 +55,7 @@ for (const list of seen("select")) {
 }
 return boxes;
 """.replace(
-    "SIDEWAYS", '"#listing, #listing .source, .profile .scroll, pre"'
+    "SIDEWAYS", '"#listing, #listing .source, #written, .profile .scroll, pre"'
 )
 # Controls that are partly cut off, and controls and labels over another one.
 UNREACHABLE = """

@@ -331,6 +331,27 @@ def test_lesson_links_to_other_lessons(
     assert browser.title == "two" and not browser.get_log("browser")
 
 
+def test_source_is_shown_as_it_was_written(opened: Callable[[str], "Chrome"], program: pathlib.Path) -> None:
+    """With the line that was executed and the next one; `la` has two instructions. A script has its listing alone."""
+    text = (EXAMPLES / "strip_mined.s").read_text("utf-8")
+    script = read_assembled(text, "x")
+    browser = opened(lesson_page("x", make_frames(script, program), script))
+    lines = "return [...document.querySelectorAll(arguments[0])].map((line) => line.textContent)"
+    assert browser.execute_script(lines, "#written li") == text.removesuffix("\n").split("\n")
+    for executed, following in (("li a0, 13", "la a1, x"), ("la a1, x", "la a1, x"), ("la a1, x", "la a2, y")):
+        browser.find_element("id", "next").click()
+        marked = [browser.execute_script(lines, f"#written .{kind}") for kind in ("executed", "next")]
+        assert marked == [[f"        {executed}"], [f"        {following}"]]
+    shown = (
+        """return ["show-source", "written", "listing"].map((id) => document.getElementById(id).checkVisibility())"""
+    )
+    assert browser.execute_script(shown) == [True, True, False]
+    browser.find_element("id", "show-listing").click()
+    assert browser.execute_script(shown) == [True, False, True]
+    browser = opened(lesson_page("x", make_frames(read_script("1 enter\n"), program)))
+    assert browser.execute_script(shown) == [False, False, True]
+
+
 def test_first_frame_introduces_lesson(opened: Callable[[str], "Chrome"], program: pathlib.Path) -> None:
     """It shows points and data in place of elements, and Start leads to the next frame; a lesson without them has elements."""
     script = read_assembled((EXAMPLES / "strip_mined.s").read_text("utf-8"), "x")

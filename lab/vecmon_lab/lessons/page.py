@@ -3,6 +3,7 @@
 from collections.abc import Mapping, Sequence
 from typing import NotRequired, TypedDict
 
+from ..compilers.compiled import CompiledProgram
 from ..page.html_elements import Html, element, joined, prose
 from ..page.pages import merge_patch, page_with_data
 from ..page.state import SourceNames
@@ -27,10 +28,12 @@ class FrameData(TypedDict):
 class LessonData(SourceNames):
     """The data of a lesson's page: the names of its source, and its frames.
 
+    text: of the source, as it was written
     name: the name of a series with that of the lesson, by which the browser stores that it was read
     """
 
     frames: list[FrameData]
+    text: NotRequired[str]
     name: NotRequired[str]
 
 
@@ -53,6 +56,10 @@ def lesson_page(
         "variables": shown_variables(script.variables),
         "frames": [_frame_data(frame, merge_patch(old, frame.states)) for old, frame in zip(before, frames)],
     }
+    if script.program and script.text:
+        data["text"] = script.text
+    if script.program and not isinstance(script.program, CompiledProgram):
+        data["line_numbers"] = script.program.line_numbers()
     if script.program and script.program.data:
         runs = script.program.data.items()
         data["data"] = {f"{address:x}": {"type": run.type, "count": run.count} for address, run in runs}

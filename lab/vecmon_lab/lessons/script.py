@@ -32,7 +32,7 @@ class Step:
 class Script:
     """A lesson's steps.
 
-    Of a source also: its program, its name, its labels by address, its instructions by the line that writes them, and its
+    Of a source also: its program, its name, its text as it was written, its labels by address, its instructions by the line that writes them, and its
     sentences by the address of the instruction behind them; of one in C what its lines say, by address, where the
     instructions of its lines begin, and its variables.
     """
@@ -40,6 +40,7 @@ class Script:
     title: str
     steps: list[Step]
     source: str = ""
+    text: str = ""
     labels: dict[str, list[str]] = field(default_factory=dict)
     statements: dict[str, Statement] = field(default_factory=dict)
     notes: dict[int, str] = field(default_factory=dict)
@@ -80,7 +81,7 @@ def read_assembled(text: str, name: str) -> Script:
         program = assemble(text)
     except SourceError as error:
         raise LabError(error.diagnostic(name)) from error
-    return _script_of(program, [line.strip() for line in text.split("\n")], name)
+    return replace(_script_of(program, [line.strip() for line in text.split("\n")], name), text=text)
 
 
 def read_compiled(text: str, name: str, program: CompiledProgram, is_c: bool) -> Script:
@@ -93,7 +94,7 @@ def read_compiled(text: str, name: str, program: CompiledProgram, is_c: bool) ->
     if is_c:
         lines = [f"#{line[2:]}" if line.startswith("//") else line.replace("#", " #", 1) for line in lines]
     script, said = _script_of(program, lines, name), program.source_lines(text)
-    return replace(script, said=said, starts=program.line_starts(), variables=program.variables)
+    return replace(script, text=text, said=said, starts=program.line_starts(), variables=program.variables)
 
 
 def _script_of(program: Program, lines: list[str], name: str) -> Script:
@@ -107,7 +108,7 @@ def _script_of(program: Program, lines: list[str], name: str) -> Script:
     for line in set_up + ([] if runs else RUN_LINES):
         add_line(steps, line)
     statements = {f"1 {each.command}": each for each in program.statements}
-    return Script(title, steps, name, program.names(), statements, notes, program=program)
+    return Script(title, steps, name, labels=program.names(), statements=statements, notes=notes, program=program)
 
 
 def refused_statement(script: Script, line: str, answer: Refused) -> LabError:

@@ -8,6 +8,7 @@ import { lineBegins } from "./source_lines.js";
 import { textOf } from "./texts.js";
 import { STOP_LINE, entryParts, logEntry } from "./transcript.js";
 import { MachineView, usedIn } from "./view.js";
+import { WrittenSource } from "./written.js";
 
 /** @typedef {import("./messages").State} State */
 /** @typedef {Record<string, State>} States by user */
@@ -28,13 +29,17 @@ class Lesson {
   place = 0;
   address = 0; // a timer
 
-  constructor(/** @type {import("./messages").LessonData} */ { frames, name, ...source }) {
+  constructor(/** @type {import("./messages").LessonData} */ { frames, name, text = "", ...source }) {
     this.frames = frames;
     this.source = source;
     this.name = name;
     this.isIntroduced = byId("points").childElementCount + byId("in-memory").childElementCount > 0;
     this.view = new MachineView(document);
-    new Panes(document.body, "lesson");
+    const panes = new Panes(document.body, "lesson");
+    this.written = new WrittenSource(document, text);
+    byId("sides").hidden = !text;
+    byId("program-title").hidden = Boolean(text);
+    panes.select(text ? byId("show-source") : byId("show-listing"));
     this.view.machine.addEventListener("change", () => this.show(this.place));
     /** @type {States[]} */
     this.states = afterEach(frames.map((frame) => frame.states));
@@ -109,6 +114,7 @@ class Lesson {
     this.showPlace(user, states);
     this.showStage(frame, state, user, states);
     this.showLog(frame.log.length);
+    this.written.paint(state);
     byId("introduction").hidden = !this.isIntroduced || this.place > 0;
     if (this.name && this.place === this.frames.length - 1) keepRead(this.name);
     const earlier = this.states.slice(0, this.place).map((each) => each[user]);

@@ -323,6 +323,7 @@ export interface LastInstructionRequest {
 /**
  * The data of a lesson's page: the names of its source, and its frames.
  *
+ * text: of the source, as it was written
  * name: the name of a series with that of the lesson, by which the browser stores that it was read
  */
 export interface LessonData {
@@ -334,6 +335,7 @@ export interface LessonData {
   variables?: ShownVariable[];
   data?: { [name: string]: ShownData };
   frames: FrameData[];
+  text?: string;
   name?: string;
 }
 

@@ -54,4 +54,5 @@ export type Parts =
     | "split-dock" | "split-exercise" | "split-left" | "split-middle" | "split-state" | "start" | "start-page" | "start-title" | "state"
     | "step" | "stepped" | "stepped-title" | "stop" | "summary" | "summary-says" | "tables" | "teacher" | "trouble" | "try-count"
     | "unencrypted" | "users" | "variables" | "vectors" | "vectors-title" | "verdict" | "welcome" | "welcome-title" | "who" | "why-no-c"
+    | "written"
   >;
