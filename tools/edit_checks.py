@@ -87,11 +87,6 @@ class Prover:
         self.rtlib.guarded()  # sets signal handlers, which only the main thread can
         self.crates = {str(it.name): it for it in self.rtlib.crates_below(os.getcwd())}
 
-    def lacking(self, crates: list[str]) -> list[str]:
-        """Return the libraries of this repository below these crates that aren't built."""
-        below = {it.name: it for name in crates for it in self.crates[name].below()}
-        return [name for name, it in below.items() if not os.path.isfile(f"{it.rlib}/format")]
-
     def check(self, edits: list[Edit], kept: str | None) -> Check:
         """Check the functions of a crate's edits in a copy that has them all. What the prover proves of others is kept in a folder, if one
         is given. A run that the system ended, most likely for memory, is tried a second time."""

@@ -3,8 +3,10 @@
 The prover's output is recorded from runs of the kit over the example of `tools/try_edits --self-test`, which stage 2 of tools/test runs.
 """
 
+import hashlib
 import importlib.machinery
 import importlib.util
+import json
 import pathlib
 import shutil
 import stat
@@ -16,6 +18,7 @@ import pytest
 
 import check_edits
 import edit_clauses
+import edit_libraries
 import edit_self_test
 import gate_times
 from edit_checks import Check, Outcome, Prover, Result, refusal
@@ -358,3 +361,54 @@ def test_example_that_passes_wrongly_is_noticed(
     )
     assert not edit_self_test.try_example(FakeProver({"harmless wrong": careless}), example)
     assert "sums/harmless: refused, expected: NOT REFUSED: " in capsys.readouterr().out
+
+
+class FakeStore:
+    """The store of `rt ci`, with one library, whose only file has a text."""
+
+    def __init__(self, text: str | None) -> None:
+        self.text, self.rlibs, self.given = text, dict[str, str](), 0
+        if text is not None:
+            files = [("rlib/low.rlib/format", hashlib.sha256(text.encode()).hexdigest())]
+            pathlib.Path("made.json").write_text(json.dumps({"files": files}), encoding="utf-8")
+
+    def key(self, crate: Any) -> str:
+        return "key"
+
+    def place(self, crate: Any, tests: bool, key: str) -> str:
+        return "."
+
+    def is_built(self, crate: Any) -> None:
+        file = pathlib.Path(crate.rlib, "format")
+        content = [("rlib/low.rlib/format", hashlib.sha256(file.read_bytes()).hexdigest())] if file.is_file() else []
+        self.rlibs[crate.name] = hashlib.sha256(repr(content).encode()).hexdigest()
+
+    def give(self, crate: Any, tests: bool, key: str) -> None:
+        self.given += 1
+        assert self.text is not None
+        pathlib.Path(crate.rlib).mkdir(parents=True)
+        pathlib.Path(crate.rlib, "format").write_text(self.text, encoding="utf-8")
+
+
+@pytest.mark.parametrize(
+    "there, stored, is_own, left, given",
+    [
+        (None, "new", False, "new", 1),
+        ("new", "new", False, "new", 0),
+        ("old", "new", False, "new", 1),
+        ("own", "new", True, "own", 0),  # rt lib built it from the sources as they are
+        ("old", None, False, "old", 0),
+        (None, None, False, None, 0),
+    ],
+)
+def test_libraries_are_those_that_were_proved(
+    example: list[pathlib.Path], there: str | None, stored: str | None, is_own: bool, left: str | None, given: int
+) -> None:
+    rlib = pathlib.Path("out", "rlib", "low.rlib")
+    if there:
+        rlib.mkdir(parents=True)
+        (rlib / "format").write_text(there, encoding="utf-8")
+    store = FakeStore(stored)
+    crate = types.SimpleNamespace(name="low", rlib=str(rlib), is_built=lambda: is_own)
+    assert edit_libraries.is_provided(store, crate) is (left is not None)
+    assert ((rlib / "format").read_text(encoding="utf-8") if left else None) == left and store.given == given
