@@ -2,7 +2,6 @@
 
 A stand-in for the build takes no time: each step writes what it was made of, and waits or fails if a file names the step."""
 
-import contextlib
 import os
 import pathlib
 import re
@@ -13,6 +12,7 @@ import subprocess
 import sys
 import time
 from collections.abc import Callable, Iterator
+from typing import IO
 
 import pytest
 
@@ -105,23 +105,18 @@ class Clone:
         self.wait_for_background()
         return ran
 
-    def start(self, *arguments: str, errors: pathlib.Path | None = None) -> subprocess.Popen[str]:
-        """Starts tools/run in a process group of its own. Standard error is a pipe, or goes to a file."""
-        with errors.open("w") if errors else contextlib.nullcontext(subprocess.PIPE) as stream:
-            return subprocess.Popen(
-                [
-                    "env",
-                    "--default-signal=HUP,INT,TERM",
-                    self.run_tool,
-                    *arguments,
-                ],  # nohup lets children ignore SIGHUP
-                env=self.environment,
-                stdin=subprocess.PIPE,
-                stdout=subprocess.PIPE,
-                stderr=stream,
-                text=True,
-                start_new_session=True,
-            )
+    def start(self, *arguments: str, errors: IO[str] | int = subprocess.PIPE) -> subprocess.Popen[str]:
+        """Starts tools/run in a process group of its own."""
+        reset = ["env", "--default-signal=HUP,INT,TERM"]  # nohup lets children ignore SIGHUP
+        return subprocess.Popen(
+            [*reset, self.run_tool, *arguments],
+            env=self.environment,
+            stdin=subprocess.PIPE,
+            stdout=subprocess.PIPE,
+            stderr=errors,
+            text=True,
+            start_new_session=True,
+        )
 
     def hold(self, *steps: str) -> None:
         """Lets these steps of a build wait, and no others."""
@@ -534,7 +529,8 @@ def test_concurrent_starts_build_once(clone: Clone, tmp_path: pathlib.Path) -> N
     """One of them, whichever is later, waits until the other one has built the first program."""
     clone.hold("module vecmon")
     files = [tmp_path / name for name in ("one", "other")]
-    processes = [clone.start(errors=file) for file in files]
+    with files[0].open("w") as one, files[1].open("w") as other:
+        processes = [clone.start(errors=one), clone.start(errors=other)]
     until(lambda: any("waiting for another tools/run" in file.read_text() for file in files))
     clone.hold()
     ended = [process.communicate(timeout=60) for process in processes]
