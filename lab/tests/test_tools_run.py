@@ -2,6 +2,7 @@
 
 A stand-in for the build takes no time: each step writes what it was made of, and waits or fails if a file names the step."""
 
+import fcntl
 import os
 import pathlib
 import re
@@ -133,8 +134,19 @@ class Clone:
         until(lambda: set(steps) <= set(self.builds()))
 
     def wait_for_background(self) -> None:
-        """Waits until nothing is built."""
-        until(lambda: not running_builds(self))
+        """Waits until no start builds, and nothing is built in the background."""
+        until(self.is_idle)
+
+    def is_idle(self) -> bool:
+        """Returns whether the lock of builds is free."""
+        if not (self.unproved / "lock").exists():
+            return True
+        with (self.unproved / "lock").open("rb") as lock:
+            try:
+                fcntl.flock(lock, fcntl.LOCK_SH | fcntl.LOCK_NB)
+            except BlockingIOError:
+                return False
+        return True
 
     def digest(self, *arguments: str) -> Run:
         """Runs tools/source_digest."""
@@ -174,7 +186,7 @@ def clone(tmp_path: pathlib.Path, program: pathlib.Path) -> Iterator[Clone]:
     made = Clone(tmp_path / "a clone", program)
     yield made
     made.hold()
-    made.wait_for_background()
+    until(lambda: not running_builds(made))
     assert not made.rooms()
 
 
@@ -409,29 +421,28 @@ def test_interrupted_first_build_is_repeated(clone: Clone, step: str, number: in
     os.killpg(process.pid, number)
     process.communicate(timeout=60)
     assert process.returncode == status
-    clone.wait_for_background()
+    until(lambda: not running_builds(clone))
     assert clone.folders() == [] and not (clone.unproved / "current").exists()
     clone.hold()
     assert clone.complete().returncode == 0 and clone.programs() == OPTIMIZED
 
 
-@pytest.mark.parametrize("step", FIRST)
-def test_killed_first_build_is_repeated(clone: Clone, step: str) -> None:
-    clone.hold(step)
+def test_killed_first_build_is_repeated(clone: Clone) -> None:
+    clone.hold(FIRST[1])
     process = clone.start()
-    clone.wait_for_step(step)
+    clone.wait_for_step(FIRST[1])
     process.kill()
     process.communicate(timeout=60)
     assert len(clone.rooms()) == 1 and clone.folders() == []
     clone.hold()
-    clone.wait_for_background()
+    until(lambda: not running_builds(clone))
     assert clone.complete().returncode == 0 and clone.programs() == OPTIMIZED
     assert clone.folders() == [(clone.unproved / "current").read_text().strip()]
 
 
 @pytest.mark.parametrize(
     "step, number",
-    [(SECOND[0], signal.SIGTERM), (SECOND[1], signal.SIGTERM), (SECOND[1], signal.SIGKILL), (ALL[2], signal.SIGTERM)],
+    [(SECOND[0], signal.SIGTERM), (SECOND[1], signal.SIGKILL), (ALL[2], signal.SIGTERM)],
 )
 def test_interrupted_background_build_is_repeated(clone: Clone, step: str, number: int) -> None:
     """Not as a failure: the next start runs the first program at once, and builds the rest."""
@@ -443,7 +454,7 @@ def test_interrupted_background_build_is_repeated(clone: Clone, step: str, numbe
     if number == signal.SIGKILL:
         until(lambda: not pathlib.Path(f"/proc/{group}").exists())
         clone.hold()  # the steps that it started go on
-    clone.wait_for_background()
+    until(lambda: not running_builds(clone))
     assert clone.programs() == {"vecmon": "# vecmon ['-O0']"}
     clone.hold(*SECOND)
     again = clone.run()
