@@ -179,6 +179,22 @@ def test_call_without_return_is_reported(kernel: Kernel, symbol: str, expected: 
     assert kernel.call("counts").value == 0x31
 
 
+@pytest.mark.parametrize("size", [0, 1, 36, 200, 9362])
+def test_limit_of_ticks_is_exact(kernel: Kernel, size: int) -> None:
+    """A byte takes `turned` seven instructions, and the end two: 2, 9, 254, 1,402 and 65,536 ticks."""
+    assert kernel.call("turned", bytes(size), size, ticks=7 * size + 2).arrays == [b"\xff" * size]
+    with pytest.raises(CallStopped, match="turned: the ticks ran out at [0-9a-f]+ done$") as caught:
+        kernel.call("turned", bytes(size), size, ticks=7 * size + 1)
+    assert caught.value.stop is None
+
+
+def test_vector_store_takes_a_tick_for_each_element(kernel: Kernel) -> None:
+    """Nine instructions of `tail`, and the store of four elements."""
+    assert kernel.call("tail", bytes(16), ticks=13).value == 20
+    with pytest.raises(CallStopped, match="tail: the ticks ran out"):
+        kernel.call("tail", bytes(16), ticks=12)
+
+
 @pytest.mark.parametrize(
     "arguments, options, expected",
     [

@@ -24,6 +24,7 @@ from ..guest.notebook import registers_html
 from ..guest.runner import Reporter
 from ..guest.symbols import Symbols
 from ..instructions.accesses import PAGE_BYTES
+from ..machine.answers import Answer as Reply
 from ..machine.answers import Memory, Refused, ScalarRegisters, Stop
 from ..machine.program import find_program
 from ..machine.session import Session
@@ -40,6 +41,8 @@ __all__ = ["CallStopped", "Kernel", "Placed", "PoliciesDiffer", "Result"]
 
 RETURN = STACK_END  # where there is no page: who returns is the one that can't be fetched there
 RENEWED_BYTES = 2_000_000  # of a session's script, behind which another session takes its place
+MAX_STEP_TICKS = 256  # of an instruction: a load or store of 256 elements takes them
+EXACT_TICKS = 1_000_000  # limits up to this number are exact; greater ones are rounded up to slices of QUANTUM
 
 _MAIN = "\nint main(void) { return 0; }\n"
 
@@ -147,8 +150,10 @@ class Kernel(contextlib.AbstractContextManager["Kernel"]):
         Debug data has the C types of the arguments and of the result. Without it an argument is a number of 64 bits, unless
         it is an integer of ctypes, as `ctypes.c_uint32(7)`. An array that isn't `Placed` ends where a page does; arrays that
         share memory share it in the call too. policy: of agnostic elements, `keep` or `ones`; `both` calls twice.
-        counted: whether instructions are counted; of `both`, those under `keep`. Raises CallStopped, PoliciesDiffer, and
-        LabError for arguments that don't fit the function.
+        ticks: the most that the call may take, above 1,000,000 rounded up to a multiple of 1,000; a call that writes more
+        than 1,024 bytes may take more. counted: whether instructions are counted; of `both`, those under `keep`.
+
+        Raises CallStopped, PoliciesDiffer, and LabError for arguments that don't fit the function.
         """
         if ticks < 1:
             raise LabError(f"a call has a tick at least, and not {ticks}")
@@ -179,9 +184,9 @@ class Kernel(contextlib.AbstractContextManager["Kernel"]):
             if retired.stop or guest.pc == RETURN:
                 return
 
-    def _opened(self) -> Guest:
-        """A guest on a machine of its own, who has entered."""
-        guest = Guest(Session(find_program(), self._images, quantum=QUANTUM), report=self._report)
+    def _opened(self, quantum: int = QUANTUM) -> Guest:
+        """A guest on a machine of its own with slices of this number of ticks, who has entered."""
+        guest = Guest(Session(find_program(), self._images, quantum=quantum), report=self._report)
         guest.ask("enter")
         return guest
 
@@ -193,11 +198,15 @@ class Kernel(contextlib.AbstractContextManager["Kernel"]):
         signature = None if "." in symbol else self._signatures.at(self._symbols.addresses[symbol])
         return call_of(symbol, arguments, signature)
 
-    def _renew(self) -> None:
-        """Takes another session where the script of this one is long, or its program may run."""
-        if self._guest.session.size > RENEWED_BYTES or not self._is_stopped:
+    def _renew(self, quantum: int | None = None) -> None:
+        """Start another session if the script of this one is long, its program may run, or its slices have other ticks.
+
+        quantum: ticks of a slice; None for any number
+        """
+        session = self._guest.session
+        if session.size > RENEWED_BYTES or not self._is_stopped or quantum not in (None, session.quantum):
             self.close()
-            self._guest = self._opened()
+            self._guest = self._opened(quantum or session.quantum)
 
     def _begin_call(self, symbol: str, policy: str, lines: Sequence[str]) -> Sequence[str]:
         """Brings the program in, and sets what a call begins with; the commands. Raises LabError where one is refused."""
@@ -209,24 +218,34 @@ class Kernel(contextlib.AbstractContextManager["Kernel"]):
 
     def _left(self, symbol: str, policy: str, call: Call, ticks: int, counted: bool) -> tuple[_Left, Counts | None]:
         """The results of a call under a policy, and its counts."""
-        self._renew()
+        self._renew(_quantum(ticks))
         guest, self._is_stopped = self._guest, False
-        looks = ["regs", *call.layout.looks()]
         before = self._begin_call(symbol, policy, call.lines)
         counts = None
         if counted:
             counts = record(initial_state_at(guest, self._images.get("image"), [f"1 {line}" for line in before]), ticks)
-        stop, found = guest.execute(MAX_STEPS, looks)
-        if stop is None:
-            stop = guest.go(ticks)
-            found = guest.ask(*looks)
+        stop, found = self._execute(ticks, before, ["regs", *call.layout.looks()])
         output = guest.output()
         self._is_stopped = True
-        if stop is None or stop.pc != RETURN:
+        if (stop.pc if stop else guest.pc) != RETURN:  # without a stop the return may have used the last tick
             raise self._stopped(symbol if policy == "keep" else f"{symbol} under {policy}", stop, call.layout)
         (registers,) = (each for each in found if isinstance(each, ScalarRegisters))
         contents = call.layout.contents(each.data for each in found if isinstance(each, Memory))
         return (result_of(registers.x[FIRST_ARGUMENT], call.result), contents, output), counts
+
+    def _execute(self, ticks: int, before: Sequence[str], looks: Sequence[str]) -> tuple[Stop | None, list[Reply]]:
+        """Execute a call to a stop, or until its ticks run out; the stop, and the answers to the looks.
+
+        before: the commands that begin the call
+        """
+        guest = self._guest
+        if ticks >= MAX_STEPS * MAX_STEP_TICKS:  # most calls are short, and this takes one exchange with the machine
+            stop, found = guest.execute(MAX_STEPS, looks)
+            if stop or guest.pc == RETURN:
+                return stop, found
+            guest.output()
+            guest.ask(*before)  # anew, since these instructions took an unknown number of ticks
+        return guest.go(ticks), guest.ask(*looks)
 
     def _stopped(self, what: str, stop: Stop | None, layout: Layout) -> CallStopped:
         """Why a call didn't return; for a fault in or near an array also the place in it."""
@@ -237,6 +256,11 @@ class Kernel(contextlib.AbstractContextManager["Kernel"]):
                 text += f" Array {number} is from {array.address:#x} to {end:#x}."
                 break
         return CallStopped(text, stop)
+
+
+def _quantum(ticks: int) -> int:
+    """The ticks of a slice for a limit: the greatest divisor of it that a slice may have, if the limit is exact."""
+    return QUANTUM if ticks > EXACT_TICKS else next(each for each in range(QUANTUM, 0, -1) if ticks % each == 0)
 
 
 def _read(path: pathlib.Path, choice: int | None, compiler: str | None) -> tuple[Answer, Symbols, Signatures]:
