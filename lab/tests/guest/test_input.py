@@ -64,11 +64,14 @@ def test_oversized_input_is_refused(lab: Lab, made: pathlib.Path, size: int | No
 
 
 def test_image_without_input_symbols_is_refused(lab: Lab) -> None:
-    assert lab("run", "--in", SUM, SUM)[2].endswith(f": sum: symbol input not found; {NEEDED}\n")
+    assert lab("run", "--in", SUM, SUM)[2] == f"vecmon-lab: {SUM}: symbol input not found; {NEEDED}\n"
 
 
 def test_message_names_source(lab: Lab, tmp_path: pathlib.Path) -> None:
     """A source is named, and not the image in a temporary folder that it is compiled to."""
     source = tmp_path / "adds.c"
     source.write_text("int main(void) { return 0; }\n")
-    assert lab("run", "--in", source, source)[2] == f"vecmon-lab: adds: symbol input not found; {NEEDED}\n"
+    for command in ("run", "compare", "profile"):
+        assert lab(command, "--in", source, source)[2] == f"vecmon-lab: {source}: symbol input not found; {NEEDED}\n"
+        expected = f"vecmon-lab: {source}: arguments take 8,192 bytes of the stack at most, and these take "
+        assert lab(command, source, "x" * 9000)[2].startswith(expected)

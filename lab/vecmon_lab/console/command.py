@@ -8,6 +8,7 @@ import pathlib
 import sys
 import termios
 from collections.abc import Callable, Iterator
+from typing import Any
 
 from .. import LabError
 from ..arguments import add_program
@@ -62,7 +63,8 @@ def _console(arguments: argparse.Namespace, screen: Screen) -> Iterator[Console]
     if path is not None and path.suffix not in ASSEMBLER_SUFFIXES:
         words, symbols = [path.name, *arguments.words], Symbols.read(path)
         report = Reporter(lambda address: console.names.symbols.place(address))
-        with started(path, arguments=words, file=arguments.input, write=screen.write, report=report) as guest:
+        given: dict[str, Any] = {"arguments": words, "file": arguments.input, "name": arguments.named}
+        with started(path, write=screen.write, report=report, **given) as guest:
             screen.say(*filter(None, [symbols.warning]))
             console = Console(guest, screen, symbols)
             yield console

@@ -64,8 +64,8 @@ def run(arguments: argparse.Namespace) -> int:
     """Serve gdb until it disconnects. Raises LabError and OSError for a bad image."""
     link, image = Link(), arguments.image
     report, write = Reporter(Symbols.read(image).place), lambda data: link.send(f"O{data.hex()}")
-    own = [image.name, *arguments.words]
-    with started(image, arguments=own, file=arguments.input, write=write, report=report) as guest:
+    own, name = [image.name, *arguments.words], arguments.named
+    with started(image, arguments=own, file=arguments.input, write=write, report=report, name=name) as guest:
 
         def restart(words: Sequence[str]) -> None:
             data = input_of(image, arguments.input) if arguments.input else {}

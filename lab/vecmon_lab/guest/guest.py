@@ -240,17 +240,17 @@ def started(
     file: pathlib.Path | None = None,
     write: Callable[[bytes], object] | None = None,
     report: Report | None = None,
+    name: object = None,
 ) -> Iterator[Guest]:
     """The guest that an image is loaded for, on a machine of its own, until the context ends. file: its input.
 
-    Raises LabError and OSError where the image can't be read or is refused, or there is no program.
+    name: what messages call the image, by default its path. Raises LabError and OSError where the image can't be read or is refused, or there is no program.
     """
     check_image(path)
     guest = Guest(Session(find_program(), {"image": path}, quantum=quantum), write=write, report=report)
     try:
-        with mistakes_in(path.name):  # a source's image is in a temporary folder
+        with mistakes_in(name or path):
             given = input_of(path, file) if file else {}
-        with mistakes_in(path):
             guest.start("image", policy, arguments, given)
         yield guest
     finally:

@@ -8,6 +8,7 @@ from collections.abc import Iterator, Sequence
 from concurrent.futures import ThreadPoolExecutor
 from dataclasses import dataclass, replace
 from random import Random
+from typing import Any
 
 from ..arguments import add_image
 from ..guest.guest import STACK_BYTES, STACK_END, Guest, started
@@ -66,13 +67,14 @@ def run(arguments: argparse.Namespace) -> int:
     outcomes: dict[tuple[str, int], Outcome] = {}
     report = Reporter(symbols.place)
     for policy, quantum in itertools.product(POLICIES, QUANTUMS):
-        with started(image, policy=policy, quantum=quantum, arguments=words, file=file, report=report) as guest:
+        given: dict[str, Any] = {"policy": policy, "quantum": quantum, "arguments": words, "name": arguments.named}
+        with started(image, **given, file=file, report=report) as guest:
             outcome = outcomes[policy, quantum] = _outcome(guest, ticks)
         is_same = len(outcomes) > 1 and outcome.is_like(outcomes["keep", QUANTUMS[0]])
         print(
             f"{policy}, slices of {quantum:>5,}:  {'the same' if is_same else _outcome_text(outcome.end, outcome.output)}"
         )
-    keep, ones = (initial_state_of(image, words, file, policy) for policy in POLICIES)
+    keep, ones = (initial_state_of(image, words, file, policy, arguments.named) for policy in POLICIES)
     runs = {LOADED: keep, **{name: filled(keep, turned) for name, turned in FILLED.items()}, ONES: ones}
     stop, is_dependent = _find_dependence(runs, symbols, ticks)
     if not all(outcomes[policy, quantum].is_like(outcomes[policy, QUANTUMS[0]]) for policy, quantum in outcomes):

@@ -32,16 +32,19 @@ class InitialState:
 
 
 def initial_state_of(
-    image: pathlib.Path, arguments: Sequence[str], file: pathlib.Path | None = None, policy: str = "keep"
+    image: pathlib.Path,
+    arguments: Sequence[str],
+    file: pathlib.Path | None = None,
+    policy: str = "keep",
+    name: object = None,
 ) -> InitialState:
     """The start of a run of an image, with arguments, the first of them its name; file: its input.
 
-    Raises LabError and OSError where the image can't be read or isn't for this machine, or these have no room.
+    name: what messages call the image, by default its path. Raises LabError and OSError where the image can't be read or isn't for this machine, or these have no room.
     """
     check_image(image)
-    with mistakes_in(image):
+    with mistakes_in(name or image):
         block = argument_block(arguments)
-    with mistakes_in(image.name):  # a source's image is in a temporary folder
         given = input_of(image, file) if file else {}
     placed = {**given, STACK_END - len(block): block}
     memory = [(address, "rw", data) for address, data in placed.items()]

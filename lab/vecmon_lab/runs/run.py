@@ -84,7 +84,7 @@ def counted(
     Raises LabError and OSError for bad input.
     """
     words = [arguments.image.name, *arguments.words]
-    initial_state = initial_state_of(arguments.image, words, arguments.input, arguments.policy)
+    initial_state = initial_state_of(arguments.image, words, arguments.input, arguments.policy, arguments.named)
     return record(initial_state, arguments.ticks, write, more)
 
 
@@ -137,6 +137,7 @@ def _begun(arguments: argparse.Namespace, report: Report = unreported) -> Abstra
     """The guest that the image of a command is loaded for, whose output nobody sees."""
     image, words = arguments.image, [arguments.image.name, *arguments.words]
     given: dict[str, Any] = {"policy": arguments.policy, "arguments": words, "file": arguments.input}
+    given["name"] = arguments.named
     return started(image, **given, write=lambda data: None, report=report)
 
 
