@@ -64,7 +64,10 @@ def test_line_gets_all_its_breakpoints_or_loses_them() -> None:
     assert breakpoint_lines(STOPS, full[:14], 4) == ["break 10008", "break 10010"]
     with pytest.raises(BadRequest) as raised:
         breakpoint_lines(STOPS, full[:15], 4)
-    assert str(raised.value) == "Line 4 needs 2 breakpoints, and 1 of 16 are left: none was set."
+    assert str(raised.value) == "Line 4 needs 2 breakpoints, and 1 of 16 is left: none was set."
+    with pytest.raises(BadRequest) as raised:
+        breakpoint_lines(STOPS, full[:16], 3)
+    assert str(raised.value) == "Line 3 needs 1 breakpoint, and none of 16 is left: none was set."
     with pytest.raises(BadRequest, match="Line 5 has no instruction to stop at, and no line after it has one."):
         breakpoint_lines(STOPS, [], 5)
 
@@ -119,10 +122,19 @@ def test_breakpoint_after_all_instructions_is_reported(desk: Desk) -> None:
     """The others are set, and the program waits at its start; a source with mistakes sets none."""
     assert ask(desk, ask="run", text="vad.vv v1, v2, v3", breaks=[1])["mistakes"] and desk.seat.state["run"] == "absent"
     answer = ask(desk, ask="run", text=COUNT, breaks=[4, 7, 9])
-    text = "Line {} has no instruction to stop at, and no line after it has one."
-    loaded = "The program is loaded and hasn't run yet."
-    assert answer["error"] == f"{text.format(7)} {text.format(9)} {loaded}"
+    text = "Lines 7 and 9 have no instruction to stop at, and no line after them has one."
+    assert answer["error"] == f"{text} The program is loaded and hasn't run yet."
     assert (desk.seat.state["pc"], desk.seat.state["breaks"]) == ("10000", ["10004"])
+
+
+def test_too_many_breakpoints_are_one_sentence(desk: Desk) -> None:
+    """Sixteen are set: those of the first lines."""
+    answer = ask(desk, ask="run", text="nop\n" * 20, breaks=[*range(1, 21)])
+    assert answer["error"] == (
+        "Lines 17, 18, 19 and 20 need 4 breakpoints, and none of 16 is left: none was set. "
+        "The program is loaded and hasn't run yet."
+    )
+    assert desk.seat.state["breaks"] == [f"{address:x}" for address in range(0x10000, 0x10040, 4)]
 
 
 @pytest.mark.parametrize("breaks", [3, [0.5], ["3"], [-1]])

@@ -54,16 +54,60 @@ def breakpoint_lines(
     is_only_set: whether those that are there stay
     Raises BadRequest if neither the line nor one after it has an instruction, and if not all of its breakpoints can be set.
     """
-    place = min((number for number in map(int, stops) if number >= line), default=0)
-    if not place:
-        raise BadRequest(f"Line {line} has no instruction to stop at, and no line after it has one.")
-    addresses = stops[f"{place}"]
-    there = [address for address in addresses if address in breaks]
+    there = [address for address in stops.get(f"{_place(stops, line)}", []) if address in breaks]
     if there and not is_only_set:
         return [f"unbreak {address}" for address in there]
-    needed, left = len(addresses) - len(there), MAX_BREAKPOINTS - len(breaks)
-    if needed > left:
-        raise BadRequest(
-            f"Line {place} needs {needed} breakpoints, and {left} of {MAX_BREAKPOINTS} are left: none was set."
-        )
-    return [f"break {address}" for address in addresses if address not in there]
+    lines, refusals = setting_lines(stops, breaks, [line])
+    if refusals:
+        raise BadRequest(refusals[0])
+    return lines
+
+
+def setting_lines(
+    stops: Mapping[str, Sequence[str]], breaks: Sequence[str], numbers: Sequence[int]
+) -> tuple[list[str], list[str]]:
+    """Return the lines that set all breakpoints of lines of the source, and a sentence for each reason why some have none.
+
+    stops, breaks: as for `breakpoint_lines`
+    """
+    there, missing, crowded, needed = set(breaks), list[int](), list[int](), set[str]()
+    added = list[str]()
+    for number in numbers:
+        place = _place(stops, number)
+        new = [address for address in stops.get(f"{place}", []) if address not in there]
+        if not place:
+            missing.append(number)
+        elif len(there) + len(new) > MAX_BREAKPOINTS:
+            crowded += [place] if place not in crowded else []
+            needed.update(new)
+        else:
+            there.update(new)
+            added += new
+    refusals = [_no_instruction(missing)] if missing else []
+    if crowded:
+        refusals.append(_no_room(crowded, len(needed), MAX_BREAKPOINTS - len(there)))
+    return [f"break {address}" for address in added], refusals
+
+
+def _place(stops: Mapping[str, Sequence[str]], line: int) -> int:
+    """The number of a line, or of the next one that has an instruction; 0 if none has."""
+    return min((number for number in map(int, stops) if number >= line), default=0)
+
+
+def _no_instruction(lines: Sequence[int]) -> str:
+    has, them = ("has", "it") if len(lines) == 1 else ("have", "them")
+    return f"{_named(lines)} {has} no instruction to stop at, and no line after {them} has one."
+
+
+def _no_room(lines: Sequence[int], needed: int, left: int) -> str:
+    """The refusal of lines that need more breakpoints than the machine has left."""
+    need = "needs" if len(lines) == 1 else "need"
+    breakpoints = "1 breakpoint" if needed == 1 else f"{needed} breakpoints"
+    rest = f"{left or 'none'} of {MAX_BREAKPOINTS} {'is' if left < 2 else 'are'} left"
+    return f"{_named(lines)} {need} {breakpoints}, and {rest}: none was set."
+
+
+def _named(lines: Sequence[int]) -> str:
+    """Lines by their numbers, as `Lines 3, 4 and 9`."""
+    *first, last = map(str, lines)
+    return f"Lines {', '.join(first)} and {last}" if first else f"Line {last}"

@@ -10,7 +10,7 @@ from ..assembler.source import Program
 from ..compilers.compiled import CompiledProgram
 from ..page.state import State
 from ..page.texts import page_text
-from .edits import breakpoint_lines, edit_line
+from .edits import breakpoint_lines, edit_line, setting_lines
 from .example_sources import ExampleSource
 from .languages import LANGUAGES, SourceText
 from .messages import Hand, Notice, Result, SourceResult, SourceView, TextResult, TryResult, shown, source_view
@@ -229,12 +229,10 @@ class Student:
 
     def _set_breakpoints(self, lines: Sequence[int]) -> Steps[None]:
         """Sets the breakpoints of lines of the source in the machine. Raises BadRequest if any can't be set; all others are."""
-        refusals = list[str]()
-        for number in lines:
-            try:
-                yield from self._toggle_breakpoints(number, is_only_set=True)
-            except BadRequest as error:
-                refusals.append(str(error))
+        stops, breaks = self.seat.named.get("stops", {}), self.seat.state.get("breaks", [])
+        commands, refusals = setting_lines(stops, breaks, lines)
+        for line in commands:
+            yield from execute_line(self.machine, self.seat, line)
         if refusals:
             raise BadRequest(" ".join([*refusals, page_text("breakpoints.loaded")]))
 
