@@ -137,6 +137,24 @@ def test_too_many_breakpoints_are_one_sentence(desk: Desk) -> None:
     assert desk.seat.state["breaks"] == [f"{address:x}" for address in range(0x10000, 0x10040, 4)]
 
 
+def test_first_run_stops_at_breakpoint_of_first_instruction(desk: Desk) -> None:
+    """So do a run after a reset and one after the end; the next run goes on. Line 1 is a comment: line 2 has its breakpoint."""
+    start, end = ("10000", "Paused", "breakpoint"), ("1000c", "Ended", "ebreak")
+
+    def run(**more: object) -> tuple[str, str, str]:
+        assert "error" not in ask(desk, ask="run", **more)
+        desk.settle()
+        return desk.seat.state["pc"], desk.seat.condition, desk.seat.status["kind"]
+
+    assert run(text=COUNT, breaks=[1]) == start
+    stop = "Stopped at the breakpoint at 0x10000; its instruction is the next one."
+    assert desk.seat.state["stop"] == desk.seat.shown["stop"] == stop
+    assert [run(), run()] == [end, start]
+    ask(desk, ask="again")
+    assert desk.seat.condition == "Ready" and "stop" not in desk.seat.state
+    assert [run(text=COUNT), run(text=COUNT)] == [start, end]
+
+
 @pytest.mark.parametrize("breaks", [3, [0.5], ["3"], [-1]])
 def test_lines_of_breakpoints_are_whole_numbers(desk: Desk, breaks: object) -> None:
     assert "breaks is" in ask(desk, ask="source", text=COUNT, breaks=breaks)["error"]

@@ -11,8 +11,9 @@ from ..assembler.commands import log_entries
 from ..assembler.source import Program
 from ..compilers.compiled import CompiledProgram, variable_rows
 from ..guest.guest import Guest
+from ..instructions.reasons import describe_stop
 from ..lessons.frames import MAX_NAMED
-from ..machine.answers import Granted, answers_by_user, is_refusal, is_stop, read
+from ..machine.answers import Granted, Stop, answers_by_user, is_refusal, is_stop, read
 from ..machine.lines import DIGITS, is_look, words_of
 from ..machine.session import Session
 from .languages import SourceText
@@ -100,6 +101,16 @@ class Seat:
         add_last_instruction(state, before)
         shown["read"], shown["accessed"] = state["read"], state["accessed"]
         self.state, self.shown = state, shown
+
+    def stop_at_breakpoint(self) -> None:
+        """Show a program that hasn't executed anything as stopped by the breakpoint at its program counter."""
+        self.stop, self.is_started = f"break pc={int(self.state['pc'], 16):016x}", True
+        stop = read([f"{self.digit} {self.stop}"])
+        assert isinstance(stop, Stop)
+        text = describe_stop(stop)
+        state, shown = self.state.copy(), self.shown.copy()
+        state["stop"] = shown["stop"] = text
+        self.follow(state, shown)
 
     def add_log_entry(self, entry: str) -> None:
         """Adds an entry to the log, but of those that follow each other while a program prints without end each once."""

@@ -23,8 +23,14 @@ _JAL, _JALR, _LINKS, _SP = 0x6F, 0x67, (1, 5), 2  # opcodes; registers with retu
 
 
 def run(machine: SharedMachine, seat: Seat) -> Steps[None]:
-    """Let a seat's program run. Raises BadRequest where there is none, or it runs already."""
+    """Let a seat's program run. Raises BadRequest if there is none, or it runs already.
+
+    `go` passes a breakpoint at the program counter, so a program that hasn't executed anything isn't started if it has one there.
+    """
     _check_stopped(seat)
+    if seat.condition == "Ready" and int(seat.state["pc"], 16) in seat.watch_set.breaks:
+        seat.stop_at_breakpoint()
+        return
     yield from execute_line(machine, seat, "go")
 
 
