@@ -68,6 +68,8 @@ struct pair swapped(struct pair p) { return (struct pair){ p.right, p.left }; }
 struct pair both(int x) { return (struct pair){ x, x }; }
 int left(const struct pair *from) { return from->left; }
 __int128 large(__int128 x) { return x; }
+_BitInt(7) narrow_bits(_BitInt(7) x) { return x; }
+unsigned _BitInt(37) wide_bits(void) { return 1; }
 int count(int n, ...) { __builtin_va_list rest; __builtin_va_start(rest, n); return __builtin_va_arg(rest, int); }
 void nothing(void) { __asm__ volatile("li a0, 7" ::: "a0"); }
 uint64_t address(uintptr_t one, void *other) { return one + (uint64_t)other; }
@@ -194,6 +196,8 @@ def test_type_of_parameter_decides(kernel: Kernel) -> None:
         ("swapped", [1], "swapped: argument 1, struct pair p, is no integer or pointer: pass a pointer to it"),
         ("both", [1], "both: its result, struct pair, is no integer or pointer: store it by a pointer"),
         ("large", [1], "large: argument 1, __int128 x, is no integer or pointer: pass a pointer to it"),
+        ("narrow_bits", [63], "narrow_bits: argument 1, _BitInt x, is no integer or pointer: pass a pointer to it"),
+        ("wide_bits", [], "wide_bits: its result, unsigned _BitInt, is no integer or pointer: store it by a pointer"),
         ("sum_u32", [1, 2.5], "argument 2, 2.5, is no integer and no array: pass array.array('i', [7]), for example"),
         ("sum_u32", [1, ctypes.c_float(2)], "argument 2, c_float(2.0), is no integer and no array: "),
         ("sum_u32", [1, b"ab"], "argument 2 is an array, and uint32_t y is no pointer"),
@@ -204,6 +208,24 @@ def test_call_against_signature_is_refused(kernel: Kernel, symbol: str, argument
     with pytest.raises(LabError) as caught:
         kernel.call(symbol, *arguments)
     assert str(caught.value).startswith(expected)
+
+
+def test_promoted_argument_is_refused(clang: Compiler, tmp_path: pathlib.Path) -> None:
+    """With -O3 clang passes `ends` the two numbers that it reads in place of the pointer, and `plain` its arguments."""
+    text = """struct big { long a, b, c, d; };
+static __attribute__((noinline)) long ends(const struct big *b) { return b->a * 2 + b->d; }
+long all(const struct big *b) { return ends(b) + b->a + b->b + b->d; }
+static __attribute__((noinline)) long plain(long a, long b) { return a * 3 + b; }
+long twice(long a) { return plain(a, 7) + plain(a + 1, 8); }
+"""
+    (tmp_path / "big.c").write_text(text)
+    with Kernel(tmp_path / "big.c", options="O3", compiler=clang.name) as kernel:
+        with pytest.raises(
+            LabError, match="^ends: the compiler changed how this static function takes its arguments: "
+        ):
+            kernel.call("ends", array.array("q", [1, 2, 3, 4]))
+        assert kernel.call("all", array.array("q", [1, 2, 3, 4])).value == 6 + 1 + 2 + 4
+        assert kernel.call("plain", 5, -6).value == 9
 
 
 def test_pointers_variadic_arguments_and_void(kernel: Kernel) -> None:

@@ -12,6 +12,7 @@ _QUALIFIERS["DW_TAG_atomic_type"] = "_Atomic"
 _KINDS = {"DW_TAG_structure_type": "struct ", "DW_TAG_union_type": "union ", "DW_TAG_enumeration_type": "enum "}
 _NUMBERS = {2: "u", 5: "i", 6: "i", 7: "u", 8: "u"}  # by how a base type is encoded (DW_ATE_boolean and so on)
 _CHARACTERS = (6, 8)
+_BIT_INT = "_BitInt"  # clang's debug data has no number of bits for it
 _UNICODE = 16  # DW_ATE_UTF, of char16_t and char32_t
 _POINTERS = {"DW_TAG_pointer_type": "*", "DW_TAG_reference_type": "&", "DW_TAG_rvalue_reference_type": "&&"}
 _COUNTS = (("DW_AT_count", 0), ("DW_AT_upper_bound", 1))  # and what is added
@@ -42,7 +43,7 @@ def integer_of(bits: int, is_signed: bool) -> Integer:
 
 
 def integer(entry: "DIE | None") -> Integer | None:
-    """The integer type that an entry is; None for void, and for types that are no integer, enumeration or pointer.
+    """The integer type that an entry is; None for void, `_BitInt(N)`, and types that are no integer, enumeration or pointer.
 
     Raises RecursionError for a type that has itself in it.
     """
@@ -62,6 +63,8 @@ def integer(entry: "DIE | None") -> Integer | None:
             return integer_of(8 * size.value, False)
         case "DW_TAG_base_type", 2:
             return BOOLEAN
+        case "DW_TAG_base_type", _ if _BIT_INT in name_of(entry):
+            return None
         case "DW_TAG_base_type", kind if kind == _UNICODE or kind in _NUMBERS:
             return integer_of(8 * size.value, _NUMBERS.get(kind) == "i")
     return None

@@ -16,6 +16,7 @@ if TYPE_CHECKING:
 _ASSEMBLERS = (0x31, 0x8001)  # DW_LANG_Assembly and DW_LANG_Mips_Assembler, whose functions have no types
 _OTHER_CONVENTION = 3  # DW_CC_nocall
 _SCOPES = {f"DW_TAG_{kind}" for kind in ("namespace", "module", "structure_type", "class_type")}
+_LOCATION = "DW_AT_location"
 _FUNCTION, _PARAMETER, _MORE = "DW_TAG_subprogram", "DW_TAG_formal_parameter", "DW_TAG_unspecified_parameters"
 
 
@@ -34,7 +35,8 @@ class Signature(NamedTuple):
 
     result: None for void
     is_variadic: whether it takes further arguments, as printf does
-    is_callable: whether it takes its arguments as the ABI says; a compiler may change that of a static function
+    is_callable: whether it takes its arguments as the ABI says; a compiler may change that of a static function, which
+    has DW_CC_nocall or a parameter without a location then
     """
 
     result: Declared | None
@@ -105,15 +107,19 @@ def _functions(scope: "DIE") -> Iterator["DIE"]:
 def _signature(entry: "DIE") -> Signature:
     """The signature by the entry of a function, or by its origin, as a copy of an inlined function may leave out parameters."""
     origin = entry_at(entry, "DW_AT_abstract_origin") or entry
-    result = entry_at(entry_at(origin, "DW_AT_specification") or origin, "DW_AT_type")
+    declared = entry_at(origin, "DW_AT_specification") or origin
+    result = entry_at(declared, "DW_AT_type")
     children = [*origin.iter_children()]
     parameters = [_declared(_type_of(child), name_of(child)) for child in children if child.tag == _PARAMETER]
     convention = entry.attributes.get("DW_AT_calling_convention")
+    is_static = "DW_AT_external" not in origin.attributes and "DW_AT_external" not in declared.attributes
+    located = [child for child in entry.iter_children() if child.tag == _PARAMETER and _LOCATION in child.attributes]
     return Signature(
         _declared(result, "") if result else None,
         parameters,
         any(child.tag == _MORE for child in children),
-        convention is None or convention.value != _OTHER_CONVENTION,
+        (convention is None or convention.value != _OTHER_CONVENTION)
+        and not (is_static and len(located) < len(parameters)),
     )
 
 
