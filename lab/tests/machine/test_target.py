@@ -148,6 +148,31 @@ def test_section_outside_file_gives_warning(floats: pathlib.Path, tmp_path: path
     assert "damaged" in target_warnings(image)[0]
 
 
+@pytest.mark.parametrize(
+    "offset, form, value",
+    [(40, "<Q", 1 << 50), (40, "<Q", 1 << 63), (60, "<H", 0xFFFF), (58, "<H", 1), (62, "<H", 0xFFFE)],
+    ids=["e_shoff", "e_shoff 2^63", "e_shnum", "e_shentsize", "e_shstrndx"],
+)
+def test_damaged_section_headers_give_warning(
+    longer: pathlib.Path, tmp_path: pathlib.Path, offset: int, form: str, value: int
+) -> None:
+    image, data = tmp_path / "damaged", bytearray(longer.read_bytes())
+    struct.pack_into(form, data, offset, value)
+    image.write_bytes(data)
+    expected = "its section headers are damaged, so the instruction set that it is compiled for is unknown"
+    assert target_warnings(image) == [expected]
+
+
+def test_table_of_sections_cut_off_gives_warning(longer: pathlib.Path, lab: Lab, tmp_path: pathlib.Path) -> None:
+    """The file ends in the last section header."""
+    image, data = tmp_path / "cut", longer.read_bytes()
+    (table,), (size, number) = struct.unpack_from("<Q", data, 40), struct.unpack_from("<2H", data, 58)
+    image.write_bytes(data[: table + size * number - 1])
+    status, _, errors = lab("run", image)
+    assert (status, errors.count("\n")) == (0, 1)
+    assert errors.startswith(f"vecmon-lab: warning: {image}: its section headers are damaged")
+
+
 def test_files_without_attributes_give_no_warning(floats: pathlib.Path, tmp_path: pathlib.Path) -> None:
     stripped = bytearray(floats.read_bytes())
     stripped[40:48], stripped[58:64] = bytes(8), bytes(6)  # e_shoff, and the sections' size and number

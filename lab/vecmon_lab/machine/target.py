@@ -1,7 +1,9 @@
 """The instruction set that an image is compiled for, by its section .riscv.attributes (RISC-V ELF psABI, "Attributes")."""
 
+import os
 import pathlib
 import re
+import struct
 import sys
 from collections.abc import Iterable, Iterator
 from typing import Literal
@@ -19,6 +21,13 @@ _SCOPE_FILE, _ARCH = 1, 5  # Tag_File, and Tag_RISCV_arch
 _SINGLE_LETTERS, _OTHER = re.compile(r"rv(?:32|64)((?:[a-z](?:\d+p\d+)?)+)"), re.compile(r"([a-z]\w*?)(?:\d+p\d+)?")
 _TITLES = {"v": "the floating point of V"}  # of which the machine has all else
 _LEAST_VLEN = re.compile(r"zvl(\d+)b")
+
+
+HEADER_BYTES = 64  # of an ELF file, and also of a section
+
+
+class _BadSectionHeaders(Exception):
+    """The table of section headers can't be read."""
 
 
 def check_kind(image: pathlib.Path) -> None:
@@ -77,6 +86,8 @@ def target_warnings(image: pathlib.Path, any_vlen: bool = False, override: str =
     try:
         arch = _arch_of(image)
         names = [] if arch is None else extensions_of(arch)
+    except _BadSectionHeaders:
+        return ["its section headers are damaged, so the instruction set that it is compiled for is unknown"]
     except ValueError:
         return ["its section .riscv.attributes is damaged, so the instruction set that it is compiled for is unknown"]
     vlen = max((int(found[1]) for name in names if (found := _LEAST_VLEN.fullmatch(name))), default=0)
@@ -114,15 +125,22 @@ def _lacking(names: Iterable[str]) -> Iterator[str]:
 
 
 def _arch_of(image: pathlib.Path) -> str | None:
-    """Return the arch string of an image; None if it has none. Raises ValueError if the section is damaged, and OSError."""
+    """Return the arch string of an image; None if it has none.
+
+    Raises _BadSectionHeaders if the table can't be read, ValueError if the section is damaged, and OSError.
+    """
     from elftools.elf.elffile import ELFFile  # which an import of this module doesn't need
 
     with image.open("rb") as file:
+        header = file.read(HEADER_BYTES)
+        if header[:6] != b"\x7fELF\2\1" or len(header) < HEADER_BYTES:  # `load` refuses it
+            return None
+        _check_section_headers(header, file.seek(0, os.SEEK_END))
         try:
             elf = ELFFile(file)
             found = [each for each in elf.iter_sections() if each.name == ".riscv.attributes"]
-        except Exception:  # pylint: disable=broad-except  # no ELF file, or its headers are damaged: `load` refuses it
-            return None
+        except Exception as error:  # pylint: disable=broad-except  # pyelftools raises what its parts do
+            raise _BadSectionHeaders from error
         try:
             content = found[0].data() if found else b""
         except Exception as error:  # pylint: disable=broad-except  # pyelftools raises what its parts do
@@ -131,6 +149,15 @@ def _arch_of(image: pathlib.Path) -> str | None:
         return None
     values = [value for vendor, value in _subsections(content) if vendor == _VENDOR]
     return next((arch for value in values for arch in _archs(value)), None)
+
+
+def _check_section_headers(header: bytes, size: int) -> None:
+    """Raise _BadSectionHeaders if an ELF file of this number of bytes has section headers of another size, or outside of it."""
+    (table,), (entry_bytes, number) = struct.unpack_from("<Q", header, 40), struct.unpack_from("<2H", header, 58)
+    if table and (
+        entry_bytes != HEADER_BYTES or table + entry_bytes * max(number, 1) > size
+    ):  # 0: the number is in the first one
+        raise _BadSectionHeaders
 
 
 def _subsections(content: bytes) -> Iterator[tuple[bytes, bytes]]:
