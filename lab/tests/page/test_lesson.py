@@ -2,6 +2,7 @@
 
 import json
 import pathlib
+import re
 from collections.abc import Callable
 from typing import TYPE_CHECKING
 
@@ -10,6 +11,9 @@ import pytest
 from support.browser import CONTRAST, media, press
 from support.lesson_follower import PICTURE, Follower
 from support.places import EXAMPLES
+from vecmon_lab.exercises.answer import settled
+from vecmon_lab.exercises.check import lesson
+from vecmon_lab.exercises.exercise import OURS, read_exercise
 from vecmon_lab.lessons.frames import make_frames
 from vecmon_lab.lessons.page import lesson_page
 from vecmon_lab.lessons.script import read_assembled, read_script
@@ -350,6 +354,33 @@ def test_source_is_shown_as_it_was_written(opened: Callable[[str], "Chrome"], pr
     assert browser.execute_script(shown) == [True, False, True]
     browser = opened(lesson_page("x", make_frames(read_script("1 enter\n"), program)))
     assert browser.execute_script(shown) == [False, False, True]
+
+
+def test_registers_in_use_come_first(opened: Callable[[str], "Chrome"], program: pathlib.Path) -> None:
+    """Of a failed answer, whose case fills all registers; the others unfold. A lesson without the data has all that aren't zero."""
+    exercise = settled(program, read_exercise(OURS / "doubles"))
+    page = lesson(
+        program, exercise, 0, "vsetvli t0, a2, e32, m1, ta, ma\nvle32.v v8, (a1)\nvmv.v.v v9, v8\nret\n", None
+    )
+    names = """return [...document.querySelectorAll(arguments[0])].filter((each) => each.checkVisibility())
+        .map((each) => each.textContent.trim())"""
+    rows, registers = "#elements tbody:first-of-type b", "#registers dt"
+    browser = opened(page)
+    assert browser.execute_script(names, rows) == ["v8", "v9"]
+    shown = ["pc", "ra x1", "t0 x5", "a0 x10", "a1 x11", "a2 x12"]
+    assert browser.execute_script(names, registers) == shown
+    assert text_of(browser, "#unused-registers summary") == "27 registers not in use"
+    browser.find_element("css selector", "#unused-registers summary").click()
+    browser.find_element("id", "next").click()
+    unfolded = browser.execute_script(names, registers)
+    assert unfolded[:8] == [*shown, "zero x0", "sp x2"] and len(unfolded) == 33
+    head, data, tail = re.split('(?<=id="lesson">)(.*?)(?=</script>)', page, maxsplit=1)
+    old = json.loads(data)
+    del old["used"]
+    browser = opened(head + json.dumps(old) + tail)
+    assert browser.execute_script(names, rows) == [f"v{number}" for number in range(32)]
+    assert len(browser.execute_script(names, registers)) == 33
+    assert not browser.find_element("id", "unused-registers").is_displayed() and not browser.get_log("browser")
 
 
 def test_first_frame_introduces_lesson(opened: Callable[[str], "Chrome"], program: pathlib.Path) -> None:

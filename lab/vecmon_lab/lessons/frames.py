@@ -4,7 +4,7 @@ import html
 import pathlib
 from collections.abc import Mapping, Sequence
 from contextlib import suppress
-from dataclasses import dataclass
+from dataclasses import dataclass, field, replace
 
 from .. import LabError
 from ..assembler.commands import log_entries
@@ -18,6 +18,7 @@ from ..machine.process import Vecmon
 from ..machine.session import Session
 from ..page.state import ABSENT, VisibleRows, WatchSet, State, look_at, registers_of, with_rows
 from .script import Script, Step, refused_statement
+from .used_registers import UseCounter, UsedRegisters
 
 MAX_NAMED = 40  # rows of memory that variables of a source in C have for certain
 
@@ -31,6 +32,7 @@ class Frame:
     note: the author's sentence
     log: lines behind `>`, their answers behind `<` (`log_entries`), and why a line wasn't sent behind `!`
     states: the state of each user after it, by the user's digit
+    used: the registers that the whole lesson uses, by the user's digit
     """
 
     user: str
@@ -39,6 +41,7 @@ class Frame:
     note: str
     log: list[str]
     states: dict[str, State]
+    used: Mapping[str, UsedRegisters] = field(default_factory=dict)
 
     def _repr_html_(self) -> str:
         """The note, the line, its answers, and the user's registers, as a notebook shows them."""
@@ -71,12 +74,13 @@ class _Maker:
     def __init__(self, script: Script, whole: Session, single: Session) -> None:
         self._script, self._whole, self._single = script, whole, single
         self._watch_sets: dict[str, WatchSet] = {}
+        self._uses: dict[str, UseCounter] = {}
         self._states: dict[str, State] = {}
         self._frames: list[Frame] = []
 
     def add(self, step: Step) -> None:
         """Carries out a step, and adds its frame, or a frame for each instruction of a line that steps several."""
-        log, answers = list[str](), list[tuple[str, Answer]]()
+        log, answers, states = list[str](), list[tuple[str, Answer]](), self._states.copy()
         for line in step.lines:
             self._execute(line, log, answers)
         number = _steps(step, answers)
@@ -88,6 +92,7 @@ class _Maker:
                 with suppress(BadLine):
                     self._single.do(line)
         self._look(step.lines, answers)
+        self._count_run(states)
         before = self._frames[-1].user if self._frames else "1"
         user = next((entry[1] for entry in log if entry[1:2] in self._watch_sets), before)
         self._add_frame(step, user, log, step.note)
@@ -104,9 +109,12 @@ class _Maker:
         if line in self._script.statements and isinstance(answer, Refused):
             raise refused_statement(self._script, line, answer)
         if line[0] in DIGITS:
-            watch_set = self._watch_sets.setdefault(line[0], WatchSet())
+            watch_set, uses = self._watch_sets.setdefault(line[0], WatchSet()), self._uses.setdefault(
+                line[0], UseCounter()
+            )
             if not isinstance(answer, Refused):
                 watch_set.follow(line)
+                uses.follow(line)
         log += log_entries(line, parts)
         answers += answers_by_user(parts)
 
@@ -115,8 +123,10 @@ class _Maker:
         line, user = step.lines[0], step.lines[0][0]
         for place in range(1, number + 1):
             state, part = self._states[user], answers_by_user(self._single.do(f"{user} step 1"))
+            executed = state["code"].get(state["pc"], "")
+            self._uses[user].execute(executed, state)
             ends = not isinstance(part[0][1], Position) or place == number or f"{part[0][1].pc:x}" in state["breaks"]
-            self._look([line], [*part, *answers] if ends else part, state["code"].get(state["pc"], ""))
+            self._look([line], [*part, *answers] if ends else part, executed)
             own_log = ([] if place > 1 else log[:1]) + (log[1:] if ends else [])
             address = int(self._states[user].get("instruction", "0"), 16)  # whose sentence the source may have
             note = step.note if place == 1 and step.note else self._script.notes.get(address, "")
@@ -135,12 +145,18 @@ class _Maker:
                 own, before = [answer for whom, answer in answers if whom == user], self._states.get(user, ABSENT)
                 self._states[user] = look_at(Guest(self._single, int(user)), watch_set, before, own, executed)
 
+    def _count_run(self, before: Mapping[str, State]) -> None:
+        """Adds the registers of the instructions that executed since these states."""
+        for user, state in self._states.items():
+            if state is not before.get(user) and "instruction" in state:
+                self._uses[user].run(before.get(user, ABSENT), state)
+
     def _add_frame(self, step: Step, user: str, log: list[str], note: str) -> None:
         line, more = step.lines[0] if step.lines else "", sum(not is_look(line) for line in step.lines[1:])
         self._frames.append(Frame(user, line, more, note, log, dict(self._states)))
 
     def finish(self) -> list[Frame]:
-        """The frames, with only the most relevant rows of memory."""
+        """The frames, with only the most relevant rows of memory, and with the registers in use."""
         for user, watch_set in self._watch_sets.items():
             if self._script.variables:  # and not what else the image has
                 watch_set.named = set(variable_rows(self._script.variables)[:MAX_NAMED])
@@ -151,7 +167,8 @@ class _Maker:
             for frame in self._frames:
                 if user in frame.states:
                     frame.states[user] = with_rows(frame.states[user], rows)
-        return self._frames
+        used = {user: uses.registers() for user, uses in self._uses.items()}
+        return [replace(frame, used=used) for frame in self._frames]
 
 
 def _steps(step: Step, answers: Sequence[tuple[str, Answer]]) -> int:

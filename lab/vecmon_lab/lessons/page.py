@@ -12,6 +12,7 @@ from .about import about
 from .frames import Frame
 from .script import Script
 from .series_links import Series, marks_of, neighbours_of, place_of
+from .used_registers import UsedRegisters
 
 
 class FrameData(TypedDict):
@@ -30,9 +31,11 @@ class LessonData(SourceNames):
 
     text: of the source, as it was written
     name: the name of a series with that of the lesson, by which the browser stores that it was read
+    used: the registers that the lesson uses, by user
     """
 
     frames: list[FrameData]
+    used: NotRequired[Mapping[str, UsedRegisters]]
     text: NotRequired[str]
     name: NotRequired[str]
 
@@ -56,6 +59,8 @@ def lesson_page(
         "variables": shown_variables(script.variables),
         "frames": [_frame_data(frame, merge_patch(old, frame.states)) for old, frame in zip(before, frames)],
     }
+    if frames:
+        data["used"] = frames[-1].used
     if script.program and script.text:
         data["text"] = script.text
     if script.program and not isinstance(script.program, CompiledProgram):

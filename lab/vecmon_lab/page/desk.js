@@ -66,7 +66,7 @@ export class Desk {
     cancelAnimationFrame(this.frame);
     this.frame = 0;
     const { state, before, used } = this.past.moment ?? this;
-    this.view.paint(state, before, used);
+    this.view.paint(state, before, { v: used });
     this.painted(state);
     this.log.querySelector(".until")?.classList.remove("until");
     this.past.moment?.entry?.classList.add("until");

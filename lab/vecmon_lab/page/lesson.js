@@ -29,7 +29,7 @@ class Lesson {
   place = 0;
   address = 0; // a timer
 
-  constructor(/** @type {import("./messages").LessonData} */ { frames, name, text = "", ...source }) {
+  constructor(/** @type {import("./messages").LessonData} */ { frames, name, text = "", used = {}, ...source }) {
     this.frames = frames;
     this.source = source;
     this.name = name;
@@ -44,8 +44,7 @@ class Lesson {
     /** @type {States[]} */
     this.states = afterEach(frames.map((frame) => frame.states));
     this.users = Object.keys(this.states[frames.length - 1]);
-    const usedBy = (/** @type {string} */ user) => new Set(this.states.flatMap((states) => usedIn(states[user]))); // in some frame
-    this.used = Object.fromEntries(this.users.map((user) => [user, usedBy(user)]));
+    this.used = Object.fromEntries(this.users.map((user) => [user, this.usedBy(user, used[user])]));
     byId("sentence").hidden = !frames.some((frame) => frame.note);
     this.buttons = ["", ...this.users].map((user) => {
       const text = user ? textOf("lesson.user", { user }) : textOf("lesson.line-user");
@@ -57,6 +56,13 @@ class Lesson {
     put(elementsIn(byId("vectors"), ".missing")[0], textOf("lesson.no-machine"));
     markRead();
     this.show(Number(location.hash.slice(1) || 1) - 1);
+  }
+
+  /** The registers that a user's lines and instructions use; in a lesson without these data the vector registers that aren't 0 in any frame. */
+  /** @type {(user: string, used?: import("./messages").UsedRegisters) => import("./view.js").Used} */
+  usedBy(user, used) {
+    if (used) return { v: new Set(used.v), x: new Set(used.x) };
+    return { v: new Set(this.states.flatMap((states) => usedIn(states[user]))) };
   }
 
   listen() {

@@ -325,6 +325,7 @@ export interface LastInstructionRequest {
  *
  * text: of the source, as it was written
  * name: the name of a series with that of the lesson, by which the browser stores that it was read
+ * used: the registers that the lesson uses, by user
  */
 export interface LessonData {
   labels: { [name: string]: string[] };
@@ -335,6 +336,7 @@ export interface LessonData {
   variables?: ShownVariable[];
   data?: { [name: string]: ShownData };
   frames: FrameData[];
+  used?: { [name: string]: UsedRegisters };
   text?: string;
   name?: string;
 }
@@ -993,6 +995,12 @@ export interface UnsentAnswer {
   kind: "answer";
   id: number;
   read: string[];
+}
+
+/** The numbers of scalar and of vector registers, each in rising order; x0 isn't among them. */
+export interface UsedRegisters {
+  x: number[];
+  v: number[];
 }
 
 /** A version of the source of the own or the observed seat. */

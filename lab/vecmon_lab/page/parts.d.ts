@@ -53,6 +53,6 @@ export type Parts =
     | "sentence" | "series-place" | "settings-title" | "sheet" | "sheet-says" | "shoulder" | "shoulder-says" | "shoulder-title" | "sides"
     | "split-dock" | "split-exercise" | "split-left" | "split-middle" | "split-state" | "start" | "start-page" | "start-title" | "state"
     | "step" | "stepped" | "stepped-title" | "stop" | "summary" | "summary-says" | "tables" | "teacher" | "trouble" | "try-count"
-    | "unencrypted" | "users" | "variables" | "vectors" | "vectors-title" | "verdict" | "welcome" | "welcome-title" | "who" | "why-no-c"
-    | "written"
+    | "unencrypted" | "unused-registers" | "users" | "variables" | "vectors" | "vectors-title" | "verdict" | "welcome" | "welcome-title"
+    | "who" | "why-no-c" | "written"
   >;

@@ -414,6 +414,7 @@ export interface Places {
   "registers.hexadecimal": never;
   "registers.height.label": never;
   "registers.fold.label": never;
+  "registers.unused": "count";
   "registers.none": never;
   "memory": never;
   "memory.address": never;

@@ -11,6 +11,7 @@ import { saysMore, withNames } from "./words.js";
 
 /** @typedef {import("./messages").State} State */
 /** @typedef {import("./types").MachineState} MachineState */
+/** @typedef {{ v: Set<number>, x?: Set<number> }} Used numbers of registers; without x all scalar registers are in use */
 
 /** The numbers of a state's vector registers that aren't zero. */
 export const usedIn = (/** @type {State | undefined} */ { v = {} } = { run: "absent" }) =>
@@ -28,7 +29,8 @@ export class MachineView {
     this.output = new OutputPanel(root);
     this.lanes = new Lanes(part(root, "vectors"));
     const panels = [new ListingPanel(root), new MemoryPanel(root)].map((panel) => panel.paint.bind(panel));
-    this.paints = [...panels, paintVariables.bind(null, root), paintRegisters.bind(null, root)];
+    this.paints = [...panels, paintVariables.bind(null, root)];
+    this.paintRegisters = paintRegisters.bind(null, root);
   }
 
   /** The command, which its page knows, and the instruction that executed last, or that faulted. */
@@ -51,9 +53,9 @@ export class MachineView {
   }
 
   /**
-   * Paints a state, compared with the one before it. `used` has the numbers of the vector registers that always have rows;
-   * `step` is the state that the elements are compared with, before the last step.
-   * @type {(state: State, previous: State | undefined, used: Set<number>, step?: State) => void}
+   * Paints a state, compared with the one before it. `used` has the vector registers that always have rows, and the scalar ones that come
+   * before the others; `step` is the state that the elements are compared with, before the last step.
+   * @type {(state: State, previous: State | undefined, used: Used, step?: State) => void}
    */
   paint(state, previous, used, step = previous) {
     const shown = machineOf(state);
@@ -61,7 +63,9 @@ export class MachineView {
     this.machine.classList.toggle("running", shown?.run === "running");
     if (!shown) return;
     this.output.paint(shown); // first, since it asks how the page is laid out
-    this.lanes.show({ state: shown, before: machineOf(step) ?? shown, used });
-    for (const paint of this.paints) paint(shown, machineOf(previous) ?? shown);
+    this.lanes.show({ state: shown, before: machineOf(step) ?? shown, used: used.v });
+    const before = machineOf(previous) ?? shown;
+    for (const paint of this.paints) paint(shown, before);
+    this.paintRegisters(shown, before, used.x ?? new Set());
   }
 }
