@@ -8,6 +8,7 @@ import pytest
 from support.desk import Desk, ask
 from vecmon_lab.classes.edits import breakpoint_lines, edit_line
 from vecmon_lab.classes.requests import BadRequest
+from vecmon_lab.exercises.exercise import OURS, read_exercise
 
 V = {"1": "00112233445566778899aabbccddeeff" * 2}
 
@@ -116,6 +117,30 @@ def test_first_run_stops_at_lines_of_the_request(desk: Desk, how: dict[str, obje
     desk.settle()
     assert answer["mistakes"] == [] and desk.seat.state["breaks"] == ["10004", "10008"]
     assert desk.seat.state["pc"] == "10004"
+
+
+@pytest.mark.parametrize(
+    "text, breaks",
+    [(COUNT, ["10004", "10008"]), (f"# More.\n{COUNT}", ["10004", "10008"]), (f"nop\n{COUNT}", ["10008", "1000c"])],
+)
+def test_assembling_keeps_breakpoints_at_their_lines(desk: Desk, text: str, breaks: list[str]) -> None:
+    """An instruction before them moves them by 4; those of a source with mistakes stay until it has none."""
+    ask(desk, ask="source", text=COUNT, breaks=[4, 5])
+    assert ask(desk, ask="source", text=f"{COUNT} vad.vv v1, v2, v3\n", breaks=[])["mistakes"]
+    assert ask(desk, ask="source", text=text, breaks=[]).get("error") is None and desk.seat.state["breaks"] == breaks
+    assert desk.seat.state["pc"] == "10000"
+    ask(desk, ask="lines", do=["break 10f00"])  # at no line of the source
+    ask(desk, ask="source", text=text, breaks=[1])
+    assert desk.seat.state["breaks"] == ["10000", *breaks, "10f00"]
+
+
+def test_trying_a_case_keeps_breakpoints(program: pathlib.Path) -> None:
+    desk = Desk(program, {"doubles": read_exercise(OURS / "doubles")}, 100_000)
+    answer = {"exercise": "doubles", "text": "nop\nnop\nret\n", "case": 0}
+    ask(desk, ask="open", exercise="doubles")
+    ask(desk, ask="case", **answer, breaks=[2])
+    assert "error" not in ask(desk, ask="case", **answer, breaks=[]) and desk.seat.state["breaks"] == ["10004"]
+    desk.close()
 
 
 def test_breakpoint_after_all_instructions_is_reported(desk: Desk) -> None:

@@ -62,6 +62,8 @@ def test_breakpoint_is_set_at_line(started: Tab) -> None:
     started.wait(f"{SIGNS} === '●▶2' && id('log').textContent.includes('> break 10000')")
     started.click("#one")
     started.wait(f"{SIGNS} === '●2,▶3' && id('run').textContent === 'Paused'")
+    started.click("#assemble")  # which keeps it, as Run does
+    started.wait(f"{SIGNS} === '●▶2' && id('run').textContent === 'Ready'")
 
 
 def test_breakpoints_wait_for_the_program(sit: Sit) -> None:

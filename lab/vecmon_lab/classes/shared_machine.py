@@ -116,28 +116,25 @@ class SharedMachine:
         return [[part[2:] for part in answer] for answer in turn.looks]
 
     def write(
-        self, seat: Seat, source: SourceText | None, is_answer: bool = False, keeps_breakpoints: bool = False
+        self, seat: Seat, source: SourceText | None, is_answer: bool = False, is_tried: bool = False
     ) -> Steps[tuple[Mistakes, Mistakes]]:
-        """Starts a seat's machine anew with a source; its mistakes, and a compiler's warnings.
+        """Starts a seat's machine anew with a source, or without one with that in the machine; its mistakes, and a compiler's warnings.
 
-        Without one, with the source that is in the machine, whose breakpoints stay. Raises BadRequest.
-        keeps_breakpoints: whether breakpoints stay at their lines, and the machine stays where the source has any mistake
+        Breakpoints stay at their lines. Raises BadRequest.
+        is_tried: whether the machine stays as it is if the source has any mistake, also one that only the machine finds
         """
-        program = (yield MakeProgram(source, is_answer, is_tried=keeps_breakpoints)) if source else None
+        program = (yield MakeProgram(source, is_answer, is_tried)) if source else None
         yield TakeSeat()
-        breaks: Sequence[int] = []
         if source is None:
-            source, program, breaks = seat.written, seat.program, sorted(seat.watch_set.breaks)
+            source, program = seat.written, seat.program
         if program is None:
             raise BadRequest("this machine has no loaded source to restart")
         warnings = program.warnings if isinstance(program, CompiledProgram) else []
         if program.mistakes:
             return program.mistakes, warnings
-        if keeps_breakpoints and seat.program:
-            breaks = moved_breakpoints(seat.watch_set.breaks, seat.program, seat.written.text, program, source.text)
         if (number := len(program.lines)) > SOURCE_LINES:
             raise BadRequest(f"a source becomes {SOURCE_LINES} lines at most, and this one {number}")
-        mistakes = yield from self.load_program(seat, program, breaks)
+        mistakes = yield from self.load_program(seat, program, _breakpoints_in(seat, source, program))
         seat.take(source, program)
         return mistakes, warnings
 
@@ -338,3 +335,12 @@ class SharedMachine:
 def own_lines(seat: Seat, texts: Iterable[str]) -> list[str]:
     """Lines of a seat's user."""
     return [f"{seat.digit} {text}" for text in texts]
+
+
+def _breakpoints_in(seat: Seat, source: SourceText, program: Program) -> list[int]:
+    """The addresses of a seat's breakpoints in a program that replaces the one in the machine, in rising order."""
+    if seat.program is None:
+        return []
+    if program.lines == seat.program.lines:
+        return sorted(seat.watch_set.breaks)
+    return moved_breakpoints(seat.watch_set.breaks, seat.program, seat.written.text, program, source.text)

@@ -249,11 +249,11 @@ class Student:
         return (yield from self._write(tried.source, breaks=tried.breaks, case=case))
 
     def _build(self, source: SourceText | None, number: int, breaks: Sequence[int]) -> Steps[SourceResult]:
-        """Starts the machine anew with a source that isn't in it; breakpoints stay. The mistakes that the source has."""
+        """Starts the machine anew with a source that isn't in it; the mistakes that the source has."""
         if source is None or source == self.seat.written and self.seat.program:
             yield from self._set_breakpoints(breaks)
             return {"mistakes": [], "warnings": []}
-        return (yield from self._write(source, number, breaks, keeps_breakpoints=True))
+        return (yield from self._write(source, number, breaks, is_tried=True))
 
     def _write(
         self,
@@ -261,16 +261,17 @@ class Student:
         number: int = -1,
         breaks: Sequence[int] = (),
         case: TriedCase | None = None,
-        keeps_breakpoints: bool = False,
+        is_tried: bool = False,
     ) -> Steps[SourceResult]:
         """Starts the machine anew with a source, or with the one that is there and its case; the mistakes that it has.
 
-        breaks: the lines that get breakpoints. Raises BadRequest if the machine refuses the source, or any breakpoint.
+        breaks: the lines that get breakpoints, in addition to those that the machine has; is_tried: as in SharedMachine.write
+        Raises BadRequest if the machine refuses the source, or any breakpoint.
         """
         if source:
             self.source.write(source, number)
         is_answer, case = case is not None, case if source else self.seat.case
-        mistakes, warnings = yield from self.machine.write(self.seat, source, is_answer, keeps_breakpoints)
+        mistakes, warnings = yield from self.machine.write(self.seat, source, is_answer, is_tried)
         if mistakes:
             self.seat.set_status(problems_status(len(mistakes)))
         elif case:
