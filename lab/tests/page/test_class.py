@@ -319,7 +319,15 @@ def test_earlier_lines_and_refusals_are_shown(sit: Sit) -> None:
     tab.command("asm 10000 vle32.v v1, (x1)", "setpc 10000", "step 1")
     assert "vill" in tab.text("#stop") and tab.text("#run") == "Fault"
     tab.keys("#line", "é\n")
-    tab.wait("id('stop').textContent.includes(\"Character 1 of line 1, é, isn't printable ASCII\")")
+    refusal = "Character 1 of line 1, é, isn't printable ASCII: nothing was sent."
+    tab.wait(
+        "id('stop').textContent === arguments[0]", refusal
+    )  # and not the stop as well, which is in the status line
+    assert "vill" in tab.text("#step") and "vle32.v" in tab.text("#step")
+    tab.command("step 1")
+    tab.wait("id('stop').textContent.includes('vill') && !id('step').textContent.includes('vill')")
+    tab.copied_link()
+    assert "vill" in tab.text("#step")
     teacher = sit("teacher")
     look_at(teacher, "A4")
     teacher.wait("id('log').textContent.includes(arguments[0])", tag)

@@ -222,7 +222,7 @@ export class Bench {
 
   /** Shows a sentence that isn't about the machine, in place of why the program stopped, until the next request or stop. */
   tell(/** @type {string} */ words) {
-    this.desk.notice = words;
+    Object.assign(this.desk, { refusal: "", notice: words });
     this.desk.showStage();
   }
 

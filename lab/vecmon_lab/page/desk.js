@@ -1,6 +1,6 @@
 // A seat's machine, live: paints the parts of its state that changed.
 
-import { make, part } from "./elements.js";
+import { make, part, prose } from "./elements.js";
 import { Past, isAlike } from "./past.js";
 import { textOf } from "./texts.js";
 import { Log } from "./transcript.js";
@@ -25,8 +25,8 @@ export class Desk {
   /** @type {State} */ state = { run: "absent" };
   before = this.state;
   /** @type {Set<number>} */ used = new Set(); // vector registers that weren't zero since the machine began
-  refusal = ""; // of what was sent last
-  notice = ""; // in place of the refusal and of why the program stopped, until the state changes
+  refusal = ""; // of what was sent last, until a program stops
+  notice = ""; // in place of a refusal, until the state changes
   frame = 0; // in which it is painted
 
   /** root: has the machine, its stage and its past */
@@ -52,6 +52,7 @@ export class Desk {
     const isSetUp = !state.instruction && entries.some((entry) => /^>. setpc /.test(entry)); // as by a case
     if (isAnew || isSetUp) this.before = state;
     else if (isNew || !isAlike(state, this.state)) this.before = isNew ? newMachine(state) : this.state;
+    if (state.stop && state.stop !== this.state.stop) this.refusal = ""; // the stop is newer
     Object.assign(this, { state, notice: "" });
     if (isAnew || isNew || !state.v) this.used = new Set();
     usedIn(state).forEach((number) => this.used.add(number));
@@ -74,9 +75,13 @@ export class Desk {
     this.entries.showEnd();
   }
 
+  /** Shows the newest of a notice, a refusal and the reason for the stop; the reason is in the status line if another one is newer. */
   showStage() {
     const state = this.past.moment?.state ?? this.state;
-    this.view.showStep(state, ...(state.run === "absent" ? [make("small", "", textOf("step.no-machine"))] : []));
-    this.view.showStop(this.notice || [this.past.moment ? "" : this.refusal, state.stop].filter(Boolean).join(" "));
+    const newer = this.notice || (this.past.moment ? "" : this.refusal);
+    const absent = state.run === "absent" ? [make("small", "", textOf("step.no-machine"))] : [];
+    const stop = newer && state.stop ? [make("span", "", ...prose(state.stop))] : [];
+    this.view.showStep(state, ...absent, ...stop);
+    this.view.showStop(newer || (state.stop ?? ""));
   }
 }
