@@ -11,6 +11,9 @@ from support.class_pages import Explored, Served, Tab, look_at
 from support.commands import Lab
 from support.page_states import SOURCE, fail_exercise, make_problems, step, write_pages
 from vecmon_lab.exercises.exercise import OURS
+from vecmon_lab.lessons.frames import make_frames
+from vecmon_lab.lessons.page import lesson_page
+from vecmon_lab.lessons.script import read_assembled
 
 if TYPE_CHECKING:
     from selenium.webdriver import Chrome
@@ -87,11 +90,26 @@ def test_other_pages_are_accessible(
 def test_pages_that_are_files_are_accessible(
     browser: "Chrome", lab: Lab, program: pathlib.Path, tmp_path: pathlib.Path
 ) -> None:
-    controls = {"lesson": ("slider Frame", "button First frame"), "profile": ("button By ticks",)}
+    of_lesson = ("slider Frame", "button First frame", "region Listing of the program")
+    controls = {"lesson": of_lesson, "profile": ("button By ticks",)}
     for name, address in write_pages(lab, program, tmp_path).items():
         browser.get("about:blank")
         browser.get(address)
         check(browser, *controls.get(name, ()))
+
+
+def test_lesson_of_source_is_accessible(browser: "Chrome", program: pathlib.Path, tmp_path: pathlib.Path) -> None:
+    """Its source and its listing are panels of tabs, with names; so is what unfolds the registers that aren't in use."""
+    script = read_assembled(SOURCE, "halves.s")
+    page = tmp_path / "lesson.html"
+    page.write_text(lesson_page("x", make_frames(script, program), script), "utf-8")
+    browser.get(page.as_uri())
+    fold = browser.find_element("css selector", "#unused-registers summary").text
+    check(browser, "tab Source", "tab Listing", "tabpanel Source", f"DisclosureTriangle {fold}")
+    browser.refresh()
+    browser.find_element("css selector", "#unused-registers summary").click()
+    browser.find_element("id", "show-listing").click()
+    check(browser, "tab Source", "tab Listing", "tabpanel Listing of the program")
 
 
 def focus(tab: Tab, selector: str) -> None:

@@ -38,6 +38,7 @@ class Lesson {
     const panes = new Panes(document.body, "lesson");
     this.written = new WrittenSource(document, text);
     byId("sides").hidden = !text;
+    if (!text) byId("listing").setAttribute("role", "region"); // it is the panel of no tab
     byId("program-title").hidden = Boolean(text);
     panes.select(text ? byId("show-source") : byId("show-listing"));
     this.view.machine.addEventListener("change", () => this.show(this.place));
