@@ -10,6 +10,7 @@ import pytest
 
 from support.commands import Lab
 from support.places import DOCS, EXAMPLES
+from vecmon_lab import Kernel
 from vecmon_lab.compilers.compiler import RUNTIME, Compiler
 from vecmon_lab.compilers.hints import NO_MAIN
 
@@ -115,3 +116,16 @@ def test_temporary_files_are_removed(clang: Compiler, tmp_path: pathlib.Path, mo
     run = subprocess.run([sys.executable, "-m", "vecmon_lab", "console", GREY], input=lines, stdout=subprocess.PIPE)
     assert run.returncode == 0 and not [*tmp_path.iterdir()]
     assert b"=>   25  {\n" in run.stdout and b"exit(main((int)*stack, (char **)(stack + 1)));" in run.stdout
+
+
+def test_bytes_that_are_not_utf_8_are_compiled(lab: Lab, clang: Compiler, tmp_path: pathlib.Path) -> None:
+    """C compilers copy the bytes of a string, here Latin-1, as they are."""
+    source = tmp_path / "latin.c"
+    source.write_bytes(
+        b'#include "vecmon.h"\n/* \xe9 */ char text[] = "\xff\xe9";\nint main(void) { put(text, 2); return 4; }\n'
+    )
+    assert lab("run", source)[:2] == (4, b"\xff\xe9")
+    with Kernel(source, compiler=clang.name) as kernel:
+        assert kernel.call("main").output == b"\xff\xe9"
+    status, page, errors = lab("lesson", source)
+    assert (status, errors) == (0, "") and "poke" in page.decode("utf-8") and "ffe9" in page.decode("utf-8")

@@ -13,6 +13,14 @@ SOURCE_BYTES = 1 << 16
 ENTRY_AT = 24  # the offset of e_entry in an image
 
 
+def read_own_source(path: pathlib.Path) -> str:
+    """The text of your own source for a compiler, which gets the bytes of the file: those that aren't UTF-8 are surrogates here.
+
+    Raises OSError.
+    """
+    return path.read_text("utf-8", "surrogateescape")
+
+
 def compile_c(
     text: str,
     compiler: Compiler,
@@ -42,7 +50,7 @@ def compiled_image(path: pathlib.Path, compiler: str | None = None, choice: int 
     compiler, or the source has mistakes, and OSError.
     """
     with mistakes_in(path):
-        text = path.read_text("utf-8", "replace")
+        text = read_own_source(path)
         words = [*words_for(text, find_compiler(compiler), choice), f"{path.absolute()}"]
         saved = tempfile.TemporaryDirectory()
         atexit.register(saved.cleanup)
@@ -59,6 +67,6 @@ def compiled_image(path: pathlib.Path, compiler: str | None = None, choice: int 
 
 def words_for(text: str, compiler: Compiler, choice: int, is_answer: bool = False) -> list[str]:
     """The words of `sandbox_main` for a source. Raises LabError where that is too long."""
-    if len(text.encode("utf-8", "replace")) > SOURCE_BYTES:
+    if len(text.encode("utf-8", "surrogateescape")) > SOURCE_BYTES:
         raise LabError(f"a source that is compiled has {SOURCE_BYTES:,} bytes at most")
     return [compiler.name, f"{choice}", *[FUNCTION] * is_answer]

@@ -144,7 +144,7 @@ async def run_inside(
     errors = asyncio.create_task(_last_bytes(child.stderr))
     try:
         async with asyncio.timeout(SECONDS):
-            answer = await _output(child, text.encode("utf-8", "replace"))
+            answer = await _output(child, text.encode("utf-8", "surrogateescape"))
             status = await child.wait()
             stderr = await errors
     except asyncio.TimeoutError as error:

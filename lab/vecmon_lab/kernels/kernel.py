@@ -14,7 +14,7 @@ from typing import Any
 
 from .. import LabError, mistakes_in
 from ..assembler.commands import explain_refusal
-from ..compilers.compiling import compile_c
+from ..compilers.compiling import compile_c, read_own_source
 from ..compilers.compiler import C_SOURCE, CHOICES, IMAGE, choice_for, find_compiler
 from ..compilers.signatures import Signatures
 from ..exercises.answer import Answer, read_answer
@@ -280,7 +280,7 @@ def _read(path: pathlib.Path, choice: int | None, compiler: str | None) -> tuple
 
 def _compiled(path: pathlib.Path, choice: int, compiler: str | None) -> tuple[Answer, Symbols, Signatures]:
     """As `_read`, of a source that a compiler takes."""
-    text = path.read_text("utf-8", "replace")
+    text = read_own_source(path)
     if CHOICES[choice].source == C_SOURCE and not re.search(r"\bmain\s*\(", text):
         text += _MAIN
     with tempfile.TemporaryDirectory() as folder, ThreadPoolExecutor(1) as thread:

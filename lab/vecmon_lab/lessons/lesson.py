@@ -7,7 +7,7 @@ from collections.abc import Mapping
 
 from .. import LabError
 from ..arguments import add_any_vlen, add_compiler, check_output
-from ..compilers.compiling import compile_c
+from ..compilers.compiling import compile_c, read_own_source
 from ..compilers.compiler import ASSEMBLER_SUFFIXES, C_SUFFIX, choice_for, find_compiler
 from ..machine.program import find_program, images_of
 from .frames import make_frames
@@ -58,7 +58,7 @@ def _lesson(arguments: argparse.Namespace, images: Mapping[str, pathlib.Path]) -
         raise LabError(f"{path} isn't a text; a lesson needs a script, or a source in assembler (.s, .S) or C (.c)")
     choice = choice_for(path, arguments.options)
     if choice is not None:
-        program = compile_c(text, find_compiler(arguments.cc), choice, path.parent)
+        program = compile_c(read_own_source(path), find_compiler(arguments.cc), choice, path.parent)
         script = read_compiled(text, path.name, program, path.suffix == C_SUFFIX)
     else:
         script = read_assembled(text, path.name) if path.suffix in ASSEMBLER_SUFFIXES else read_script(text)
@@ -79,7 +79,7 @@ def _listings(arguments: argparse.Namespace) -> str:
     for cc, each in ((arguments.cc, arguments.options), (name or arguments.cc, options)):
         compiler, choice = find_compiler(cc), choice_for(path, each)
         assert choice is not None, "a source in C has options"
-        program = compile_c(text, compiler, choice, path.parent)
+        program = compile_c(read_own_source(path), compiler, choice, path.parent)
         program.check(f"{compiler.title(choice)}: {path.name}")
         listings.append(listing_of(program, compiler.title(choice), machine))
     return listings_page(arguments.title or path.name, text, listings)
