@@ -84,9 +84,37 @@ def test_breakpoints_wait_for_the_program(sit: Sit) -> None:
     tab.run("code().replaceRange(' ', { line: 0, ch: 0 })")
     tab.run("(code().focus(), code().setCursor(2, 0))")
     tab.type(Keys.F9)
-    tab.wait(f"{SIGNS} === '○3'")
+    tab.wait(f"{SIGNS} === '○2,○3,○6'")  # also those of the loaded program
     tab.run("code().undo()")
     tab.wait(f"{SIGNS} === '●2,●3,●▶6'")
+
+
+def test_breakpoint_of_the_loaded_program_stays_in_a_changed_source(sit: Sit) -> None:
+    """It is hollow, follows its line, and a press of F9 removes it from the machine; the next one sets it for the changed source."""
+    from selenium.webdriver.common.keys import Keys
+
+    tab = sit("A4")
+    tab.write("li a0, 3\nnop\naddi a0, a0, 1\nebreak\n")
+    tab.run("(code().focus(), code().setCursor(2, 0))")
+    tab.type(Keys.F9)
+    tab.click("#one")
+    tab.wait(f"{SIGNS} === '▶2,●3'")
+    tab.run("code().replaceRange('# More.\\n', { line: 0, ch: 0 })")
+    assert tab.run(SIGNS) == "○4"
+    tab.run("code().setValue(code().getValue())")  # as another language does
+    tab.run("code().replaceRange('addi a0, a0, 2\\nnop', { line: 3, ch: 0 }, { line: 3, ch: 14 })")
+    assert tab.run(SIGNS) == "○4"
+    tab.click("#one")
+    tab.wait(f"{SIGNS} === '▶3,●4'")
+    tab.run("code().replaceRange('# More.\\n', { line: 0, ch: 0 })")
+    tab.run("(code().focus(), code().setCursor(4, 0))")
+    tab.type(Keys.F9)
+    tab.wait(f"{SIGNS} === '' && id('log').textContent.includes('> unbreak 10008')")
+    tab.type(Keys.F9)
+    assert tab.run(SIGNS) == "○5"
+    tab.type(Keys.F9)
+    tab.click("#one")
+    tab.wait(f"{SIGNS} === '▶4'")
 
 
 def test_problems_are_shown_while_typing(sit: Sit) -> None:

@@ -69,6 +69,7 @@ export class Bench {
     this.source.typed();
     this.showMistakes([]);
     this.bar.paint();
+    this.mark(this.desk.past.moment?.state ?? this.desk.state);
     this.timer = setTimeout(() => this.findProblems(), PAUSE);
   }
 
@@ -176,7 +177,7 @@ export class Bench {
     const { source } = this.editor;
     const [size, most] = [source.text.length, MOST_LETTERS].map((each) => each.toLocaleString(textOf("language")));
     if (this.source.isTooLong) return this.refuse(textOf("source.not-sent", { size, most }));
-    const breaks = action.ask === "listings" ? {} : { breaks: this.waiting.lines };
+    const breaks = action.ask === "listings" ? {} : { breaks: [...this.waiting.lines, ...this.source.held.keys()] };
     const request = /** @type {Request} */ ({ ...action, ...source, ...breaks });
     const answer = await this.source.bring(source, () => this.bar.building(this.request(request)));
     if (source.text === this.editor.source.text) this.showMistakes(answer?.mistakes, answer?.warnings);
@@ -251,9 +252,13 @@ export class Bench {
     return (isPresent && (await this.connection.ask({ ask: "why", name }))?.why) || "";
   }
 
-  /** Sets all breakpoints of a line of the source, or removes those that are there. They wait unless the machine has the source. */
+  /**
+   * Sets all breakpoints of a line of the source, or removes those that are there. They wait unless the machine has the source. A click
+   * at one of the loaded program removes it also if the source has changed since.
+   */
   breakAt(/** @type {number} */ line) {
-    return this.source.stands ? this.request({ ask: "breakpoint", line }) : this.waiting.toggle(line);
+    const loaded = this.source.stands ? line : this.source.held.get(line);
+    return loaded ? this.request({ ask: "breakpoint", line: loaded }) : this.waiting.toggle(line);
   }
 
   /** Sets the breakpoints that wait once the machine has the source; those that came there with it stay. */

@@ -1,6 +1,7 @@
 // The editor of a source: CodeMirror with the machine's lines, breakpoints, problems, names to choose, and the source's language.
 
 import { ASSEMBLER, namesAt } from "./asm_mode.js";
+import { hollowSign } from "./breakpoints.js";
 import { CodeMirror } from "./codemirror.js";
 import { elementsIn, make } from "./elements.js";
 import { LineMarks } from "./line_marks.js";
@@ -15,10 +16,13 @@ const [PICTURES, DELETE, DELETE_PICTURE] = [0x2400, 0x7f, "␡"]; // Unicode has
 const ALSO_PAINTED = 80; // lines above and below those in sight: a screen reader has only what is painted
 
 /** @typedef {import("./types").SourceText} SourceText */
-/** @typedef {{ last: number, next: number, stops: number[] }} MachineLines lines by number: executed last, and next; 0 for none */
+/**
+ * Lines by number: executed last, and next; 0 for none. stops: with breakpoints; held: with those of the program before a change
+ * @typedef {{ last: number, next: number, stops: number[], held: number[] }} MachineLines
+ */
 
 /** @type {MachineLines} */
-export const NO_MARKS = { last: 0, next: 0, stops: [] };
+export const NO_MARKS = { last: 0, next: 0, stops: [], held: [] };
 
 const PHRASES = { // of CodeMirror's dialogs
   "Search:": textOf("editor.search"), "(Use /re/ syntax for regexp search)": textOf("editor.search.help"),
@@ -201,7 +205,7 @@ export class Editor {
     if (JSON.stringify(marks) === JSON.stringify(this.marks)) return;
     this.unseen = marks.next === this.marks.next ? this.unseen : marks.next;
     this.marks = marks;
-    const { last, next, stops } = marks;
+    const { last, next, stops, held } = marks;
     const breakpoint = (/** @type {number} */ line) => (stops.includes(line) ? [make("span", "breakpoint", "●")] : []);
     const arrow = (/** @type {number} */ line) => (line === next ? [make("span", "arrow", "▶")] : []);
     this.code.operation(() => {
@@ -210,6 +214,7 @@ export class Editor {
       this.machineMarks.style(next, "next");
       for (const line of new Set([...stops, next]))
         this.machineMarks.sign(line, "marks", make("span", "", ...breakpoint(line), ...arrow(line)));
+      for (const line of held) this.machineMarks.sign(line, "marks", hollowSign());
     });
     this.bringIntoSight();
   }

@@ -1,5 +1,6 @@
 // The source of a seat: what is typed goes to the server, and what others write there comes; versions; a file to save.
 
+import { LoadedLines } from "./breakpoints.js";
 import { NO_MARKS } from "./editor.js";
 import { offerFile, part, parts, put, timeText } from "./elements.js";
 import { offer } from "./languages.js";
@@ -28,6 +29,7 @@ export class Source {
   seat = "";
   /** @type {SourceView | null} */ told = null;
   /** @type {Set<string>} */ sent = new Set(); // keys of what is under way
+  /** @type {Map<number, number>} */ held = new Map(); // lines with breakpoints of the loaded program, by their numbers in the changed text
   isTyped = false;
   timer = 0;
   /** @type {() => Promise<unknown>} */ openFree = async () => undefined; // opens the program without an exercise, where there is one
@@ -41,6 +43,7 @@ export class Source {
   constructor(root, editor, connection) {
     this.editor = editor;
     this.connection = connection;
+    this.loaded = new LoadedLines(editor.code);
     this.file = part(root, "open");
     this.parts = parts(root, "versions", "assemble", "left");
     const { versions } = this.parts;
@@ -157,11 +160,17 @@ export class Source {
   /** Whether the machine has the source as it is here. */
   get stands() { return Boolean(this.told?.stands) && keyOf(this.told) === keyOf(this.editor.source); }
 
-  /** Marks the lines that the machine executed last and executes next, and those with breakpoints; returns them. */
+  /**
+   * Marks the lines that the machine executed last and executes next, and those with breakpoints; returns them. A source that has changed
+   * has only the breakpoints, hollow.
+   */
   mark(/** @type {import("./messages").State} */ state) {
     const { breaks = [], pc, instruction, stops = {} } = state;
-    const lines = { last: lineOf(state, instruction), next: lineOf(state, pc), stops: stoppedLines(stops, breaks) };
-    const marks = this.stands ? lines : NO_MARKS;
+    const stopped = stoppedLines(stops, breaks);
+    const lines = { last: lineOf(state, instruction), next: lineOf(state, pc), stops: stopped, held: [] };
+    if (this.stands) this.loaded.take(stops);
+    this.held = this.stands ? new Map() : this.loaded.present(stops, stopped);
+    const marks = this.stands ? lines : { ...NO_MARKS, held: [...this.held.keys()] };
     this.editor.mark(marks);
     return marks;
   }
