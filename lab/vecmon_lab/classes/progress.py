@@ -170,6 +170,10 @@ class Exercises:
         """Takes up a saved try."""
         self.progress(seat, name).add(self.with_case_names(name, done))
 
+    def forget(self, seat: str, name: str) -> None:
+        """Forgets the progress of a seat in an exercise, before its tries are taken up in another order."""
+        self._progress.pop((seat, name), None)
+
     def with_case_names(self, name: str, done: Try) -> Try:
         """A saved try. Where its cases have no names, as those of version 1.0, they get those of the exercise."""
         cases = self.by_name[name].cases if name in self.by_name else []

@@ -5,7 +5,7 @@ import contextlib
 import json
 import pathlib
 import re
-from collections.abc import Callable, Iterator, Mapping, Sequence
+from collections.abc import Callable, Mapping, Sequence
 from functools import partial
 
 from .. import LabError, mistakes_in
@@ -101,8 +101,8 @@ class PageDesk(Desk):
         """
         other = KeptTexts({name: entry for name, entry in theirs.items() if entry})
         self.source.join(other, [*self.exercises.by_name])
-        for name, file in self._files_of_tries(other):
-            self._join_try(name, file, other.read_text(file))
+        for name in self.exercises.by_name:
+            self._join_tries(name, other)
         self._join_files(other)
         return with_changes(News(kind="news"), self.news())
 
@@ -264,23 +264,31 @@ class PageDesk(Desk):
             self.lost.append(f"try {number} at {name} is damaged, and counts as one in which nothing passes")
             return attempt()
 
-    def _files_of_tries(self, texts: TextStore) -> Iterator[tuple[str, str]]:
-        """The files of tries in a store, each after the name of its exercise."""
-        for name in self.exercises.by_name:
-            files = {file for file, _ in texts.files(f"{ANSWERS}/{self.seat.name}.{name}.*.json")}
-            numbered = (self._file_of_try(name, number) for number in range(1, MAX_TRIES + 1))
-            yield from ((name, file) for file in numbered if file in files)
+    def _texts_of_tries(self, texts: TextStore, name: str) -> dict[str, str]:
+        """The tries at an exercise in a store, by file."""
+        files = {file for file, _ in texts.files(f"{ANSWERS}/{self.seat.name}.{name}.*.json")}
+        numbered = (self._file_of_try(name, number) for number in range(1, MAX_TRIES + 1))
+        return {file: texts.read_text(file) for file in numbered if file in files}
 
-    def _join_try(self, name: str, file: str, text: str) -> None:
-        """Add another tab's try to those at an exercise, unless it is there; a damaged one is set aside."""
-        own = (self.texts.read_text(each) for exercise, each in self._files_of_tries(self.texts) if exercise == name)
-        if text in own or len(self.exercises.progress(self.seat.name, name).tries) >= MAX_TRIES:
+    def _join_tries(self, name: str, other: TextStore) -> None:
+        """Add another tab's tries to those at an exercise, in the order of their times, unless they are there.
+
+        Damaged ones are set aside.
+        """
+        own = set(self._texts_of_tries(self.texts, name).values())
+        new = list[Try]()
+        for file, text in self._texts_of_tries(other, name).items():
+            try:
+                if text not in own:
+                    new.append(attempt(**json.loads(text)))
+            except (ValueError, TypeError, RecursionError):
+                self.texts.write_text(f"damaged/{file.replace('/', '-')}", text)
+        if not new:
             return
-        try:
-            done = attempt(**json.loads(text))
-        except (ValueError, TypeError, RecursionError):
-            self.texts.write_text(f"damaged/{file.replace('/', '-')}", text)
-        else:
+        count = len(self.exercises.progress(self.seat.name, name).tries)
+        tries = [*(self._kept_try(name, number) for number in range(1, count + 1)), *new][:MAX_TRIES]
+        self.exercises.forget(self.seat.name, name)
+        for done in sorted(tries, key=lambda each: each["time"]):
             self.add_try(name, self.exercises.with_case_names(name, done))
 
     def _join_files(self, other: TextStore) -> None:
