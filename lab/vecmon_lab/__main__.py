@@ -24,6 +24,8 @@ class _Parser(argparse.ArgumentParser):
 def main() -> int:
     """Carries out the command that the program's words name; its status is 2, after one line, for bad input."""
     try:
+        if sys.stdout is None:  # as after `>&-`
+            raise LabError("standard output is closed; to discard it, use >/dev/null")
         arguments = arguments_of(sys.argv[1:])
         if any(word.endswith(".c") for word in sys.argv[1:]):
             importlib.import_module("vecmon_lab.compilers.compiler").install_compilers()

@@ -164,6 +164,15 @@ def test_bad_input_is_refused(lab: Lab, arguments: list[object], expected: str) 
     assert errors.startswith(expected)
 
 
+def test_closed_output_is_refused() -> None:
+    command = ["sh", "-c", 'exec "$0" -m vecmon_lab run "$1" >&-', sys.executable, str(SUM)]
+    run = subprocess.run(command, cwd=TOP, stderr=subprocess.PIPE, text=True, check=False)
+    assert (run.returncode, run.stderr) == (
+        2,
+        "vecmon-lab: standard output is closed; to discard it, use >/dev/null\n",
+    )
+
+
 def test_missing_program_is_refused(lab: Lab, monkeypatch: pytest.MonkeyPatch) -> None:
     monkeypatch.setenv("VECMON", "none")
     monkeypatch.delenv("VECMON_RECORD", raising=False)
