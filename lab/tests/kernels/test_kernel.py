@@ -5,6 +5,7 @@ import asyncio
 import ctypes
 import pathlib
 import re
+import shutil
 import signal
 import subprocess
 import sys
@@ -240,6 +241,16 @@ def test_kernel_calls_image_function() -> None:
         assert result.arrays == [array.array("I", [number * number for number in range(37)])]
         with pytest.raises(CallStopped, match=r"next\+0x10: vse32.v v8, \(x10\): .* It stopped at element 4\."):
             kernel.call("fill", array.array("I", [0] * 36), 37)
+
+
+def test_kernel_keeps_image_that_it_opened(tmp_path: pathlib.Path) -> None:
+    """The file is removed before the calls, each of which has another session."""
+    path = pathlib.Path(shutil.copy(SQUARES_DWARF5, tmp_path))
+    with Kernel(path) as kernel:
+        path.unlink()
+        for ticks in (1_000_000, 999):
+            result = kernel.call("fill", array.array("I", [0] * 3), 3, ticks=ticks, counted=True)
+            assert result.arrays == [array.array("I", [0, 1, 4])]
 
 
 def test_call_counts_instructions() -> None:

@@ -5,8 +5,10 @@ import html
 import os
 import pathlib
 import re
+import shutil
 import sys
 import tempfile
+import weakref
 from collections.abc import Iterator, Sequence
 from concurrent.futures import ThreadPoolExecutor
 from dataclasses import dataclass
@@ -112,7 +114,7 @@ class Kernel(contextlib.AbstractContextManager["Kernel"]):
             has_image = answer.commands is None
             warnings = target_warnings(self._path, any_vlen, ", or give any_vlen=True") if has_image else []
         sys.stderr.writelines(f"vecmon-lab: warning: {path}: {warning}\n" for warning in warnings)
-        self._images = {"image": self._path} if answer.commands is None else {}
+        self._images = {"image": self._copied()} if answer.commands is None else {}
         self._begin = ["load image"] if answer.commands is None else ["leave", "enter", *answer.commands]
         self._begin.append(f"set x1 {RETURN:x}")
         if "__global_pointer$" in self._symbols.addresses:
@@ -183,6 +185,12 @@ class Kernel(contextlib.AbstractContextManager["Kernel"]):
             yield Step(guest, before, stepper.registers.control, retired)
             if retired.stop or guest.pc == RETURN:
                 return
+
+    def _copied(self) -> pathlib.Path:
+        """A copy of the image, so that calls don't change if the file does. It is there until this object is gone."""
+        folder = tempfile.mkdtemp()
+        weakref.finalize(self, shutil.rmtree, folder, ignore_errors=True)
+        return pathlib.Path(shutil.copyfile(self._path, pathlib.Path(folder, self._path.name)))
 
     def _opened(self, quantum: int = QUANTUM) -> Guest:
         """A guest on a machine of its own with slices of this number of ticks, who has entered."""
