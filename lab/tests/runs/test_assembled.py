@@ -132,3 +132,13 @@ def test_options_choose_code_of_c_source(lab: Lab, clang: Compiler, tmp_path: pa
     levels: list[list[str]] = [[], ["--options", "O0"], ["--options", "O3"]]
     assert [lab("run", *words, source)[0] for words in levels] == [2, 0, 2]
     assert lab("run", "--options", "stock", source)[:2] == lab("run", "--options", "O3", STRIP_MINED)[:2] == (2, b"")
+
+
+def test_bytes_that_are_not_utf_8_are_assembled(lab: Lab, tmp_path: pathlib.Path) -> None:
+    """As GNU as does: the bytes of a string, here Latin-1, as they are."""
+    source = tmp_path / "latin.s"
+    source.write_bytes(
+        b"_start: li a0, 1 # \xe9\nla a1, text\nli a2, 2\nli a7, 64\necall\nli a7, 93\necall\n"
+        b'.data\ntext: .ascii "\xe9\xe8"\n'
+    )
+    assert lab("run", source)[:2] == (2, b"\xe9\xe8")

@@ -73,7 +73,7 @@ class Token:
             if letter and letter not in _LETTERS:
                 raise SourceError(self.line, self.column + piece.start(), "there is no such escape in a string")
             if letter or plain:
-                data += (plain or _LETTERS[letter]).encode()
+                data += (plain or _LETTERS[letter]).encode("utf-8", "surrogateescape")
             else:
                 data += bytes([int(octal or hexadecimal, 8 if octal else 16) & 0xFF])
         return data

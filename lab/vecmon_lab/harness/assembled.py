@@ -4,6 +4,7 @@ import atexit
 import pathlib
 import tempfile
 
+from ..compilers.compiling import read_own_source
 from ..guest.guest import Guest
 from ..instructions.accesses import PAGE_BYTES
 from ..lessons.script import read_assembled, send
@@ -19,7 +20,7 @@ def assembled_image(path: pathlib.Path) -> pathlib.Path:
     It has the source's name without `.s`, its labels as symbols, and the lines of its instructions. The source's `#>` lines
     are for lessons. Raises LabError where the source has mistakes, and OSError.
     """
-    script = read_assembled(path.read_text("utf-8", "replace"), f"{path}")
+    script = read_assembled(read_own_source(path), f"{path}")
     program = script.program
     assert program
     with Session(find_program()) as session:
