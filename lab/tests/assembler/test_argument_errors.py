@@ -4,10 +4,9 @@ import random
 
 import pytest
 
-from vecmon_lab.assembler.commands import COMMANDS
+from vecmon_lab.assembler.commands import COMMANDS, OF_THE_CONSOLE
 from vecmon_lab.assembler.argument_errors import argument_error
 from vecmon_lab.machine.session import Session
-from vecmon_lab.page.reference import OF_THE_CONSOLE
 
 NUMBERS = "0 1 2 8 9 10 16 17 32 33 64 255 256 257 999 1000 1001 01 -1 1.5 0x8 99999999999".split()
 ADDRESSES = "0 4 10000 10001 1000c 1000C 1000d 20000 fffffffff000 1000000000000 0x10000 0X4 -4 nosuch main+4".split()

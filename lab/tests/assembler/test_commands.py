@@ -8,10 +8,9 @@ import pytest
 
 from support.command_tables import with_tables
 from support.places import DOCS
-from vecmon_lab.assembler.commands import COMMANDS, MEANINGS, help_on, explain_refusal
+from vecmon_lab.assembler.commands import COMMANDS, MEANINGS, OF_THE_CONSOLE, explain_refusal, help_on
 from vecmon_lab.machine.answers import Refused, read
 from vecmon_lab.machine.session import Session
-from vecmon_lab.page.reference import OF_THE_CONSOLE
 from vecmon_lab.tables.table import read_table
 
 PAGES = {

@@ -316,7 +316,8 @@ def test_c_source_makes_lesson(clang: Compiler, tmp_path: pathlib.Path) -> None:
     text = page.read_text("utf-8")
     assert "Colours to grey: three fields of a pixel" in text and "vlseg3e8.v" in text
     assert "length = __riscv_vsetvl_e8m1(count);" in text
-    assert "the grey is the upper eight." in text and "vecmon.h" not in text
+    assert "the grey is the upper eight." in text
+    assert text.count("vecmon.h") == 1  # in the source; none of its lines is in the listing
 
 
 def test_c_source_with_mistakes_makes_no_lesson(clang: Compiler, tmp_path: pathlib.Path) -> None:

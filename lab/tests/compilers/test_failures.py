@@ -165,7 +165,7 @@ sandbox_main.main()
     [
         ("while True: pass", "the image can't be read: that takes more than 10 s of processor time"),
         ("bytearray(1 << 30)", "the image can't be read: it took more than 512 MB of memory"),
-        ("instead(command)", "the image can't be read: its debug data nests too deeply"),
+        ("instead(command, own)", "the image can't be read: its debug data nests too deeply"),
     ],
 )
 def test_image_limit_is_explained(

@@ -137,7 +137,6 @@ def test_inlined_line_breakpoint_stops(tabs: "Chrome", with_c: Served) -> None:
     tab.wait(f"{marks} === '●10,●17,●54'")
     click_number(tab, 10)
     tab.wait(f"{marks} === '●17' && {asked}.endsWith('break break unbreak unbreak')")
-    click_number(tab, 8)
     tab.click("#go")
     tab.wait("!id('slice').disabled")
     tab.click("#slice")

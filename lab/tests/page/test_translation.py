@@ -31,7 +31,7 @@ if TYPE_CHECKING:
 # Elements with data: programs, lines of the monitor and its replies, numbers, registers, and texts of authors and of the lab's core.
 DATA = ", ".join(
     [
-        "code, kbd, pre, .CodeMirror, #language, #against, #images, #given-language, #line",
+        "code, kbd, pre, .CodeMirror, #written li, #language, #against, #images, #given-language, #line",
         "#listing tbody td, #listing tbody th, #log li, #bytes tbody td, #registers dt, #registers dd, #variables tbody",
         ".facts dt, .facts dd, .lanes th b, .card b, .card .meaning, .detail b, .detail small",
         "#step > span, #stop, #sentence, #points li, #in-memory li",

@@ -34,6 +34,9 @@ def _name(form: str) -> str:
 
 _COMMANDS, _REFUSALS = read_table("commands"), read_table("refusals")
 COMMANDS = {_name(form): Command(form, _plain(does), own.split(" ")) for _, form, does, _, own in _COMMANDS}
+OF_THE_CONSOLE = {_name(form) for section, form, *_ in _COMMANDS if section == "Commands of the console"}
+"""The names of commands that the machine doesn't have."""
+
 _IMAGE_FAULTS = dict(read_table("image_faults"))
 MEANINGS = {code: _plain(meaning) for code, meaning, _ in _REFUSALS}
 

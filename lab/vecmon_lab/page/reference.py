@@ -3,7 +3,7 @@
 import json
 from collections.abc import Iterator
 
-from ..assembler.commands import COMMANDS, MEANINGS
+from ..assembler.commands import COMMANDS, MEANINGS, OF_THE_CONSOLE
 from ..instructions.table import Row, instruction_table
 from ..meanings.describe import expansions, scalar_note
 from ..meanings.record import record_of, records
@@ -11,7 +11,6 @@ from ..meanings.record import record_of, records
 NOT_HERE = (
     "Not supported"  # the section whose entries have a pattern of names behind the name, as reference.js reads it
 )
-OF_THE_CONSOLE = {"run", "until", "back", "changes", "list", "source", "why", "help", "quit"}
 
 
 def reference() -> dict[str, list[list[str]]]:
