@@ -202,7 +202,7 @@ def test_work_is_brought_from_a_file(tabs: "Chrome", site: pathlib.Path, tmp_pat
 def test_links_carry_sources_and_no_markup(tabs: "Chrome", site: pathlib.Path) -> None:
     address = (site / "playground.html").as_uri()
     tab = SiteTab(tabs, address)
-    tab.write("# <img src=x onerror=alert(1)>\n")
+    tab.run("(id('show-source').click(), code().setValue(arguments[0]))", "# <img src=x onerror=alert(1)>\n")
     link = tab.copied_link()
     tab.run("code().setValue('nop')")
     tab.activate().get("about:blank")
