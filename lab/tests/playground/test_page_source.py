@@ -155,3 +155,24 @@ def test_unsaved_text_comes_back(program: pathlib.Path, tmp_path: pathlib.Path) 
         assert (((unsaved | change)["exercise"], "nop\n") in versions_of(again)) == version
         assert (again.kept["free/A1.s"][0] == "nop\n") == (expected[1] == "nop\n")
         again.close()
+
+
+def test_text_of_a_waiting_tab_becomes_a_version(program: pathlib.Path, tmp_path: pathlib.Path) -> None:
+    """Of its own work, once, also if another tab takes it up; an equal one and a damaged one don't."""
+    page = Page(program, tmp_path)
+    page.ask("source", text=SOURCE)
+    kept = page.close()
+    texts = {"a": ("", "nop\n"), "b": ("doubles", "ret\n"), "c": ("", "nop\n"), "d": ("../a", "x\n"), "e": ("", SOURCE)}
+    waiting = {
+        f"A1.unsaved.{page}": [json.dumps({"text": text, "language": 0, "exercise": exercise}), 5.0]
+        for page, (exercise, text) in texts.items()
+    }
+    again = Page(program, tmp_path, kept | waiting)
+    expected = {("", SOURCE), ("", "nop\n"), ("doubles", "ret\n")}
+    assert source_of(again) == ("", SOURCE) and versions_of(again) == expected
+    assert len(again.desk.student.source.versions) == len(expected)
+    assert not any(name.startswith("A1.unsaved") for name in again.close())
+    joined = Page(program, tmp_path, kept)
+    joined.desk.join(waiting)
+    assert source_of(joined) == ("", SOURCE) and versions_of(joined) == expected
+    joined.close()

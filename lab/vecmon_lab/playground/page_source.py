@@ -3,6 +3,7 @@
 free/A1.s: the free program; A1.s is a copy of the open work
 A1.exercise: the open exercise, and when it was opened; empty while the free program is open
 A1.unsaved: the text in the editor when the page closed before it was saved: JSON with text, language and exercise
+A1.unsaved.PAGE: the text in the editor of a tab that saved nothing, since another tab did, and was closed or reloaded
 """
 
 import json
@@ -40,7 +41,11 @@ class PageSource(SeatSource):
             self._left[exercise] = SourceText()
 
     def take_unsaved(self) -> None:
-        """Take up the text that was in the editor when the page closed, unless a newer one of the same work is saved."""
+        """Take up the text that was in the editor when the page closed, unless a newer one of the same work is saved.
+
+        Those of tabs that saved nothing become versions.
+        """
+        self._take_waiting()
         text = self._store.read_text(UNSAVED)
         if not text:
             return
@@ -73,6 +78,27 @@ class PageSource(SeatSource):
                 self._join_source(source, exercise)
         if read := unsaved_source(other.read_text(UNSAVED)):
             self._join_source(*read)
+        self._add_waiting(other)
+
+    def _take_waiting(self) -> None:
+        """Take up the texts in the editors of tabs that saved nothing."""
+        if names := [name for name, _ in self._store.files(f"{UNSAVED}.*")]:
+            self._add_waiting(self._store)
+            self.save()
+            for name in names:
+                self._store.remove(name)
+
+    def _add_waiting(self, store: TextStore) -> None:
+        """Make versions of the texts in the editors of tabs that saved nothing, unless there are equal ones."""
+        known = {(version["exercise"], self.version(version["number"])) for version in self.versions}
+        for name in sorted(name for name, _ in store.files(f"{UNSAVED}.*")):
+            read = unsaved_source(store.read_text(name))
+            if not read or not read[0].text:
+                continue
+            source, exercise = read
+            if (exercise, source) not in known and (exercise, source) != (self.exercise, self.own):
+                self._add_version(source, "typed", exercise)
+                known.add((exercise, source))
 
     def _join_source(self, source: SourceText, exercise: str) -> None:
         """Take up the source of a work of another tab."""

@@ -173,3 +173,31 @@ test("a source that may not be saved yet is among the texts of the next page, un
   await browser.release();
   assert.deepEqual((await open()).work.texts, { "A1.s": ["ret", 3], "A.stop": ["ebreak", 2] });
 });
+
+test("the source of a waiting tab that is closed is among the texts of the next page, and of the saving one until it is stored", async () => {
+  const browser = new Browser();
+  const first = await open();
+  first.work.keep("A1.s", "nop", 1);
+  await settled();
+  const waiting = await open();
+  const source = { text: "ret", language: 0, exercise: "doubles" };
+  waiting.work.keepUnsaved({ ...source, text: "nop" }); // which is saved
+  waiting.work.keepUnsaved({ ...source, text: "re" });
+  waiting.work.keep("A1.s", "ret", 2); // in memory
+  waiting.work.keepUnsaved(source); // and is closed
+  const unsavedOf = (texts) => Object.keys(texts).filter((name) => name.startsWith("A1.unsaved"));
+  const again = await open();
+  const [name] = unsavedOf(again.work.texts);
+  assert.deepEqual(JSON.parse(again.work.texts[name][0]), source);
+  again.work.keep(name, null, 3); // taken up, but in memory alone
+  await settled();
+  assert.equal(localStorage.getItem("vecmon-unsaved"), null); // of the tab that saves
+  await browser.release(); // the tab that waited first is the next one in the browser's queue; its own source is in it
+  assert.deepEqual(unsavedOf(waiting.taken[0]), []);
+  await browser.release();
+  again.work.saveInPlace([]);
+  await settled();
+  assert.equal(localStorage.getItem("vecmon-unsaved-tabs"), "[]");
+  await browser.release();
+  assert.deepEqual(unsavedOf((await open()).work.texts), []);
+});

@@ -6,11 +6,13 @@ import { textOf } from "./texts.js";
 /** @typedef {import("./playground").Entry} Entry */
 /** @typedef {import("./playground").Texts} Texts */
 /** @typedef {import("./types").UnsavedSource} UnsavedSource */
+/** @typedef {UnsavedSource & { page: string, time: number }} WaitingSource of a tab that doesn't save; page: as that of KeptWork */
 
 const [DATABASE, STORE] = ["vecmon playground", "texts"]; // the tab that saves holds a lock of the database's name
 const [FORMAT, FORMAT_VERSION] = ["vecmon work", 1];
 const [NEWER, ELSEWHERE] = [textOf("playground.newer"), textOf("playground.elsewhere")];
 const [UNSAVED, UNSAVED_KEY] = ["A1.unsaved", "vecmon-unsaved"]; // the source in the editor as the page was closed; its key in localStorage
+const WAITING_KEY = "vecmon-unsaved-tabs"; // the key of the sources in the editors of waiting tabs as those were hidden or closed
 const OPEN_SOURCE = /^A1\.(?!written)/; // the text that has the source of the open work
 const RETRY_PAUSE = 3000; // ms after which what the storage didn't take is written again
 const [MOST_FILE_BYTES, MOST_TEXTS] = [64 << 20, 20000];
@@ -60,6 +62,16 @@ export const textsOf = async (/** @type {File} */ file) => {
 const changedNames = (before, after) =>
   Object.keys({ ...before, ...after }).filter((name) => before[name]?.[0] !== after[name]?.[0]);
 
+/** The sources of waiting tabs that aren't in the database yet. */
+/** @type {() => WaitingSource[]} */
+const waitingSources = () => {
+  const sources = stored(WAITING_KEY);
+  return Array.isArray(sources) ? sources.filter((source) => typeof source?.page === "string") : [];
+};
+
+/** The name of a waiting tab's source among the texts. */
+const waitingName = (/** @type {{ page: string }} */ { page }) => `${UNSAVED}.${page}`;
+
 /** Whether a text is that of a page in which nothing was done: no lines of a machine, and their number. */
 const isBlank = (/** @type {string | undefined} */ text) => ["", "0", undefined].includes(text);
 
@@ -78,6 +90,8 @@ export class KeptWork {
   /** @type {Map<string, Entry | null>} */ due = new Map(); // entries that aren't written yet
   /** @type {Promise<void> | null} */ writing = null;
   timer = 0; // until what failed is written again
+  page = Math.random().toString(36).slice(2); // differs for each tab, and after a reload
+  /** @type {Set<string>} */ taken = new Set(); // names of waiting tabs' sources that were read
 
   /** @param {(trouble: string) => unknown} changed is called when `trouble` has changed @param {(stored: Texts) => unknown} tookOver */
   constructor(changed, tookOver) {
@@ -103,14 +117,17 @@ export class KeptWork {
     if (!isSaving) this.takeOver();
   }
 
-  /** The stored texts; entries that can't be read become the rest. isSaving: whether the unsaved source is this page's */
+  /** The stored texts, with the sources of waiting tabs; entries that can't be read become the rest. isSaving: whether the unsaved source is this page's */
   async read(isSaving = true) {
     /** @type {Partial<Entry>[]} */
     const entries = await resultOf(/** @type {IDBDatabase} */ (this.database).transaction(STORE).objectStore(STORE).getAll());
     this.rest = entries.filter((entry) => !isEntry(entry));
     const { time, ...source } = stored(UNSAVED_KEY) ?? {};
     const unsaved = { name: UNSAVED, text: JSON.stringify(source), time };
-    return byName([...entries.filter(isEntry), ...(isSaving && isEntry(unsaved) ? [unsaved] : [])]);
+    const waiting = waitingSources().filter(({ page }) => page !== this.page).map(({ page, time: when, ...text }) =>
+      ({ name: waitingName({ page }), text: JSON.stringify(text), time: when })).filter(isEntry);
+    for (const { name } of waiting) this.taken.add(name);
+    return byName([...entries.filter(isEntry), ...(isSaving && isEntry(unsaved) ? [unsaved] : []), ...waiting]);
   }
 
   openDatabase() {
@@ -186,8 +203,14 @@ export class KeptWork {
 
   /** Keeps the source in the editor in a storage that is written at once, since the page may be closed now. */
   keepUnsaved(/** @type {UnsavedSource} */ source) {
-    const isKept = Object.entries(this.texts).some(([name, [text]]) => OPEN_SOURCE.test(name) && text === source.text);
-    if (this.database && !this.readOnly && !isKept) store(UNSAVED_KEY, { ...source, time: Date.now() / 1000 });
+    const isWaiting = this.readOnly === ELSEWHERE;
+    const saved = isWaiting ? this.first : this.texts; // a waiting tab's own texts are only in memory
+    const isKept = Object.entries(saved).some(([name, [text]]) => OPEN_SOURCE.test(name) && text === source.text);
+    if (!this.database || isKept) return;
+    const unsaved = { ...source, time: Date.now() / 1000 };
+    if (!this.readOnly) store(UNSAVED_KEY, unsaved);
+    if (isWaiting && source.text.trim())
+      store(WAITING_KEY, [...waitingSources().filter(({ page }) => page !== this.page), { ...unsaved, page: this.page }]);
   }
 
   /** Replaces all texts. */
@@ -207,7 +230,7 @@ export class KeptWork {
     let failure = "";
     while (this.due.size && this.database && !this.readOnly && !failure) failure = await this.put([...this.due]);
     if (failure) await this.putApart(failure);
-    if (!this.due.size) this.forgetUnsaved();
+    if (!this.due.size && !this.readOnly) this.forgetUnsaved();
     if (this.isFull && !this.due.size) this.say((this.isFull = ""));
     if (this.isFull) this.timer = setTimeout(() => this.save(), RETRY_PAUSE);
     this.writing = null;
@@ -236,11 +259,15 @@ export class KeptWork {
     }
   }
 
-  /** Forgets the source that wasn't saved, once it is stored. */
+  /** Forgets the source that wasn't saved, once it is stored; and those of waiting tabs that this page has taken up, and its own as one. */
   forgetUnsaved() {
     const { text } = stored(UNSAVED_KEY) ?? {};
     const isKept = !this.texts[UNSAVED] && Object.values(this.texts).some(([each]) => each === text);
     if (isKept) store(UNSAVED_KEY, null);
+    const waiting = waitingSources();
+    const isTaken = (/** @type {string} */ name) => this.taken.has(name) && !this.texts[name];
+    const rest = waiting.filter((source) => source.page !== this.page && !isTaken(waitingName(source)));
+    if (rest.length < waiting.length) store(WAITING_KEY, rest);
   }
 
   say(/** @type {string} */ words) {
