@@ -341,10 +341,10 @@ def test_source_is_shown_as_it_was_written(opened: Callable[[str], "Chrome"], pr
     script = read_assembled(text, "x")
     browser = opened(lesson_page("x", make_frames(script, program), script))
     lines = "return [...document.querySelectorAll(arguments[0])].map((line) => line.textContent)"
-    assert browser.execute_script(lines, "#written li") == text.removesuffix("\n").split("\n")
+    assert browser.execute_script(lines, "#written li .text") == text.removesuffix("\n").split("\n")
     for executed, following in (("li a0, 13", "la a1, x"), ("la a1, x", "la a1, x"), ("la a1, x", "la a2, y")):
         browser.find_element("id", "next").click()
-        marked = [browser.execute_script(lines, f"#written .{kind}") for kind in ("executed", "next")]
+        marked = [browser.execute_script(lines, f"#written .{kind} .text") for kind in ("executed", "next")]
         assert marked == [[f"        {executed}"], [f"        {following}"]]
     shown = (
         """return ["show-source", "written", "listing"].map((id) => document.getElementById(id).checkVisibility())"""
@@ -354,6 +354,24 @@ def test_source_is_shown_as_it_was_written(opened: Callable[[str], "Chrome"], pr
     assert browser.execute_script(shown) == [True, False, True]
     browser = opened(lesson_page("x", make_frames(read_script("1 enter\n"), program)))
     assert browser.execute_script(shown) == [False, False, True]
+
+
+def test_source_has_tab_stops_and_signs(opened: Callable[[str], "Chrome"], program: pathlib.Path) -> None:
+    """A tab ends at column 8, whatever is before the text. The next line and one with a breakpoint have the editor's signs."""
+    text = "#> break loop\n        nop\n\tnop\nloop:\tnop\n\tebreak\n"
+    script = read_assembled(text, "x")
+    browser = opened(lesson_page("x", make_frames(script, program), script))
+    left = """return [...document.querySelectorAll("#written li")].slice(1).map((line) => {
+        const [letters, word] = [(line.querySelector(".text") ?? line).lastChild, document.createRange()];
+        word.setStart(letters, letters.data.search(/nop|ebreak/));
+        return Math.round(word.getBoundingClientRect().left);
+    })"""
+    assert len(set(browser.execute_script(left))) == 1
+    signs = """return [...document.querySelectorAll("#written li")].map((line) =>
+        [[...line.querySelectorAll(".breakpoint, .arrow")].map((sign) => sign.textContent).join(""), line.ariaCurrent])"""
+    browser.find_element("id", "last").click()  # step 256 has stopped at the breakpoint
+    expected = [["", None], ["", None], ["", None], ["●▶", "step"], ["", None]]
+    assert browser.execute_script(signs) == expected
 
 
 def test_registers_in_use_come_first(opened: Callable[[str], "Chrome"], program: pathlib.Path) -> None:
