@@ -12,7 +12,8 @@ const [INDENT, INDENT_OF_C] = [8, 4]; // columns
 const TOGETHER = 1000; // ms: what is typed without a longer pause is undone at once
 const MOST_CHANGES = 300; // that undo goes back to
 const CONTROL = /[\x01-\x08\x0b\x0c\x0e-\x1f\x7f]/; // characters that no key types: all but tabs and ends of lines
-const [PICTURES, DELETE, DELETE_PICTURE] = [0x2400, 0x7f, "␡"]; // Unicode has a sign for each control character
+// Characters that are shown by their numbers: controls, and those without a width or that change the direction of the text
+const SHOWN_BY_NUMBER = /[\x00-\x08\x0a-\x1f\x7f-\x9f\xad\u061c\u200b\u200e\u200f\u2028-\u202e\u2060-\u2069\ufeff\ufff9-\ufffc]/g;
 const ALSO_PAINTED = 80; // lines above and below those in sight: a screen reader has only what is painted
 
 /** @typedef {import("./types").SourceText} SourceText */
@@ -38,12 +39,10 @@ function refuseControl(/** @type {KeyboardEvent & { codemirrorIgnore?: boolean }
   event.codemirrorIgnore = true;
 }
 
-/** The sign of a control character in a source, as ␛; its number is in the title. */
+/** The sign of a character that is shown by its number, as U+001B. */
 function controlSign(/** @type {string} */ character) {
-  const code = character.charCodeAt(0);
-  const number = `U+${code.toString(16).toUpperCase().padStart(4, "0")}`;
-  const sign = code < 0x20 ? String.fromCharCode(PICTURES + code) : code === DELETE ? DELETE_PICTURE : number;
-  return Object.assign(make("span", "cm-invalidchar", sign), { title: number, ariaLabel: number });
+  const number = `U+${character.charCodeAt(0).toString(16).toUpperCase().padStart(4, "0")}`;
+  return Object.assign(make("span", "cm-invalidchar", number), { title: number, ariaLabel: number });
 }
 
 export class Editor {
@@ -91,7 +90,7 @@ export class Editor {
       readOnly, screenReaderLabel: ariaLabel, indentUnit: INDENT, tabSize: INDENT, historyEventDelay: TOGETHER, undoDepth: MOST_CHANGES,
       viewportMargin: ALSO_PAINTED, matchBrackets: true, autoCloseBrackets: true, styleActiveLine: true,
       extraKeys: readOnly ? { Esc: false } : extraKeys, phrases: PHRASES,
-      specialCharPlaceholder: controlSign,
+      specialChars: SHOWN_BY_NUMBER, specialCharPlaceholder: controlSign,
     };
   }
 
