@@ -183,6 +183,15 @@ def test_sources_after_several_steps(tmp_path: pathlib.Path) -> None:
     assert [cells_of(each["rows"][2])[1] for each in shown] == ["0", "0", "1"]
 
 
+def test_card_of_a_load_that_was_cut_has_its_start(tmp_path: pathlib.Path) -> None:
+    """The end of a slice had cut it before element 5 of 8."""
+    pair = stored()["load"]
+    views = [{"state": pair["state"], "before": pair["before"] | {"vstart": vstart}} for vstart in (0, 5)]
+    whole, rest = (each["card"] for each in shown_columns(views, tmp_path))
+    assert "vstart" not in whole["meaning"] and "It started at element 5, its `vstart`." in rest["meaning"]
+    assert [words for _, words in rest["counts"]][:2] == ["3 active", "5 before vstart"]
+
+
 def test_memory_of_load_at_the_end_of_a_run(tmp_path: pathlib.Path) -> None:
     """The run has stored what the load read, so that the memory before the run has other bytes."""
     pair = stored()["load"]

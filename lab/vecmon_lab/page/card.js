@@ -62,17 +62,18 @@ function maskSentence(state, { isMasked, access, destination, meaning }) {
 }
 
 /**
- * Returns where an access stopped, or that values of sources are unknown.
+ * Returns where an instruction started after element 0 and where an access stopped, or that values of sources are unknown.
  * @param {View} view
  * @param {import("./executed.js").Executed} executed
  */
-function stopSentences({ state, before }, { isIllegal, earlier, name }) {
+function stopSentences({ state, before }, { isIllegal, earlier, name, access }) {
   if (isIllegal) return [textOf("card.illegal")];
   if (state.faulted) return [textOf("card.fault", { element: state.vstart })];
+  const start = access && earlier.vstart ? textOf("card.start", { element: earlier.vstart }) : "";
   const cut = name.endsWith("ff.v") && state.vl < earlier.vl ? textOf("card.cut", { element: state.vl }) : "";
-  if (earlier.isKnown && earlier.hasOld) return [cut];
+  if (earlier.isKnown && earlier.hasOld) return [start, cut];
   const several = earlier.isKnown ? textOf("card.several") : textOf("card.several.unknown");
-  return [cut, before === state ? textOf("card.unknown") : several];
+  return [start, cut, before === state ? textOf("card.unknown") : several];
 }
 
 /**

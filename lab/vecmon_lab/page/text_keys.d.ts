@@ -374,6 +374,7 @@ export interface Places {
   "card.unknown": never;
   "card.several": never;
   "card.several.unknown": never;
+  "card.start": "element";
   "card.cut": "element";
   "card.illegal": never;
   "card.fault": "element";
