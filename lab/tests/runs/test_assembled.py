@@ -10,6 +10,8 @@ from support.commands import Lab
 from support.places import EXAMPLES
 from support.skips import NO_BINUTILS, leave_out
 from support.sources import ARGUMENTS
+from vecmon_lab import CallStopped, Kernel, LabError
+from vecmon_lab.classes.explore import read
 from vecmon_lab.compilers.compiler import Compiler
 from vecmon_lab.harness.assembled import assembled_image
 
@@ -43,6 +45,15 @@ seven:  .word 7
         la a1, seven
         lw a1, 0(a1)
         add a0, a0, a1
+        li a7, 93
+        ecall
+"""
+PREPROCESSED = """#define STATUS 5
+_start: li a0, STATUS
+#if 0
+        li a0, 9
+#endif
+        # if this were a directive, it would be refused
         li a7, 93
         ecall
 """
@@ -142,3 +153,44 @@ def test_bytes_that_are_not_utf_8_are_assembled(lab: Lab, tmp_path: pathlib.Path
         b'.data\ntext: .ascii "\xe9\xe8"\n'
     )
     assert lab("run", source)[:2] == (2, b"\xe9\xe8")
+
+
+@pytest.fixture
+def preprocessed(tmp_path: pathlib.Path) -> pathlib.Path:
+    """A source for the preprocessor, which GCC and clang compile to a program that ends with 5."""
+    (tmp_path / "both.S").write_text(PREPROCESSED, "ascii")
+    return tmp_path / "both.S"
+
+
+def test_stock_assembler_preprocesses(lab: Lab, clang: Compiler, preprocessed: pathlib.Path) -> None:
+    """Also with a header next to it, and a mistake is at its line; in a `.s` the same lines are comments."""
+    text = PREPROCESSED.replace("#define STATUS 5", '#include "status.h"')
+    (preprocessed.parent / "status.h").write_text("#define STATUS 6\n", "ascii")
+    for source, status in ((PREPROCESSED, 5), (text, 6)):
+        preprocessed.write_text(source.replace("        # if", "        // if"), "ascii")
+        assert lab("run", "--options", "stock", preprocessed) == (status, b"", "")
+        with Kernel(preprocessed, "stock") as kernel, pytest.raises(CallStopped) as stopped:
+            kernel.call("_start")
+        assert stopped.value.stop and stopped.value.stop.number == status
+    preprocessed.write_text("#define STATUS 5\n        li a9, STATUS\n", "ascii")
+    assert lab("run", "--options", "stock", preprocessed)[2].startswith(f"vecmon-lab: {preprocessed}:2:")
+    assert lab("lesson", "--options", "stock", preprocessed)[2].startswith("vecmon-lab: both.S:2:")
+    comments = preprocessed.with_suffix(".s")
+    comments.write_text(PREPROCESSED.replace("STATUS\n", "5\n"), "ascii")
+    assert lab("run", "--options", "stock", comments)[0] == lab("run", comments)[0] == 9
+
+
+def test_labs_assembler_refuses_preprocessor_lines(lab: Lab, preprocessed: pathlib.Path) -> None:
+    """At the first one, unless the name ends in .s; comments with a space aren't taken for one."""
+    advice = "the lab's assembler has no preprocessor: use --options stock, or .equ"
+    for command in ("run", "lesson"):
+        status, output, errors = lab(command, preprocessed)
+        assert (status, output) == (2, b"") and errors.endswith(f"both.S:1:1: {advice}\n")
+    with pytest.raises(LabError, match="line 1, column 1: the lab's assembler has no preprocessor"):
+        read(preprocessed, "stock")
+    preprocessed.write_text(PREPROCESSED.replace("#define STATUS 5", ".equ STATUS, 5").replace("#if 0", "# if 0"))
+    assert lab("run", preprocessed)[2].endswith(f"both.S:5:1: {advice}\n")
+    preprocessed.write_text(
+        "        .equ STATUS, 5\n        li a0, STATUS\n# if this ends\n        li a7, 93\n        ecall\n"
+    )
+    assert lab("run", preprocessed) == (5, b"", "")

@@ -79,6 +79,22 @@ class Token:
         return data
 
 
+_PREPROCESSOR_LINE = re.compile(
+    r"""\s*(\#(?:(?:if|ifn?def|elif|elifn?def|else|endif|define|undef|include|error|warning|pragma|line)\b
+    |\s+(?:ifn?def|elif|elifn?def|endif|undef|pragma)\b|\s+include\s*["<]))""",
+    re.VERBOSE,
+)
+"""A directive of the preprocessor. After a space, the English words are left to comments, as `# if a0 is 0`; an #endif ends each #if."""
+
+
+def refuse_preprocessor_lines(text: str) -> None:
+    """Raise SourceError for the first line of a .S source that the preprocessor of stock assemblers reads as a directive."""
+    for number, line in enumerate(text.split("\n"), 1):
+        if found := _PREPROCESSOR_LINE.match(line):
+            problem = "the lab's assembler has no preprocessor: use --options stock, or .equ"
+            raise SourceError(number, found.start(1) + 1, problem)
+
+
 Operand = list[Token]
 """The tokens of an operand, one or more."""
 

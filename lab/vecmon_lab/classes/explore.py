@@ -6,10 +6,11 @@ import os
 import pathlib
 import tempfile
 
-from .. import LabError
+from .. import LabError, mistakes_in
 from ..arguments import add_compiler, between
+from ..assembler.line import refuse_preprocessor_lines
 from ..compilers.account import account_named, add_account
-from ..compilers.compiler import choice_for, find_compilers, refuse_cxx
+from ..compilers.compiler import PREPROCESSED_SUFFIX, choice_for, find_compilers, refuse_cxx
 from ..machine.program import find_program
 from ..page.texts import page_text
 from .builds import builds_by
@@ -62,4 +63,8 @@ def read(path: pathlib.Path, options: str | None) -> SourceText:
     if path.suffix not in (".c", ".s", ".S"):
         raise LabError(f"{path}: the name of a source ends in .c or .s")
     choices = [language.choice for language in LANGUAGES]
-    return SourceText(path.read_text("utf-8", "replace"), choices.index(choice_for(path, options)))
+    text = path.read_text("utf-8", "replace")
+    if path.suffix == PREPROCESSED_SUFFIX:  # a page's source isn't preprocessed, whatever assembles it
+        with mistakes_in(path):
+            refuse_preprocessor_lines(text)
+    return SourceText(text, choices.index(choice_for(path, options)))

@@ -11,11 +11,12 @@ from .. import LabError
 from ..machine.image import MARCH
 
 RUNTIME = pathlib.Path(__file__).parent / "runtime"
-C_SOURCE, ASSEMBLER_SOURCE, IMAGE = "source.c", "source.s", "image"
-OWN_SOURCES = (C_SOURCE, ASSEMBLER_SOURCE)
-"""The names that sources and their image always have."""
+C_SOURCE, ASSEMBLER_SOURCE, PREPROCESSED_SOURCE, IMAGE = "source.c", "source.s", "source.S", "image"
+OWN_SOURCES = (C_SOURCE, ASSEMBLER_SOURCE, PREPROCESSED_SOURCE)
+"""The names that sources and their image always have; PREPROCESSED_SOURCE only in messages and debug data."""
 
-C_SUFFIX, ASSEMBLER_SUFFIXES = ".c", (".s", ".S")
+C_SUFFIX, PREPROCESSED_SUFFIX = ".c", ".S"
+ASSEMBLER_SUFFIXES = (".s", PREPROCESSED_SUFFIX)
 """The ends of the names of users' sources."""
 
 FUNCTION = "answer"
@@ -82,7 +83,8 @@ class Compiler:
 
         is_answer: to an exercise, whose loops have vectors where the source asks for them alone
         is_alone: whether the source begins by itself, and nothing is linked to it
-        named: the path that debug data names in place of the source's name
+        named: the path that debug data names in place of the source's name; the preprocessor reads an assembler source first
+            if this ends in .S
         """
         source = source_of(choice)
         if self.is_clang:
@@ -100,7 +102,9 @@ class Compiler:
             places = {**places, ".": str(pathlib.PurePath(named).parent)}
         folder = (f"-I{RUNTIME}", *(f"-fdebug-prefix-map={place}={name}" for place, name in places.items()))
         linked = (source,) if is_alone or source != C_SOURCE else (source, str(RUNTIME / "runtime.c"))
-        return [self.name, *_ALL, *_TOLD, *own, *folder, "-o", IMAGE, *linked]
+        is_preprocessed = source == ASSEMBLER_SOURCE and named.endswith(PREPROCESSED_SUFFIX)
+        language = ("-x", "assembler-with-cpp") * is_preprocessed
+        return [self.name, *_ALL, *_TOLD, *own, *folder, "-o", IMAGE, *language, *linked]
 
 
 def source_of(choice: int) -> str:

@@ -6,7 +6,7 @@ import tempfile
 
 from .. import LabError, mistakes_in
 from .compiled import CompiledProgram, Isolation, read_compiled_program
-from .compiler import FUNCTION, IMAGE, Compiler, find_compiler, source_of
+from .compiler import FUNCTION, IMAGE, PREPROCESSED_SOURCE, Compiler, find_compiler, source_of
 from .sandbox import answer_of_own, answer_sandboxed
 
 SOURCE_BYTES = 1 << 16
@@ -29,6 +29,7 @@ def compile_c(
     is_answer: bool = False,
     isolation: Isolation | None = None,
     saved: pathlib.Path | None = None,
+    is_preprocessed: bool = False,
 ) -> CompiledProgram:
     """Compiles a source, by the options of this number. Mistakes are in the program. Raises LabError, and ToolError.
 
@@ -36,8 +37,9 @@ def compile_c(
     is_answer: whether it is to answer an exercise
     isolation: compiles untrusted sources; None for the sandbox
     saved: the folder that keeps your own source and its image; without it they are deleted
+    is_preprocessed: whether the preprocessor reads an assembler source first, as one of the suffix .S
     """
-    words = words_for(text, compiler, choice, is_answer)
+    words = [*words_for(text, compiler, choice, is_answer), *[PREPROCESSED_SOURCE] * is_preprocessed]
     isolated = isolation or answer_sandboxed
     answer = answer_of_own(words, text, headers, saved) if headers else isolated(words, text)
     return read_compiled_program(answer)

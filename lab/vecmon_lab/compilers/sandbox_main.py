@@ -17,7 +17,7 @@ from collections.abc import Collection, Sequence
 from subprocess import DEVNULL, PIPE, Popen
 from typing import NamedTuple
 
-from .compiler import ASSEMBLER_SOURCE, FUNCTION, IMAGE, OWN_SOURCES, Compiler, source_of
+from .compiler import ASSEMBLER_SOURCE, FUNCTION, IMAGE, OWN_SOURCES, PREPROCESSED_SUFFIX, Compiler, source_of
 from .debug import MESSAGE_LETTERS, MAX_MESSAGES, Image, image_of
 from .failures import without_folders
 from .hints import undefined_reference, with_advice
@@ -152,7 +152,8 @@ def compiled(compiler: Compiler, choice: int, is_answer: bool, named: str) -> tu
 def line_marker(named: str) -> str:
     """The line before an assembler source that names it in messages and debug data; "" without a name that can be there."""
     name = pathlib.PurePath(named).name
-    return f'# 1 "{name}"\n' if MARKABLE.fullmatch(name) else ""
+    form = "#line" if name.endswith(PREPROCESSED_SUFFIX) else "#"  # of the preprocessor, or of the assembler
+    return f'{form} 1 "{name}"\n' if MARKABLE.fullmatch(name) else ""
 
 
 def main() -> None:

@@ -17,7 +17,7 @@ from typing import Any
 from .. import LabError, mistakes_in
 from ..assembler.commands import explain_refusal
 from ..compilers.compiling import compile_c, read_own_source
-from ..compilers.compiler import C_SOURCE, CHOICES, IMAGE, choice_for, find_compiler
+from ..compilers.compiler import C_SOURCE, CHOICES, IMAGE, PREPROCESSED_SUFFIX, choice_for, find_compiler
 from ..compilers.signatures import Signatures
 from ..exercises.answer import Answer, read_answer
 from ..guest.changes import Stepper
@@ -294,7 +294,8 @@ def _compiled(path: pathlib.Path, choice: int, compiler: str | None) -> tuple[An
     with tempfile.TemporaryDirectory() as folder, ThreadPoolExecutor(1) as thread:
         saved = pathlib.Path(folder)
         # in a thread, so that another event loop, as a notebook's, isn't in the way
-        words = (text, find_compiler(compiler), choice, path.parent, False, None, saved)
+        is_preprocessed = path.suffix == PREPROCESSED_SUFFIX
+        words = (text, find_compiler(compiler), choice, path.parent, False, None, saved, is_preprocessed)
         program = thread.submit(compile_c, *words).result()
         program.check(path.name)
         return Answer(path, program.lines), Symbols.of_labels(program.names()), Signatures((saved / IMAGE).read_bytes())

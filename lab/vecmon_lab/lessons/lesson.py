@@ -8,7 +8,7 @@ from collections.abc import Mapping
 from .. import LabError
 from ..arguments import add_any_vlen, add_compiler, check_output
 from ..compilers.compiling import compile_c, read_own_source
-from ..compilers.compiler import ASSEMBLER_SUFFIXES, C_SUFFIX, choice_for, find_compiler
+from ..compilers.compiler import ASSEMBLER_SUFFIXES, C_SUFFIX, PREPROCESSED_SUFFIX, choice_for, find_compiler
 from ..machine.program import find_program, images_of
 from .frames import make_frames
 from .listings import CompiledListing, listing_of, listings_page
@@ -58,7 +58,9 @@ def _lesson(arguments: argparse.Namespace, images: Mapping[str, pathlib.Path]) -
         raise LabError(f"{path} isn't a text; a lesson needs a script, or a source in assembler (.s, .S) or C (.c)")
     choice = choice_for(path, arguments.options)
     if choice is not None:
-        program = compile_c(read_own_source(path), find_compiler(arguments.cc), choice, path.parent)
+        is_preprocessed = path.suffix == PREPROCESSED_SUFFIX
+        own, compiler = read_own_source(path), find_compiler(arguments.cc)
+        program = compile_c(own, compiler, choice, path.parent, is_preprocessed=is_preprocessed)
         script = read_compiled(text, path.name, program, path.suffix == C_SUFFIX)
     else:
         script = read_assembled(text, path.name) if path.suffix in ASSEMBLER_SUFFIXES else read_script(text)

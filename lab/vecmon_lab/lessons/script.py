@@ -6,6 +6,7 @@ from dataclasses import dataclass, field, replace
 
 from .. import LabError
 from ..assembler.commands import explain_refusal
+from ..assembler.line import refuse_preprocessor_lines
 from ..assembler.source import Program, SourceError, Statement, assemble, refusal
 from ..compilers.compiled import CompiledProgram
 from ..compilers.variables import Variable
@@ -76,8 +77,13 @@ def add_line(steps: list[Step], line: str, note: str = "") -> None:
 
 
 def read_assembled(text: str, name: str) -> Script:
-    """The lesson of an assembler source, for user 1. Raises LabError where it doesn't assemble."""
+    """The lesson of an assembler source, for user 1. Raises LabError where it doesn't assemble.
+
+    name: of its file; a source of the suffix .S has no line for the preprocessor
+    """
     try:
+        if name.endswith(".S"):
+            refuse_preprocessor_lines(text)
         program = assemble(text)
     except SourceError as error:
         raise LabError(error.diagnostic(name)) from error
