@@ -7,7 +7,15 @@ import pytest
 from support.commands import Lab
 from vecmon_lab import Kernel, LabError
 from vecmon_lab.compilers.compiler import Compiler
-from vecmon_lab.compilers.hints import NO_FLOATS, NO_LIBRARY, NO_MAIN, with_advice
+from vecmon_lab.compilers.hints import (
+    NO_ATOMICS,
+    NO_FLOATS,
+    NO_LIBRARY,
+    NO_MAIN,
+    NO_MEMORY_FUNCTION,
+    NO_WIDE_INTEGERS,
+    with_advice,
+)
 from vecmon_lab.compilers.sandbox_main import Diagnostic, read_messages
 
 # The functions of libgcc's manual, "Routines for floating point emulation", for one or two modes each
@@ -20,6 +28,21 @@ __floatdidf __floatunsidf __floatundisf __cmpdf2 __unordsf2 __eqsf2 __nedf2 __ge
 @pytest.mark.parametrize("symbol", SOFT_FLOAT)
 def test_floating_point_is_named_as_missing(symbol: str) -> None:
     assert with_advice(f"undefined symbol: {symbol}") == f"undefined symbol: {symbol}: {NO_FLOATS}"
+
+
+@pytest.mark.parametrize(
+    "symbol, advice",
+    [
+        *(
+            (symbol, NO_WIDE_INTEGERS) for symbol in ("__divti3", "__umodti3", "__udivti3", "__multi3")
+        ),  # libgcc's manual
+        *((symbol, NO_ATOMICS) for symbol in ("__atomic_fetch_add_4", "__atomic_load_8", "__sync_fetch_and_add_4")),
+        *((symbol, NO_MEMORY_FUNCTION) for symbol in ("memmove", "memcmp")),
+        ("strlen", NO_LIBRARY),
+    ],
+)
+def test_library_function_is_named_as_missing(symbol: str, advice: str) -> None:
+    assert with_advice(f"undefined symbol: {symbol}") == f"undefined symbol: {symbol}: {advice}"
 
 
 @pytest.mark.parametrize(

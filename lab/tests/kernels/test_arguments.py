@@ -188,8 +188,8 @@ def test_type_of_parameter_decides(kernel: Kernel) -> None:
     "symbol, arguments, expected",
     [
         ("sum_u8", [1], "sum_u8 takes 2 arguments (uint8_t x, uint8_t y), and this call has 1"),
-        ("nothing", [1], "nothing takes 0 arguments (void), and this call has 1; clang lists none of a naked function"),
-        ("count", [], "count takes at least 1 arguments (int n), and this call has 0"),
+        ("nothing", [1], "nothing takes 0 arguments (void), and this call has 1"),
+        ("count", [], "count takes at least 1 argument (int n), and this call has 0"),
         ("nine", [0] * 9, "a call has 8 arguments at most, and this one has 9"),
         ("real", [1], "real: argument 1, float x, is no integer or pointer: pass a pointer to it"),
         ("wide_real", [1], "wide_real: its result, long double, is no integer or pointer: store it by a pointer"),
@@ -207,7 +207,7 @@ def test_type_of_parameter_decides(kernel: Kernel) -> None:
 def test_call_against_signature_is_refused(kernel: Kernel, symbol: str, arguments: Any, expected: str) -> None:
     with pytest.raises(LabError) as caught:
         kernel.call(symbol, *arguments)
-    assert str(caught.value).startswith(expected)
+    assert str(caught.value).startswith(expected) and "naked" not in str(caught.value)
 
 
 def test_promoted_argument_is_refused(clang: Compiler, tmp_path: pathlib.Path) -> None:

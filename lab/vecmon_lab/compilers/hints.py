@@ -28,12 +28,22 @@ _SOFT_FLOAT = re.compile(
     r"|(?:cmp|unord|eq|ne|lt|le|gt|ge)[a-z]f2|(?:extend|trunc)[a-z]f[a-z]f2"
     r"|fix(?:uns)?[a-z]f[a-z]i|float(?:un)?[a-z]i[a-z]f)"
 )
+_WIDE_INTEGERS = re.compile(
+    "__u?(?:div|mod|divmod)ti[34]|__(?:mul|mulo|neg|ashl|ashr|lshr)ti[234]"
+)  # mode ti: 128 bits
+_ATOMICS = re.compile(r"__(?:atomic|sync)_\w+")
 
 NO_LIBRARY = (
     'there is no C library here. "vecmon.h" declares put, exit, memcpy and memset; docs/COMPILING.md links picolibc'
 )
 NO_FLOATS = "the machine has no floating point, and nothing computes it in software: use integers"
+NO_MEMORY_FUNCTION = "compilers call it to copy or to compare; memory.c in docs/COMPILING.md defines memmove and memcmp"
+NO_WIDE_INTEGERS = "no library divides or multiplies integers of 128 bits here: use 64 bits"
+NO_ATOMICS = "no library has atomic operations, and the machine doesn't have the extension A: use plain variables"
 NO_MAIN = "a program begins with a function main, or with a function _start of its own"
+
+_OF_LIBGCC = [(_SOFT_FLOAT, NO_FLOATS), (_WIDE_INTEGERS, NO_WIDE_INTEGERS), (_ATOMICS, NO_ATOMICS)]
+"""Functions of libgcc, and advice if one is undefined."""
 
 
 def with_advice(message: str) -> str:
@@ -55,5 +65,8 @@ def _advice(message: str) -> str:
         is_library = header.removesuffix(".h") in _LIBRARY_HEADERS or header.startswith(_OF_GLIBC)
         return NO_LIBRARY if is_library else ""
     if found := _UNDEFINED.fullmatch(message):
-        return NO_MAIN if found[1] == "main" else NO_FLOATS if _SOFT_FLOAT.fullmatch(found[1]) else ""
+        symbol = found[1]
+        advice = {"main": NO_MAIN, "memmove": NO_MEMORY_FUNCTION, "memcmp": NO_MEMORY_FUNCTION, "strlen": NO_LIBRARY}
+        of_libgcc = next((text for names, text in _OF_LIBGCC if names.fullmatch(symbol)), "")
+        return advice.get(symbol, of_libgcc)
     return ""

@@ -84,9 +84,9 @@ def _check_callable(symbol: str, count: int, signature: Signature) -> None:
     if count < len(parameters) or count > len(parameters) and not signature.is_variadic:
         listed = ", ".join(each.declaration for each in parameters) or "void"
         least = "at least " * signature.is_variadic
-        naked = "" if parameters else "; clang lists none of a naked function: define that in assembler"
+        plural = "s" * (len(parameters) != 1)
         raise LabError(
-            f"{symbol} takes {least}{len(parameters)} arguments ({listed}), and this call has {count}{naked}"
+            f"{symbol} takes {least}{len(parameters)} argument{plural} ({listed}), and this call has {count}"
         )
     for number, each in enumerate(parameters, 1):
         if each.integer is None:
