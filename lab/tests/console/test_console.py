@@ -403,6 +403,8 @@ def test_breakpoint_condition_is_evaluated() -> None:
         ("list y", "no source line is known of 11040 y"),
         ("changes all", "the form is changes"),
         ("back x", "the form is back N"),
+        ("back to", "the form is back to write ADDR"),
+        ("back to write", "the form is back to write ADDR"),
         ("back to write none", "there is no symbol none"),
         ("back to write fffffffffffff", "fffffffffffff is no address of memory"),
         ("changes", "nothing has changed"),

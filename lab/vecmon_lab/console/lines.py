@@ -126,6 +126,8 @@ class Console:
                 self.execution.back(int(number))
             case ["back", where] if found := re.fullmatch(r"to +write +(\S+)", where):
                 self.execution.back_to_write(self.names.named(found[1], "ADDR"))
+            case ["back", where] if re.fullmatch(r"to( +write)?", where):
+                raise LabError("the form is back to write ADDR")
             case ["changes"]:
                 self._screen.say(*self.execution.changes or ["nothing has changed"], kind="changed")
             case ["list", word]:
