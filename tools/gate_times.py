@@ -2,21 +2,23 @@
 """Runs a command and prints the time of its proofs, crate by crate: `tools/gate_times.py OUT COMMAND...`, say
 `tools/gate_times.py /tmp/times bash .ci/run` at the top of a fresh clone.
 
-The file OUT gets a table in seconds of processor: each crate's own proof, that of its tests, and the checks of its edits that must fail,
-with the number of these checks. `tools/try_edits` tries several edits in one check. Of the edits in `must-fail`, which `rt ci` tries, the
-first one of a crate takes as long as its proof, since the others use what it proved; the last check is of the crate without an edit. Below
-the table are the seconds of each check of edits, the largest first. The last line has the processor time of the whole command,
-with its programs, tests and compilers, and the time by the clock. Each process of the prover is observed twice a second, so the last half
-second of each may be missing above; the whole includes it.
+The file OUT gets a table in seconds of processor: each crate's own proof, with the compilation of a library; the compilation of what was
+proved to a program, by LLVM and by Rattle's own compiler; the proof of its tests; and the checks of its edits that must fail, with the
+number of these checks. `tools/try_edits` tries several edits in one check. Of the edits in `must-fail`, which `rt ci` tries, the first one
+of a crate takes as long as its proof, since the others use what it proved; the last check is of the crate without an edit. Below the table
+are the seconds of each check of edits, the largest first. The last line has the processor time of the whole command, with its programs,
+tests and compilers, and the time by the clock. Each process of the prover is observed twice a second, with the processes that it starts, so
+the last half second of each may be missing above; the whole includes it.
 """
 
+import contextlib
 import os
 import resource
 import subprocess
 import sys
 import time
 from collections import defaultdict
-from dataclasses import dataclass
+from dataclasses import dataclass, field
 from pathlib import Path
 
 from edit_checks import COPY, TITLES
@@ -24,24 +26,32 @@ from edit_clauses import files_of_edits
 from edit_plans import edited_texts
 
 TICKS_A_SECOND = os.sysconf("SC_CLK_TCK")
-KINDS = ("proof", "tests", "edits")
+KINDS = ("proof", "LLVM", "Rattle's compiler", "tests", "edits")
+BACKENDS = {"llvm": "LLVM", "rattle": "Rattle's compiler"}  # of `rattle build` for a program that is proved already
 
 
 @dataclass
 class Check:
-    """One process of the prover: its crate, its purpose, the edits it tries, and its seconds of processor so far, with those of its
-    children."""
+    """One process of the prover: its crate, its purpose and the edits it tries."""
 
     crate: str
     kind: str
     edits: str
-    seconds: float
+    reported: float = 0.0  # seconds of processor by its own record, which has the processes that it has waited for
+    observed: dict[str, float] = field(default_factory=dict)  # seconds of each process below it, and its own
+
+    @property
+    def seconds(self) -> float:
+        """Return its seconds of processor so far. Its record misses running processes; short ones may not be observed."""
+        return max(self.reported, sum(self.observed.values()))
 
 
 def kind_of(words: list[str], folder: str) -> str:
     """The purpose of a check, by its arguments and its working folder."""
     if os.path.basename(folder).startswith(("rt-edit-", COPY)):
         return "edits"
+    if "--crate-checked" in words:
+        return BACKENDS[words[words.index("--backend") + 1]]
     return "tests" if "--test" in words else "proof"
 
 
@@ -57,10 +67,13 @@ def edits_in(folder: str, crate: str) -> str:
     return "no edit"
 
 
-def fields_of(process: str) -> list[str]:
-    """The fields of a process, from its state on (proc(5), "stat")."""
-    with open(f"/proc/{process}/stat", encoding="utf-8") as it:
-        return it.read().rpartition(")")[2].split()
+def all_fields() -> dict[str, list[str]]:
+    """The fields of each process, from its state on (proc(5), "stat")."""
+    found: dict[str, list[str]] = {}
+    for process in filter(str.isdigit, os.listdir("/proc")):
+        with contextlib.suppress(OSError):  # it has ended meanwhile
+            found[process] = Path("/proc", process, "stat").read_text(encoding="utf-8").rpartition(")")[2].split()
+    return found
 
 
 def words_of(process: str) -> list[str]:
@@ -70,30 +83,31 @@ def words_of(process: str) -> list[str]:
     return words if os.path.basename(program) == "rattle" and "--crate-name" in words else []
 
 
-def is_below(process: str, root: int) -> bool:
-    """Whether the process belongs to the command, and not to something else that runs here."""
-    while process not in ("0", "1"):
-        if process == str(root):
-            return True
-        process = fields_of(process)[1]
-    return False
+def prover_of(process: str, root: str, fields: dict[str, list[str]]) -> str | None:
+    """Return the prover that a process belongs to: the highest one above it, or itself; None if it has none, or isn't the command's."""
+    above = []
+    while process != root:
+        if process not in fields:
+            return None
+        above.append(process)
+        process = fields[process][1]
+    return next((it for it in reversed(above) if words_of(it)), None)
 
 
-def look_at(process: str, root: int, checks: dict[str, Check]) -> None:
-    """Notes what a process has taken, if it is one of the command's provers and not a part of another one."""
-    words = words_of(process)
-    if not words:
+def look_at(process: str, root: str, fields: dict[str, list[str]], checks: dict[str, Check]) -> None:
+    """Note what a process has taken so far, if it is one of the command's provers or a process that one of them started."""
+    prover = prover_of(process, root, fields)
+    if not prover:
         return
-    fields = fields_of(process)
-    if words_of(fields[1]) or not is_below(process, root):
-        return
-    name = f"{process} {fields[19]}"  # its number and when it began, since numbers are used again
-    seconds = sum(int(it) for it in fields[11:15]) / TICKS_A_SECOND
+    name = f"{prover} {fields[prover][19]}"  # its number and when it began, since numbers are used again
     if name not in checks:
-        crate, folder = words[words.index("--crate-name") + 1], os.readlink(f"/proc/{process}/cwd")
-        kind = kind_of(words, folder)
-        checks[name] = Check(crate, kind, edits_in(folder, crate) if kind == "edits" else "", seconds)
-    checks[name].seconds = seconds
+        words, folder = words_of(prover), os.readlink(f"/proc/{prover}/cwd")
+        crate, kind = words[words.index("--crate-name") + 1], kind_of(words, folder)
+        checks[name] = Check(crate, kind, edits_in(folder, crate) if kind == "edits" else "")
+    ticks = [int(it) for it in fields[process][11:15]]
+    checks[name].observed[f"{process} {fields[process][19]}"] = sum(ticks[:2]) / TICKS_A_SECOND
+    if process == prover:
+        checks[name].reported = sum(ticks) / TICKS_A_SECOND
 
 
 def table(checks: list[Check]) -> str:
@@ -126,11 +140,10 @@ def main(out: str, command: list[str]) -> int:
     started = time.monotonic()
     with subprocess.Popen(command) as running:
         while running.poll() is None:
-            for process in filter(str.isdigit, os.listdir("/proc")):
-                try:
-                    look_at(process, running.pid, checks)
-                except (OSError, ValueError):  # it has ended meanwhile
-                    pass
+            fields = all_fields()
+            for process in fields:
+                with contextlib.suppress(OSError, ValueError):  # it has ended meanwhile
+                    look_at(process, str(running.pid), fields, checks)
             time.sleep(0.5)
     used = resource.getrusage(resource.RUSAGE_CHILDREN)
     minutes = [(used.ru_utime + used.ru_stime) / 60, (time.monotonic() - started) / 60]
