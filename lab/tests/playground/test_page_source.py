@@ -2,12 +2,16 @@
 
 import json
 import pathlib
+from collections.abc import Mapping
 from typing import Any
 
 import pytest
 
 from playground.test_page_desk import SOURCE, Page
+from vecmon_lab.classes.progress import Start
 from vecmon_lab.playground import page_desk
+from vecmon_lab.playground.kept_texts import KeptTexts
+from vecmon_lab.playground.page_source import PageSource
 
 START = "an answer\n"
 OF_2_0 = {
@@ -71,6 +75,49 @@ def test_free_program_of_2_0_is_no_answer(program: pathlib.Path, tmp_path: pathl
     page.ask("open", exercise="")
     assert source_of(page) == ("", "nop\n")
     page.close()
+
+
+def test_free_program_of_2_0_is_no_answer_once_another_exercise_was_opened() -> None:
+    """Version 2.0 has no free program; it isn't known whether exercise 1 was opened. An answer was tried, or has a line of its start."""
+    start = "# a0: address of the doubles\n        ret\n"
+    own = {"A1.exercise": ["sums 7", 9.0], "A1.s": ["# sums\n", 9.0], "drafts/A1.sums.s": ["# sums\n", 9.0]}
+
+    def opened(doubles: str, more: Mapping[str, Any] = {}) -> dict[str, str]:
+        """The texts of the works in a page that is opened with an exercise 1 of this text, and opened again."""
+        texts = KeptTexts(own | {"drafts/A1.doubles.s": [doubles, 5.0]} | more)
+        for _ in range(2):
+            source = PageSource("A1", texts, {"doubles": [Start(text=start, language=0)]})
+            source.settle(["doubles", "sums"])
+            source.save()
+        found = {source.exercise: source.own.text}
+        for exercise in ("", "doubles"):
+            source.open(exercise)
+            found[exercise] = source.own.text
+        return found
+
+    free = "        li t0, 3\n        ret\n"
+    assert opened(free) == {"sums": "# sums\n", "": free, "doubles": ""}
+    answer = f"li t0, 3\n{start}"
+    assert opened(answer) == {"sums": "# sums\n", "": "", "doubles": answer}
+    tried = opened(free, {"answers/A1.doubles.1.json": ["{", 5.0]})
+    later = opened(free, {"free/A1.s": ["", 5.0]})
+    assert tried == later == {"sums": "# sums\n", "": "", "doubles": free}
+
+
+def test_own_program_is_offered_if_there_is_one(program: pathlib.Path, tmp_path: pathlib.Path) -> None:
+    def is_offered(page: Page) -> bool:
+        hello: Any = page.desk.hello()
+        return bool(hello["patch"]["source"]["own_program"])
+
+    page = Page(program, tmp_path)
+    page.ask("open", exercise="doubles")
+    draft(page, START)
+    assert not is_offered(page)
+    page.ask("open", exercise="")
+    draft(page, SOURCE)
+    page.ask("open", exercise="doubles")
+    assert is_offered(page)
+    assert is_offered(Page(program, tmp_path, page.close()))
 
 
 def test_answer_of_2_0_stays_one(program: pathlib.Path, tmp_path: pathlib.Path) -> None:

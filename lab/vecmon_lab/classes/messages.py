@@ -28,6 +28,7 @@ class SourceView(TypedDict):
 
     language: the number of its language; number: of changes since the server started
     exercise: the open one, or ""; `stands`: whether the machine has this source; versions: the last 50, in order
+    own_program: in the playground, whether there is a program that belongs to no exercise
     """
 
     text: str
@@ -36,6 +37,7 @@ class SourceView(TypedDict):
     exercise: str
     stands: bool
     versions: list[VersionView]
+    own_program: NotRequired[bool]
 
 
 class Offer(TypedDict):
@@ -317,7 +319,7 @@ def source_view(source: SeatSource, seat: Seat, titles: Mapping[str, str]) -> So
     versions: list[dict[str, object]] = [
         {**each, "title": titles.get(each["exercise"], each["exercise"])} for each in source.versions
     ]
-    return {
+    view: SourceView = {
         "text": source.own.text,
         "language": source.own.language,
         "number": source.number,
@@ -325,6 +327,7 @@ def source_view(source: SeatSource, seat: Seat, titles: Mapping[str, str]) -> So
         "stands": source.own == seat.written,
         "versions": cast(list[VersionView], versions),
     }
+    return view | {"own_program": bool(source.free_program.text)} if source.has_free_program else view
 
 
 def shown(seat: Seat) -> State:

@@ -64,6 +64,11 @@ class SeatSource:
         """Whether the source differs from its newest version."""
         return self.own.text not in ("", self._newest.text)
 
+    @property
+    def free_program(self) -> SourceText:
+        """The program that belongs to no exercise; an empty source without one."""
+        return self.own if not self.exercise else SourceText()
+
     def settle(self, exercises: Sequence[str]) -> None:
         """Opens the first of a class's exercises where none of them is open; a source without an exercise becomes its source."""
         if not exercises or self.exercise in exercises:

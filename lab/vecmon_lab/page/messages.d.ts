@@ -797,6 +797,7 @@ export interface SourceResult {
  *
  * language: the number of its language; number: of changes since the server started
  * exercise: the open one, or ""; `stands`: whether the machine has this source; versions: the last 50, in order
+ * own_program: in the playground, whether there is a program that belongs to no exercise
  */
 export interface SourceView {
   text: string;
@@ -805,6 +806,7 @@ export interface SourceView {
   exercise: string;
   stands: boolean;
   versions: VersionView[];
+  own_program?: boolean;
 }
 
 export interface Start {

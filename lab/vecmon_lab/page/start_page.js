@@ -82,7 +82,8 @@ export class StartPage {
       const saved = new Date(time).toLocaleString("en-GB", { dateStyle: "medium", timeStyle: "short" });
       return this.tile(source.name, /[^\s/#].*/.exec(source.text)?.[0] ?? "", saved, source);
     });
-    if (this.view.source.exercise) tiles.unshift(this.ownTile());
+    const { exercise, own_program } = this.view.source;
+    if (exercise && own_program) tiles.unshift(this.ownTile());
     part(this.root, "recent").replaceChildren(...group(textOf("author.recent"), tiles));
     this.toggle(true);
     part(this.root, "new-program").focus();

@@ -75,7 +75,7 @@ class PageDesk(Desk):
             Session, program, quantum=int(quantum) if re.fullmatch("[1-9][0-9]{0,2}", quantum) else None
         )
         session = self._opening(self._kept_images(texts))
-        self.source = PageSource("A1", texts)
+        self.source = PageSource("A1", texts, starts)
         super().__init__(program, session, texts, exercises, starts, source=self.source)
         self.source.take_unsaved()
         self._set_up, self._stops = 0, dict[str, str]()

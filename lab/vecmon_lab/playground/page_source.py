@@ -8,9 +8,10 @@ A1.unsaved.PAGE: the text in the editor of a tab that saved nothing, since anoth
 
 import json
 import re
-from collections.abc import Sequence
+from collections.abc import Mapping, Sequence
 
 from ..classes.languages import LANGUAGES, SourceText
+from ..classes.progress import Start
 from ..classes.sources import DRAFTS, OPEN, SeatSource, kept_source
 from ..classes.text_store import TextStore
 
@@ -22,10 +23,17 @@ class PageSource(SeatSource):
 
     has_free_program = True
 
-    def __init__(self, name: str, store: TextStore) -> None:
+    def __init__(self, name: str, store: TextStore, starts: Mapping[str, Sequence[Start]] = {}) -> None:
+        """starts: of each exercise the sources to start with"""
         super().__init__(name, store)
+        self._starts = starts
         if not self.exercise and not self.own.text:
             self.own = kept_source(store, name)  # of version 2.0, or of a class without exercises
+
+    @property
+    def free_program(self) -> SourceText:
+        """As that of a seat."""
+        return self.own if not self.exercise else self._left.get("") or kept_source(self._store, self._place(""))
 
     def settle(self, exercises: Sequence[str]) -> None:
         """Open the free program, unless the student has opened an exercise of the page.
@@ -33,12 +41,26 @@ class PageSource(SeatSource):
         Version 2.0 saved a free program as the source of the first exercise, which nobody had opened or tried.
         """
         exercise = self.exercise
-        if not exercise or exercise in exercises and (self.opened or self._has_tries(exercise)):
+        if exercise in exercises and (self.opened or self._has_tries(exercise)):
+            self._free_first(exercises[0])
+        elif exercise:
+            self.exercise, self.opened = "", 0.0
+            self._newest = self._newest_of("")
+            if exercise in exercises:
+                self._left[exercise] = SourceText()
+
+    def _free_first(self, first: str) -> None:
+        """Make the source of the first exercise the free program, if version 2.0 saved that there and another exercise was opened since.
+
+        That version has no free program, and doesn't say whether the first exercise was opened: an answer to it was tried, or has a line
+        of its start. Later versions save a free program, perhaps an empty one, before an exercise is opened.
+        """
+        source = kept_source(self._store, self._place(first))
+        is_of_2_0 = not any(self._store.files(f"{self._place('')}.*"))
+        if first == self.exercise or not is_of_2_0 or not source.text or self._has_tries(first):
             return
-        self.exercise, self.opened = "", 0.0
-        self._newest = self._newest_of("")
-        if exercise in exercises:
-            self._left[exercise] = SourceText()
+        if not any(_lines(source.text) & _lines(start["text"]) for start in self._starts.get(first, ())):
+            self._left |= {"": source, first: SourceText()}
 
     def take_unsaved(self) -> None:
         """Take up the text that was in the editor when the page closed, unless a newer one of the same work is saved.
@@ -124,6 +146,11 @@ class PageSource(SeatSource):
         if self.exercise:
             return is_written
         return is_written and self._write(self._name, self.own) and self._store.write_text(f"{self._name}.{OPEN}", "")
+
+
+def _lines(text: str) -> set[str]:
+    """The lines of a text that have several words, since a line as `ret` is in many sources."""
+    return {" ".join(line.split()) for line in text.splitlines() if len(line.split()) > 1}
 
 
 def unsaved_source(text: str) -> tuple[SourceText, str] | None:
