@@ -21,7 +21,7 @@ def test_why_explains_element(program: pathlib.Path) -> None:
     assert "step first" in asked(desk, ask="why", name="v8[1]")["error"]
     for _ in range(4):
         asked(desk, ask="lines", do=["step 1"])
-    sentence = "v8[3] = vs2[3] * x11 + vd[3] = 3 * 3 + 3 = 12"
+    sentence = "v8[3] = v8[3] * x11 + v8[3] = 3 * 3 + 3 = 12"
     assert asked(desk, ask="why", name="v8[3]")["why"] == sentence
     assert (
         asked(desk, ask="lines", do=[], look=["vreg v8 32"])["look"]

@@ -25,8 +25,8 @@ def test_steps_yield_instructions_with_changes(tmp_path: pathlib.Path) -> None:
         texts = [step.text.partition(" ")[0] for step in steps]
         assert texts == ["vsetvli", "vle32.v", "vmul.vx", "vse32.v", "jalr"]
         assert steps[0].why("t0").value == 3 and str(steps[0].why("x6")).startswith("x6 kept its value 0")
-        assert str(steps[1].why("v8", 1)).endswith("] = 4294967290") and steps[1].why("v8", 1).value == 4294967290
-        assert str(steps[2].why("v8", 0)) == "v8[0] = vs2[0] * x12 = 5 * 10 = 50"
+        assert str(steps[1].why("v8", 1)).endswith("] = -6") and steps[1].why("v8", 1).value == 4294967290
+        assert str(steps[2].why("v8", 0)) == "v8[0] = v8[0] * x12 = 5 * 10 = 50"
         assert steps[2].why("v8", 3).text == "v8[3] kept its value 0: tail, since 3 >= vl = 3"
         assert "it is stored: memory[0x" in str(steps[3].why("v8", 2))
         assert "v8.e32[0..2]=00000032," in str(steps[2])

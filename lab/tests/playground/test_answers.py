@@ -85,7 +85,7 @@ def test_an_element_is_explained(parts: pathlib.Path) -> None:
     source = "vsetivli x0, 4, e32, m1, ta, ma\nvid.v v1\nvadd.vv v2, v1, v1\n"
     steps: list[Request] = [{"ask": "lines", "do": ["step 1"]}] * 3
     answers = answered_by_page(parts, [{"ask": "source", "text": source}, *steps, {"ask": "why", "name": "v2[3]"}])
-    assert answers[-1][0]["why"] == "v2[3] = vs2[3] + vs1[3] = 3 + 3 = 6"
+    assert answers[-1][0]["why"] == "v2[3] = v1[3] + v1[3] = 3 + 3 = 6"
 
 
 def test_an_image_has_its_symbols_lines_and_variables(

@@ -71,14 +71,51 @@ class After:
     fault: int | None = None
 
 
-class _Indexed:
-    """Numbers by their index: a register group, the scalar registers or memory. Its mask has a bit at each index."""
+class Numbers:
+    """Numbers by their index: a register group, or the scalar registers.
 
-    def __init__(self, at: Callable[[int], Bits], mask: "_Indexed | None" = None) -> None:
-        self._at, self.mask = at, mask
+    name: `v4`, `x`, `memory`
+    width: of each number in bits
+    mask: a register's bits by their index; None of other numbers
+    """
+
+    def __init__(self, name: str, width: int, at: Callable[[int], Bits], mask: "Numbers | None" = None) -> None:
+        self.name, self.width, self.mask, self._at = name, width, mask, at
 
     def __getitem__(self, number: int) -> Bits:
         return self._at(number)
+
+    def name_of(self, index: int) -> str:
+        """The name of a number: `v4[5]`, `x10`, `memory[0x11004]`."""
+        return f"x{index}" if self.name == "x" else f"{self.name}[{index}]"
+
+    def scalar_of(self, index: int) -> int | None:
+        """The number of the scalar register that is read; None if it is something else."""
+        return index if self.name == "x" else None
+
+
+class Memory(Numbers):
+    """Memory by its address."""
+
+    def name_of(self, index: int) -> str:
+        """The name of memory at an address."""
+        return f"memory[{index & WORD:#x}]"
+
+
+class Shared(Numbers):
+    """A scalar register, or an immediate, that all elements share. scalar: the number of the register; None for an immediate"""
+
+    def __init__(self, name: str, value: Bits, scalar: int | None) -> None:
+        super().__init__(name, value.width, lambda _: value)
+        self.scalar = scalar
+
+    def name_of(self, index: int) -> str:
+        """The name of the register, or the digits of the immediate."""
+        return self.name
+
+    def scalar_of(self, index: int) -> int | None:
+        """The number of the register."""
+        return self.scalar
 
 
 def element_of(v: bytes | bytearray, register: int, width: int, number: int) -> Bits:
@@ -89,20 +126,19 @@ def element_of(v: bytes | bytearray, register: int, width: int, number: int) -> 
     return Bits(int.from_bytes(v[at // 8 : (at + width + 7) // 8], "little") >> at % 8 & (1 << width) - 1, width)
 
 
-def _elements(v: bytes, register: int, width: int) -> _Indexed:
-    return _Indexed(
-        functools.partial(element_of, v, register, width), _Indexed(functools.partial(element_of, v, register, 1))
-    )
+def _elements(v: bytes, register: int, width: int) -> Numbers:
+    mask = Numbers(f"v{register}.mask", 1, functools.partial(element_of, v, register, 1))
+    return Numbers(f"v{register}", width, functools.partial(element_of, v, register, width), mask)
 
 
-def _memory(before: Before, width: int) -> _Indexed:
+def _memory(before: Before, width: int) -> Numbers:
     def value(address: int) -> Bits:
         data = before.read(address & WORD, width // 8)
         if data is None:
             raise NoAccess(address & WORD)
         return Bits(int.from_bytes(data, "little"), width)
 
-    return _Indexed(value)
+    return Memory("memory", width, value)
 
 
 class Execution:
@@ -114,6 +150,7 @@ class Execution:
     operand: the vector register group at vd: the destination, or what a store writes; None if there is none
     fields: how many fields a segment has; 1 if there is no segment
     width: of an element that is written, loaded or stored, in bits
+    scalar: the number of the scalar register in place of vs1; None if the form has another operand there
     """
 
     def __init__(self, before: Before, formula: Formula | None = None) -> None:
@@ -139,8 +176,15 @@ class Execution:
         if self.operand and not self.operand.is_whole:
             self.fields = len(self.operand.registers) // self.operand.group
         self.width = max(8, (self.operand or operands[0]).eew) if operands else 64
+        has_scalar = before.word & 0x7F == OP_V and before.word >> 12 & 7 in (4, 6)
+        self.scalar = before.word >> 15 & 31 if has_scalar else None
         self.is_saturated = False
         self.names = self._names()
+
+    @property
+    def is_fault_only_first(self) -> bool:
+        """Whether it is a load that becomes shorter if an element after the first can't be read."""
+        return self.row.name.endswith("ff.v")
 
     def place(self, assignment: Assignment) -> int:
         """The index or the address that an assignment writes, with the present values of its names."""
@@ -180,7 +224,7 @@ class Execution:
     def _names(self) -> dict[str, object]:
         before, control, word = self.before, self.before.control, self.before.word
         names: dict[str, object] = {
-            "x": _Indexed(lambda number: Bits(before.x[number], 64)),
+            "x": Numbers("x", 64, lambda number: Bits(before.x[number], 64)),
             "rd": word >> 7 & 31,
             "rs1": word >> 15 & 31,
             "rs2": word >> 20 & 31,
@@ -215,7 +259,8 @@ class Execution:
             scalar = before.x[word >> 15 & 31] if form & 4 else imm
             names |= {"imm": imm, "uimm": imm, "offset": scalar}
             if form not in (0, 2):  # the forms of vector registers
-                names["vs1"] = _Indexed(lambda _: Bits(zext(scalar, sew), sew))
+                name = f"x{self.scalar}" if form & 4 else f"{imm}"
+                names["vs1"] = Shared(name, Bits(zext(scalar, sew), sew), self.scalar)
         return names | {"nf": self.fields, "f": 0, "active": self.active}
 
     def _clipped(self, has_sign: bool, value: int) -> int:
@@ -274,7 +319,7 @@ def _execute_elements(execution: Execution, after: After, operand: Operand) -> N
         try:
             _execute_element(execution, after, operand, element)
         except NoAccess:
-            is_shortened = execution.row.name.endswith("ff.v") and element > 0
+            is_shortened = execution.is_fault_only_first and element > 0
             after.control = replace(after.control, **{"vl" if is_shortened else "vstart": element})
             _set_ones(execution, after, operand, element, has_tail=is_shortened)
             if is_shortened:
