@@ -117,6 +117,30 @@ def test_breakpoint_of_the_loaded_program_stays_in_a_changed_source(sit: Sit) ->
     tab.wait(f"{SIGNS} === '▶4'")
 
 
+def test_hollow_breakpoints_come_back(sit: Sit) -> None:
+    """Once a version that replaced the text is undone, and after a reload: one that waits, and one of the loaded program."""
+    from selenium.webdriver.common.keys import Keys
+
+    tab = sit("A6")
+    tab.write("li a0, 3\nnop\naddi a0, a0, 1\nebreak\n")
+    tab.run("(code().focus(), code().setCursor(2, 0))")
+    tab.type(Keys.F9)
+    tab.click("#one")
+    tab.wait(f"{SIGNS} === '▶2,●3'")
+    tab.run("code().replaceRange('# More.\\n', { line: 0, ch: 0 })")
+    tab.run("(code().focus(), code().setCursor(2, 0))")
+    tab.type(Keys.F9)
+    assert tab.run(SIGNS) == "○3,○4"
+    tab.run("(id('versions').selectedIndex = 1, id('versions').dispatchEvent(new Event('change')))")
+    tab.wait("text().startsWith('li')")
+    tab.run("code().undo()")
+    assert tab.run("text()").startswith("# More.") and tab.run(SIGNS) == "○3,○4"
+    tab.activate().refresh()
+    tab.wait(f"text()?.startsWith('# More.') && {SIGNS} === '○3,○4'")
+    tab.click("#many")
+    tab.wait(f"{SIGNS} === '●▶3,●4'")
+
+
 def test_problems_are_shown_while_typing(sit: Sit) -> None:
     """Without a machine, in a moment; a key takes the word that is offered first, and undo takes that back."""
     from selenium.webdriver.common.keys import Keys

@@ -1,6 +1,6 @@
 // One person's work at a machine: buttons, the command line, values to change, the source and the reference become requests.
 
-import { WaitingBreakpoints } from "./breakpoints.js";
+import { WaitingBreakpoints, keepLines, takeKeptLines } from "./breakpoints.js";
 import { Desk } from "./desk.js";
 import { editDialog, followCursor } from "./edits.js";
 import { Editor } from "./editor.js";
@@ -60,6 +60,7 @@ export class Bench {
     this.links = new LineLinks(root, this.editor);
     this.problems = new Problems(root, this.editor, (panel) => this.panes.show(panel));
     this.askValue = editDialog(root, (edit, text) => this.request({ ask: "edit", edit, text, decimal: numbers.value === "signed" }));
+    addEventListener("pagehide", () => this.source.told && keepLines(this.waiting, this.source.loaded));
     this.listen();
   }
 
@@ -282,6 +283,7 @@ export class Bench {
     const { told } = this.source;
     const isGiven = told && told.versions !== source.versions && source.versions.at(-1)?.why === "given";
     this.source.show(seat, source);
+    if (!told) takeKeptLines(this.waiting, this.source.loaded); // as before a reload
     this.mark(this.desk.past.moment?.state ?? state);
     this.source.showLanguage(share);
     this.takeLinked();

@@ -9,15 +9,65 @@ import { textOf } from "./texts.js";
 /** The sign of a breakpoint that the text's program gets once it is loaded. */
 export const hollowSign = () => Object.assign(make("span", "breakpoint", "○"), { title: textOf("breakpoints.waiting") });
 
-export class WaitingBreakpoints {
-  /** @type {Set<LineHandle>} */ all = new Set(); // their lines
-  /** @type {number[]} */ again = []; // lines that have them again after a change that replaces the text by an equal one
+/** @typedef {Record<string, string[]>} Stops the addresses of each line's breakpoints */
+/** @typedef {[number, number][]} Pairs of each line a number by which it is known, and its number in the text */
+/** @typedef {{ text: string, lines: Pairs, stops: Stops }} KeptLines */
+
+const KEY = "breakpoints"; // of the lines in the tab's storage
+
+/** Lines that stay at their places when the text changes. After the whole text was replaced, they come back with it, as by undo. */
+class FollowedLines {
+  /** @type {KeptLines | null} */ left = null; // those of the text that was replaced last, if it had any
+  /** @type {Stops} */ stops = {}; // of the program that the lines belong to
 
   /** @param {import("./codemirror.js").Editor} code */
   constructor(code) {
     this.code = code;
-    code.on("beforeChange", (_, { origin, text }) => origin === "setValue" && this.replaced(text.join("\n")));
-    code.on("changes", () => this.again.splice(0).forEach((line) => this.set(line)));
+    code.on("beforeChange", (_, { origin }) => origin === "setValue" && this.leave());
+  }
+
+  /** The lines as they are in the text. */
+  /** @returns {Pairs} */
+  get pairs() { return []; }
+
+  /** Sets where lines are. */
+  put(/** @type {Pairs} */ _lines) {}
+
+  /** @returns {KeptLines} */
+  get kept() { return { text: this.code.getValue(), lines: this.pairs, stops: this.stops }; }
+
+  leave() {
+    const { kept } = this;
+    if (kept.lines.length) this.left = kept;
+  }
+
+  /** Sets the lines that were left, if their text is back. */
+  comeBack(left = this.left) {
+    if (!left || left.text !== this.code.getValue()) return;
+    this.left = null;
+    this.stops = left.stops;
+    this.put(left.lines);
+  }
+}
+
+/** Keeps lines in the tab's storage, as the page may be reloaded now. */
+export function keepLines(/** @type {FollowedLines[]} */ ...all) {
+  sessionStorage.setItem(KEY, JSON.stringify(all.map(({ kept }) => kept)));
+}
+
+/** Takes back lines that were kept, if the text is as it was then. */
+export function takeKeptLines(/** @type {FollowedLines[]} */ ...all) {
+  const kept = JSON.parse(sessionStorage.getItem(KEY) ?? "[]");
+  all.forEach((lines, place) => lines.comeBack(kept[place]));
+}
+
+export class WaitingBreakpoints extends FollowedLines {
+  /** @type {Set<LineHandle>} */ all = new Set(); // their lines
+
+  /** @param {import("./codemirror.js").Editor} code */
+  constructor(code) {
+    super(code);
+    code.on("changes", () => this.comeBack());
   }
 
   /** The numbers of the lines that have one, in rising order. */
@@ -42,53 +92,50 @@ export class WaitingBreakpoints {
     this.all.clear();
   }
 
-  /** Drops them before the whole text is replaced, unless it stays as it is and only its language is another one. */
-  replaced(/** @type {string} */ text) {
-    this.again = text === this.code.getValue() ? this.lines : [];
+  /** @returns {Pairs} */
+  get pairs() { return this.lines.map((line) => [line, line]); }
+
+  put(/** @type {Pairs} */ lines) { lines.forEach(([, line]) => this.set(line)); }
+
+  leave() {
+    super.leave();
     this.clear();
   }
 }
 
 /** Follows the lines of the loaded source through changes of the text. */
-export class LoadedLines {
-  /** @type {Record<string, string[]>} */ stops = {}; // of the loaded program: the addresses of each line's breakpoints
+export class LoadedLines extends FollowedLines {
+  /** @type {Stops} */ stops = {}; // of the loaded program
   /** @type {Map<number, LineHandle>} */ handles = new Map(); // by the lines' numbers in the loaded source
   isCurrent = false; // whether the text hasn't changed since they were taken
-  /** @type {[number, number][] | null} */ again = null; // as for `put`: after a change that replaces the text by an equal one
 
   /** @param {import("./codemirror.js").Editor} code */
   constructor(code) {
-    this.code = code;
-    code.on("beforeChange", (_, { origin, text }) => origin === "setValue" && this.replaced(text.join("\n")));
-    code.on("change", () => this.changed());
+    super(code);
+    code.on("change", () => {
+      this.isCurrent = false;
+      this.comeBack();
+    });
   }
 
+  /** @returns {Pairs} */
+  get pairs() { return [...this.present(this.stops, [...this.handles.keys()])].map(([now, line]) => [line, now]); }
+
   /** Takes the lines of a text that is the loaded source. */
-  take(/** @type {Record<string, string[]>} */ stops) {
+  take(/** @type {Stops} */ stops) {
     if (this.isCurrent && stops === this.stops) return;
     Object.assign(this, { stops, isCurrent: true });
     this.put(Object.keys(stops).map((line) => [Number(line), Number(line)]));
   }
 
-  /** Sets where lines are. lines: of each its number in the loaded source, and in the text */
-  put(/** @type {[number, number][]} */ lines) {
+  put(/** @type {Pairs} */ lines) {
     const places = lines.map(([line, now]) => /** @type {const} */ ([line, this.code.getLineHandle(now - 1)]));
     this.handles = new Map(places.flatMap(([line, handle]) => (handle ? [[line, handle]] : [])));
   }
 
-  replaced(/** @type {string} */ text) {
-    this.again = text === this.code.getValue() ? [...this.present(this.stops, [...this.handles.keys()])].map(([now, line]) => [line, now]) : [];
-  }
-
-  changed() {
-    this.isCurrent = false;
-    if (this.again) this.put(this.again);
-    this.again = null;
-  }
-
   /**
    * Lines of the loaded source that are still in the text, by their numbers there. None if other lines were taken.
-   * @type {(stops: Record<string, string[]>, lines: number[]) => Map<number, number>}
+   * @type {(stops: Stops, lines: number[]) => Map<number, number>}
    */
   present(stops, lines) {
     if (stops !== this.stops && JSON.stringify(stops) !== JSON.stringify(this.stops)) return new Map();
