@@ -140,6 +140,43 @@ def family_of(vector: Vector) -> str:
     return next(family for family, names in FAMILIES.items() if re.fullmatch(names, stem))
 
 
+def kind_of(vector: Vector) -> str:
+    """The operation that a vector's instruction has, and the choice that its result shows, if it shows one."""
+    operation, choice = operation_of(vector), _choice_of(vector)
+    return f"{operation} {choice}" if choice else operation
+
+
+def _choice_of(vector: Vector) -> str:
+    """What a result shows of places in which the standard lets a machine choose or resume; "" if it shows none of them."""
+    if vector.end == "ran" and vector.accesses_memory and "ff.v" in vector.name and "vl" in vector.after:
+        return "shortened"
+    if vector.end in ("load", "store") and vector.after.get("vstart", 0) > 0:
+        return "above index 0"
+    if vector.end == "ran" and vector.policy == "ones" and _writes_mask(vector):
+        return "under ones"
+    return ""
+
+
+def _writes_mask(vector: Vector) -> bool:
+    """Whether the destination of a vector operation is a mask."""
+    stem = vector.name.rpartition(".")[0]
+    return re.fullmatch(r"vm(?:and|nand|andn|xor|or|nor|orn|xnor|s(?:eq|ne|lt|le|gt)u?|[as][db]c|s[bio]f)", stem) is not None
+
+
+def rows_without_case(vectors: Sequence[Vector]) -> list[str]:
+    """The rows of a table of the operations and accesses that no clean vector has, by what their results would show."""
+    missing = {kind_of(it) for it in vectors} - {kind_of(it) for it in vectors if it.is_clean}
+    rows: dict[str, set[str]] = defaultdict(set)
+    for words in (kind.split() for kind in missing):
+        if words[0] in ("load", "store"):
+            rows["a fault above index 0" if len(words) > 2 else "a fault"].add(words[1])
+        elif words[0] == "ran":
+            rows["a vector length that it shortens"].add(words[1])
+        else:
+            rows["bits of a mask under `ones`" if words[-1] == "ones" else "saturation"].add(words[0])
+    return [f"| {what} | {', '.join(f'`{it}`' for it in sorted(names))} |" for what, names in sorted(rows.items())]
+
+
 def operation_of(vector: Vector) -> str:
     """The operation that a vector's instruction has: mnemonics of one operation differ in their second source alone."""
     name = vector.name
@@ -232,11 +269,11 @@ def _is_idle(vector: Vector) -> bool:
 
 
 def gate_cases(vectors: Sequence[Vector]) -> dict[str, list[Vector]]:
-    """A clean vector for each operation, access, fault and rule, by family: small ones, and in each family of every kind."""
+    """A clean vector for each kind of operation, access, fault and rule, by family: small ones, and in each family masked and others."""
     kinds: dict[str, dict[str, list[Vector]]] = defaultdict(lambda: defaultdict(list))
     for vector in vectors:
         if vector.is_clean:
-            kinds[family_of(vector)][operation_of(vector)].append(vector)
+            kinds[family_of(vector)][kind_of(vector)].append(vector)
     found = dict[str, list[Vector]]()
     for family, operations in sorted(kinds.items()):
         chosen = list[Vector]()

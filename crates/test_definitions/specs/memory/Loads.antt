@@ -2,8 +2,8 @@
 use Rattle.std.specs.Prelude.{[], ◌∷◌, true, false}
 use Rattle.rv_model.specs.declared.vector.policy.Policy.TheVariants.{Ones}
 use Rattle.rv_model.specs.declared.vector.state.RoundingMode.TheVariants.{NearestEven, Down, Odd}
-use Rattle.rv_model.specs.declared.vector.types.Lmul.TheVariants.{M2, M4, M8, Mf8, Mf4, Mf2}
-use Rattle.rv_model.specs.declared.vector.types.Sew.TheVariants.{E8, E16, E64}
+use Rattle.rv_model.specs.declared.vector.types.Lmul.TheVariants.{M1, M2, M4, M8, Mf8, Mf4, Mf2}
+use Rattle.rv_model.specs.declared.vector.types.Sew.TheVariants.{E8, E16, E32, E64}
 use Rattle.test_definitions.specs.States.{Case, State, start, typed, Retired}
 
 -- vl1re8.v v18, (x24)
@@ -208,28 +208,54 @@ vle32ff_v =
       };
     }
 
--- vle64.v v26, (x8), v0.t
-abbrev pub vle64_v : Case
-vle64_v =
+-- vle32ff.v v16, (x7), v0.t
+abbrev pub vle32ff_v_2 : Case
+vle32ff_v_2 =
     let s : State = record start {
-      policy = Ones;
-      vl = 8;
-      vtype = typed E16 Mf2 false false;
+      vl = 25;
+      vtype = typed E8 M1 false false;
       vxrm = NearestEven;
-      x = (8, 0x23fcc) ∷ [];
-      v = (0, 0x8af37fed134c72457889fdad71f2dffdd91352cc5530620ac08232c3b5949b4b) ∷
-          (26, 0xe7ec1f66cc48fae3b94c71830b67f3910bcda57a7a952dcd268b30f7141b854a) ∷
-          (27, 0xc97380b120c88628fff6c9fab502d5382aa537feba0cd8962dc83ca481b9d027) ∷
+      x = (7, 0x21ff4) ∷ [];
+      v = (0, 0xffffffffffffffffffffffffffffffffffffffffffffffffffffffffffffffff) ∷
+          (16, 0xf69b68a59805ed7bd74be74763217e6abc6ba2d7de8c80d392e5f14868f4410b) ∷
+          (17, 0xd33e4f681619fcd50d9d1c70165e07cff73f4a41a324dfd3086acc8e6c61ebb2) ∷
+          (18, 0x2d59643c5861505058af0db93db480bd61d0a69620eefa8f11f273fd09e18e71) ∷
+          (19, 0xaf35e93403b92b2fae43809501c5dc0a3eb01710bf682309f7b4648cbfae5fbc) ∷
           [];
     } in
     record {
-      word = 0x00047d07;
+      word = 0x0103e807;
       before = s;
       end = Retired;
       after = record s {
         pc = 0x10000804;
-        v = (26, 0xcea9845f3a15f0cbb94c71830b67f391734e2904dfba95704b2601dcb7926d48) ∷
-            (27, 0xc97380b120c88628b6916c47b28d68432aa537feba0cd8962dc83ca481b9d027) ∷
+        vl = 3;
+        v = (16, 0xf69b68a59805ed7bd74be74763217e6abc6ba2d712edc8a37e59340feac5a07b) ∷
+            s.v;
+      };
+    }
+
+-- vle64.v v4, (x8)
+abbrev pub vle64_v : Case
+vle64_v =
+    let s : State = record start {
+      vl = 4;
+      vtype = typed E64 M4 true true;
+      vxrm = NearestEven;
+      x = (8, 0x202b2) ∷ [];
+      v = (4, 0xfbb88f93aecd22c39832480814c846c49b7fca35461a6597e64014b3c35cb8b7) ∷
+          (5, 0x43f4d195635e9ffa1735f9025c5df21c68d0b20c25ea841ca3de5dd12c41ea63) ∷
+          (6, 0x2146e1b8d2a3fe3025797db2dff64f6673a0cd5d85ed9b88f2ac55b22045ee5a) ∷
+          (7, 0x6d71e80e96316d240eaf1a738faf4ebee4a7e45899dd0efc4f80f96247bda2a4) ∷
+          [];
+    } in
+    record {
+      word = 0x02047207;
+      before = s;
+      end = Retired;
+      after = record s {
+        pc = 0x10000804;
+        v = (4, 0xf8d3ae89643f1af5d0ab86613c17f2cda883532e09e4bf9a75502b06e1bc9772) ∷
             s.v;
       };
     }
@@ -259,6 +285,34 @@ vle64ff_v =
       };
     }
 
+-- vle64ff.v v16, (x4), v0.t
+abbrev pub vle64ff_v_2 : Case
+vle64ff_v_2 =
+    let s : State = record start {
+      vl = 32;
+      vtype = typed E64 M8 false false;
+      x = (4, 0xffffffffffffffff) ∷ [];
+      v = (0, 0x4000000000000000000000000000000000000000000000000000a2) ∷
+          (16, 0xbf0ad3a4c7d806a0b097dc8c6bf81343a431a4abea437d1261745e561d711f50) ∷
+          (17, 0x5eb8b26611e260307e2d5ca437022d8ca98717f94ed6d7b6e514646b30dd0540) ∷
+          (18, 0xdf5fa239717eacf4a77d9009767042bbabe1597fbc5a1c0ba914bb445f9648e8) ∷
+          (19, 0x82c40f13e477dbf6d9fb261c7b9337883082ca917f1b59955b321bde3398fc7c) ∷
+          (20, 0x178955176eefa29f4c8ae1a2b12bfa4524d3fbd47351662a680cd321123c15e5) ∷
+          (21, 0x5901f6a9efd60a4b4e136ff540712d2e83945a54499f8bcbbe7e2f29c59a241f) ∷
+          (22, 0xfc25aa9a17744de2a2af09ebaff177066cbd73c38152071f9285313d5345ae3a) ∷
+          (23, 0xad1e03c4d489fcf3e793a002e67bc0bff0125dffb7fbe9dd9ca826853428426) ∷
+          [];
+    } in
+    record {
+      word = 0x01027807;
+      before = s;
+      end = Retired;
+      after = record s {
+        pc = 0x10000804;
+        vl = 1;
+      };
+    }
+
 -- vle8.v v30, (x21), v0.t
 abbrev pub vle8_v : Case
 vle8_v =
@@ -282,26 +336,50 @@ vle8_v =
       };
     }
 
--- vle8ff.v v10, (x5)
+-- vle8ff.v v21, (x24)
 abbrev pub vle8ff_v : Case
 vle8ff_v =
     let s : State = record start {
-      vl = 46;
-      vtype = typed E16 M4 false false;
-      vxrm = Odd;
-      x = (5, 0x2147c) ∷ [];
-      v = (10, 0xa79ca87df85f41d1a754d3a88e4d0cba76ca289116a53eda677af094aeb3118e) ∷
-          (11, 0x68a66d60ec49e42f3973e36e3c1761ca833791ed6f47ae6c265eae6450f30124) ∷
+      policy = Ones;
+      vl = 3;
+      vtype = typed E32 Mf2 true true;
+      vxrm = Down;
+      x = (24, 0x20b05) ∷ [];
+      v = (21, 0xac0ddf00519b7a71abfe1a41523daa704424d1b2b56d91c354cd3e0ce6072ba6) ∷
           [];
     } in
     record {
-      word = 0x03028507;
+      word = 0x030c0a87;
       before = s;
       end = Retired;
       after = record s {
         pc = 0x10000804;
-        v = (10, 0x5e3914efcaa5805b3611ecc7a27d58330ee9c49f7a55300be6c19c774722fdd8) ∷
-            (11, 0x68a66d60ec49e42f3973e36e3c1761ca83376f4a2500dbb6916c4722f2cda883) ∷
+        v = (21, 0xffffffffffffffffffffffffffffffffffffffffffffffffffffffffff2904df) ∷
+            s.v;
+      };
+    }
+
+-- vle8ff.v v12, (x22), v0.t
+abbrev pub vle8ff_v_2 : Case
+vle8ff_v_2 =
+    let s : State = record start {
+      vl = 51;
+      vtype = typed E16 M4 true true;
+      vxrm = Odd;
+      x = (22, 0x21ffb) ∷ [];
+      v = (0, 0x4e8e9b28769dc4e9b1f52544923d2e798a5beb4a851418979863a63ff76836fb) ∷
+          (12, 0x11da274452670a2d45d9fecf7c5622c97164050a5885e53f57a95509152ae065) ∷
+          (13, 0x4d47d15330259e559cd4206e3326b3cf02dcabe9e2822c752fa86c6586a777) ∷
+          [];
+    } in
+    record {
+      word = 0x010b0607;
+      before = s;
+      end = Retired;
+      after = record s {
+        pc = 0x10000804;
+        vl = 5;
+        v = (12, 0x11da274452670a2d45d9fecf7c5622c97164050a5885e53f57a95512ed2aa37e) ∷
             s.v;
       };
     }
@@ -354,75 +432,76 @@ vloxei16_v =
       };
     }
 
--- vloxei32.v v18, (x18), v28, v0.t
+-- vloxei32.v v11, (x18), v8
 abbrev pub vloxei32_v : Case
 vloxei32_v =
     let s : State = record start {
-      vl = 15;
-      vtype = typed E8 Mf2 false false;
+      vl = 4;
+      vtype = typed E8 Mf8 true false;
       vxrm = Down;
-      x = (18, 0x2168f) ∷ [];
-      v = (0, 0xffffffffffffffffbfffffffffffffffffefffffffffffffffffffffbfffff7d) ∷
-          (18, 0x65417a10a032fd953d6f627545d40210a17db3b7c197be0453e0ec3eff2692b9) ∷
-          (28, 0x44000000800000003000000090000000fc00000085000000d60000008c) ∷
-          (29, 0x800000005f000000ba0000007c000000b9000000f9000000800000004a) ∷
+      x = (18, 0x23f70) ∷ [];
+      v = (8, 0xc1000000e10000008a00000083000000640000003a000000cb0000003e) ∷
+          (11, 0x85ffd7d963f2813aaabd96c6f7bc800140420284ff28a50255405fb16f020181) ∷
           [];
     } in
     record {
-      word = 0x0dc96907;
+      word = 0x0e896587;
       before = s;
       end = Retired;
       after = record s {
         pc = 0x10000804;
-        v = (18, 0x65417a10a032fd953d6f627545d40210a1f8a59980d62de4532d177d45e692e9) ∷
+        v = (11, 0x85ffd7d963f2813aaabd96c6f7bc800140420284ff28a50255405fb17053d9e7) ∷
             s.v;
       };
     }
 
--- vloxei64.v v0, (x6), v0
+-- vloxei64.v v24, (x13), v20
 abbrev pub vloxei64_v : Case
 vloxei64_v =
     let s : State = record start {
-      vl = 4;
-      vtype = typed E64 M2 false false;
-      vxrm = Odd;
-      x = (6, 0x20482) ∷ [];
-      v = (0, 0x1774000000000000194300000000000010ce0000000000000e4f) ∷
-          (1, 0x83c0000000000000fec00000000000001570000000000000910) ∷
+      vl = 16;
+      vtype = typed E16 M1 true false;
+      vstart = 12;
+      x = (13, 0x20ee9) ∷ [];
+      v = (20, 0x47000000000000005a000000000000009f00000000000000d0) ∷
+          (21, 0xa2000000000000003800000000000000190000000000000058) ∷
+          (22, 0x6300000000000000650000000000000027000000000000001b) ∷
+          (23, 0xcd000000000000008e000000000000003700000000000000f7) ∷
+          (24, 0x539c9cb9ff13b1aa1ae0a7580f7f2362be3e4a22932781ae11f3113e96d95f49) ∷
           [];
     } in
     record {
-      word = 0x0e037007;
+      word = 0x0f46fc07;
       before = s;
       end = Retired;
       after = record s {
         pc = 0x10000804;
-        v = (0, 0xd4af8a65401bf6d12e09e4bf9a75502b310ce7c29d78532ecba6815c3712edc8) ∷
+        vstart = 0;
+        v = (24, 0xc49f936eeac5ecc71ae0a7580f7f2362be3e4a22932781ae11f3113e96d95f49) ∷
             s.v;
       };
     }
 
--- vloxei8.v v1, (x3), v16, v0.t
+-- vloxei8.v v11, (x30), v23
 abbrev pub vloxei8_v : Case
 vloxei8_v =
     let s : State = record start {
       policy = Ones;
-      vl = 10;
-      vtype = typed E8 Mf2 false true;
-      vxrm = Odd;
-      x = (3, 0x20316) ∷ [];
-      v = (0, 0x5fa3dc9e326eef15c9d5acf2c5097da825f1c7a4d9b691908c284bd28a0ea431) ∷
-          (1, 0xfff8c0025497e4f7f40810ad60155ebf3940240aafeaaffd3815556aa0030b5) ∷
-          (16, 0x27392d6240c81463c9cd6e6fb745a3235501c18557dea14f9da3e0437556577a) ∷
+      vl = 31;
+      vtype = typed E8 M1 false false;
+      vxsat = true;
+      x = (30, 0x2052a) ∷ [];
+      v = (11, 0x318414630200feaaf5350056b0ad38aa01550dcdff3afe8095faf0fe070255f2) ∷
+          (23, 0x29e2832850698120656d035198c626e0df80404601b04048246cf8e2d1bab22d) ∷
           [];
     } in
     record {
-      word = 0x0d018087;
+      word = 0x0f7f0587;
       before = s;
       end = Retired;
       after = record s {
         pc = 0x10000804;
-        v = (1, 0xfff8c0025497e4f7f40810ad60155ebf3940240aafeffffffff1931ffffff3a) ∷
+        v = (11, 0x3131f0a87b23a6808fb744a004b55ee7c2812b09fa7c2b5314926a314cf9c661) ∷
             s.v;
       };
     }
@@ -452,26 +531,29 @@ vloxseg2ei64_v =
       };
     }
 
--- vlse16.v v28, (x14), x0, v0.t
+-- vlse16.v v8, (x17), x0
 abbrev pub vlse16_v : Case
 vlse16_v =
     let s : State = record start {
-      vl = 10;
-      vtype = typed E16 M2 true true;
+      vl = 27;
+      vtype = typed E32 M8 true true;
+      vxrm = NearestEven;
       vxsat = true;
-      x = (14, 0x21ffe) ∷ [];
-      v = (0, 0xffffffffffffffffffffffffffffffffffffffffffffffffffffffffffffffff) ∷
-          (28, 0x82c3e80ceeff833ef05d3553b32ea88b55359e5325ff65121749cee0a93b5673) ∷
-          (29, 0xdeeaa34ebc086608d71c0b1ae076bca1bf89c97ec67f1589c985b3a3d9090432) ∷
+      x = (17, 0x21ffc) ∷ [];
+      v = (8, 0x61798ba6a1c6046f7f9b3d9fea64ca2629d1a5ae33951f8e9222725af0d1c179) ∷
+          (9, 0x4b8f3efe9340c56c7c55054c18c39d5e5dd6a4e3f25ba0567ed06dd3a7bff7bb) ∷
+          (10, 0xc7e96d6862529897bb1937b47739badeb7c79aeda5e01da60ee1596c2c0c6191) ∷
+          (11, 0xa6e29044d5c5a2778b8beddf65d12e2ecb793278f7ff437c7e9b8f035ea65323) ∷
           [];
     } in
     record {
-      word = 0x08075e07;
+      word = 0x0a08d407;
       before = s;
       end = Retired;
       after = record s {
         pc = 0x10000804;
-        v = (28, 0x82c3e80ceeff833ef05d355312ed12ed12ed12ed12ed12ed12ed12ed12ed12ed) ∷
+        v = (8, 0xc8a3c8a3c8a3c8a3c8a3c8a3c8a3c8a3c8a3c8a3c8a3c8a3c8a3c8a3c8a3c8a3) ∷
+            (9, 0x4b8f3efe9340c56c7c55c8a3c8a3c8a3c8a3c8a3c8a3c8a3c8a3c8a3c8a3c8a3) ∷
             s.v;
       };
     }
@@ -501,53 +583,84 @@ vlseg2e32_v =
       };
     }
 
--- vlseg2e16ff.v v5, (x21), v0.t
-abbrev pub vlseg2e16ff_v : Case
-vlseg2e16ff_v =
+-- vlseg3e32ff.v v24, (x16)
+abbrev pub vlseg3e32ff_v : Case
+vlseg3e32ff_v =
     let s : State = record start {
       vl = 8;
-      vtype = typed E16 Mf2 false false;
+      vtype = typed E32 M1 false false;
+      vstart = 5;
       vxrm = Down;
-      x = (21, 0x2129e) ∷ [];
-      v = (0, 0xf9f521ccfcb234aeff65f33d35ba13b498bb332e19947e56e3d393e6f36ddbea) ∷
-          (5, 0x6d855b441b5aba33a6c71161feb0d1ebc790b44a7f4fea5a271ff82659929917) ∷
-          (6, 0x77c99a2e21c0e380d0b8f7231ecbc2233e68e03d108167e5461452980ed252ea) ∷
+      x = (16, 0x217fc) ∷ [];
+      v = (24, 0xf898ab0d4982f3e48c438ad6266a2361c810abe7709340b88ed59b05f8bedd0c) ∷
+          (25, 0xa211e1ef4d9234493e30de756fb542de291cb69fca54feffa91e377d44c1cd27) ∷
+          (26, 0x6875204610292d0cd1628206eefb9ef3f2728df4ad4bdae280755d356ad9ebb0) ∷
           [];
     } in
     record {
-      word = 0x210ad287;
+      word = 0x43086c07;
       before = s;
       end = Retired;
       after = record s {
         pc = 0x10000804;
-        v = (5, 0x6d855b441b5aba33a6c71161feb0d1eb8f6afbd66742ea5a3f1af82617f29917) ∷
-            (6, 0x77c99a2e21c0e380d0b8f7231ecbc223d9b44520b18c67e589645298613c52ea) ∷
+        vstart = 0;
+        v = (24, 0xd4af8a6518f3cea9512c07e2266a2361c810abe7709340b88ed59b05f8bedd0c) ∷
+            (25, 0x68431ef9ac87623de5c09b766fb542de291cb69fca54feffa91e377d44c1cd27) ∷
+            (26, 0xfcd7b28d401bf6d1845f3a15eefb9ef3f2728df4ad4bdae280755d356ad9ebb0) ∷
             s.v;
       };
     }
 
--- vlsseg3e16.v v24, (x21), x8
-abbrev pub vlsseg3e16_v : Case
-vlsseg3e16_v =
+-- vlseg5e32ff.v v8, (x14)
+abbrev pub vlseg5e32ff_v : Case
+vlseg5e32ff_v =
     let s : State = record start {
-      vl = 8;
-      vtype = typed E8 Mf4 false false;
-      vxrm = NearestEven;
-      x = (8, 0xfffffffffffffffa) ∷ (21, 0x20154) ∷ [];
-      v = (24, 0x7ba9beafa26e1d3ff5cd8d7356cbd5245cd57832dd58944cabcd0ab4256489b6) ∷
-          (25, 0xf1b2acfccabfa9e27ce232283680ed17f5e94f8ba0c1298b88ebb75c8e39cee0) ∷
-          (26, 0x9ee991ceea5a74441cd0f24c01785487aff21229640360e4eeacacc759ac00c1) ∷
+      vl = 5;
+      vtype = typed E16 Mf2 false true;
+      vstart = 1;
+      vxrm = Down;
+      x = (14, 0x1ffb2) ∷ [];
+      v = (8, 0x7cf305e10c898ec4c5cac8f67ee85466182d530cb9c727dde71a52425576f1a) ∷
+          (9, 0x2cf69557820f8b1ca70dce7ccde9cdb3ae6c3fd6484cba9a4823aff6db43c6be) ∷
+          (10, 0x5e8b3cc77626bcdf235c745a16a71bb414753c71c819343abdf999f91f19b762) ∷
+          (11, 0xeec8edfd08906161b963fb8348ce07939e626da4646cec090e754acf5664fe69) ∷
+          (12, 0x36224ad2b122c0f517e1e8c8b9c3b9e72fbdda3b9ad7d103331a6a42fafe3211) ∷
           [];
     } in
     record {
-      word = 0x4a8adc07;
+      word = 0x83076407;
       before = s;
       end = Retired;
       after = record s {
         pc = 0x10000804;
-        v = (24, 0x7ba9beafa26e1d3ff5cd8d7356cbd52406e1e4bfc29da07b89646742452023fe) ∷
-            (25, 0xf1b2acfccabfa9e27ce232283680ed17502b2e090ce7eac5d3aeb18c8f6a6d48) ∷
-            (26, 0x9ee991ceea5a74441cd0f24c017854879a75785356313f1a1df8fbd6d9b4b792) ∷
+        vl = 1;
+        vstart = 0;
+      };
+    }
+
+-- vlsseg3e16.v v17, (x27), x24
+abbrev pub vlsseg3e16_v : Case
+vlsseg3e16_v =
+    let s : State = record start {
+      policy = Ones;
+      vl = 6;
+      vtype = typed E32 M1 true true;
+      vxrm = Down;
+      x = (24, 0xffffffffffffffff) ∷ (27, 0x2369d) ∷ [];
+      v = (17, 0x6165d38d683fd17f019be51c1cd0b55cca673ed4e2a5baf78e6d4d2df0430d4e) ∷
+          (18, 0x9f698aa5020b93760982ac3e6164c299ba10ac0afcf4cd7f2ac4ffdc1150b178) ∷
+          (19, 0x986d88861a36db46198c3a769053339ff51e689beef09cfa93f367ec4d989aa8) ∷
+          [];
+    } in
+    record {
+      word = 0x4b8dd887;
+      before = s;
+      end = Retired;
+      after = record s {
+        pc = 0x10000804;
+        v = (17, 0xffffffffffffffffffffffffffffffffffffffff2e09532e78539d78c29de7c2) ∷
+            (18, 0xffffffffffffffffffffffffffffffffffffffff78539d78c29de7c20ce73c0c) ∷
+            (19, 0xffffffffffffffffffffffffffffffffffffffffc29de7c20ce73c0c613c8661) ∷
             s.v;
       };
     }
@@ -601,48 +714,49 @@ vluxei32_v =
       };
     }
 
--- vluxei64.v v14, (x3), v14, v0.t
+-- vluxei64.v v1, (x15), v7, v0.t
 abbrev pub vluxei64_v : Case
 vluxei64_v =
     let s : State = record start {
-      vl = 4;
-      vtype = typed E16 Mf4 false false;
-      vxsat = true;
-      x = (3, 0x21af4) ∷ [];
-      v = (0, 0xffffffffffffffffbfffffffffffffffffffffffffffffffffffffffffffff9b) ∷
-          (14, 0x3de00000000000000f300000000000001ab00000000000002e5) ∷
+      policy = Ones;
+      vl = 3;
+      vtype = typed E8 Mf8 false false;
+      vxrm = Odd;
+      x = (15, 0x20193) ∷ [];
+      v = (0, 0xffffffffffffffffffffffffffffffffffffffffffffffffffffffffffffffff) ∷
+          (1, 0x2381025563800100aa5ad379bd805113f842470001d47055fe4da81701e58007) ∷
+          (7, 0x1b260000000000000f9300000000000014be0000000000001258) ∷
           [];
     } in
     record {
-      word = 0x04e1f707;
+      word = 0x0477f087;
       before = s;
       end = Retired;
       after = record s {
         pc = 0x10000804;
-        v = (14, 0x3de00000000000000f300000000000001abeec900000ada340f) ∷ s.v;
+        v = (1, 0x2381025563800100aa5ad379bd805113f842470001d47055fe4da817011d1052) ∷
+            s.v;
       };
     }
 
--- vluxei8.v v14, (x21), v8
+-- vluxei8.v v2, (x24), v7
 abbrev pub vluxei8_v : Case
 vluxei8_v =
     let s : State = record start {
-      policy = Ones;
-      vl = 4;
-      vtype = typed E8 Mf8 true false;
-      vxrm = Down;
-      x = (21, 0x20ce5) ∷ [];
-      v = (8, 0xf0e09759ec30defc8a20126ba96c208fdcd3cf6b2e86ac42f54f169a11ed0248) ∷
-          (14, 0x986d56ec60edf5842276cc215146e53a918b67e3011fba7df7f3c99b23441ee8) ∷
+      vl = 7;
+      vtype = typed E16 Mf2 true false;
+      x = (24, 0x20408) ∷ [];
+      v = (2, 0xffff46e24000aaaa8e28e30eb675958cfffe064fae26a8828000142df8a86d89) ∷
+          (7, 0x2f7e7a9b519f0c0f867d2fece62342ffe078982d8924934e33ae46953444312b) ∷
           [];
     } in
     record {
-      word = 0x068a8707;
+      word = 0x067c0107;
       before = s;
       end = Retired;
       after = record s {
         pc = 0x10000804;
-        v = (14, 0xffffffffffffffffffffffffffffffffffffffffffffffffffffffffbe3c932c) ∷
+        v = (2, 0xffff46e24000aaaa8e28e30eb675958cfffea5807c57fdd8d7b2320d68438a65) ∷
             s.v;
       };
     }
