@@ -4,7 +4,8 @@ from collections import Counter, deque
 from collections.abc import Iterator, Mapping, Sequence
 from itertools import chain, islice
 
-from ..machine.lines import DIGITS, words_of
+from ..machine.answers import first_word, is_empty_output
+from ..machine.lines import DIGITS, command_of, words_of
 from ..machine.session import Session
 from .live import is_servers
 from .seats import LOG_ENTRIES, Seats, may_change
@@ -14,7 +15,8 @@ Numbered = tuple[int, str, str]
 
 _BEGINNINGS = {"entered", "left", "loaded"}  # first words of answers: nothing is left then of what was before
 _TURNS = {"running", "break", "ebreak", "outfull", "exit", "fault"}  # the last stop is another one then
-_PLACES = {"map", "pok", "asm", "bre", "unb"}  # how lines begin that name places of memory
+_PLACES = {"map", "poke", "asm", "break", "unbreak"}  # commands that name places of memory
+_GRANTS = {"* slices", "* run"}  # commands that grant slices
 
 
 class History:
@@ -43,7 +45,7 @@ class History:
         for done in islice(block, first):
             self._add_set_up(done)
         for done in block:
-            if done[2][1:9] == " stepped":  # as most are
+            if first_word(done[2]) == "stepped":  # as most are
                 last[done[2][0]].append(done)
             else:
                 self._add(done)
@@ -56,17 +58,17 @@ class History:
         digit = line[0]
         if digit == "*":
             for stop in answer.split("\n")[:-1]:
-                if stop[1:9] != " outfull":  # which may come without end
+                if first_word(stop) != "outfull":  # which may come without end
                     self._last[stop[0]].append(done)
                 self._turns[stop[0]] = done
             self._last[digit].append(done)
             return
         if is_servers(line):
-            if answer[2:] != "out 0":
+            if not is_empty_output(answer):
                 self._output[digit].append(done)
             return
         self._last[digit].append(done)
-        word = answer[2:].partition(" ")[0]
+        word = first_word(answer)
         if word in _BEGINNINGS:
             self._places[digit] = [done]
             self._output[digit].clear()
@@ -75,14 +77,14 @@ class History:
             self._turns[digit] = done
         elif word == "out":
             self._output[digit].append(done)
-        elif line[2:5] in _PLACES or line[2:3] == " ":
+        elif command_of(line) in _PLACES:
             self._places[digit].append(done)
 
     def _add_set_up(self, done: Numbered) -> None:
         """Takes up a line that sets the machine up: only what a seat watches is known by it."""
         _, line, answer = done
         digit = line[0]
-        if answer[2:].partition(" ")[0] in _BEGINNINGS:
+        if first_word(answer) in _BEGINNINGS:
             self._places[digit] = []
         if digit in self._places:
             self._places[digit].append(done)
@@ -111,10 +113,10 @@ class History:
         stored = {done[0]: done for done in chain(self._turns.values(), *self._last.values(), *self._output.values())}
         for number in sorted(stored):
             _, line, answer = stored[number]
-            seats.observe(line, answer.split("\n"), is_reported=not line.startswith(("* slices", "* run")))
+            seats.observe(line, answer.split("\n"), is_reported=command_of(line) not in _GRANTS)
         used = Counter[str]()
         for line, times in self._lines.items():
-            payer = "".join(words_of(line)[1:2]) if line.startswith("* run") else line[0]
+            payer = "".join(words_of(line)[1:2]) if command_of(line) == "* run" else line[0]
             used[payer] += 0 if is_servers(line) else times * (len(line) + 1)
         for seat in seats.users.values():
             seat.used = used[seat.digit]

@@ -7,7 +7,7 @@ server's lines from those of students, so that a replay restores both.
 from collections.abc import Iterable, Sequence
 
 from ..checkpoints.set_up import TRACED
-from ..machine.answers import is_refusal, is_stop
+from ..machine.answers import first_word, is_refusal, is_stop
 from ..machine.lines import words_of
 from ..page.state import State
 
@@ -42,7 +42,7 @@ def with_output(done: Iterable[tuple[str, Sequence[str]]], states: dict[str, Sta
                 if _calls(states[digit], steps[digit]):
                     still[digit] = False
         for part in filter(is_stop, answer):
-            still[part[0]] = line[0] == "*" and part[2:].startswith("outfull")
+            still[part[0]] = line[0] == "*" and first_word(part) == "outfull"
     return still
 
 

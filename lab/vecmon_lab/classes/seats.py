@@ -13,8 +13,18 @@ from ..compilers.compiled import CompiledProgram, variable_rows
 from ..guest.guest import Guest
 from ..instructions.reasons import describe_stop
 from ..lessons.frames import MAX_NAMED
-from ..machine.answers import Granted, Stop, answers_by_user, is_refusal, is_stop, read
-from ..machine.lines import DIGITS, is_look, words_of
+from ..machine.answers import (
+    Granted,
+    Output,
+    Stop,
+    answers_by_user,
+    first_word,
+    is_empty_output,
+    is_refusal,
+    is_stop,
+    read,
+)
+from ..machine.lines import DIGITS, command_of, is_look, words_of
 from ..machine.session import Session
 from .languages import SourceText
 from .live import is_servers
@@ -137,7 +147,7 @@ class Seat:
         """The condition of its machine."""
         if self.state["run"] != "stopped":
             return "Not begun" if self.state["run"] == "absent" else "Running"
-        kind = self.stop.partition(" ")[0] if "stop" in self.state else ""
+        kind = first_word(f"{self.digit} {self.stop}") if "stop" in self.state else ""
         return _ENDS.get(kind, "Paused" if self.is_started else "Ready")
 
     @property
@@ -248,17 +258,17 @@ class Seats:
         asker, words = self.users.get(line[0], self.operator), words_of(line)
         if line[0] == "*" and isinstance(granted := read(answer), Granted):
             self._grant(granted.slices, set(words[1:]) if words[0] == "run" else self.running())
-        if words == ["out"] and not is_refusal(answer):
-            asker.put_out("".join(answer[0].split()[3:]))
+        if words == ["out"] and isinstance(output := read(answer), Output):
+            asker.put_out(output.data.hex())
         if is_servers(line):
-            if words == ["out"] and answer[0][2:] != "out 0":
+            if words == ["out"] and not is_empty_output(answer[0]):
                 asker.add_log_entry("=" + " ".join(answer[0].split()[:3]))
             asker.stop = "" if words == ["go"] else asker.stop
             return
         if is_reported:
             asker.add_log_entry(f">{line}")
             asker.line = line[2:]
-        if line[0] == "*" and words[:1] == ["run"] and words[1:] and words[1] in self.users:
+        if command_of(line) == "* run" and words[1:] and words[1] in self.users:
             self.users[words[1]].used += len(line) + 1
         elif not is_look(line):
             asker.used += len(line) + 1
@@ -274,7 +284,7 @@ class Seats:
                 seat.answer = part[2:]
             if is_stop(part):
                 seat.stop = part[2:]
-                seat.slices = seat.slices if seat.stop.startswith("outfull") else 0.0
+                seat.slices = seat.slices if first_word(part) == "outfull" else 0.0
 
 
 def _is_single_step(done: Iterable[Done], digit: str) -> bool:
@@ -296,7 +306,7 @@ def _ends_executing(done: Sequence[Done], digit: str) -> bool:
 
 def _is_repeatable(entry: str) -> bool:
     """Whether an entry is about a full buffer, or about the server that empties it."""
-    return entry[0] == "=" or entry[2:10] == " outfull"
+    return entry[0] == "=" or first_word(entry[1:]) == "outfull"
 
 
 def _restarts(line: str, answer: Sequence[str]) -> bool:

@@ -14,7 +14,7 @@ from typing import Literal
 
 from .. import LabError
 from ..tables.table import read_table
-from .lines import words_of
+from .lines import command_of, words_of
 
 Run = Literal["absent", "stopped", "running"]
 """The state of a user's machine and program."""
@@ -31,6 +31,7 @@ def _pattern(form: str, role: str = "[1-8*]") -> re.Pattern[str]:
     return re.compile(f"{role} (?:{form})")
 
 
+_NO_OUTPUT = "out 0"
 _STOP_LINE = _pattern("STOP", "[1-8]")
 _LINES = {command: _pattern(form) for command, form in read_table("answers")}
 VILL = 1 << 63  # vtype where no type is set
@@ -286,6 +287,16 @@ def is_refusal(answer: Sequence[str]) -> bool:
     return _REFUSAL.fullmatch(answer[0]) is not None
 
 
+def first_word(line: str) -> str:
+    """Return the first word of a line of an answer, after its prefix: `stepped`, `E03` or `vl=4`."""
+    return line[2:].partition(" ")[0]
+
+
+def is_empty_output(line: str) -> bool:
+    """Whether a line of an answer says that the program has no output."""
+    return line[2:] == _NO_OUTPUT
+
+
 def is_stop(line: str) -> bool:
     """Whether a line of an answer says that a program has stopped by itself."""
     return _STOP_LINE.fullmatch(line) is not None
@@ -309,8 +320,7 @@ def is_whole(line: str, answer: Sequence[str]) -> bool:
 @functools.lru_cache(maxsize=1024)
 def _shape(line: str) -> tuple[re.Pattern[str] | None, int]:
     """The pattern of the answer to an accepted line, and its number of lines; 0 if stops come before."""
-    words = words_of(line)
-    command = ("* " if line[0] == "*" else "") + "".join(words[:1])
+    words, command = words_of(line), command_of(line)
     if command == "dis" and len(words) == 3 and words[2].isdecimal():
         return _LINES[command], max(1, int(words[2]))
     return _LINES.get(command), _COUNTS.get(command, 1)

@@ -42,6 +42,11 @@ def words_of(line: str) -> list[str]:
     return line[2:].split()
 
 
+def command_of(line: str) -> str:
+    """Return the name of a line's command, as `peek`; one of the operator's has its prefix, as `* run`."""
+    return ("* " if line[:1] == "*" else "") + "".join(words_of(line)[:1])
+
+
 @functools.lru_cache(maxsize=4096)
 def is_look(line: str) -> bool:
     """Whether the line only looks: it changes nothing, whatever is answered."""

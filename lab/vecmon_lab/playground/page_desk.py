@@ -21,7 +21,7 @@ from ..classes.text_store import TextStore
 from ..compilers.compiled import program_of
 from ..compilers.debug import image_of
 from ..exercises.exercise import Exercise
-from ..machine.answers import Refused, is_stop, read
+from ..machine.answers import Refused, first_word, is_stop, read
 from ..machine.lines import words_of
 from ..machine.process import Vecmon
 from ..machine.image import MARCH
@@ -119,7 +119,9 @@ class PageDesk(Desk):
     def lines(self, request: Lines, done: Answers) -> Answers:
         """As any desk's. Symbols, lines and variables of an image that was loaded are the seat's."""
         looks = super().lines(request, done)
-        words = [words_of(f"1 {line}") for line, answer in zip(request.do, done) if answer[0].startswith("loaded")]
+        words = [
+            words_of(f"1 {line}") for line, answer in zip(request.do, done) if first_word(f"1 {answer[0]}") == "loaded"
+        ]
         if words:
             self.texts.write_text(IMAGE, words[-1][1])
             self._take_image(words[-1][1])

@@ -11,7 +11,7 @@ from ..checkpoints.machine_state import pages_of, replay_script
 from ..compilers.compiled import maps
 from ..guest.guest import MAX_STEPS, Guest, stepping
 from ..guest.runner import OUTPUT_BYTES, SAFE_STEPS
-from ..machine.answers import Addresses, Position, Stop
+from ..machine.answers import Addresses, Answer, Output, Position, Stop, read
 from ..runs.initial_state import InitialState, initial_state_at
 from .intervals import Interval, Intervals
 from .recorded import Halt, Search
@@ -21,6 +21,13 @@ FEW = 16  # instructions that execute on the machine itself before the recorder 
 FIRST_TICKS, MAX_TICKS, MIN_TICKS = 256, 1 << 20, 4  # that the recorder is given; of the least, all output has room
 MAX_BACK = 200_000_000  # ticks of a leg: a script takes no more steps
 TOO_FAR = f"there is no way back into a run of more than {MAX_BACK:,} ticks"
+
+
+def _is_full(answer: Answer) -> bool:
+    """Whether an answer says that the output buffer is full."""
+    if isinstance(answer, Output):
+        return len(answer.data) == OUTPUT_BYTES
+    return isinstance(answer, Stop) and answer.kind == "outfull"
 
 
 class Timeline:
@@ -142,11 +149,11 @@ class Timeline:
     def _rewind(self, place: int, count: int) -> None:
         """Goes back to an instant of the leg at a place. Breakpoints stay as they are."""
         guest, breaks = self._guest, self._breaks()
-        full = f"{guest.user} out {OUTPUT_BYTES} ", f"{guest.user} outfull "
         for at_once in (MAX_STEPS, SAFE_STEPS):
             session = guest.session.rewound(self._script(self._intervals.intervals[place]))
-            answers = [answer[0] for _, answer in session.do_script(self._lines(*stepping(count, at_once), "out"))]
-            if at_once == SAFE_STEPS or not any(answer.startswith(full) for answer in answers):
+            done = session.do_script(self._lines(*stepping(count, at_once), "out"))
+            answers = [read(answer) for _, answer in done]
+            if at_once == SAFE_STEPS or not any(map(_is_full, answers)):
                 break
             session.close()  # a call may have found less room than it needs
         guest.session.close()
