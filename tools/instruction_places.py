@@ -11,7 +11,7 @@ from itertools import chain
 from pathlib import Path
 
 from vecmon_lab.instructions.table import instruction_table
-from vecmon_lab.instructions.words import OP_V, VECTOR_ACCESSES, NoInstruction, decode
+from vecmon_lab.instructions.words import CONTROL_REGISTERS, OP_V, SYSTEM, VECTOR_ACCESSES, NoInstruction, decode
 from vecmon_lab.meanings.describe import examples
 from vecmon_lab.meanings.record import Record, records
 
@@ -47,10 +47,11 @@ def records_of(name: str, kinds: Set[str]) -> list[Record]:
 
 def has_operation(word: int) -> bool:
     """Whether the lab's decoder has an instruction of this opcode, funct3 and funct6."""
+    names_register = word & 0x7F == SYSTEM and word >> 12 & 7  # whose number isn't an operand that may be zero
     try:
-        decode(word)
-    except NoInstruction as error:
-        return "There is no control register" in str(error)
+        decode(word | CONTROL_REGISTERS[0] << 20 if names_register else word)
+    except NoInstruction:
+        return False
     return True
 
 

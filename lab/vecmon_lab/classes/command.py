@@ -16,6 +16,7 @@ from ..page import codemirror
 from .builds import builds_by
 from .codes import LETTERS
 from .folder_report import folder_report
+from .machine_thread import rebuilding
 from .names import NAMES
 from .store import Store, forget, renew_teacher
 from .view import Class
@@ -143,7 +144,9 @@ def _serve(arguments: argparse.Namespace) -> None:
         raise
     builds = builds_by(arguments.cc, arguments.image_size << 10, account=account)
     exercises = with_course(arguments.exercise) if arguments.course else arguments.exercise
-    members = Class(store, arguments.patience, _tell, not arguments.no_clock, arguments.spare, exercises, builds)
+    members = Class(
+        store, arguments.patience, _show_progress, not arguments.no_clock, arguments.spare, exercises, builds
+    )
     if store.has_new_program:
         news = "isn't the program that served this class before; its answers are the same"
         print(f"vecmon-lab: {store.program} {news}", file=sys.stderr)
@@ -172,7 +175,7 @@ def _title(text: str) -> str:
     return text
 
 
-def _tell(sentence: str) -> None:
-    """Tells at a terminal how far a machine has been rebuilt."""
+def _show_progress(letter: str, percent: int) -> None:
+    """Show at a terminal how much of a machine's script has been executed again."""
     if sys.stderr.isatty():
-        print(f"\r{sentence}", end="\n" if sentence.endswith(" 100 %") else "", file=sys.stderr, flush=True)
+        print(f"\r{rebuilding(letter, percent)}", end="\n" if percent == 100 else "", file=sys.stderr, flush=True)

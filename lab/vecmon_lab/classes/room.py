@@ -6,6 +6,7 @@ import contextlib
 import pathlib
 from collections.abc import Callable, Container, Iterable, Mapping, Sequence
 from dataclasses import asdict, replace
+from functools import partial
 
 from .. import LabError
 from ..assembler.source import Program
@@ -16,7 +17,7 @@ from .worker_pool import WorkerPool
 from .builds import Builds
 from .clock import Clock
 from .languages import SourceText
-from .machine_thread import MachineThread, rebuilding
+from .machine_thread import MachineThread
 from .history import History
 from .requests import BadRequest, Lines
 from .scripts import Scripts
@@ -66,12 +67,12 @@ class Room:
         """Whether somebody has the machine."""
         return self.thread.lock.locked()
 
-    def restore(self, notes: Notes, progress: Callable[[str], object], lose: Callable[[str], object]) -> None:
+    def restore(self, notes: Notes, progress: Callable[[str, int], object], lose: Callable[[str], object]) -> None:
         """Brings the machine to where an earlier server left it. Raises BadFolder where it takes no script.
 
-        progress: is called with sentences on the progress; lose: is called with sentences on lines that are lost
+        progress: is called with the machine's letter and the percentage of its script that is executed; lose: is called with sentences on lines that are lost
         """
-        self.session.progress = lambda percent: progress(rebuilding(self.letter, percent))
+        self.session.progress = partial(progress, self.letter)
         self.scripts.set_up, self.scripts.stops = notes.scripts, notes.stops
         history = History(notes.scripts[-1], notes.stops)
         for block in self.scripts.file.replay(self.session, notes, lose):

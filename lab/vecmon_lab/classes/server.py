@@ -6,6 +6,7 @@ import errno
 import ipaddress
 import json
 import logging
+import os
 import re
 import resource
 import signal
@@ -213,7 +214,8 @@ def listening(host: str, port: int) -> list[socket.socket]:
         found = dict.fromkeys(socket.getaddrinfo(host, port, type=socket.SOCK_STREAM, flags=socket.AI_PASSIVE))
         return [socket.create_server(address, family=family) for family, _, _, _, address in found]
     except OSError as error:
-        reason = (error.strerror or str(error)).partition(" (while")[0]
+        is_resolved = not isinstance(error, socket.gaierror)  # which has numbers and texts of its own
+        reason = os.strerror(error.errno) if is_resolved and error.errno else error.strerror or f"{error}"
         hint = "; --port names another port" if error.errno == errno.EADDRINUSE else ""
         raise LabError(f"{host}, port {port}: {reason}{hint}") from error
 

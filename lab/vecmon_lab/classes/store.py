@@ -197,6 +197,7 @@ class Store:
         """
         self.folder, self.program = folder, program
         self.lost: list[str] = []  # sentences on damaged files
+        self._damaged = set[str]()  # names of files that `read` found damaged
         self._is_reading = is_reading
         self._flusher: Flusher | None = None
         if is_reading:
@@ -267,7 +268,7 @@ class Store:
         """A machine's notes, whose last script is there with the lines that set the machine up."""
         name = f"{machine}.json"
         is_there, notes = (self.folder / name).exists(), self.read(f"{machine}.json", Notes, "the clock is set anew")
-        if not is_there or self._is_lost(name):
+        if not is_there or name in self._damaged:
             last = max(1, *self._numbers(machine), 1)
             notes = replace(notes, scripts=[0] * last, lines=len(self._lines(machine, last)))
         scripts = list(notes.scripts)
@@ -333,6 +334,7 @@ class Store:
         except FileNotFoundError:
             return kind()
         except ValueError:
+            self._damaged.add(name)
             aside = self._set_aside(name)
             self.lose(f"{name} is damaged{aside}" + (f": {loss}" if loss else ""))
             return kind()
@@ -414,10 +416,6 @@ class Store:
             return True
         except (FileNotFoundError, ValueError):
             return False
-
-    def _is_lost(self, name: str) -> bool:
-        """Whether a damaged file of this name was found."""
-        return any(sentence.startswith(f"{name} ") for sentence in self.lost)
 
     def _set_aside(self, name: str, copied: bytes | None = None) -> str:
         """Renames a damaged file, or copies it; how that is reported. A class that is only read stays as it is."""

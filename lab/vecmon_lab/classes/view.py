@@ -55,7 +55,7 @@ class Class:
         self,
         store: Store,
         patience: float,
-        progress: Callable[[str], object] = lambda sentence: None,
+        progress: Callable[[str, int], object] = lambda letter, percent: None,
         clock: bool = True,
         has_spares: bool = False,
         exercises: Iterable[pathlib.Path] = (),
@@ -63,7 +63,7 @@ class Class:
     ) -> None:
         """Starts the machines, and brings each to where it was. Raises LabError where that can't be.
 
-        progress: gets sentences on the progress; clock: whether that of a new machine is on; has_spares: whether
+        progress: is called with a machine's letter and the percentage of its script that is executed; clock: whether that of a new machine is on; has_spares: whether
         a second process follows each machine; exercises: their folders, or those that the class had if there is none;
         builds: compiles sources in C
         """
@@ -97,7 +97,7 @@ class Class:
             raise
 
     def _open_room(
-        self, letter: str, patience: float, progress: Callable[[str], object], clock: bool, makers: WorkerPool
+        self, letter: str, patience: float, progress: Callable[[str, int], object], clock: bool, makers: WorkerPool
     ) -> None:
         """Start a machine, restore its state, and seat its students. Raises LabError where that can't be."""
         notes = self.store.notes(letter)

@@ -109,7 +109,7 @@ def check(
             raise LabError(f"the source has more than {exercise.limits.size:,} bytes")
         answer = source_answer(text, NAME, compiled)
         outcomes = [outcome(program, answer, exercise, case) for case in exercise.cases]
-        if outcomes[0][0].startswith(f"{NAME}:"):  # the machine refuses an instruction
+        if outcomes[0].is_refused:
             raise LabError
     except ToolError:
         raise
@@ -118,14 +118,15 @@ def check(
         mistakes = of_form or [SourceError(1, 1, f"{error}")]
         return {"mistakes": mistakes_json(mistakes, text, is_c=compiled is not None)}
     pairs = zip(exercise.cases, outcomes)
-    reply: CheckResult = {"cases": [{"name": case.name, "passed": not reason} for case, (reason, _) in pairs]}
+    reply: CheckResult = {"cases": [{"name": case.name, "passed": not each.reason} for case, each in pairs]}
     if compiled and compiled.warnings:
         reply["warnings"] = mistakes_json(compiled.warnings, text, is_c=True, severity="warning")
-    for number, (case, (reason, done)) in enumerate(zip(exercise.cases, outcomes)):
-        if reason and not case.is_hidden:
+    for number, (case, each) in enumerate(zip(exercise.cases, outcomes)):
+        if each.reason and not case.is_hidden:
+            done = each.done
             expected, found = _compared(case.expected, done.found if done else case.expected)
             given = _given(case, next((row for row in expected if row["first"]), None))
-            reply.update({"number": number, "reason": reason, "given": given, "expected": expected})
+            reply.update({"number": number, "reason": each.reason, "given": given, "expected": expected})
             reply["notes"] = _notes(exercise, case)
             reply.update({"found": found} if done else {})
             if done and (known := cause(program, answer, exercise, case, done)):
@@ -148,7 +149,7 @@ def lesson(program: Vecmon, exercise: Exercise, number: int, text: str, compiled
     """A lesson, in HTML, of a source in a case: a frame that sets up the case, and 256 instructions at most."""
     answer, case = source_answer(text, NAME, compiled), exercise.cases[number]
     assert answer.commands is not None and answer.source is not None and answer.source.program is not None
-    title, reason = f"{exercise.title}: {case.name}", outcome(program, answer, exercise, case)[0]
+    title, reason = f"{exercise.title}: {case.name}", outcome(program, answer, exercise, case).reason
     source = answer.source.program
     brought = [f"1 {line}" for line in ["enter", *answer.commands, *inputs(exercise, case, source.entry)]]
     steps = [

@@ -140,7 +140,7 @@ def graded(
         raise
     except LabError as error:
         return [terminal_text(str(error))] * len(exercise.cases), None
-    outcomes = [outcome(program, answer, exercise, case)[0] for case in exercise.cases]
+    outcomes = [outcome(program, answer, exercise, case).reason for case in exercise.cases]
     return outcomes, answer_cost(program, answer, exercise) if is_counted and not any(outcomes) else None
 
 

@@ -6,6 +6,7 @@ from dataclasses import dataclass
 from .. import LabError
 from ..compilers.failures import ToolError
 from ..instructions.table import ABI_NAMES
+from ..lessons.script import RefusedStatement
 from ..machine.process import Vecmon
 from ..machine.program import NoProgram
 from ..machine.session import OutOfStep, ProgramGone, ReplayDiffers
@@ -13,8 +14,21 @@ from .answer import Answer, Attempt, attempt
 from .exercise import ADDRESSES, Case, Exercise, Results
 
 
-def outcome(program: Vecmon, answer: Answer, exercise: Exercise, case: Case) -> tuple[str, Attempt | None]:
-    """Why an answer fails in a case, or ""; and what it left, if it came to an end.
+@dataclass(frozen=True)
+class CaseOutcome:
+    """The outcome of an answer in a case.
+
+    reason: why it fails, or ""; done: what it left, if it came to an end
+    is_refused: whether the machine refuses an instruction of its source
+    """
+
+    reason: str
+    done: Attempt | None = None
+    is_refused: bool = False
+
+
+def outcome(program: Vecmon, answer: Answer, exercise: Exercise, case: Case) -> CaseOutcome:
+    """Try an answer in a case.
 
     Raises ToolError where the machine failed, which says nothing about the answer.
     """
@@ -23,12 +37,12 @@ def outcome(program: Vecmon, answer: Answer, exercise: Exercise, case: Case) -> 
     except (NoProgram, OutOfStep, ProgramGone, ReplayDiffers, ToolError) as error:
         raise ToolError(f"{error}") from error
     except LabError as error:
-        return str(error), None
+        return CaseOutcome(str(error), is_refused=isinstance(error, RefusedStatement))
     reason = difference(case.expected, done, case.registers)
     if done.is_long and not reason:
         limit = exercise.limits.instructions
         reason = f"the results are right, but it takes more than {limit:,} instructions: with vectors fewer will do"
-    return reason, done
+    return CaseOutcome(reason, done)
 
 
 @dataclass(frozen=True)

@@ -4,6 +4,7 @@ import functools
 import re
 from collections.abc import Collection, Iterator
 from dataclasses import dataclass, replace
+from typing import NamedTuple
 
 from ..machine.answers import ControlRegisters
 from ..tables.table import read_table
@@ -35,15 +36,22 @@ class Executed:
     element: int = 0
 
 
-def left_open(text: str, kinds: Collection[str]) -> str | None:
-    """The sentence of the first row for an instruction's text and one of these kinds of difference; None without such a row."""
-    rows = (row for row in _rows() if row[0] in kinds and re.match(row[1], text))
-    return next((sentence for _, _, sentence in rows), None)
+class OpenResult(NamedTuple):
+    """A row of the table: the kind of difference, a pattern for the beginning of an instruction's text, and the sentence."""
+
+    kind: str
+    pattern: str
+    sentence: str
+
+
+def left_open(text: str, kinds: Collection[str]) -> OpenResult | None:
+    """The first row for an instruction's text and one of these kinds of difference; None without such a row."""
+    return next((row for row in _rows() if row.kind in kinds and re.match(row.pattern, text)), None)
 
 
 @functools.cache
-def _rows() -> list[list[str]]:
-    return read_table("left_open")
+def _rows() -> list[OpenResult]:
+    return [OpenResult(*row) for row in read_table("left_open")]
 
 
 def open_result(step: Executed) -> str | None:
@@ -51,7 +59,8 @@ def open_result(step: Executed) -> str | None:
 
     Agnostic elements don't count: their policy is known of a device.
     """
-    return left_open(step.text, {*_open_kinds(step)})
+    found = left_open(step.text, {*_open_kinds(step)})
+    return found.sentence if found else None
 
 
 def _open_kinds(step: Executed) -> Iterator[str]:

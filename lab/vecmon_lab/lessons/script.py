@@ -117,16 +117,20 @@ def _script_of(program: Program, lines: list[str], name: str) -> Script:
     return Script(title, steps, name, labels=program.names(), statements=statements, notes=notes, program=program)
 
 
-def refused_statement(script: Script, line: str, answer: Refused) -> LabError:
+class RefusedStatement(LabError):
+    """The machine refuses an instruction of a source."""
+
+
+def refused_statement(script: Script, line: str, answer: Refused) -> RefusedStatement:
     """What is wrong with an instruction of the source, by the machine's answer to the line that writes it."""
     statement = script.statements[line]
     if answer.code == "E15":
-        return LabError(refusal(statement, int(answer.detail)).diagnostic(script.source))
-    return LabError(f"{script.source}:{statement.line}: the machine answers {answer.code} to {statement.text}")
+        return RefusedStatement(refusal(statement, int(answer.detail)).diagnostic(script.source))
+    return RefusedStatement(f"{script.source}:{statement.line}: the machine answers {answer.code} to {statement.text}")
 
 
 def send(guest: Guest, commands: Sequence[str], source: Script | None = None) -> None:
-    """Sends commands, of a source where one is named. Raises LabError where one is refused."""
+    """Sends commands, of a source where one is named. Raises LabError if one is refused, of the source RefusedStatement."""
     for command, answer in zip(commands, guest.ask(*commands)):
         if isinstance(answer, Refused):
             if source and f"1 {command}" in source.statements:

@@ -63,8 +63,8 @@ def _script(name: str, title: str) -> Script:
     """
     lines, data_path = iter((TOURS / name).read_text("ascii").splitlines()), TOURS / f"{name}.json"
     steps: list[Step] = []
-    for sentence in (TOURS / f"{name}.steps").read_text("utf-8").splitlines():
-        number, _, note = sentence.partition(" ")
+    for step_line in (TOURS / f"{name}.steps").read_text("utf-8").splitlines():
+        number, _, note = step_line.partition(" ")
         if data_path.exists():
             steps.append(Step([*islice(lines, int(number))], note))
             continue

@@ -60,5 +60,7 @@ def _left_open(
     instruction = vector_instruction(step.retired.word, step.before.control.vtype)
     holds |= {"reserved": instruction is not None and bool(registers_of_two_widths(instruction))}
     holds |= {"control": last.retired.text.startswith("csr") and not names.isdisjoint(CONTROL)}
-    sentence = left_open(text, {kind for kind, is_there in holds.items() if is_there})
-    return sentence if sentence is None or sentence.startswith("reserved: ") else f"perhaps allowed: {sentence}"
+    found = left_open(text, {kind for kind, is_there in holds.items() if is_there})
+    if found is None:
+        return None
+    return found.sentence if found.kind == "reserved" else f"perhaps allowed: {found.sentence}"
