@@ -27,7 +27,7 @@ PIECES = """all('#source + .CodeMirror .CodeMirror-line [class^=cm-]').map((piec
     `${piece.className.slice(3)} ${piece.textContent}`)"""  # of the source in sight, with their kinds
 SIGNS = """Array.from({ length: code().lineCount() }, (_, line) =>
     `${code().lineInfo(line).gutterMarkers?.marks?.textContent ?? ""}${line + 1}`).filter((sign) => /[●○▶]/.test(sign)).join()"""
-PATIENCE = 60  # seconds: after so long a test that waits has failed
+PATIENCE = 180  # seconds: after so long a test that waits has failed
 FRAME = "requestAnimationFrame(() => setTimeout(arguments[0])), setTimeout(arguments[0], 100)"  # which none has out of sight
 
 

@@ -302,7 +302,7 @@ async def test_bad_answers_delay_no_other_seat(room: Served) -> None:
         assert (await tab.do("step 1"))[0][0].startswith("stepped 1")
         waits.append(time.monotonic() - start)
         await asyncio.sleep(0.02)
-    assert max(waits) < 6 and len(waits) > 5  # a check may take 12 seconds
+    assert max(waits) < 30 and len(waits) > 5  # a check may take 60 seconds
     assert not any([passes for expected in await asyncio.gather(*checks) for passes in passed(expected)])
 
 

@@ -39,7 +39,7 @@ EXERCISES, OFFERED, ANSWERS = "exercises.json", "offered.json", "answers"
 LOST = "this answer is lost, and counts as a try in which nothing passes"
 WITHOUT = "the class has no exercises but those that --exercise and --course name"
 _COURSE = dict(read_table("course"))
-PLACES, SECONDS = 16, 12.0  # checks at once, and how long one may take from when it has its place
+PLACES, SECONDS = 16, 60.0  # checks at once; how long one may take from when it has its place, on a busy host too
 RUNS = 2  # of a check that fails on the server's side
 
 ExerciseTable = TypedDict("ExerciseTable", {"title": str, "of": int, "seats": dict[str, SeatResult]})
