@@ -16,6 +16,10 @@ class LabError(Exception):
     """An error that the user of the lab can correct: one line that says what is wrong, or one for each mistake in C."""
 
 
+class SourceMistakes(LabError):
+    """Mistakes of a source: each line of the text begins with the name of the file, the line and the column."""
+
+
 @contextlib.contextmanager
 def mistakes_in(what: object, *kinds: type[Exception]) -> Iterator[None]:
     """Of a LabError in its context, or of errors of these kinds in place of it, the text begins with what it is about."""

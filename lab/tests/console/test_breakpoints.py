@@ -139,7 +139,7 @@ def test_restart_preserves_breakpoints(tmp_path: pathlib.Path) -> None:
     output = shown(["break next if a0 < 6", "run", "restart", "breaks", "run"], source)
     again = output[output.index("=> 10000  addi x10, x0, 13", 1) :]
     assert again[1:3] == ["10018 next if a0 < 6", STOPPED.format("10018")] and "x10/a0=5" in again[3]
-    assert shown(["restart"])[1].startswith("E08: there is no image image")
+    assert shown(["restart"])[1].startswith("there is no program to restart; source FILE loads an assembler source")
 
 
 def test_breakpoints_of_another_program_are_reported_as_removed() -> None:

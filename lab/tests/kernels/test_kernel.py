@@ -205,8 +205,10 @@ def test_vector_store_takes_a_tick_for_each_element(kernel: Kernel) -> None:
         ([[0, 1]], {}, "argument 1, [0, 1], is no integer and no array: pass array.array("),
         ([Placed("a")], {}, "argument 1: memoryview: a bytes-like object is required, not 'str'"),
         ([Placed(b"a", 4096)], {}, "argument 1: its offset in a page is 4096, and isn't from 0 to 4,095"),
-        ([Placed(b"a", permissions="rq")], {}, "fifth: map 100000000 1 rq: E04: rq isn't one of r, w, x, "),
+        ([Placed(b"a", permissions="rq")], {}, "argument 1: its permissions are 'rq', and aren't r, w or rw"),
+        ([Placed(b"a", 0, "")], {}, "argument 1: its permissions are '', and aren't r, w or rw"),
         ([bytes(1 << 20)], {}, "fifth: map 100000000 256 rw: E10: the user would have more than 256 pages"),
+        ([bytes(1 << 19), bytes((1 << 19) + 1)], {}, "the arrays take 257 pages of 4,096 bytes, and a call has 256 at"),
         ([memoryview((_Pair * 1)())], {}, "argument 1: memoryview: destination format must be a native"),
         ([], {"ticks": 0}, "a call has a tick at least, and not 0"),
         ([], {"policy": "none"}, "fifth: policy none: E04: none is no policy"),
@@ -225,10 +227,10 @@ def test_unsuitable_program_is_refused(kernel: Kernel, tmp_path: pathlib.Path) -
     (tmp_path / "script").write_text("1 regs\n")
     for name, expected in (
         ("bad.s", "bad.s:1:12: "),
-        ("script", "it is no image, and no source"),
-        ("none", "No such file"),
+        ("script", f"{tmp_path}/script: it is no image, and no source"),
+        ("none", f"{tmp_path}/none: it can't be read: No such file or directory$"),
     ):
-        with pytest.raises(LabError, match=f"^{tmp_path}/{name}: .*{expected}"):
+        with pytest.raises(LabError, match=f"^{expected}"):
             Kernel(tmp_path / name)
     with pytest.raises(AttributeError, match="has no attribute Karnel"):
         getattr(vecmon_lab, "Karnel")
@@ -241,6 +243,16 @@ def test_kernel_calls_image_function() -> None:
         assert result.arrays == [array.array("I", [number * number for number in range(37)])]
         with pytest.raises(CallStopped, match=r"next\+0x10: vse32.v v8, \(x10\): .* It stopped at element 4\."):
             kernel.call("fill", array.array("I", [0] * 36), 37)
+
+
+def test_stripped_image_has_no_symbols(tmp_path: pathlib.Path) -> None:
+    """Its header has neither an offset nor a number of section headers, as after `strip --strip-section-headers`."""
+    image = bytearray(SQUARES_DWARF5.read_bytes())
+    image[40:48], image[60:64] = bytes(8), bytes(4)
+    (tmp_path / "stripped").write_bytes(image)
+    with Kernel(tmp_path / "stripped") as kernel:
+        with pytest.raises(LabError, match="/stripped has no symbols: link it without -s, and don't strip it$"):
+            kernel.call("fill", 0, 0)
 
 
 def test_kernel_keeps_image_that_it_opened(tmp_path: pathlib.Path) -> None:
@@ -302,11 +314,13 @@ total:  li a2, 0
     (tmp_path / "total.S").write_text(text)
     with Kernel(tmp_path / "total.S", options="stock", compiler=clang.name) as kernel:
         assert kernel.call("total", bytes([1, 2, 250]), 3, policy="both").value == 253 + 4
-    with pytest.raises(LabError, match="total.S:2:"):
+    with pytest.raises(LabError, match="^total.S:2:"):
         Kernel(tmp_path / "total.S")
     (tmp_path / "total.s").write_text("total: add a0, a0, a1\n ret a0\n")
-    with pytest.raises(LabError, match="total.s:2:6: invalid operand for instruction$"):
+    with pytest.raises(LabError, match="^total.s:2:6: invalid operand for instruction$"):
         Kernel(tmp_path / "total.s", options="stock")
+    with pytest.raises(LabError, match=f"^{tmp_path}/none.c: it can't be read: No such file or directory$"):
+        Kernel(tmp_path / "none.c")
 
 
 @pytest.mark.parametrize("name", ["source.s", "source.S", "source.c", "image"])

@@ -9,7 +9,7 @@ from dataclasses import dataclass, field, replace
 from itertools import groupby, islice
 from typing import Any
 
-from .. import LabError
+from .. import LabError, SourceMistakes
 from ..assembler.source import Program, SourceError
 from ..guest.entries import NAME_LETTERS
 from ..guest.guest import STACK_END, STACK_POINTER, pokes
@@ -47,9 +47,9 @@ class CompiledProgram(Program):
     reply: bytes = b""
 
     def check(self, name: str) -> None:
-        """Raises LabError where a source of this name has mistakes, with a line for each."""
+        """Raises SourceMistakes where a source of this name has mistakes, with a line for each."""
         if self.mistakes:
-            raise LabError("\n".join(error.diagnostic(name) for error in self.mistakes))
+            raise SourceMistakes("\n".join(error.diagnostic(name) for error in self.mistakes))
 
     def text(self) -> range:
         """The addresses of its instructions."""

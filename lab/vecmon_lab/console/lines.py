@@ -39,7 +39,8 @@ from .places import Places
 from .show import Screen, control_row, memory_rows, register_rows
 
 STEPS = [str(number) for number in range(1, 257)]  # that the machine takes
-HELP_ON_LOAD = "load reloads the console's image; source FILE loads an assembler source, vecmon-lab console FILE starts with an image"
+HELP_ON_SOURCES = "source FILE loads an assembler source, vecmon-lab console FILE starts with an image"
+HELP_ON_LOAD = f"load reloads the console's image; {HELP_ON_SOURCES}"
 
 
 class Console:
@@ -209,6 +210,8 @@ class Console:
 
     def _restart(self) -> None:
         """Load the program again: an assembler source, or else the image. Raises LabError and OSError."""
+        if self._source.own is None and not self._guest.session.images:
+            raise LabError(f"there is no program to restart; {HELP_ON_SOURCES}")
         if self._source.own is None:
             self._monitor(self.names.words("load"))
         else:

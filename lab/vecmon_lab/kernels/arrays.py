@@ -20,6 +20,12 @@ Array: TypeAlias = "ReadableBuffer"
 ARRAYS = 0x1_0000_0000
 """The address of the first page of arrays."""
 
+MAX_PAGES = 256
+"""Of a user of the machine."""
+
+PERMISSIONS = ("r", "w", "rw")
+"""Of a program, for an array."""
+
 
 @dataclass(frozen=True)
 class Placed:
@@ -68,9 +74,13 @@ class Layout:
         """given: each array, with the number of its argument. Raises LabError for an array that can't be placed or returned."""
         self.arrays = dict[int, PlacedArray]()
         self.lines = list[str]()
-        page = ARRAYS
+        page, total = ARRAYS, 0
         for group in _groups([_given(number, placed) for number, placed in given]):
-            page += (self._place(group, page) + 1) * PAGE_BYTES
+            pages = self._place(group, page)
+            page, total = page + (pages + 1) * PAGE_BYTES, total + pages
+        if total > MAX_PAGES:
+            most = f"a call has {MAX_PAGES} at most, with the program and its stack"
+            raise LabError(f"the arrays take {total:,} pages of {PAGE_BYTES:,} bytes, and {most}")
         self.arrays = dict(sorted(self.arrays.items()))
 
     def _place(self, group: Sequence[_Given], page: int) -> int:
@@ -117,6 +127,8 @@ def _given(number: int, placed: Placed) -> _Given:
     offset = placed.offset
     with mistakes_in(f"argument {number}", TypeError, ValueError, LabError):
         data = memoryview(placed.data).tobytes()
+        if placed.permissions not in PERMISSIONS:
+            raise LabError(f"its permissions are {placed.permissions!r}, and aren't r, w or rw")
         if offset is not None and not 0 <= offset < PAGE_BYTES:
             raise LabError(f"its offset in a page is {offset}, and isn't from 0 to {PAGE_BYTES - 1:,}")
         like(placed.data, data)

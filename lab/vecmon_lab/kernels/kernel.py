@@ -14,7 +14,7 @@ from concurrent.futures import ThreadPoolExecutor
 from dataclasses import dataclass
 from typing import Any
 
-from .. import LabError, mistakes_in
+from .. import LabError, SourceMistakes
 from ..assembler.commands import explain_refusal
 from ..compilers.compiling import compile_c, read_own_source
 from ..compilers.compiler import C_SOURCE, CHOICES, IMAGE, PREPROCESSED_SUFFIX, choice_for, find_compiler
@@ -103,18 +103,18 @@ class Kernel(contextlib.AbstractContextManager["Kernel"]):
         compiler: str | None = None,
         any_vlen: bool = False,
     ) -> None:
-        """options, compiler: as `vecmon-lab lesson` has them, for C without options O2; `stock` assembles by clang. Raises LabError and OSError.
+        """options, compiler: as `vecmon-lab lesson` has them, for C without options O2; `stock` assembles by clang. Raises LabError.
 
         any_vlen: whether an image for longer vector registers is taken
         """
         self._path = pathlib.Path(path)
         choice = choice_for(self._path, options)
-        with mistakes_in(path):
+        with _failures_of(path):
             answer, self._symbols, self._signatures = _read(self._path, choice, compiler)
             has_image = answer.commands is None
             warnings = target_warnings(self._path, any_vlen, ", or give any_vlen=True") if has_image else []
+            self._images = {"image": self._copied()} if has_image else {}
         sys.stderr.writelines(f"vecmon-lab: warning: {path}: {warning}\n" for warning in warnings)
-        self._images = {"image": self._copied()} if answer.commands is None else {}
         self._begin = ["load image"] if answer.commands is None else ["leave", "enter", *answer.commands]
         self._begin.append(f"set x1 {RETURN:x}")
         if "__global_pointer$" in self._symbols.addresses:
@@ -201,7 +201,12 @@ class Kernel(contextlib.AbstractContextManager["Kernel"]):
     def _call(self, symbol: str, arguments: Sequence[Argument]) -> Call:
         """A call of a function. Raises LabError if there is none of this name, or it doesn't take these arguments."""
         if symbol not in self._symbols.addresses:
-            raise LabError(f"{self._path} has no symbol {symbol}")
+            lacking = (
+                f"no symbol {symbol}"
+                if self._symbols.addresses
+                else "no symbols: link it without -s, and don't strip it"
+            )
+            raise LabError(f"{self._path} has {lacking}")
         # a copy that gcc specialised, as `sum.constprop.0`, has other parameters than its source
         signature = None if "." in symbol else self._signatures.at(self._symbols.addresses[symbol])
         return call_of(symbol, arguments, signature)
@@ -264,6 +269,19 @@ class Kernel(contextlib.AbstractContextManager["Kernel"]):
                 text += f" Array {number} is from {array.address:#x} to {end:#x}."
                 break
         return CallStopped(text, stop)
+
+
+@contextlib.contextmanager
+def _failures_of(path: str | os.PathLike[str]) -> Iterator[None]:
+    """Of an error of a file in its context, the text begins with the file's path, unless its lines name places in the file."""
+    try:
+        yield
+    except SourceMistakes:
+        raise
+    except LabError as error:
+        raise LabError(f"{path}: {error}") from error
+    except OSError as error:
+        raise LabError(f"{path}: it can't be read: {error.strerror}") from error
 
 
 def _quantum(ticks: int) -> int:

@@ -4,7 +4,7 @@ import re
 from collections.abc import Sequence
 from dataclasses import dataclass, field, replace
 
-from .. import LabError
+from .. import LabError, SourceMistakes
 from ..assembler.commands import explain_refusal
 from ..assembler.line import refuse_preprocessor_lines
 from ..assembler.source import Program, SourceError, Statement, assemble, refusal
@@ -86,7 +86,7 @@ def read_assembled(text: str, name: str) -> Script:
             refuse_preprocessor_lines(text)
         program = assemble(text)
     except SourceError as error:
-        raise LabError(error.diagnostic(name)) from error
+        raise SourceMistakes(error.diagnostic(name)) from error
     return replace(_script_of(program, [line.strip() for line in text.split("\n")], name), text=text)
 
 
