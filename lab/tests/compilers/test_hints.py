@@ -7,6 +7,7 @@ import pytest
 from support.commands import Lab
 from vecmon_lab import Kernel, LabError
 from vecmon_lab.compilers.compiler import Compiler
+from vecmon_lab.compilers.debug import NO_CONSTRUCTORS, NO_THREADS
 from vecmon_lab.compilers.hints import (
     NO_ATOMICS,
     NO_FLOATS,
@@ -97,6 +98,11 @@ def test_gnu_linker_messages_are_read() -> None:
         ("#include <stdio.h>\nint main(void) { return 0; }\n", NO_LIBRARY),
         ("int main(void) { volatile double x = 1; x = x + x; return 0; }\n", NO_FLOATS),
         ("int other(void) { return 1; }\n", NO_MAIN),
+        (
+            "volatile int g;\n__attribute__((constructor)) void set(void) { g = 5; }\nint main(void) { return g; }\n",
+            NO_CONSTRUCTORS,
+        ),
+        ("_Thread_local volatile int t = 5;\nint main(void) { return t; }\n", NO_THREADS),
     ],
 )
 def test_advice_follows_message(lab: Lab, clang: Compiler, tmp_path: pathlib.Path, source: str, advice: str) -> None:

@@ -18,7 +18,7 @@ from support.skips import NO_GDB, leave_out
 from support.places import EXAMPLES, PREFIX_SUMS, SQUARES, STOCK, SUM, SUM_DWARF4, SUM_DWARF5, TOP
 from support.sources import ARGUMENTS, COUNTDOWN
 from support.terminal import MAX_SECONDS
-from vecmon_lab.compilers.compiler import Compiler
+from vecmon_lab.compilers.compiler import RUNTIME, Compiler
 
 GDB = [sys.executable, "-m", "vecmon_lab", "gdb"]
 WRITES_AND_GOES_ON = """
@@ -426,8 +426,13 @@ def test_manual_session_is_reproduced(gdb: Callable[..., str]) -> None:
 
 
 def test_gdb_debugs_c_source(gdb: Callable[..., str], clang: Compiler) -> None:
-    """gdb reads symbols and lines of the image that is compiled of it. The grey of red 0, green 255 and blue 0 is 149."""
+    """gdb reads symbols and lines of the image that is compiled of it, and finds both sources.
+
+    It stops in the runtime first. The grey of red 0, green 255 and blue 0 is 149.
+    """
     output = gdb(EXAMPLES / "kernels" / "grey.c", "break grey.c:32", "continue", "print greys[0]")
+    first = re.search(r"_start \(\) at \S*runtime\.c:(\d+)\n\1\t(.*)\n", output)
+    assert first and first[2] == (RUNTIME / "runtime.c").read_text("ascii").splitlines()[int(first[1]) - 1]
     assert "grey.c:32\n32\t    put(greys, sizeof greys);\n$1 = 149 " in output
 
 

@@ -12,7 +12,9 @@ from support.commands import Lab
 from support.places import DOCS, EXAMPLES
 from vecmon_lab import Kernel
 from vecmon_lab.compilers.compiler import RUNTIME, Compiler
+from vecmon_lab.compilers.compiling import compiled_image
 from vecmon_lab.compilers.hints import NO_MAIN
+from vecmon_lab.guest.symbols import Symbols
 
 GREY = EXAMPLES / "kernels" / "grey.c"
 ARGUMENTS = """
@@ -37,6 +39,22 @@ int main(void)
     for (size_t i = 0; i < sizeof text; i++)
         text[i] = 'a' + i % 26;
     return put(text, sizeof text) != 1000 || put(text, 0) != 0 || put((char *)8, 5) != -14;
+}
+"""
+
+MEMORY = """
+#include "vecmon.h"
+static char text[600], one[] = "a\\x7f", other[] = "a\\x80";
+static volatile size_t count = 200, two = 2;
+int main(void)
+{
+    for (size_t i = 0; i < sizeof text; i++)
+        text[i] = (char)(7 * i);
+    __builtin_memmove(text + 100, text + 50, count);
+    __builtin_memmove(text + 300, text + 310, count);
+    put(text, sizeof text);
+    return (__builtin_memcmp(one, other, two) < 0) | (__builtin_memcmp(other, one, two) > 0) << 1
+        | (__builtin_memcmp(one, one, two) == 0) << 2;
 }
 """
 
@@ -79,6 +97,18 @@ def test_put_writes_all_bytes(lab: Lab, clang: Compiler, tmp_path: pathlib.Path)
     source = tmp_path / "puts.c"
     source.write_text(PUTS, "ascii")
     assert lab("run", source) == (0, bytes(97 + number % 26 for number in range(1000)), "")
+
+
+def test_memory_functions_are_linked_if_needed(lab: Lab, clang: Compiler, tmp_path: pathlib.Path) -> None:
+    """Areas overlap in both directions, and bytes are compared without a sign; a source that needs neither is as it was."""
+    moved = bytearray(7 * number % 256 for number in range(600))
+    moved[100:300] = moved[50:250]
+    moved[300:500] = moved[310:510]
+    source = tmp_path / "memory.c"
+    source.write_text(MEMORY, "ascii")
+    assert lab("run", source) == (7, bytes(moved), "")
+    source.write_text(PUTS, "ascii")
+    assert not {"memmove", "memcmp"} & {*Symbols.read(compiled_image(source)).addresses}
 
 
 def test_source_with_start_label_runs(lab: Lab, clang: Compiler, tmp_path: pathlib.Path) -> None:

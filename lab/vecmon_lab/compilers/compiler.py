@@ -78,13 +78,16 @@ class Compiler:
         lacking = "" if self.has_vectors else " (scalar C alone: it has no intrinsics)"
         return f"{self.name} {CHOICES[choice].name}{lacking}"
 
-    def words(self, choice: int, is_answer: bool = False, is_alone: bool = False, named: str = "") -> list[str]:
+    def words(
+        self, choice: int, is_answer: bool = False, is_alone: bool = False, named: str = "", has_memory: bool = False
+    ) -> list[str]:
         """The command that compiles the source in its folder. Raises LabError where there is no such choice.
 
         is_answer: to an exercise, whose loops have vectors where the source asks for them alone
         is_alone: whether the source begins by itself, and nothing is linked to it
         named: the path that debug data names in place of the source's name; the preprocessor reads an assembler source first
             if this ends in .S
+        has_memory: whether memmove and memcmp are linked, too
         """
         source = source_of(choice)
         if self.is_clang:
@@ -97,11 +100,13 @@ class Compiler:
         if is_answer:
             plain = _PLAIN_CLANG if self.is_clang else _PLAIN_GCC
             own += ["-DVECMON_ANSWER", f"-Wl,--entry={FUNCTION}", *plain]
-        places = {str(RUNTIME): "runtime", source: named or source}  # so that an image is the same in each folder
+        # a named source is debugged here, with the runtime's source; any other image is the same in each folder
+        places = {source: named} if named else {str(RUNTIME): "runtime", source: source}
         if named and source == ASSEMBLER_SOURCE:  # whose name a line marker has, since assemblers map only folders
             places = {**places, ".": str(pathlib.PurePath(named).parent)}
         folder = (f"-I{RUNTIME}", *(f"-fdebug-prefix-map={place}={name}" for place, name in places.items()))
-        linked = (source,) if is_alone or source != C_SOURCE else (source, str(RUNTIME / "runtime.c"))
+        runtime = ("runtime.c", *["memory.c"] * has_memory) if source == C_SOURCE and not is_alone else ()
+        linked = (source, *(str(RUNTIME / name) for name in runtime))
         is_preprocessed = source == ASSEMBLER_SOURCE and named.endswith(PREPROCESSED_SUFFIX)
         language = ("-x", "assembler-with-cpp") * is_preprocessed
         return [self.name, *_ALL, *_TOLD, *own, *folder, "-o", IMAGE, *language, *linked]

@@ -19,6 +19,10 @@ MAX_MESSAGES, MESSAGE_LETTERS = 100, 400  # of a compiler's
 MAX_SEGMENTS, MAX_BYTES, MAX_SYMBOLS, MAX_ROWS = 64, 1 << 20, 2000, 20_000
 MAX_STOPS = 64  # addresses of a line or a function
 _CODE = 4  # SHF_EXECINSTR: the section has instructions
+_CONSTRUCTORS = {"SHT_INIT_ARRAY", "SHT_FINI_ARRAY", "SHT_PREINIT_ARRAY"}
+
+NO_CONSTRUCTORS = "the runtime calls no constructors and no destructors: call the function from main"
+NO_THREADS = "the machine has no threads, and so no _Thread_local variables: use a plain variable"
 
 
 class Segment(NamedTuple):
@@ -68,6 +72,17 @@ def image_of(path: pathlib.Path) -> Image:
             raise
         except Exception as error:  # pylint: disable=broad-except  # pyelftools raises what its parts do
             raise ValueError("its headers are damaged: compile it again") from error
+
+
+def missing_start_code(path: pathlib.Path) -> list[str]:
+    """What an image needs before `main` that the runtime doesn't do, a sentence each. Raises OSError, and what pyelftools does."""
+    from elftools.elf.elffile import ELFFile
+
+    with path.open("rb") as file:
+        elf = ELFFile(file)
+        kinds = {section["sh_type"] for section in elf.iter_sections() if section["sh_size"]}
+        has_threads = any(elf.iter_segments("PT_TLS"))
+    return [NO_CONSTRUCTORS] * bool(kinds & _CONSTRUCTORS) + [NO_THREADS] * has_threads
 
 
 def _parts(elf: "ELFFile", symbols: Sequence[tuple[str, int]]) -> Image:

@@ -25,6 +25,7 @@ MODULES = (
     "vecmon_lab/__init__.py",
     *(f"vecmon_lab/compilers/{name}.py" for name in ("__init__", "c_types", "compiler", "debug")),
     *(f"vecmon_lab/compilers/{name}.py" for name in ("failures", "hints", "sandbox_main", "locations", "variables")),
+    "vecmon_lab/compilers/runtime/memory.c",
     "vecmon_lab/compilers/runtime/runtime.c",
     "vecmon_lab/compilers/runtime/vecmon.h",
     *(f"vecmon_lab/guest/{name}.py" for name in ("__init__", "entries", "jumps", "source_lines", "symbols")),

@@ -17,8 +17,8 @@ from collections.abc import Collection, Sequence
 from subprocess import DEVNULL, PIPE, Popen
 from typing import NamedTuple
 
-from .compiler import ASSEMBLER_SOURCE, FUNCTION, IMAGE, OWN_SOURCES, PREPROCESSED_SUFFIX, Compiler, source_of
-from .debug import MESSAGE_LETTERS, MAX_MESSAGES, Image, image_of
+from .compiler import ASSEMBLER_SOURCE, C_SOURCE, FUNCTION, IMAGE, OWN_SOURCES, PREPROCESSED_SUFFIX, Compiler, source_of
+from .debug import MESSAGE_LETTERS, MAX_MESSAGES, Image, image_of, missing_start_code
 from .failures import without_folders
 from .hints import undefined_reference, with_advice
 
@@ -34,6 +34,9 @@ LIMITS = {
 CRASHED = "that is a fault of the compiler, which another form of the source may avoid"
 MEMORY = f"it took more than {MEMORY_BYTES >> 20} MB of memory"
 MARKABLE = re.compile(r"[\w.+-]+", re.ASCII)  # a file's name that may be in a line marker, and in messages
+MISSING_MEMORY = [with_advice(f"undefined symbol: {name}") for name in ("memmove", "memcmp")]
+"""Messages after which the runtime's memory.c is linked, too."""
+
 OWN_BEGIN = re.compile(rb"\bvoid\s+_start\s*\(")  # of a source that has no need of the runtime's
 
 _MESSAGE = re.compile(
@@ -137,9 +140,13 @@ def compiled(compiler: Compiler, choice: int, is_answer: bool, named: str) -> tu
     is_alone = not is_answer and OWN_BEGIN.search(text) is not None
     own = (*OWN_SOURCES, pathlib.PurePath(named).name) if marker else OWN_SOURCES
     messages, image = compile_source(compiler.words(choice, is_answer, is_alone, named), own), None
+    if source == C_SOURCE and not is_alone and any(message.text in MISSING_MEMORY for message in messages):
+        messages = compile_source(compiler.words(choice, is_answer, is_alone, named, has_memory=True), own)
     try:
         if not any(message.is_error for message in messages):
             image = image_of(pathlib.Path(IMAGE))
+            missing = missing_start_code(pathlib.Path(IMAGE)) if source == C_SOURCE and not is_alone else []
+            messages += [Diagnostic(0, 0, True, text) for text in missing]
             if is_answer and image["symbols"].get(FUNCTION) != image["entry"]:
                 messages.append(
                     Diagnostic(0, 0, True, f"the source has no function `{FUNCTION}`, which each case calls")
