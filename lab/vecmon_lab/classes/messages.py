@@ -327,7 +327,9 @@ def source_view(source: SeatSource, seat: Seat, titles: Mapping[str, str]) -> So
         "stands": source.own == seat.written,
         "versions": cast(list[VersionView], versions),
     }
-    return view | {"own_program": bool(source.free_program.text)} if source.has_free_program else view
+    if source.has_free_program:
+        view["own_program"] = bool(source.free_program.text)
+    return view
 
 
 def shown(seat: Seat) -> State:
