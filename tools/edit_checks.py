@@ -20,14 +20,15 @@ import signal
 import subprocess
 import sys
 import tempfile
-from collections.abc import Callable, Mapping
+from collections.abc import Callable, Mapping, Sequence
 from dataclasses import dataclass
 from enum import Enum
 from pathlib import Path
 from types import ModuleType
 from typing import Any, TypeVar
 
-from edit_plans import Edit, joined
+from edit_plans import Edit, Function, with_bodies
+from edit_stubs import stub_body
 
 Found = TypeVar("Found")
 COPY = "try-edits-"  # how the names of the copies' folders begin
@@ -87,16 +88,20 @@ class Prover:
         self.rtlib.guarded()  # sets signal handlers, which only the main thread can
         self.crates = {str(it.name): it for it in self.rtlib.crates_below(os.getcwd())}
 
-    def check(self, edits: list[Edit], kept: str | None) -> Check:
+    def check(self, edits: list[Edit], kept: str | None, cut: Sequence[Function] = ()) -> Check:
         """Check the functions of a crate's edits in a copy that has them all. What the prover proves of others is kept in a folder, if one
-        is given. A run that the system ended, most likely for memory, is tried a second time."""
+        is given. The functions in `cut` have no body and no proof of their own in the copy. A run that the system ended, most likely for
+        memory, is tried a second time."""
         crate = self.crates[edits[0].crate]
         with tempfile.TemporaryDirectory(prefix=COPY) as copy:
             for part in self.rtlib.PARTS:
                 if os.path.isdir(f"{crate.folder}/{part}"):
                     shutil.copytree(f"{crate.folder}/{part}", f"{copy}/{part}")
-            for path, text in joined(edits).items():
+            bodies = [(it.function, it.new_body) for it in edits if it.function]
+            for path, text in with_bodies(bodies + [(it, stub_body(it)) for it in cut]).items():
                 Path(copy, path).write_text(text, encoding="utf-8")
+            for function in cut:
+                shutil.rmtree(Path(copy, function.proof), ignore_errors=True)
             Path(copy, TITLES).write_text("".join(f"{it.path.stem}\n" for it in edits), encoding="utf-8")
             arguments = ["check", *crate.words(["--jobs", "1"], keeps=False)]
             arguments += [it for edit in edits if edit.function for it in ("--only", edit.function.name)]
@@ -148,7 +153,7 @@ def is_own(edit: Edit, file: str, line: int) -> bool:
     """Return whether a place belongs to an edit's function: to its lines in `src`, or to the files of its own proof."""
     function = edit.function
     assert function
-    if file.startswith(f"proofs/{function.name.replace('::', '/')}/"):
+    if file.startswith(f"{function.proof}/"):
         return True
     first, last = function.lines
     return function.item.path == Path("crates", edit.crate, file) and first <= line <= last

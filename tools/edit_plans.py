@@ -29,6 +29,11 @@ class Function:
         """Return the whole text of its file."""
         return self.item.path.read_text(encoding="utf-8")
 
+    @property
+    def proof(self) -> str:
+        """Return the folder of its own proof, in the crate."""
+        return f"proofs/{self.name.replace('::', '/')}"
+
 
 @dataclasses.dataclass(frozen=True)
 class Edit:
@@ -191,14 +196,18 @@ def are_apart(one: Edit, other: Edit) -> bool:
 
 def joined(edits: list[Edit]) -> dict[str, str]:
     """Return the texts of files with all these edits, each of which changes the body of another function."""
-    bodies: defaultdict[str, list[tuple[int, int, str]]] = defaultdict(list)
+    return with_bodies([(it.function, it.new_body) for it in edits if it.function])
+
+
+def with_bodies(bodies: list[tuple[Function, str]]) -> dict[str, str]:
+    """Return the texts of files in which these functions have other bodies, by their path in the crate."""
+    found: defaultdict[Path, list[tuple[int, int, str]]] = defaultdict(list)
     texts: dict[str, str] = {}
-    for edit in edits:
-        assert edit.function
-        (file,) = edit.texts
-        texts[file] = edit.function.text
-        bodies[file].append((*edit.function.body, edit.new_body))
-    for file, those in bodies.items():
+    for function, body in bodies:
+        found[function.item.path].append((*function.body, body))
+    for path, those in found.items():
+        text = path.read_text(encoding="utf-8")
         for begin, end, body in sorted(those, reverse=True):
-            texts[file] = texts[file][:begin] + body + texts[file][end:]
+            text = text[:begin] + body + text[end:]
+        texts[str(path.relative_to(*path.parts[:2]))] = text
     return texts

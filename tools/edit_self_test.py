@@ -1,7 +1,7 @@
 """Tries edits of a small example with the prover: `tools/try_edits --self-test`.
 
-A wrong edit of a function must be refused. A harmless edit of its caller in the same copy, whose proof the prover then lacks, mustn't. The
-test isn't run again while it passed with the same kit and the same tools.
+Two wrong edits must be refused: of a function, and of a caller of another one, which has no body in the copy. A harmless edit of a caller of
+both, whose proof the prover then lacks, mustn't. The test isn't run again while it passed with the same kit and the same tools.
 """
 
 import contextlib
@@ -16,7 +16,7 @@ from tried_edits import TriedEdits
 
 CRATE = "sums"
 SOURCE = """\
-// Two functions, one of which calls the other.
+// Functions, two of which call others.
 #![tactic(auto)]
 
 ghost use Rattle.std.specs.Prelude.{◌≡◌, ◌≤◌, ◌+◌};
@@ -32,18 +32,33 @@ pub fn next_but_one(number: u8) -> u8
     requires { number ≤ 199 }
     ensures { result ≡ number + 2 }
 {
-    next(next(number))
+    next(next(same(number)))
+}
+
+pub fn same(number: u8) -> u8
+    ensures { result ≡ number }
+{
+    number
+}
+
+pub fn previous(number: u8) -> u8
+    requires { 1 ≤ number }
+    ensures { result + 1 ≡ number }
+{
+    same(number) - 1
 }
 """
 WRONG = "file: src/lib.rt\nold:     number + 1\nnew:     number + 3\n"
-HARMLESS = "file: src/lib.rt\nold:     next(next(number))\nnew:     next(next(number + 0))\n"
-EXPECTED = {"harmless": Outcome.NOT_REFUSED, "wrong": Outcome.REFUSED}
+WRONG_CALLER = "file: src/lib.rt\nold:     same(number) - 1\nnew:     same(number)\n"
+HARMLESS = "file: src/lib.rt\nold:     next(next(same(number)))\nnew:     next(next(same(number + 0)))\n"
+EXPECTED = {"harmless": Outcome.NOT_REFUSED, "wrong": Outcome.REFUSED, "wrong-caller": Outcome.REFUSED}
 
 
 def write_example(top: Path) -> list[Path]:
     """Write the example's crate. Returns the files of its edits."""
     folder = top / "crates" / CRATE
-    files = {"src/lib.rt": SOURCE, "edits/harmless.edit": HARMLESS, "edits/wrong.edit": WRONG}
+    edits = {"harmless": HARMLESS, "wrong": WRONG, "wrong-caller": WRONG_CALLER}
+    files = {"src/lib.rt": SOURCE} | {f"edits/{name}.edit": text for name, text in edits.items()}
     for path, text in files.items():
         (folder / path).parent.mkdir(parents=True, exist_ok=True)
         (folder / path).write_text(text, encoding="utf-8")
@@ -71,7 +86,7 @@ def self_test(kit: str) -> int:
 
 def try_example(prover: Prover, paths: list[Path]) -> bool:
     """Try the example's edits without stored results. Returns whether each came to what it must."""
-    trials = Trials(prover, TriedEdits(prover, Path("tried")), Options()).of_crate(CRATE, paths)
+    trials = Trials(prover, TriedEdits(prover, Path("tried")), Options(many=1)).of_crate(CRATE, paths)
     for it in trials:
         expected = EXPECTED[it.edit.path.stem].value
         print(f"{it.edit.title}: {it.result.outcome.value}, expected: {expected}: {it.result.message[:200]}")

@@ -6,7 +6,8 @@ from dataclasses import dataclass
 from pathlib import Path
 
 from edit_checks import Check, Outcome, Prover, Result, refusal
-from edit_plans import Edit, batches, read_edit
+from edit_plans import Edit, Function, batches, read_edit
+from edit_stubs import MANY, stubs
 from tried_edits import TriedEdits
 
 
@@ -18,6 +19,7 @@ class Options:
     apart: bool = False
     whole: bool = False
     anew: bool = False
+    many: int = MANY  # of tools/edit_stubs.py
 
 
 @dataclass(frozen=True)
@@ -63,26 +65,38 @@ class Trials:
             yield Trial(edit, result)
 
     def _trials_by_function(self, lists: list[list[Edit]]) -> Iterable[Trial]:
-        """Try each list of edits in one check, and those that aren't refused there alone. Yields the trials of refused edits."""
+        """Try each list of edits in one check or more. Yields the trials of refused edits."""
         with tempfile.TemporaryDirectory(prefix="try-edits-kept-") as room:
             kept = room if len(lists) > 1 else None  # one check needs nothing of an earlier one
             for edits in lists:
-                refused = self._refused(edits, kept)
-                if len(edits) > 1:
-                    refused |= self._refused_alone([it for it in edits if it.path not in refused], kept)
+                refused = self._refused_of(edits, kept)
                 yield from (Trial(it, refused[it.path]) for it in edits if it.path in refused)
+
+    def _refused_of(self, edits: list[Edit], kept: str | None) -> dict[Path, Result]:
+        """Try edits together without the bodies that they don't need, those that aren't refused so with all bodies, and then each alone."""
+        refused, left = dict[Path, Result](), edits
+        if cut := stubs(edits, self.options.many):
+            refused = self._refused(edits, kept, cut)
+            left = [it for it in edits if it.path not in refused]
+        if left:
+            refused |= self._refused(left, kept, [])
+        if len(left) > 1:
+            refused |= self._refused_alone([it for it in left if it.path not in refused], kept)
+        return refused
 
     def _refused_alone(self, edits: list[Edit], kept: str | None) -> dict[Path, Result]:
         """Try each edit in a check of its own: in one check with others, a limit or an error of another one may hide its refusal."""
         refused: dict[Path, Result] = {}
         for edit in edits:
-            refused |= self._refused([edit], kept)
+            refused |= self._refused([edit], kept, [])
         return refused
 
-    def _refused(self, edits: list[Edit], kept: str | None) -> dict[Path, Result]:
-        """Try edits of one crate in one check. Returns the results of those that are refused, by their files."""
-        check = self.prover.check(edits, kept)
-        print(f"-- {edits[0].crate}: {summary(check)}: {', '.join(it.path.stem for it in edits)}", flush=True)
+    def _refused(self, edits: list[Edit], kept: str | None, cut: list[Function]) -> dict[Path, Result]:
+        """Try edits of one crate in one check, without the bodies of the functions in `cut`. Returns the results of those that are refused,
+        by their files."""
+        check = self.prover.check(edits, kept, cut)
+        without = f" without the bodies of {', '.join(it.name for it in cut)}" if cut else ""
+        print(f"-- {edits[0].crate}: {summary(check)}{without}: {', '.join(it.path.stem for it in edits)}", flush=True)
         refused: dict[Path, Result] = {}
         for edit in edits:
             if edit.function and (message := refusal(edit, check)):

@@ -16,7 +16,7 @@ from edit_plans import Edit
 from linked_kit import cache
 
 TOOLS = Path(__file__).resolve().parent
-JUDGES = ("edit_plans.py", "edit_checks.py", "edit_trials.py", "edit_clauses.py", "definitions.py")
+JUDGES = ("edit_plans.py", "edit_checks.py", "edit_stubs.py", "edit_trials.py", "edit_clauses.py", "definitions.py")
 
 
 class TriedEdits:

@@ -12,6 +12,7 @@ import shutil
 import stat
 import subprocess
 import types
+from collections.abc import Sequence
 from typing import Any
 
 import pytest
@@ -22,8 +23,9 @@ import edit_libraries
 import edit_self_test
 import gate_times
 from edit_checks import Check, Outcome, Prover, Result, refusal
-from edit_plans import Edit, batches, joined, name_of_impl, read_edit
+from edit_plans import Edit, Function, batches, joined, name_of_impl, read_edit, with_bodies
 from edit_self_test import CRATE, EXPECTED, write_example
+from edit_stubs import stub_body, stubs
 from edit_trials import Options, Trial, Trials
 from support.places import TOP
 from tried_edits import TriedEdits
@@ -33,6 +35,12 @@ OPEN = "note: src/lib.rt:6:1: it is not proved that what the function ensures ho
 NO_PROOF = "fn sums::next: no proof: expected answers in ./proofs/next/Answers.antt; `search` did not prove `returns`"
 CALLS = "fn sums::next_but_one: no proof: it calls `sums::next`, which is not proved"
 BOTH = Check(1, f"{OPEN}\n{NO_PROOF}\n{CALLS}\nonly=2 proved=0\n", 16.9, 653)
+OPEN_CALLER = "note: src/lib.rt:26:1: it is not proved that what the function ensures holds when it returns (`returns`)"
+NO_PROOF_OF_CALLER = (
+    "fn sums::previous: no proof: expected answers in ./proofs/previous/Answers.antt; `search` did not prove `returns`; "
+    "it calls `sums::same`, which is not proved"
+)
+ALL = Check(1, f"{OPEN}\n{NO_PROOF}\n{CALLS}\n{OPEN_CALLER}\n{NO_PROOF_OF_CALLER}\nonly=4 proved=0\n", 17.6, 672)
 HARMLESS = Check(0, "fn sums::next: proved\nfn sums::next_but_one: proved\nonly=2 proved=2\n", 11.0, 637)
 BAD = Check(1, "src/lib.rt:10:5: error[unknown-name]: cannot find value `nothing` in this scope\n", 0.5, 100)
 
@@ -75,10 +83,12 @@ impl Twice for Counter {
 
 @pytest.fixture
 def example(tmp_path: pathlib.Path, monkeypatch: pytest.MonkeyPatch) -> list[pathlib.Path]:
-    """A folder with the example of the self-test, in which the test runs. Its edits, first the harmless one."""
+    """A folder with the example of the self-test, in which the test runs. Two of its edits: the harmless one, and a wrong one."""
     monkeypatch.chdir(tmp_path)
     edit_clauses.items.cache_clear()
-    return write_example(tmp_path)
+    *found, caller = write_example(tmp_path)
+    caller.unlink()
+    return found
 
 
 @pytest.fixture
@@ -106,9 +116,9 @@ class FakeProver(Prover):
         self.rt = types.ModuleType("rt")
         setattr(self.rt, "own_sum", lambda crate: pathlib.Path("crates.txt").read_text(encoding="utf-8"))
 
-    def check(self, edits: list[Edit], kept: str | None) -> Check:
+    def check(self, edits: list[Edit], kept: str | None, cut: Sequence[Function] = ()) -> Check:
         name = " ".join(it.path.stem for it in edits)
-        self.calls.append(name)
+        self.calls.append(name + "".join(f" without {it.name}" for it in cut))
         return self.checks[name]
 
     def check_whole(self, edit: Edit) -> Result:
@@ -184,6 +194,29 @@ def test_edits_of_different_functions_share_a_check(source: pathlib.Path) -> Non
     assert joined([callee, caller]) == {"src/lib.rt": by_hand}
 
 
+def test_functions_that_only_edited_ones_call_have_no_body(source: pathlib.Path) -> None:
+    caller = edit_with(("next(next(number))", "next(number)"), name="caller")
+    callee = edit_with(("number + step", "number + 3"), name="callee")
+    (cut,) = stubs([caller], many=2)  # `next` and the constant that it uses
+    assert cut.name == "next" and stubs([caller], many=3) == stubs([caller, callee], many=1) == []
+    by_hand = "{\n    unreachable!()\n\n}"  # as many lines as before
+    texts = with_bodies([(cut, stub_body(cut))])
+    assert texts == {"src/lib.rt": SOURCE.replace("{\n    let step = STEP;\n    number + step\n}", by_hand)}
+    method = edit_with(("2 * self.count", "self.count")).function  # whose head has the opening brace
+    assert method
+    by_hand = SOURCE.replace("        2 * self.count\n    }", "    unreachable!()\n}")
+    assert with_bodies([(method, stub_body(method))]) == {"src/lib.rt": by_hand}
+    source.write_text(SOURCE.replace("pub fn next(", "pub const fn next("), encoding="utf-8")
+    edit_clauses.items.cache_clear()
+    assert stubs([edit_with(("next(next(number))", "next(number)"))], many=1) == []
+
+
+def test_edit_that_is_not_refused_without_other_bodies_is_tried_with_them(example: list[pathlib.Path]) -> None:
+    prover = FakeProver({"harmless": Check(1, f"{CALLS}\nonly=1 proved=0\n", 1.0, 1)})
+    tried(prover, example[:1], Options(many=1))
+    assert prover.calls == ["harmless without next without same", "harmless", "whole harmless"]
+
+
 def test_harmless_edit_of_a_caller_of_a_refused_function_is_not_refused(example: list[pathlib.Path]) -> None:
     harmless, wrong = (read_edit(CRATE, it) for it in example)
     assert refusal(wrong, BOTH) == OPEN
@@ -217,7 +250,7 @@ def test_error_in_the_own_proof_counts(example: list[pathlib.Path]) -> None:
 def test_edit_that_is_not_refused_is_tried_alone_and_then_whole(example: list[pathlib.Path]) -> None:
     prover = FakeProver({"harmless wrong": BOTH, "harmless": HARMLESS})
     trials = tried(prover, example)
-    assert {it.edit.path.stem: it.result.outcome for it in trials} == EXPECTED
+    assert [it.result.outcome for it in trials] == [Outcome.NOT_REFUSED, Outcome.REFUSED]
     assert prover.calls == ["harmless wrong", "harmless", "whole harmless"]
     assert trials[1].result.message == f"next: {OPEN}"
 
@@ -303,6 +336,8 @@ def test_times_of_checks_name_their_edits(tmp_path: pathlib.Path) -> None:
     (tmp_path / "edits-of-this-copy").write_text("harmless\nwrong\n", encoding="utf-8")
     assert gate_times.edits_in(str(tmp_path), CRATE) == "harmless, wrong"
     assert gate_times.kind_of(["check"], "/tmp/try-edits-abc") == "edits"
+    build = ["build", "--crate-name", CRATE, "--crate-checked", "checked", "--backend"]
+    assert [gate_times.kind_of([*build, it], "/") for it in ("llvm", "rattle")] == ["LLVM", "Rattle's compiler"]
 
 
 def command(*arguments: str) -> tuple[int, str]:
@@ -354,12 +389,15 @@ def test_counts_and_status(example: list[pathlib.Path], capsys: pytest.CaptureFi
 def test_example_that_passes_wrongly_is_noticed(
     example: list[pathlib.Path], capsys: pytest.CaptureFixture[str]
 ) -> None:
-    assert edit_self_test.try_example(FakeProver({"harmless wrong": BOTH, "harmless": HARMLESS}), example)
+    paths, together = write_example(pathlib.Path.cwd()), "harmless wrong wrong-caller"
+    prover = FakeProver({together: ALL, "harmless": HARMLESS})
+    assert edit_self_test.try_example(prover, paths)
+    assert prover.calls == [f"{together} without same", "harmless", "whole harmless"]
     shutil.rmtree("tried")
     careless = Check(
-        1, f"{OPEN}\n{NO_PROOF}\n{OPEN.replace(':6:', ':13:')}\n{NO_PROOF.replace('next:', 'next_but_one:')}\n", 1, 1
+        1, f"{ALL.text}{OPEN.replace(':6:', ':13:')}\n{NO_PROOF.replace('next:', 'next_but_one:')}\n", 1, 1
     )
-    assert not edit_self_test.try_example(FakeProver({"harmless wrong": careless}), example)
+    assert not edit_self_test.try_example(FakeProver({together: careless}), paths)
     assert "sums/harmless: refused, expected: NOT REFUSED: " in capsys.readouterr().out
 
 
