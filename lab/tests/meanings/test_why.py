@@ -8,6 +8,7 @@ from collections.abc import Iterator
 import pytest
 
 from support.console import shown
+from support.golden_equations import Checker, State
 from vecmon_lab import LabError
 from vecmon_lab.exercises.check import script_before
 from vecmon_lab.exercises.exercise import OURS, read_exercise
@@ -129,10 +130,24 @@ def unexplained(before: Registers, stepper: Stepper, retired: Retired) -> Iterat
             found, bits = explanation.why(f"v{register}", element), (1 << operand.eew) - 1
             if found.value != value >> element * operand.eew & bits or not found.text.startswith("v"):
                 yield f"{retired.text}: {found.text}"
+    checker = Checker(state_after(before, stepper, retired), explanation)
+    yield from (problem for place in checker.places() for problem in checker.problems(*place, Counter()))
     if operand.place != "vd":
         number = retired.word >> 7 & 31
         if explanation.why(f"x{number}").value != stepper.registers.x[number]:
             yield f"{retired.text}: {explanation.why(f'x{number}').text}"
+
+
+def state_after(before: Registers, stepper: Stepper, retired: Retired) -> State:
+    """The state before a stepped instruction, and the machine's results."""
+    guest, registers = stepper.guest, stepper.registers
+
+    def read(address: int, length: int) -> bytes | None:
+        return guest.peek(address, length)  # no load has changed it
+
+    has_ones = guest.session.policy[guest.user] == "ones"
+    state = Before(retired.pc, retired.word, before.x, before.control, bytes(before.v), has_ones, read)
+    return State(state, bytes(registers.v), registers.x, lambda address: guest.peek(address, 1)[0])
 
 
 def test_every_element_of_tour_and_course_is_explained(program: pathlib.Path) -> None:
