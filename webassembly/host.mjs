@@ -55,6 +55,12 @@ const host = {
       new BigUint64Array(memory.buffer, numbers, 4).set([found.dev, found.ino, found.mode, found.size]);
       return 0;
     }),
+  link: (address, target, size) =>
+    attempt(() => {
+      const found = fs.readlinkSync(pathAt(address), { encoding: "buffer" }).subarray(0, size);
+      bytes(target, found.length).set(found);
+      return found.length;
+    }),
 };
 
 const module = new WebAssembly.Module(fs.readFileSync(file));

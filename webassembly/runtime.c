@@ -19,6 +19,7 @@ HOST(write) int32_t host_write(int32_t file, const uint8_t *bytes, uint32_t size
 HOST(close) int32_t host_close(int32_t file);
 HOST(seek) int64_t host_seek(int32_t file, int64_t offset, int32_t whence);
 HOST(stat) int32_t host_stat(const uint8_t *path, uint64_t *numbers); // device, file number, mode and size
+HOST(link) int32_t host_link(const uint8_t *path, uint8_t *target, uint32_t size);
 
 enum { ALIGNMENT = 16, HEADER = 16, PAGE = 65536, MOST_AT_ONCE = 1 << 30 };
 enum { NONE = -1, TOO_LONG = -2 }; // instead of the length of an argument
@@ -191,6 +192,11 @@ int32_t statx(int32_t folder, const uint8_t *path, int32_t flags, int32_t mask, 
     found->mode = (uint16_t)numbers[2];
     found->size = numbers[3];
     return 0;
+}
+
+int64_t readlink(const uint8_t *path, uint8_t *target, int64_t size)
+{
+    return result(host_link(path, target, at_once(size)));
 }
 
 int64_t __sysv_signal(int32_t number, int64_t handler)

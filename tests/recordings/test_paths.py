@@ -61,6 +61,27 @@ def test_two_outputs_in_one_file_are_refused(
     assert (tmp_path / "file").read_text() == "old"
 
 
+@pytest.mark.parametrize("first, second", PAIRS)
+def test_two_outputs_in_one_new_file_are_refused(tmp_path: pathlib.Path, first: str, second: str) -> None:
+    """By another path, through a folder, and by links to the file that doesn't exist; no file is made."""
+    (tmp_path / "folder").mkdir()
+    links = {"up": "folder/..", "link": "new", "chain": str(tmp_path / "link"), "folder/far": "../link"}
+    for link, target in links.items():
+        (tmp_path / link).symlink_to(target)
+    for path in ("./new", f"{tmp_path}/new", "folder/../new", "up/new", "link", "chain", "folder/far"):
+        assert run(tmp_path, **{first[2:]: "new", second[2:]: path}) == (2, SAME.format(first, second)), path
+        assert run(tmp_path, **{first[2:]: path, second[2:]: "link"}) == (2, SAME.format(first, second)), path
+    assert {str(file.relative_to(tmp_path)) for file in tmp_path.rglob("*")} == {"folder", *links, *INPUTS}
+
+
+def test_new_files_of_one_name_in_two_folders_are_accepted(tmp_path: pathlib.Path) -> None:
+    """So is a link to a missing file next to another missing file."""
+    (tmp_path / "folder").mkdir()
+    (tmp_path / "link").symlink_to("folder/new")
+    assert run(tmp_path, counts="new", changes="link", log="folder/newer") == (0, "")
+    assert all((tmp_path / name).stat().st_size for name in ("new", "folder/new", "folder/newer"))
+
+
 @pytest.mark.parametrize("option", OUTPUTS)
 @pytest.mark.parametrize("name", INPUTS)
 def test_output_equal_to_input_is_refused(tmp_path: pathlib.Path, option: str, name: str) -> None:

@@ -1,5 +1,5 @@
 //! Log of a run.
-ghost use Rattle.std.specs.Prelude.{ℕ, ◌≡◌, ◌+◌, ◌<◌, ◌≤◌, ◌∷◌, ◌&&◌, [], Some, true, length, IfOk, OnErr, OnOk};
+ghost use Rattle.std.specs.Prelude.{ℕ, ◌≡◌, ◌+◌, ◌<◌, ◌≤◌, ◌∷◌, ◌&&◌, [], Some, true, length, OnErr, OnOk};
 ghost use Rattle.recording.specs.Machines.{state_of};
 ghost use Rattle.recording.specs.Runs.{is_counted, word_of};
 ghost use Rattle.rv_model.specs.declared.memory.Access.TheVariants.{Fetch};
@@ -21,7 +21,6 @@ use devices::{Sink, write_all};
 use recording::{RecordFault, Recorder, SingleUserMachine, is_counted, word_at};
 use rv_decode::decode;
 use rv_model::StepEnd;
-use std::alloc::{AllocError, Global};
 use vector_memory::UserBytes;
 
 /// Range of the numbers of instructions that have a line, both ends included. The first instruction has number 1.
@@ -53,20 +52,20 @@ pub struct Log<K> {
 }
 
 impl<K: Sink + Drop> Log<K> {
-    /// Create a log before the first instruction. It allocates all memory that the run needs; return `AllocError` if that fails.
-    pub fn new(alloc: Global, sink: K, window: Window) -> Result<Self, AllocError>
-        ensures sink { IfOk result (λ log. log.sink ≡ sink) }
-        ensures window { IfOk result (λ log. log.window ≡ window) }
-        ensures number { IfOk result (λ log. log.number ≡ 0) }
-        ensures text { IfOk result (λ log. log.text ≡ []) }
+    /// Create a log before the first instruction, which buffers its lines in a text, and writes them to a sink. A run allocates no memory.
+    pub fn new(sink: K, text: Text, window: Window) -> Self
+        ensures sink { result.sink ≡ sink }
+        ensures window { result.window ≡ window }
+        ensures number { result.number ≡ 0 }
+        ensures text { result.text ≡ text }
     {
-        Ok(Log {
+        Log {
             sink,
             window,
             number: 0,
-            text: Text::new(alloc)?,
+            text,
             found: PreState::new(),
-        })
+        }
     }
 }
 

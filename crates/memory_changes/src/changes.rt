@@ -10,6 +10,23 @@ use rv_model::StepEnd;
 use std::alloc::{AllocError, Allocator, Global};
 use vector_memory::UserBytes;
 
+/// Watched places, with memory for their bytes before an instruction.
+#[derive(Drop)]
+pub struct WatchedPlaces<A: Allocator = Global> {
+    pub places: Vec<Place, A>,
+    before: Vec<u8, A>,
+}
+
+impl<A: Allocator> WatchedPlaces<A> {
+    /// Allocate all memory that a run needs to watch these places; return `AllocError` if that fails.
+    pub fn new(alloc: A, places: Vec<Place, A>) -> Result<Self, AllocError>
+        ensures { IfOk result (λ watched. watched.places ≡ places) }
+    {
+        let before = Vec::with_capacity(alloc, MAX_LENGTH.saturating_mul(places.len()))?;
+        Ok(WatchedPlaces { places, before })
+    }
+}
+
 /// Recorder that writes a line for each change of a place, instruction by instruction. `ticks` counts the ticks of all recorded
 /// instructions.
 #[derive(Drop)]
@@ -23,22 +40,22 @@ pub struct Changes<K, A: Allocator = Global> {
 }
 
 impl<K: Sink + Drop, A: Allocator> Changes<K, A> {
-    /// Create a recorder before the first instruction. It allocates all memory that the run needs; return `AllocError` if that fails.
-    pub fn new(alloc: A, sink: K, places: Vec<Place, A>) -> Result<Self, AllocError>
-        ensures sink { IfOk result (λ changes. changes.sink ≡ sink) }
-        ensures places { IfOk result (λ changes. changes.places ≡ places) }
-        ensures number { IfOk result (λ changes. changes.number ≡ 0) }
-        ensures ticks { IfOk result (λ changes. changes.ticks ≡ 0) }
+    /// Create a recorder before the first instruction, which writes to a sink. A run allocates no memory.
+    pub fn new(sink: K, watched: WatchedPlaces<A>) -> Self
+        ensures sink { result.sink ≡ sink }
+        ensures places { result.places ≡ watched.places }
+        ensures number { result.number ≡ 0 }
+        ensures ticks { result.ticks ≡ 0 }
     {
-        let before = Vec::with_capacity(alloc, MAX_LENGTH.saturating_mul(places.len()))?;
-        Ok(Changes {
+        let WatchedPlaces { places, before } = watched;
+        Changes {
             sink,
             places,
             number: 0,
             ticks: 0,
             pc: 0,
             before,
-        })
+        }
     }
 }
 

@@ -7,7 +7,7 @@ mod lines;
 mod place;
 mod reading;
 
-pub use changes::Changes;
+pub use changes::{Changes, WatchedPlaces};
 pub use laws::lines_of_each;
 pub use place::{MAX_LENGTH, Place};
 pub use reading::has_memory;

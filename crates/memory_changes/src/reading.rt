@@ -45,7 +45,7 @@ fn add_bytes<M: UserBytes, A: Allocator>(
 {
     let part = &mut buffer[..place.len];
     read_bytes(memory, place.addr, part)?;
-    // `Changes::new` reserves room for all places, so this never fails.
+    // `WatchedPlaces::new` reserves room for all places, so this never fails.
     match bytes.extend_from_slice(part) {
         Ok(()) => Ok(()),
         Err(_) => Err(RecordFault::Unmapped),

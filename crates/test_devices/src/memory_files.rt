@@ -103,7 +103,7 @@ impl Outputs for MemoryFiles {
         }
     }
 
-    fn is_same_file(&self, first: &str, second: &str) -> bool {
-        first == second
+    fn is_same_file(&self, _alloc: Global, first: &str, second: &str) -> Result<bool, AllocError> {
+        Ok(first == second)
     }
 }

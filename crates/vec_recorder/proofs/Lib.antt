@@ -1,4 +1,5 @@
 mod CommandLineLaws
+mod KeyOrderLaws
 mod MemoryArgumentLaws
 mod RunLaws
 mod StopLaws

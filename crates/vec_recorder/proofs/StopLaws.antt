@@ -6,8 +6,8 @@ use Rattle.recording.specs.Runs.{TakesFirst, output_of, ran}
 use Rattle.recording.specs.declared.fault.RecordFault.{RecordFault}
 use Rattle.recording.specs.declared.fault.RecordFault.TheVariants.{TableFull, Unmapped, Write}
 use Rattle.rv_model.specs.step.Hart.{HartState}
-use Rattle.vec_recorder.specs.Recorded.{IsStopped}
-use Rattle.vec_recorder.specs.Statuses.{HasCause, IsRunFault, program_status, record_fault}
+use Rattle.vec_recorder.specs.Recorded.{IsStopped, IsUnstarted}
+use Rattle.vec_recorder.specs.Statuses.{HasCause, program_status, record_fault}
 use Rattle.vec_recorder.specs.declared.program_fault.ProgramFault.{ProgramFault}
 use Rattle.vec_recorder.specs.declared.program_fault.ProgramFault.TheVariants.{NoMemory}
 
@@ -20,90 +20,80 @@ pub whole_first : {K : Type 0} (took : K → List ℕ → K → Type 0) (ticks :
 whole_first took ticks s before after whole =
     record { first = flat_map output_of (ran ticks s).found; rest = []; are_first = append-nil (flat_map output_of (ran ticks s).found); took = whole }
 
+not_early : (fault : ProgramFault) → program_status fault ≡ 5 → (program_status fault ≡ 2) ⊎ ((program_status fault ≡ 4) ⊎ (program_status fault ≡ 6)) → ⊥
+not_early fault five status = elim status [
+  | inl two ↦ omega (arith, five, two)
+  | inr other ↦ elim other [ inl four ↦ omega (arith, five, four) | inr six ↦ omega (arith, five, six) ]
+]
+
 module _ {K : Type 0} (took : K → List ℕ → K → Type 0) (ticks : ℕ) (s : HartState) (Cause : Type 0) where
   -- before the first instruction
-  pub unstarted : (k : K) (fault : ProgramFault) → took k [] k → IsRunFault fault → (program_status fault ≡ 5 → Cause) → IsStopped took ticks s k k Cause fault
-  unstarted k fault none status cause =
-      record {
-        status = status;
-        first = record { first = []; rest = flat_map output_of (ran ticks s).found; are_first = refl; took = none };
-        nothing = λ _. none;
-        cause = cause;
-      }
+  pub unstarted : (k : K) (fault : ProgramFault) → took k [] k → program_status fault ≡ 5 → Cause → IsStopped took ticks s k k Cause fault
+  unstarted k fault none five cause =
+      record { status = five; first = record { first = []; rest = flat_map output_of (ran ticks s).found; are_first = refl; took = none }; cause = cause }
 
   -- after the last instruction
   pub stopped_late : (before after : K) (fault : ProgramFault) → took before (flat_map output_of (ran ticks s).found) after → program_status fault ≡ 5 → Cause
       → IsStopped took ticks s before after Cause fault
   stopped_late before after fault whole five cause =
       record {
-        status = inl five;
+        status = five;
         first = record { first = flat_map output_of (ran ticks s).found; rest = []; are_first = append-nil (flat_map output_of (ran ticks s).found); took = whole };
-        nothing = λ six. absurd (omega (arith, five, six));
-        cause = λ _. cause;
+        cause = cause;
       }
-
-  stopped_run : (before after : K) (stopped : RecordFault) (fault : ProgramFault) → TakesFirst took before (flat_map output_of (ran ticks s).found) after → Cause
-      → fault ≡ record_fault stopped → IsStopped took ticks s before after Cause fault
-  stopped_run before after stopped fault first cause is =
-      let five : program_status fault ≡ 5 = ap program_status is ∙ stopped_status stopped in
-      record { status = inl five; first = first; nothing = λ six. absurd (omega (arith, five, six)); cause = λ _. cause }
 
   -- while the recorder or the output failed
   pub stopped_by : {T : Type 0} (before after : K) (stopped : RecordFault) (r : Result T ProgramFault) → TakesFirst took before (flat_map output_of (ran ticks s).found) after → Cause
       → IsErrAnd r (λ fault. fault ≡ record_fault stopped) → IfErr r (IsStopped took ticks s before after Cause)
   stopped_by before after stopped (Ok x) first cause is = tt
-  stopped_by before after stopped (Err fault) first cause is = stopped_run before after stopped fault first cause is
+  stopped_by before after stopped (Err fault) first cause is = record { status = ap program_status is ∙ stopped_status stopped; first = first; cause = cause }
 
   -- a fault that is passed on, for the reason of the caller
   pub passed_on : {T Old : Type 0} (before after : K) {fault : ProgramFault} (r : Result T ProgramFault) → (Old → Cause) → IsStopped took ticks s before after Old fault
       → IsErrAnd r (λ e. e ≡ fault) → IfErr r (IsStopped took ticks s before after Cause)
   passed_on before after (Ok x) wider stopped is = tt
-  passed_on {T} {Old} before after {fault} (Err e) wider stopped is =
-      let of : IsStopped took ticks s before after Old e = subst (IsStopped took ticks s before after Old) (sym is) stopped in
-      record { status = of.status; first = of.first; nothing = of.nothing; cause = λ five. wider (of.cause five) }
+  passed_on before after (Err e) wider stopped is = record { status = ap program_status is ∙ stopped.status; first = stopped.first; cause = wider stopped.cause }
 
   -- a result that is passed on, for the reason of the caller
   pub widened : {T Old : Type 0} (before after : K) (r : Result T ProgramFault) → (Old → Cause) → IfErr r (IsStopped took ticks s before after Old)
       → IfErr r (IsStopped took ticks s before after Cause)
   widened before after (Ok x) wider of = tt
-  widened before after (Err e) wider of = record { status = of.status; first = of.first; nothing = of.nothing; cause = λ five. wider (of.cause five) }
-
-  -- no memory before the first instruction
-  pub unstarted_by : {T : Type 0} (k : K) (r : Result T ProgramFault) → took k [] k → IsErrAnd r (λ e. e ≡ NoMemory) → IfErr r (IsStopped took ticks s k k Cause)
-  unstarted_by k (Ok x) none is = tt
-  unstarted_by k (Err e) none is =
-      let six : program_status e ≡ 6 = ap program_status is in unstarted k e none (inr six) (λ five. absurd (omega (arith, five, six)))
-
-  not_below : (before after : K) (fault : ProgramFault) (n : ℕ) → IsStopped took ticks s before after Cause fault → n < 5 → program_status fault ≡ n → ⊥
-  not_below before after fault n stopped low is =
-      elim stopped.status [
-        | inl five ↦ omega (arith, five, is, low)
-        | inr six ↦ omega (arith, six, is, low)
-      ]
+  widened before after (Err e) wider of = record { status = of.status; first = of.first; cause = wider of.cause }
 
   -- the output accepts nothing with exit status 2, 4 or 6
-  pub nothing_by : {T : Type 0} (before after : K) {fault : ProgramFault} (r : Result T ProgramFault) → IsStopped took ticks s before after Cause fault → IsErrAnd r (λ e. e ≡ fault)
+  pub nothing_by : {T O : Type 0} (before after : K) (old new : O) {fault : ProgramFault} (r : Result T ProgramFault)
+      → IsUnstarted took before after old new fault ⊎ IsStopped took ticks s before after Cause fault → IsErrAnd r (λ e. e ≡ fault)
       → IfErr r (λ e. (program_status e ≡ 2) ⊎ ((program_status e ≡ 4) ⊎ (program_status e ≡ 6)) → took before [] after)
-  nothing_by before after (Ok x) stopped is = tt
-  nothing_by before after {fault} (Err e) stopped is = λ status. elim status [
-    | inl two ↦ absurd (not_below before after fault 2 stopped (omega arith) (sym (ap program_status is) ∙ two))
-    | inr other ↦ elim other [
-      | inl four ↦ absurd (not_below before after fault 4 stopped (omega arith) (sym (ap program_status is) ∙ four))
-      | inr six ↦ stopped.nothing (sym (ap program_status is) ∙ six)
-    ]
-  ]
+  nothing_by before after old new (Ok x) ended is = tt
+  nothing_by before after old new (Err e) (inl unstarted) is = λ status. unstarted.nothing
+  nothing_by before after old new (Err e) (inr stopped) is = λ status. absurd (not_early e (ap program_status is ∙ stopped.status) status)
 
-  -- a run doesn't end with exit status 2
-  pub unused_by : {T : Type 0} (P : Type 0) (before after : K) {fault : ProgramFault} (r : Result T ProgramFault) → IsStopped took ticks s before after Cause fault
-      → IsErrAnd r (λ e. e ≡ fault) → IfErr r (λ e. program_status e ≡ 2 → P)
-  unused_by P before after (Ok x) stopped is = tt
-  unused_by P before after {fault} (Err e) stopped is = λ two. absurd (not_below before after fault 2 stopped (omega arith) (sym (ap program_status is) ∙ two))
+  -- no file is created with exit status 2, 4 or 6
+  pub unused_by : {T O : Type 0} (before after : K) (old new : O) {fault : ProgramFault} (r : Result T ProgramFault)
+      → IsUnstarted took before after old new fault ⊎ IsStopped took ticks s before after Cause fault → IsErrAnd r (λ e. e ≡ fault)
+      → IfErr r (λ e. (program_status e ≡ 2) ⊎ ((program_status e ≡ 4) ⊎ (program_status e ≡ 6)) → new ≡ old)
+  unused_by before after old new (Ok x) ended is = tt
+  unused_by before after old new (Err e) (inl unstarted) is = λ status. unstarted.files
+  unused_by before after old new (Err e) (inr stopped) is = λ status. absurd (not_early e (ap program_status is ∙ stopped.status) status)
 
   -- the reason for exit status 5
-  pub caused_by : {T : Type 0} (before after : K) {fault : ProgramFault} (r : Result T ProgramFault) → IsStopped took ticks s before after Cause fault → IsErrAnd r (λ e. e ≡ fault)
+  pub caused_by : {T O : Type 0} (before after : K) (old new : O) {fault : ProgramFault} (r : Result T ProgramFault)
+      → IsUnstarted took before after old new fault ⊎ IsStopped took ticks s before after Cause fault → IsErrAnd r (λ e. e ≡ fault)
       → IfErr r (λ e. program_status e ≡ 5 → Cause)
-  caused_by before after (Ok x) stopped is = tt
-  caused_by before after (Err e) stopped is = λ five. stopped.cause (sym (ap program_status is) ∙ five)
+  caused_by before after old new (Ok x) ended is = tt
+  caused_by before after old new (Err e) (inl unstarted) is = λ five. let six : program_status e ≡ 6 = ap program_status is ∙ unstarted.status in absurd (omega (arith, five, six))
+  caused_by before after old new (Err e) (inr stopped) is = λ five. stopped.cause
+
+-- no memory before the first instruction
+pub unstarted_by : {T K O : Type 0} (took : K → List ℕ → K → Type 0) (Stopped : ProgramFault → Type 0) (k : K) (files : O) (r : Result T ProgramFault) → took k [] k
+    → IsErrAnd r (λ e. e ≡ NoMemory) → IfErr r (λ fault. IsUnstarted took k k files files fault ⊎ Stopped fault)
+unstarted_by took Stopped k files (Ok x) none is = tt
+unstarted_by took Stopped k files (Err e) none is = inl (record { status = ap program_status is; nothing = none; files = refl })
+
+-- a run that was started
+pub started : {T : Type 0} (Unstarted Stopped : ProgramFault → Type 0) (r : Result T ProgramFault) → IfErr r Stopped → IfErr r (λ fault. Unstarted fault ⊎ Stopped fault)
+started Unstarted Stopped (Ok x) of = tt
+started Unstarted Stopped (Err e) of = inr of
 
 -- another exit status than 5
 pub not_five : {T : Type 0} (P : Type 0) (r : Result T ProgramFault) (fault : ProgramFault) → (program_status fault ≡ 2) ⊎ ((program_status fault ≡ 4) ⊎ (program_status fault ≡ 6))

@@ -1,5 +1,6 @@
 pub mod InitialMachine
 pub mod CommandLine
+pub mod KeyOrder
 pub mod MemoryArguments
 pub mod Paths
 pub mod RecordLines

@@ -1,6 +1,6 @@
 -- The effect of the program with its arguments: the initial machine of a run, its output, and its records
-use Rattle.std.specs.Prelude.{◌≡◌, ◌≤◌, ◌%◌, ◌^◌, ◌++◌, ℕ, Bool, List, [], Option, None, Some, flat_map}
-use Rattle.std.specs.List.{AllZip}
+use Rattle.std.specs.Prelude.{◌≡◌, ◌≤◌, ◌%◌, ◌^◌, ◌++◌, ◌⊎◌, ℕ, Bool, List, [], Option, None, Some, flat_map}
+use Rattle.std.specs.List.{All, AllZip}
 use Rattle.clap.specs.Walk.{Text}
 use Rattle.clap.specs.Words.{IsAmong}
 use Rattle.clap.specs.declared.error.kind.ErrorKind.TheVariants.{DisplayHelp}
@@ -16,11 +16,12 @@ use Rattle.rv_model.specs.declared.step.step_end.StepEnd.{StepEnd}
 use Rattle.rv_model.specs.declared.vector.policy.Policy.{Policy}
 use Rattle.rv_model.specs.step.Hart.{HartState}
 use Rattle.vec_recorder.specs.InitialMachine.{StartsFrom}
+use Rattle.vec_recorder.specs.KeyOrder.{Ascend, is_key}
 use Rattle.vec_recorder.specs.CommandLine.{RunArguments, number_or_default, policy_or_default, run_arguments, arguments_fault}
 use Rattle.vec_recorder.specs.MemoryArguments.{IsMemoryOf}
 use Rattle.vec_recorder.specs.Paths.{ArePathsApart}
 use Rattle.vec_recorder.specs.RecordLines.{last_line, row_line}
-use Rattle.vec_recorder.specs.Statuses.{IsRunFault, program_status}
+use Rattle.vec_recorder.specs.Statuses.{program_status}
 use Rattle.vec_recorder.specs.WatchArguments.{IsPlaceOf}
 use Rattle.vec_recorder.specs.declared.memory_arguments.MemoryPath.{MemoryPath}
 use Rattle.vec_recorder.specs.declared.program_fault.ProgramFault.{ProgramFault}
@@ -29,15 +30,22 @@ use Rattle.vec_recorder.specs.declared.program_fault.ProgramFault.{ProgramFault}
 abbrev pub AreCountsOf : List HartState → List Row → Type 0
 AreCountsOf found rows = (asked : Key → Bool) → OfEach (λ number. total number asked rows % 2 ^ 64 ≡ shares found number asked % 2 ^ 64)
 
+-- A row has the counts of its own key in a run, modulo 2^64.
+abbrev pub HasOwnCounts : List HartState → Row → Type 0
+HasOwnCounts found row = OfEach (λ number. number row.sums % 2 ^ 64 ≡ shares found number (is_key row.key) % 2 ^ 64)
+
 -- the last line of each record of a run, from its maximum number of ticks and its initial state
 abbrev pub end_of : ℕ → HartState → List ℕ
 end_of ticks s =
     let run = ran ticks s in
     last_line run.state.scalar.pc run.end (shares run.found (λ sums. sums.times) is_word % 2 ^ 64) (shares run.found (λ sums. sums.ticks) is_word % 2 ^ 64)
 
--- The counts of a run are the lines of such rows, and the last line.
+-- The counts of a run are the lines of such rows, and the last line. The rows are in the order of their keys, each key has at most one row, and each row
+-- the counts of its key.
 pub record AreCounted (took : List ℕ → Type 0) (ticks : ℕ) (s : HartState) : Type 0 where
   pub rows : List Row
+  pub ascend : Ascend rows
+  pub own : All (HasOwnCounts (ran ticks s).found) rows
   pub counts : AreCountsOf (ran ticks s).found rows
   pub taken : took (flat_map row_line rows ++ end_of ticks s)
 
@@ -97,13 +105,17 @@ AreRecordsKept created took closed counts changes log places window ticks s =
 
 -- ---- runs
 
--- A run of at most `ticks` ticks ended with a fault, with exit status 5 only for the reason `Cause`. The output accepted the first bytes of the
--- run's whole output, and none if memory ran out.
+-- A run of at most `ticks` ticks ended with exit status 5, for the reason `Cause`. The output accepted the first bytes of the run's whole output.
 pub record IsStopped {K : Type 0} (took : K → List ℕ → K → Type 0) (ticks : ℕ) (s : HartState) (before after : K) (Cause : Type 0) (fault : ProgramFault) : Type 0 where
-  pub status : IsRunFault fault
+  pub status : program_status fault ≡ 5
   pub first : TakesFirst took before (flat_map output_of (ran ticks s).found) after
-  pub nothing : program_status fault ≡ 6 → took before [] after
-  pub cause : program_status fault ≡ 5 → Cause
+  pub cause : Cause
+
+-- Memory ran out before a run: no instruction was executed, the output accepted nothing, and no file was created.
+pub record IsUnstarted {K O : Type 0} (took : K → List ℕ → K → Type 0) (before after : K) (old new : O) (fault : ProgramFault) : Type 0 where
+  pub status : program_status fault ≡ 6
+  pub nothing : took before [] after
+  pub files : AreUntouched old new
 
 -- The output of a run is complete, and its records are in the files that the arguments name. No other file was touched.
 pub record IsComplete {O F : Type 0} (created : O → Text → F → O → Type 0) (took : F → List ℕ → F → Type 0) (closed : O → F → O → Type 0) (put : List ℕ → Type 0) (arguments : RunArguments) (old new : O)

@@ -4,7 +4,7 @@ use Rattle.devices.specs.Device.{Rose}
 use Rattle.recording.specs.declared.fault.RecordFault.{RecordFault}
 use Rattle.recording.specs.declared.fault.RecordFault.TheVariants as stopped
 use Rattle.vec_recorder.specs.declared.program_fault.ProgramFault.{ProgramFault}
-use Rattle.vec_recorder.specs.declared.program_fault.ProgramFault.TheVariants.{NoText, Usage, Policy, Ticks, MemoryArgument, WatchArgument, WatchAlone, From, To, FromAboveTo, LogAlone, LogEnd, SameOutput, OutputIsInput, NoPlace, LostPlace, Write, TableFull, NoMemory}
+use Rattle.vec_recorder.specs.declared.program_fault.ProgramFault.TheVariants.{NoText, Usage, Policy, Ticks, MemoryArgument, WatchArgument, WatchAlone, From, To, FromAboveTo, LogAlone, LogEnd, SameOutput, OutputIsInput, NoPlace, LostPlace, RepeatedRow, Write, TableFull, NoMemory}
 
 -- invalid arguments have exit status 2, faults of the initial machine 4, faults of records and output 5, and lack of memory 6
 abbrev pub program_status : ProgramFault → ℕ
@@ -23,6 +23,7 @@ program_status LogEnd = 2
 program_status (SameOutput first second) = 2
 program_status (OutputIsInput output input) = 2
 program_status LostPlace = 5
+program_status RepeatedRow = 5
 program_status (Write name) = 5
 program_status TableFull = 5
 program_status NoMemory = 6
@@ -37,10 +38,6 @@ record_fault (stopped.Write name) = Write name
 -- a fault of the initial machine, or lack of memory
 abbrev pub IsInitialFault : ProgramFault → Type 0
 IsInitialFault fault = (program_status fault ≡ 4) ⊎ (program_status fault ≡ 6)
-
--- a fault of a run: a record or the output can't be written, the counts need more rows, a watched range isn't mapped any more, or lack of memory
-abbrev pub IsRunFault : ProgramFault → Type 0
-IsRunFault fault = (program_status fault ≡ 5) ⊎ (program_status fault ≡ 6)
 
 -- The reason for exit status 5: a write to the output failed, a file couldn't be created, a write to a created file failed, or `Other`. The numbers
 -- count the failures of the output and of the files, before and after.

@@ -13,6 +13,7 @@ mod program;
 mod program_fault;
 mod record_lines;
 mod runs;
+mod same_files;
 mod watch_arguments;
 
 pub use arguments::options;

@@ -2,9 +2,10 @@
 ghost use Rattle.std.specs.Prelude.{◌≡◌, ℕ, List, IfOk, ⊤};
 ghost use Rattle.devices.specs.Device.{Counts};
 
+use crate::same_files::is_same_file;
 use devices::{DeviceFault, Sink, WriterSink};
+use std::alloc::{AllocError, Global};
 use std::fs;
-use std::os::unix::fs::MetadataExt;
 use std::rt::Files;
 
 /// Files that are created by path, written, and closed. An implementation specifies their bytes, or leaves them
@@ -32,8 +33,9 @@ pub trait Outputs {
         ensures closed { is_closed self.old file self.new }
         ensures count { failures self.new ≡ failures self.old };
 
-    /// Return whether files exist at both paths and are the same file.
-    fn is_same_file(&self, first: &str, second: &str) -> bool;
+    /// Return whether both paths name the same file: one that exists, or one that doesn't exist and that both would
+    /// create. Fails if memory runs out.
+    fn is_same_file(&self, alloc: Global, first: &str, second: &str) -> Result<bool, AllocError>;
 }
 
 /// The files of a process. Their bytes are unspecified.
@@ -69,14 +71,9 @@ impl<R: Files> Outputs for ProcessFiles<'_, R> {
 
     fn close(&mut self, _file: WriterSink<R::File>) {}
 
-    /// Compare device and inode numbers, after following symbolic links.
-    fn is_same_file(&self, first: &str, second: &str) -> bool {
-        let Ok(first) = fs::metadata(self.rt, first) else {
-            return false;
-        };
-        let Ok(second) = fs::metadata(self.rt, second) else {
-            return false;
-        };
-        first.dev() == second.dev() && first.ino() == second.ino()
+    /// Compare existing files by their device and inode numbers, and files that don't exist by those of their folders and
+    /// by their names, after following symbolic links.
+    fn is_same_file(&self, alloc: Global, first: &str, second: &str) -> Result<bool, AllocError> {
+        is_same_file(self.rt, alloc, first, second)
     }
 }

@@ -17,7 +17,7 @@ use crate::numbers::{policy, ticks, window};
 use crate::outputs::{Outputs, ProcessFiles};
 use crate::paths::check_paths;
 use crate::program_fault::{ProgramFault, STATUS_DONE};
-use crate::runs::{LoggedRun, RecordedRun, run_machine};
+use crate::runs::{RecordedRun, run_machine};
 use crate::watch_arguments::watched_places;
 use commit_log::Window;
 use devices::{Inputs, Sink, TextFault, WriterSink, write_text};
@@ -54,7 +54,7 @@ struct CheckedOptions<'a> {
     window: Window,
 }
 
-/// Run a machine with these values. The record files are created once the machine exists. Return the number of the
+/// Run a machine with these values. The record files are created once the machine exists and all memory is allocated. Return the number of the
 /// program's write calls that wrote fewer bytes than requested.
 fn run_options<'a, I: Inputs, F: Outputs, K: Sink>(
     inputs: &I,
@@ -73,7 +73,8 @@ fn run_options<'a, I: Inputs, F: Outputs, K: Sink>(
         (flat_map output_of (ran values.entry.ticks state).found) output.new) }
     ensures nothing { IfErr result (λ fault.
         (program_status fault ≡ 2) ⊎ ((program_status fault ≡ 4) ⊎ (program_status fault ≡ 6)) → K.took output.old [] output.new) }
-    ensures unused { IfErr result (λ fault. program_status fault ≡ 2 → files.new ≡ files.old) }
+    ensures unused { IfErr result (λ fault.
+        (program_status fault ≡ 2) ⊎ ((program_status fault ≡ 4) ⊎ (program_status fault ≡ 6)) → files.new ≡ files.old) }
     ensures failed { IfErr result (λ fault. program_status fault ≡ 5 → HasCause F.Created.failures
         (IsSome (option_arguments options.now).counts ⊎ IsSome (option_arguments options.now).changes)
         (K.failures output.old) (K.failures output.new) (F.failures files.old) (F.failures files.new)) }
@@ -95,14 +96,12 @@ fn run_options<'a, I: Inputs, F: Outputs, K: Sink>(
     )?;
     check_places(&machine, places.as_slice())?;
     let asked = RecordedRun {
-        logged: LoggedRun {
-            ticks,
-            log: options.log,
-            window,
-        },
+        ticks,
         counts: options.counts,
         changes: options.changes,
         places,
+        log: options.log,
+        window,
     };
     let short = run_machine(files, alloc, &mut machine, output, asked)?;
     Ok(short)
@@ -125,7 +124,8 @@ fn record_options<'a, I: Inputs, F: Outputs, K: Sink>(
         TakesFirst K.took output.old (flat_map output_of (ran ticks state).found) output.new) }
     ensures nothing { IfErr result (λ fault.
         (program_status fault ≡ 2) ⊎ ((program_status fault ≡ 4) ⊎ (program_status fault ≡ 6)) → K.took output.old [] output.new) }
-    ensures unused { IfErr result (λ fault. program_status fault ≡ 2 → files.new ≡ files.old) }
+    ensures unused { IfErr result (λ fault.
+        (program_status fault ≡ 2) ⊎ ((program_status fault ≡ 4) ⊎ (program_status fault ≡ 6)) → files.new ≡ files.old) }
     ensures failed { IfErr result (λ fault. program_status fault ≡ 5 → HasCause F.Created.failures
         (IsSome (option_arguments options.now).counts ⊎ IsSome (option_arguments options.now).changes)
         (K.failures output.old) (K.failures output.new) (F.failures files.old) (F.failures files.new)) }
@@ -139,7 +139,7 @@ fn record_options<'a, I: Inputs, F: Outputs, K: Sink>(
     if places.is_empty() != options.changes.is_none() {
         return Err(ProgramFault::WatchAlone);
     }
-    check_paths(&*files, options, memories.as_slice())?;
+    check_paths(&*files, alloc, options, memories.as_slice())?;
     let values = CheckedOptions {
         policy,
         ticks,
@@ -170,7 +170,8 @@ fn record_arguments<'a, I: Inputs, F: Outputs, K: Sink>(
         TakesFirst K.took output.old (flat_map output_of (ran ticks state).found) output.new)) }
     ensures nothing { IfErr result (λ fault.
         (program_status fault ≡ 2) ⊎ ((program_status fault ≡ 4) ⊎ (program_status fault ≡ 6)) → K.took output.old [] output.new) }
-    ensures unused { IfErr result (λ fault. program_status fault ≡ 2 → files.new ≡ files.old) }
+    ensures unused { IfErr result (λ fault.
+        (program_status fault ≡ 2) ⊎ ((program_status fault ≡ 4) ⊎ (program_status fault ≡ 6)) → files.new ≡ files.old) }
     ensures failed { IfErr result (λ fault. program_status fault ≡ 5 → HasCause F.Created.failures
         (IsSome (run_arguments (texts arguments.now)).counts ⊎ IsSome (run_arguments (texts arguments.now)).changes)
         (K.failures output.old) (K.failures output.new) (F.failures files.old) (F.failures files.new)) }
@@ -230,7 +231,8 @@ pub fn record_into<R: Inputs + Eprint, F: Outputs, K: Sink>(
         ⊎ Recorded (R.file_bytes rt.now) (texts arguments.now) (λ ticks _ _ state.
         TakesFirst K.took output.old (flat_map output_of (ran ticks state).found) output.new)) }
     ensures nothing { (result ≡ 2) ⊎ ((result ≡ 4) ⊎ (result ≡ 6)) → K.took output.old [] output.new }
-    ensures unused { result ≡ 2 → files.new ≡ files.old }
+    // No file was created, written or closed.
+    ensures unused { (result ≡ 2) ⊎ ((result ≡ 4) ⊎ (result ≡ 6)) → files.new ≡ files.old }
     // The exit status is 5 only if a write to the output failed, a file couldn't be created, a write to a created file
     // failed, or the arguments name a counts file or a changes file.
     ensures failed { result ≡ 5 → HasCause F.Created.failures

@@ -92,6 +92,9 @@ pub enum ProgramFault<'a> {
     /// The file at this path, or the stream with this name, can't be written.
     #[error("vecmon-record: cannot write {0}\n")]
     Write(&'a str),
+    /// Two rows of counts have the same key. This never happens because the table finds the row of a key before it adds one.
+    #[error("vecmon-record: two rows of counts have the same key\n")]
+    RepeatedRow,
     /// The counts need more rows than the table has.
     #[error("vecmon-record: more than 131072 rows of counts\n")]
     TableFull,
@@ -125,9 +128,10 @@ impl ProgramFault<'_> {
             | ProgramFault::Memory(_, _)
             | ProgramFault::Registers(_, _)
             | ProgramFault::NoPlace => STATUS_INITIAL_STATE,
-            ProgramFault::LostPlace | ProgramFault::Write(_) | ProgramFault::TableFull => {
-                STATUS_WRITE
-            }
+            ProgramFault::LostPlace
+            | ProgramFault::RepeatedRow
+            | ProgramFault::Write(_)
+            | ProgramFault::TableFull => STATUS_WRITE,
             ProgramFault::NoMemory => STATUS_NO_MEMORY,
         }
     }

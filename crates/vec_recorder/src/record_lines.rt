@@ -1,8 +1,9 @@
 //! The lines of a counts file, and the last line of each record.
-ghost use Rattle.std.specs.Prelude.{IsPermutation, ◌≡◌, ◌++◌, ◌+◌, ◌<◌, ◌≤◌, ◌^◌, length, flat_map, OnErr, OnOk};
+ghost use Rattle.std.specs.Prelude.{IsPermutation, ◌≡◌, ◌++◌, ◌+◌, ◌<◌, ◌≤◌, ◌^◌, length, flat_map, true, OnErr, OnOk};
 ghost use Rattle.std.specs.Option.{option_and_then};
 ghost use Rattle.rv_model.specs.commands.Running.{running_line};
 ghost use Rattle.rv_model.specs.machine.UserMachine.{stop_of};
+ghost use Rattle.vec_recorder.specs.KeyOrder.{Ascend, IsBefore, place_of};
 ghost use Rattle.vec_recorder.specs.RecordLines.{
   end_line,
   has_no_counts,
@@ -99,7 +100,9 @@ fn push_row(reply: &mut Reply, row: &Row)
 }
 
 /// Return the sort key of a row: words by address, then vector lengths by type, then jumps.
-fn place_of(row: &Row) -> (u8, u64, u64) {
+fn place_of(row: &Row) -> (u8, u64, u64)
+    ensures { result ≡ place_of row.now.key }
+{
     match row.key {
         Key::Word { pc, word } => (0, pc, u64::from(word)),
         Key::Length { vtype, vl } => (1, vtype, u64::from(vl)),
@@ -112,6 +115,33 @@ pub(crate) fn sort_rows(rows: &mut [Row])
     ensures { IsPermutation rows.old rows.new }
 {
     rows.sort_unstable_by_key(|row| place_of(row));
+}
+
+/// Return whether the line of a row comes before the line of another.
+fn is_before(row: &Row, other: &Row) -> bool
+    ensures { result ≡ true → IsBefore row.now.key other.now.key }
+{
+    let (kind, first, second) = place_of(row);
+    let (other_kind, other_first, other_second) = place_of(other);
+    if kind != other_kind {
+        return kind < other_kind;
+    }
+    if first != other_first {
+        return first < other_first;
+    }
+    second < other_second
+}
+
+/// Return whether the keys of the rows ascend, so that each key has one row.
+pub(crate) fn ascend(rows: &[Row]) -> bool
+    ensures { result ≡ true → Ascend rows.now }
+{
+    for i in 1..rows.len() {
+        if !is_before(&rows[i - 1], &rows[i]) {
+            return false;
+        }
+    }
+    true
 }
 
 /// Write the lines of the rows.

@@ -1,5 +1,5 @@
 //! A run with its records: counts, changes, and a log, each of them optional.
-ghost use Rattle.std.specs.Prelude.{IsPermutation, ◌≡◌, ◌⊎◌, ◌<◌, ◌%◌, ◌^◌, ◌++◌, IfErr, IfOk, IsSome, OnErr, OnOk, flat_map, option_map};
+ghost use Rattle.std.specs.Prelude.{◌≡◌, ◌⊎◌, ◌<◌, ◌%◌, ◌^◌, ◌++◌, [], IfErr, IfOk, IfSome, IsSome, OnErr, OnOk, flat_map, option_map, ⊤};
 ghost use Rattle.devices.specs.Device.{Rose};
 ghost use Rattle.recording.specs.Machines.{state_of};
 ghost use Rattle.recording.specs.Runs.{TakesFirst, output_of, ran};
@@ -7,22 +7,22 @@ ghost use Rattle.recording.specs.Sums.{is_word, total};
 ghost use Rattle.recording.specs.declared.fault.RecordFault.{RecordFault};
 ghost use Rattle.first_state.specs.OwnMemory.{own_memory};
 ghost use Rattle.vec_recorder.specs.RecordLines.{last_line, row_line};
-ghost use Rattle.vec_recorder.specs.Recorded.{AreChangesKept, AreRecordsKept, IsLogKept, IsStopped, RecordsRun};
+ghost use Rattle.vec_recorder.specs.Recorded.{AreChangesKept, AreRecordsKept, IsLogKept, IsStopped, IsUnstarted, RecordsRun};
 ghost use Rattle.vec_recorder.specs.Statuses.{HasCause, program_status};
 
 use crate::outputs::Outputs;
 use crate::program_fault::ProgramFault;
-use crate::record_lines::{sort_rows, write_last, write_rows};
-use commit_log::{Log, Window};
+use crate::record_lines::{ascend, sort_rows, write_last, write_rows};
+use commit_log::{Log, Text, Window};
 use devices::{DeviceFault, Sink};
 use first_state::OwnBytes;
-use memory_changes::{Changes, Place};
+use memory_changes::{Changes, Place, WatchedPlaces};
 use recording::{
     Counts, RecordFault, Recorder, RecorderPair, Retired, Row, ShortWrites, SingleUserMachine, run,
     totals,
 };
 use rv_model::StepEnd;
-use std::alloc::Global;
+use std::alloc::{AllocError, Global};
 
 /// Create the file at a path.
 fn created_file<'a, F: Outputs>(
@@ -40,42 +40,69 @@ fn created_file<'a, F: Outputs>(
     }
 }
 
-/// Sort the rows, and write them as the counts of a run with this end and this program counter.
+/// Write the rows as the counts of a run with this end and this program counter.
 fn write_counts<C: Sink>(
     file: &mut C,
-    rows: &mut [Row],
+    rows: &[Row],
     pc: u64,
     end: Option<StepEnd>,
 ) -> Result<(), DeviceFault>
-    ensures same { IsPermutation rows.old rows.new }
-    ensures text { OnOk result (C.took file.old (flat_map row_line rows.new ++ last_line pc end
-        (total (λ sums. sums.times) is_word rows.new % 2 ^ 64)
-        (total (λ sums. sums.ticks) is_word rows.new % 2 ^ 64)) file.new) }
+    ensures text { OnOk result (C.took file.old (flat_map row_line rows.now ++ last_line pc end
+        (total (λ sums. sums.times) is_word rows.now % 2 ^ 64)
+        (total (λ sums. sums.ticks) is_word rows.now % 2 ^ 64)) file.new) }
     ensures failed { OnErr result (0 < C.failures file.new) }
 {
-    sort_rows(&mut *rows);
-    write_rows(file, &*rows)?;
+    write_rows(file, rows)?;
     let sums = totals(rows);
     write_last(file, pc, end, sums.times, sums.ticks)
 }
 
-/// The parameters of a run with a log: the maximum number of ticks, the path of the log file, if there is one, and the
-/// range of instructions in the log.
-#[derive(Clone, Copy)]
-pub(crate) struct LoggedRun<'a> {
+/// The parameters of a run: the maximum number of ticks, the paths of the files of counts, changes and log, if there are
+/// any, the watched ranges, and the range of instructions in the log.
+#[derive(Drop)]
+pub(crate) struct RecordedRun<'a> {
     pub ticks: u64,
+    pub counts: Option<&'a str>,
+    pub changes: Option<&'a str>,
+    pub places: Vec<Place>,
     pub log: Option<&'a str>,
     pub window: Window,
 }
 
-/// The parameters of a logged run, the paths of the counts file and the changes file, if there are any, and the watched
-/// ranges.
+/// The path of a log file, and memory for lines that aren't written yet.
 #[derive(Drop)]
-pub(crate) struct RecordedRun<'a> {
-    pub logged: LoggedRun<'a>,
-    pub counts: Option<&'a str>,
-    pub changes: Option<&'a str>,
-    pub places: Vec<Place>,
+struct LogOutput<'a> {
+    path: &'a str,
+    text: Text,
+}
+
+/// The parameters of a run with a log: the maximum number of ticks, the log file, if there is one, and the range of
+/// instructions in the log.
+#[derive(Drop)]
+struct LoggedRun<'a> {
+    ticks: u64,
+    log: Option<LogOutput<'a>>,
+    window: Window,
+}
+
+/// The parameters of a logged run, the path of the changes file, if there is one, and the watched ranges.
+#[derive(Drop)]
+struct WatchedRun<'a> {
+    logged: LoggedRun<'a>,
+    changes: Option<&'a str>,
+    watched: WatchedPlaces,
+}
+
+/// Allocate the memory of a log, if there is a path for it.
+fn log_output<'a>(alloc: Global, path: Option<&'a str>) -> Result<Option<LogOutput<'a>>, AllocError>
+    ensures path { IfOk result (λ log. option_map (λ log. log.path.now) log ≡ option_map (λ path. path.now) path.entry) }
+    ensures empty { IfOk result (λ log. IfSome log (λ log. log.text ≡ [])) }
+{
+    let Some(path) = path else {
+        return Ok(None);
+    };
+    let text = Text::new(alloc)?;
+    Ok(Some(LogOutput { path, text }))
 }
 
 /// Run and record a program without a log. Return how it ended, and the record.
@@ -98,32 +125,33 @@ fn run_unlogged<K: Sink, O: Recorder<OwnBytes> + Drop>(
     Ok((end, only))
 }
 
-/// Run and record a program, and write its log if there is a path for it. Return how it ended, and the record. The
+/// Run and record a program, and write its log if there is a file for it. Return how it ended, and the record. The
 /// function isn't inlined because the loop of a run is faster then.
 #[inline(never)]
 fn run_recorded<'a, F: Outputs, K: Sink, O: Recorder<OwnBytes> + Drop>(
     files: &mut F,
-    alloc: Global,
     machine: &mut SingleUserMachine<OwnBytes>,
     output: &mut K,
     asked: LoggedRun<'a>,
     recorder: O,
 ) -> Result<(Option<StepEnd>, O), ProgramFault<'a>>
+    requires { IfSome asked.log (λ log. log.text ≡ []) }
     ensures run { IfOk result (RecordsRun O.recorded K.took asked.entry.ticks (state_of own_memory machine.old)
         (state_of own_memory machine.new) output.old output.new recorder) }
     ensures log { OnOk result (IsLogKept F.is_created F.Created.took F.is_closed
-        (option_map (λ path. path.now) asked.entry.log) asked.entry.window asked.entry.ticks
+        (option_map (λ log. log.path.now) asked.entry.log) asked.entry.window asked.entry.ticks
         (state_of own_memory machine.old) files.old files.new) }
     ensures stopped { IfErr result (IsStopped K.took asked.entry.ticks (state_of own_memory machine.old)
         output.old output.new (HasCause F.Created.failures ((last : O) × ((fault : RecordFault) × O.failed last fault))
         (K.failures output.old) (K.failures output.new) (F.failures files.old) (F.failures files.new))) }
 {
     let LoggedRun { ticks, log, window } = asked;
-    let Some(path) = log else {
+    let Some(log) = log else {
         return Ok(run_unlogged(machine, output, ticks, recorder)?);
     };
+    let LogOutput { path, text } = log;
     let file = created_file(files, path)?;
-    let log = Log::new(alloc, file, window)?;
+    let log = Log::new(file, text, window);
     let mut both = RecorderPair {
         first: recorder,
         second: RecorderPair {
@@ -150,42 +178,40 @@ fn run_recorded<'a, F: Outputs, K: Sink, O: Recorder<OwnBytes> + Drop>(
 /// Run and record as `run_recorded` does, and write the changes of watched ranges if there is a path for them.
 fn run_watched<'a, F: Outputs, K: Sink, O: Recorder<OwnBytes> + Drop>(
     files: &mut F,
-    alloc: Global,
     machine: &mut SingleUserMachine<OwnBytes>,
     output: &mut K,
-    asked: RecordedRun<'a>,
+    asked: WatchedRun<'a>,
     recorder: O,
 ) -> Result<(Option<StepEnd>, O), ProgramFault<'a>>
+    requires { IfSome asked.logged.log (λ log. log.text ≡ []) }
     ensures run { IfOk result (RecordsRun O.recorded K.took asked.entry.logged.ticks (state_of own_memory machine.old)
         (state_of own_memory machine.new) output.old output.new recorder) }
     ensures changes { OnOk result (AreChangesKept F.is_created F.Created.took F.is_closed
-        (option_map (λ path. path.now) asked.entry.changes) (option_map (λ path. path.now) asked.entry.logged.log)
-        asked.entry.places.items asked.entry.logged.window asked.entry.logged.ticks
+        (option_map (λ path. path.now) asked.entry.changes) (option_map (λ log. log.path.now) asked.entry.logged.log)
+        asked.entry.watched.places.items asked.entry.logged.window asked.entry.logged.ticks
         (state_of own_memory machine.old) files.old files.new) }
     ensures stopped { IfErr result (IsStopped K.took asked.entry.logged.ticks (state_of own_memory machine.old)
         output.old output.new (HasCause F.Created.failures
         (((last : O) × ((fault : RecordFault) × O.failed last fault)) ⊎ IsSome (option_map (λ path. path.now) asked.entry.changes))
         (K.failures output.old) (K.failures output.new) (F.failures files.old) (F.failures files.new))) }
 {
-    let RecordedRun {
+    let WatchedRun {
         logged,
-        counts: _,
         changes,
-        places,
+        watched,
     } = asked;
     let Some(path) = changes else {
-        return run_recorded(files, alloc, machine, output, logged, recorder);
+        return run_recorded(files, machine, output, logged, recorder);
     };
     let file = created_file(files, path)?;
-    let changes = Changes::new(alloc, file, places)?;
     let both = RecorderPair {
         first: recorder,
         second: RecorderPair {
             first: Retired::none(),
-            second: changes,
+            second: Changes::new(file, watched),
         },
     };
-    let (end, both) = run_recorded(files, alloc, machine, output, logged, both)?;
+    let (end, both) = run_recorded(files, machine, output, logged, both)?;
     let RecorderPair { first, second } = both;
     let RecorderPair {
         first: retired,
@@ -200,8 +226,48 @@ fn run_watched<'a, F: Outputs, K: Sink, O: Recorder<OwnBytes> + Drop>(
     Ok((end, first))
 }
 
+/// Run and record as `run_watched` does, and write the counts to the file at a path. Return the number of the program's
+/// write calls that wrote fewer bytes than requested.
+fn run_counted<'a, F: Outputs, K: Sink>(
+    files: &mut F,
+    machine: &mut SingleUserMachine<OwnBytes>,
+    output: &mut K,
+    asked: WatchedRun<'a>,
+    path: &'a str,
+    counts: Counts,
+) -> Result<u64, ProgramFault<'a>>
+    requires text { IfSome asked.logged.log (λ log. log.text ≡ []) }
+    requires rows { counts.table.rows.items ≡ [] }
+    ensures output { OnOk result (K.took output.old
+        (flat_map output_of (ran asked.entry.logged.ticks (state_of own_memory machine.old)).found) output.new) }
+    ensures records { OnOk result (AreRecordsKept F.is_created F.Created.took F.is_closed
+        (Some path.entry.now) (option_map (λ path. path.now) asked.entry.changes)
+        (option_map (λ log. log.path.now) asked.entry.logged.log) asked.entry.watched.places.items asked.entry.logged.window
+        asked.entry.logged.ticks (state_of own_memory machine.old) files.old files.new) }
+    ensures stopped { IfErr result (IsStopped K.took asked.entry.logged.ticks (state_of own_memory machine.old)
+        output.old output.new ⊤) }
+{
+    let mut counts_file = created_file(files, path)?;
+    let both = RecorderPair {
+        first: ShortWrites::none(),
+        second: counts,
+    };
+    let (end, mut both) = run_watched(files, machine, output, asked, both)?;
+    let rows = both.second.table.rows.as_mut_slice();
+    sort_rows(&mut *rows);
+    if !ascend(&*rows) {
+        return Err(ProgramFault::RepeatedRow);
+    }
+    let Ok(()) = write_counts(&mut counts_file, &*rows, machine.scalar.pc, end) else {
+        return Err(ProgramFault::Write(path));
+    };
+    files.close(counts_file);
+    Ok(both.first.count)
+}
+
 /// Run a program, and write its counts, the changes of watched ranges and its log to the files whose paths are given.
-/// Return the number of the program's write calls that wrote fewer bytes than requested.
+/// All memory is allocated before a file is created. Return the number of the program's write calls that wrote fewer
+/// bytes than requested.
 pub(crate) fn run_machine<'a, F: Outputs, K: Sink>(
     files: &mut F,
     alloc: Global,
@@ -210,33 +276,39 @@ pub(crate) fn run_machine<'a, F: Outputs, K: Sink>(
     asked: RecordedRun<'a>,
 ) -> Result<u64, ProgramFault<'a>>
     ensures output { OnOk result (K.took output.old
-        (flat_map output_of (ran asked.entry.logged.ticks (state_of own_memory machine.old)).found) output.new) }
+        (flat_map output_of (ran asked.entry.ticks (state_of own_memory machine.old)).found) output.new) }
     ensures records { OnOk result (AreRecordsKept F.is_created F.Created.took F.is_closed
         (option_map (λ path. path.now) asked.entry.counts) (option_map (λ path. path.now) asked.entry.changes)
-        (option_map (λ path. path.now) asked.entry.logged.log) asked.entry.places.items asked.entry.logged.window
-        asked.entry.logged.ticks (state_of own_memory machine.old) files.old files.new) }
-    ensures stopped { IfErr result (IsStopped K.took asked.entry.logged.ticks (state_of own_memory machine.old)
+        (option_map (λ path. path.now) asked.entry.log) asked.entry.places.items asked.entry.window
+        asked.entry.ticks (state_of own_memory machine.old) files.old files.new) }
+    ensures stopped { IfErr result (λ fault. IsUnstarted K.took output.old output.new files.old files.new fault
+        ⊎ IsStopped K.took asked.entry.ticks (state_of own_memory machine.old)
         output.old output.new (HasCause F.Created.failures
         (IsSome (option_map (λ path. path.now) asked.entry.counts)
         ⊎ IsSome (option_map (λ path. path.now) asked.entry.changes))
-        (K.failures output.old) (K.failures output.new) (F.failures files.old) (F.failures files.new))) }
+        (K.failures output.old) (K.failures output.new) (F.failures files.old) (F.failures files.new)) fault) }
 {
-    let short = ShortWrites::none();
-    let Some(path) = asked.counts else {
-        let (_, short) = run_watched(files, alloc, machine, output, asked, short)?;
+    let RecordedRun {
+        ticks,
+        counts,
+        changes,
+        places,
+        log,
+        window,
+    } = asked;
+    let Ok(log) = log_output(alloc, log) else {
+        return Err(ProgramFault::NoMemory);
+    };
+    let watched = WatchedPlaces::new(alloc, places)?;
+    let asked = WatchedRun {
+        logged: LoggedRun { ticks, log, window },
+        changes,
+        watched,
+    };
+    let Some(path) = counts else {
+        let (_, short) = run_watched(files, machine, output, asked, ShortWrites::none())?;
         return Ok(short.count);
     };
     let counts = Counts::new(alloc)?;
-    let mut counts_file = created_file(files, path)?;
-    let both = RecorderPair {
-        first: short,
-        second: counts,
-    };
-    let (end, mut both) = run_watched(files, alloc, machine, output, asked, both)?;
-    let rows = both.second.table.rows.as_mut_slice();
-    let Ok(()) = write_counts(&mut counts_file, rows, machine.scalar.pc, end) else {
-        return Err(ProgramFault::Write(path));
-    };
-    files.close(counts_file);
-    Ok(both.first.count)
+    run_counted(files, machine, output, asked, path, counts)
 }

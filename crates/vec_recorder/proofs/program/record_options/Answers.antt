@@ -58,4 +58,4 @@ pub returns-in_err-places-clause-failed : goal.returns-in_err-places-clause-fail
 returns-in_err-places-clause-failed g c = not_five _ c.from_residual-in_err-places.result c.in_err-places.field-0.0 (elim c.in_err-places.ensures.refused [ inl none ↦ inr (inr (ap program_status none)) | inr usage ↦ inl usage.0 ]) c.from_residual-in_err-places.ensures.1
 
 pub returns-in_err-check_paths-clause-failed : goal.returns-in_err-check_paths-clause-failed
-returns-in_err-check_paths-clause-failed g c = not_five _ c.from_residual-in_err-check_paths.result c.in_err-check_paths.field-0.0 (inl c.in_err-check_paths.ensures.refused) c.from_residual-in_err-check_paths.ensures.1
+returns-in_err-check_paths-clause-failed g c = not_five _ c.from_residual-in_err-check_paths.result c.in_err-check_paths.field-0.0 (elim c.in_err-check_paths.ensures.refused [ inl two ↦ inl two | inr six ↦ inr (inr six) ]) c.from_residual-in_err-check_paths.ensures.1

@@ -28,21 +28,24 @@ returns g c =
 pub returns-in_err-short-clause-printed : goal.returns-in_err-short-clause-printed
 returns-in_err-short-clause-printed g c =
     let s = state_of own_memory c.in_ok-machine.machine in
-    inr (record {
-      state = s;
-      begins = subst (λ them. StartsFrom (g.I.Inputs.file_bytes c.args.inputs.now) c.args.values.policy (option_map (λ path. path.now) c.args.options.now.image) them
-          (option_map (λ path. path.now) c.args.options.now.registers) s) c.as_slice.ensures.value c.in_ok-machine.ensures.begins;
-      run = c.in_err-short.ensures.stopped.first;
-    })
+    elim c.in_err-short.ensures.stopped [
+      | inl unstarted ↦ inl unstarted.nothing
+      | inr stopped ↦ inr (record {
+        state = s;
+        begins = subst (λ them. StartsFrom (g.I.Inputs.file_bytes c.args.inputs.now) c.args.values.policy (option_map (λ path. path.now) c.args.options.now.image) them
+            (option_map (λ path. path.now) c.args.options.now.registers) s) c.as_slice.ensures.value c.in_ok-machine.ensures.begins;
+        run = stopped.first;
+      })
+    ]
 
 pub returns-in_err-short-clause-nothing : goal.returns-in_err-short-clause-nothing
-returns-in_err-short-clause-nothing g c = nothing_by g.K.Sink.took _ _ _ _ _ c.from_residual-in_err-short.result c.in_err-short.ensures.stopped c.from_residual-in_err-short.ensures.1
+returns-in_err-short-clause-nothing g c = nothing_by g.K.Sink.took _ _ _ _ _ _ _ c.from_residual-in_err-short.result c.in_err-short.ensures.stopped c.from_residual-in_err-short.ensures.1
 
 pub returns-in_err-short-clause-unused : goal.returns-in_err-short-clause-unused
-returns-in_err-short-clause-unused g c = unused_by g.K.Sink.took _ _ _ _ _ _ c.from_residual-in_err-short.result c.in_err-short.ensures.stopped c.from_residual-in_err-short.ensures.1
+returns-in_err-short-clause-unused g c = unused_by g.K.Sink.took _ _ _ _ _ _ _ c.from_residual-in_err-short.result c.in_err-short.ensures.stopped c.from_residual-in_err-short.ensures.1
 
 pub returns-in_err-short-clause-failed : goal.returns-in_err-short-clause-failed
-returns-in_err-short-clause-failed g c = caused_by g.K.Sink.took _ _ _ _ _ c.from_residual-in_err-short.result c.in_err-short.ensures.stopped c.from_residual-in_err-short.ensures.1
+returns-in_err-short-clause-failed g c = caused_by g.K.Sink.took _ _ _ _ _ _ _ c.from_residual-in_err-short.result c.in_err-short.ensures.stopped c.from_residual-in_err-short.ensures.1
 
 pub returns-in_err-machine-clause-failed : goal.returns-in_err-machine-clause-failed
 returns-in_err-machine-clause-failed g c = not_five _ c.from_residual.result c.in_err-machine.field-0.0 (inr c.in_err-machine.ensures.refused) c.from_residual.ensures.1

@@ -1,9 +1,9 @@
-use Rattle.std.proofs.Common.{inl, inr, refl}
+use Rattle.std.proofs.Common.{◌∙◌, inl, inr, refl}
 use Rattle.recording.specs.Machines.{state_of}
 use Rattle.recording.specs.Runs.{ran}
 use Rattle.first_state.specs.OwnMemory.{own_memory}
 use Rattle.vec_recorder.proofs.RunLaws.{end_by_totals, log_printed}
-use Rattle.vec_recorder.proofs.StopLaws.{passed_on, stopped_by, stopped_late, unstarted, unstarted_by, whole_first}
+use Rattle.vec_recorder.proofs.StopLaws.{passed_on, stopped_by, stopped_late, unstarted, whole_first}
 use Rattle.vec_recorder.proofs.runs.run_recorded.Goals as goal
 
 pub returns-clause-run : goal.returns-clause-run
@@ -18,7 +18,8 @@ pub returns-clause-log : goal.returns-clause-log
 returns-clause-log g c =
     let s = state_of own_memory c.args.machine.now in
     let printed = c.in_ok-end.ensures.recorded.1 in
-    let made = c.in_ok-log.ensures in
+    let made = c.new-log.ensures in
+    let empty = rw c.in-Some.is at c.requires in
     rw c.in-Some.is (record {
       empty = c.in_ok-file.file;
       full = c.write_last.new.sink;
@@ -27,8 +28,8 @@ returns-clause-log g c =
       made = c.in_ok-file.ensures.created;
       others = refl;
       ended = c.close.ensures.closed;
-      says = log_printed g.F.Created.Sink.took g.met.F.Created.Sink.took_more c.in_ok-log.log c.run.new.recorder.second.second _ _ _ c.args.asked.window (ran c.args.asked.ticks s).found _ _
-          made.sink made.window made.number made.text printed.1 c.in_ok-finish.ensures.printed
+      says = log_printed g.F.Created.Sink.took g.met.F.Created.Sink.took_more c.new-log.result c.run.new.recorder.second.second _ _ _ c.args.asked.window (ran c.args.asked.ticks s).found _ _
+          made.sink made.window made.number (made.text ∙ empty) printed.1 c.in_ok-finish.ensures.printed
           (end_by_totals c.args.asked.ticks _ _ _ _ s (state_of own_memory c.run.new.machine) c.in_ok-end.end c.write_last.ensures.times c.write_last.ensures.ticks c.none.ensures.times c.none.ensures.ticks
           printed.0.0 printed.0.1 c.in_ok-end.ensures.machine c.in_ok-end.ensures.end)
           c.in-Ok.ensures.text;
@@ -47,12 +48,8 @@ pub returns-in_err-file-clause-stopped : goal.returns-in_err-file-clause-stopped
 returns-in_err-file-clause-stopped g c =
     let none = g.met.K.Sink.took_none c.args.output.now in
     passed_on g.K.Sink.took c.args.asked.ticks (state_of own_memory c.args.machine.now) _ _ _ c.from_residual-in_err-file.result (λ cause. cause)
-    (unstarted g.K.Sink.took c.args.asked.ticks (state_of own_memory c.args.machine.now) _ _ c.in_err-file.field-0.0 none (inl c.in_err-file.ensures.refused) (λ _. inr (inl c.in_err-file.ensures.failed)))
+    (unstarted g.K.Sink.took c.args.asked.ticks (state_of own_memory c.args.machine.now) _ _ c.in_err-file.field-0.0 none c.in_err-file.ensures.refused (inr (inl c.in_err-file.ensures.failed)))
     c.from_residual-in_err-file.ensures.1
-
-pub returns-in_err-log-clause-stopped : goal.returns-in_err-log-clause-stopped
-returns-in_err-log-clause-stopped g c =
-    unstarted_by g.K.Sink.took c.args.asked.ticks (state_of own_memory c.args.machine.now) _ c.args.output.now c.from_residual-in_err-log.result (g.met.K.Sink.took_none c.args.output.now) c.from_residual-in_err-log.ensures.1
 
 pub returns-in_err-end-clause-stopped : goal.returns-in_err-end-clause-stopped
 returns-in_err-end-clause-stopped g c =

@@ -3,14 +3,14 @@ use Rattle.recording.specs.Machines.{state_of}
 use Rattle.recording.specs.Runs.{ran}
 use Rattle.first_state.specs.OwnMemory.{own_memory}
 use Rattle.vec_recorder.proofs.RunLaws.{changes_printed, end_by_totals}
-use Rattle.vec_recorder.proofs.StopLaws.{passed_on, some_is, stopped_late, unstarted, unstarted_by, widened, wider_cause}
+use Rattle.vec_recorder.proofs.StopLaws.{passed_on, some_is, stopped_late, unstarted, widened, wider_cause}
 use Rattle.vec_recorder.proofs.runs.run_watched.Goals as goal
 
 pub returns-clause-changes : goal.returns-clause-changes
 returns-clause-changes g c =
     let s = state_of own_memory c.args.machine.now in
     let printed = c.in_ok-end.ensures.run.recorded.1 in
-    let made = c.in_ok-changes.ensures in
+    let made = c.new.ensures in
     rw c.in-Some.is (record {
       empty = c.in_ok-file.file;
       full = c.write_last.new.sink;
@@ -19,7 +19,7 @@ returns-clause-changes g c =
       made = c.in_ok-file.ensures.created;
       others = c.in_ok-end.ensures.log;
       ended = c.close.ensures.closed;
-      says = changes_printed g.F.Created.Sink.took g.met.F.Created.Sink.took_more c.in_ok-changes.changes c.in_ok-end.both.second.second _ _ _ (ran c.args.asked.logged.ticks s).found _ _
+      says = changes_printed g.F.Created.Sink.took g.met.F.Created.Sink.took_more c.new.result c.in_ok-end.both.second.second _ _ _ (ran c.args.asked.logged.ticks s).found _ _
           made.sink (ap (λ them. them.items) made.places) made.number made.ticks printed.1
           (end_by_totals c.args.asked.logged.ticks _ _ _ _ s (state_of own_memory c.run_recorded-2.new.machine) c.in_ok-end.end c.write_last.ensures.times c.write_last.ensures.ticks c.none.ensures.times c.none.ensures.ticks
           printed.0.0 printed.0.1 c.in_ok-end.ensures.run.machine c.in_ok-end.ensures.run.end)
@@ -35,13 +35,8 @@ pub returns-in_err-file-clause-stopped : goal.returns-in_err-file-clause-stopped
 returns-in_err-file-clause-stopped g c =
     let none = g.met.K.Sink.took_none c.args.output.now in
     passed_on g.K.Sink.took c.args.asked.logged.ticks (state_of own_memory c.args.machine.now) _ _ _ c.from_residual.result (λ cause. cause)
-    (unstarted g.K.Sink.took c.args.asked.logged.ticks (state_of own_memory c.args.machine.now) _ _ c.in_err-file.field-0.0 none (inl c.in_err-file.ensures.refused) (λ _. inr (inl c.in_err-file.ensures.failed)))
+    (unstarted g.K.Sink.took c.args.asked.logged.ticks (state_of own_memory c.args.machine.now) _ _ c.in_err-file.field-0.0 none c.in_err-file.ensures.refused (inr (inl c.in_err-file.ensures.failed)))
     c.from_residual.ensures.1
-
-pub returns-in_err-changes-clause-stopped : goal.returns-in_err-changes-clause-stopped
-returns-in_err-changes-clause-stopped g c =
-    unstarted_by g.K.Sink.took c.args.asked.logged.ticks (state_of own_memory c.args.machine.now) _ c.args.output.now c.from_residual-in_err-changes.result (g.met.K.Sink.took_none c.args.output.now)
-    c.from_residual-in_err-changes.ensures.1
 
 -- a recorder of the pair: the caller's, or the changes, which are requested
 pub returns-in_err-end-clause-stopped : goal.returns-in_err-end-clause-stopped
