@@ -13,15 +13,16 @@ NAMES = {
     "columns": "columnsOf, fit, stripsOf",
     "lane_rows": "headOf",
     "card": "cardOf",
-    "calculation": "calculationText",
+    "equations": "equationText",
     "detail": "detailOf",
     "wires": "curvesOf",
 }
 IMPORTS = "".join(f'import {{ {names} }} from "./{module}.js";\n' for module, names in NAMES.items())
 SHOWN = """
 const views = JSON.parse(require("fs").readFileSync(0, "utf-8"));
+const forms = ["signed", "unsigned", "hexadecimal"];
 const shown = views.map((given) => {
-  const view = { form: "signed", before: given.state, ...given, used: new Set(given.used ?? []) };
+  const view = { form: "signed", hasAbiNames: true, before: given.state, ...given, used: new Set(given.used ?? []) };
   const columns = columnsOf(view);
   const { rows, elements, outcomes, pairs, executed } = columns;
   const head = (row) => `${headOf(row, 0, row.cells.length - 1)} ${row.words}`.trim();
@@ -30,7 +31,8 @@ const shown = views.map((given) => {
     ...{ elements, outcomes, pairs, card: cardOf(view, columns) },
     results: executed?.destination ? executed.results : [],
     strips: [16, 8, 4, 2].map((width) => stripsOf(columns, width)).map(({ strips, folded }) => [strips.length, folded]),
-    calculations: (given.elements ?? []).map((each) => calculationText(view, columns, each)),
+    calculations: (given.elements ?? []).map((each) => equationText(view, executed, each)),
+    equations: forms.map((form) => (given.elements ?? []).map((each) => equationText({ ...view, form }, executed, each))),
     details: (given.elements ?? []).map((each) => detailOf(view, columns, each)),
     fits: (given.rooms ?? []).map((width) => fit(columns, { width, unit: 1, letter: 0.602 })),
     curves: curvesOf(pairs, 0, 8).map(({ path }) => path),

@@ -3,11 +3,12 @@
 import json
 import pathlib
 from collections.abc import Mapping
-from typing import Any
+from typing import Any, cast
 
 from support.places import DATA
 from vecmon_lab.lessons.frames import make_frames
 from vecmon_lab.lessons.script import read_assembled
+from vecmon_lab.page.state import State, add_executed
 
 FILE = DATA / "element_states.json"
 MEMORY = """
@@ -72,7 +73,7 @@ PROGRAMS = {
 }
 """Programs by name, whose last instruction is the one that is shown."""
 BEFORE = ("pc", "x", "v", "vtype", "vl", "vstart", "vxrm", "vxsat", "policy", "memory")
-AFTER = (*BEFORE, "instruction", "faulted", "stop", "meanings")
+AFTER = (*BEFORE, "instruction", "faulted", "illegal", "stop")
 
 
 def captured(name: str, program: pathlib.Path) -> dict[str, dict[str, Any]]:
@@ -88,8 +89,6 @@ def captured(name: str, program: pathlib.Path) -> dict[str, dict[str, Any]]:
         after[key] = {
             at: each for at, each in states[place][key].items() if at == after["instruction"] or "scalar" in name
         }
-    mnemonic = _executed(states[place]).split()[0]
-    after["meanings"] = {each: text for each, text in after["meanings"].items() if each == mnemonic}
     for state in (before, after):
         state["x"] = {number: digits for number, digits in state["x"].items() if digits != "0"}
         state["v"] = {number: digits.rstrip("0") for number, digits in state["v"].items() if digits.strip("0")}
@@ -105,9 +104,11 @@ def _executed(state: Mapping[str, Any]) -> str:
 
 
 def stored() -> dict[str, dict[str, Any]]:
-    """The stored states by the name of their program, with all registers whole."""
+    """The stored states by the name of their program, with all registers whole, and with the elements of the last instruction."""
     found: dict[str, dict[str, Any]] = json.loads(FILE.read_text("ascii"))
     for state in (each for pair in found.values() for each in pair.values()):
         state["x"] = {f"{number}": state["x"].get(f"{number}", "0") for number in range(32)}
         state["v"] = {f"{number}": state["v"].get(f"{number}", "").ljust(64, "0") for number in range(32)}
+    for pair in found.values():
+        add_executed(cast(State, pair["state"]), cast(State, pair["before"]))
     return found

@@ -24,7 +24,6 @@ EXCEPTIONS = {  # the files with such decisions, and the reason for each
     "lab/vecmon_lab/classes/requests.py": "a message is a mapping there, and its keys are tested",
     "lab/vecmon_lab/meanings/describe.py": "a search for a reader's words",
     "lab/support/golden_equations.py": "the independent reader of sentences that are shown",
-    "lab/vecmon_lab/page/executed.js": "a lesson's frame has the cause of a fault only in words",
 }
 
 

@@ -78,6 +78,25 @@ def test_last_instruction_stays_until_machine_changes(desk: Desk) -> None:
     assert not set(shown) & set(desk.seat.state)
 
 
+def test_state_has_elements_of_last_instruction(desk: Desk) -> None:
+    """`vadd.vv v8, v8, v8` with vl 4 of 8, the store that v0 = 5 masks, and an instruction before any vset."""
+    step(desk, DOUBLED)
+    executed = desk.seat.state["executed"]
+    assert executed["outcomes"] == [{"outcome": "active", "count": 4}, {"outcome": "tail", "count": 4}]
+    assert (executed["formula"], executed["end"], executed["known"]) == (["v8[i] = v8[i] + v8[i]"], "ran", True)
+    assert desk.seat.shown["executed"] == executed
+    step(desk, STORED - DOUBLED)
+    executed = desk.seat.state["executed"]
+    outcomes = [(each["outcome"], each["count"]) for each in executed["outcomes"]]
+    assert outcomes == [("active", 1), ("masked", 1), ("active", 1), ("masked", 1), ("tail", 4)]
+    assert (executed["access"]["start"], executed["access"]["step"], executed["access"]["base"]) == ("11000", 4, 10)
+    ask(desk, ask="lines", do=["set x5 1"])
+    assert "executed" not in desk.seat.state
+    ask(desk, ask="lines", do=["leave", "enter", "map 10000 1 rwx", "asm 10000 vadd.vv v1, v2, v3", "setpc 10000"])
+    step(desk, 1)
+    assert desk.seat.state["illegal"] and desk.seat.state["executed"]["end"] == "illegal"
+
+
 def test_masked_store_writes_active_elements(desk: Desk) -> None:
     step(desk, STORED)
     assert desk.seat.state["read"]["x"] == {"10": "11000"} and desk.seat.state["read"]["v0"].startswith("05000000")

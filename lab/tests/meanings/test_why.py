@@ -60,6 +60,14 @@ def explained(word: int, name: str, element: int | None, **other: int | bool) ->
         (0xB625E457, "v8", 5, {}, "v8[5] = v2[5] * x11 + v8[5] = 6 * 3 + 105 = 123"),  # vmacc.vx v8, x11, v2
         (0x02410457, "v8", 0, {}, "v8[0] = v4[0] + v2[0] = 10 + 1 = 11"),  # vadd.vv v8, v4, v2
         (0x02410457, "v8", 1, {}, "v8[1] = v4[1] + v2[1] = (-20) + 2 = -18"),
+        (
+            0x724FB057,
+            "v0",
+            1,
+            {},
+            "v0.mask[1] = v4[1] <= unsigned(-1) = 4294967276 <= 4294967295 = 1",
+        ),  # vmsleu.vi v0, v4, -1
+        (0xEA45E457, "v8", 1, {}, "v8[1] = signed(v4[1]) * unsigned(x11) = (-20) * 3 = -60"),  # vwmulsu.vx v8, v4, x11
         (0x02410457, "v8", 6, {}, "v8[6] kept its value 106: tail, since 6 >= vl = 6"),
         (0x02410457, "v8", 1, {"vstart": 2}, "v8[1] kept its value 101: before vstart = 2"),
         (

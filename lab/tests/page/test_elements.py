@@ -3,8 +3,8 @@
 import json
 import pathlib
 import random
-from collections.abc import Iterator
-from typing import TYPE_CHECKING, Any
+from collections.abc import Iterator, Sequence
+from typing import TYPE_CHECKING, Any, cast
 
 import pytest
 
@@ -19,13 +19,16 @@ from vecmon_lab.instructions.accesses import vector_instruction
 from vecmon_lab.lessons.frames import make_frames
 from vecmon_lab.lessons.page import lesson_page
 from vecmon_lab.lessons.script import read_assembled
+from vecmon_lab.meanings.calculation import Calculation, Notation, NumberForm
 from vecmon_lab.meanings.executed import ElementOutcome, Execution, element_of
-from vecmon_lab.page.meanings import shown_meaning
+from vecmon_lab.meanings.why import Explanation
 from vecmon_lab.page.operands import shown_operands
+from vecmon_lab.page.state import State, add_executed, add_last_instruction
 
 if TYPE_CHECKING:
     from selenium.webdriver import Chrome
 
+FORMS: Sequence[NumberForm] = ("signed", "unsigned", "hexadecimal")
 MARKS = {"m": "masked", "t": "tail", "s": "prestart", "f": "fault", "p": "pending", "k": "kept", "i": "idle"}
 OUTCOMES = {
     ElementOutcome.RESULT: "active",
@@ -108,7 +111,6 @@ def test_cards_and_details_have_own_operands(shown: dict[str, dict[str, Any]]) -
         "sentence": "1 → −2",
         "value": "−2",
         "edit": "vset v8 32 1 signed",
-        "explain": "v8[1]",
     }
     assert shown["count of ones"]["card"]["scalars"] == ["a2 = 3"] and shown["first one"]["card"]["scalars"] == [
         "a2 = 1"
@@ -142,51 +144,48 @@ def test_cards_count_elements_around_a_fault(shown: dict[str, dict[str, Any]]) -
 def test_calculations_of_an_element(shown: dict[str, dict[str, Any]]) -> None:
     """Of element 1 in different kinds of instructions, by hand."""
     calculations = {
-        "add an immediate": "v9[1] = v4[1] + (-2) = (−1) + (-2) = −3",
+        "add an immediate": "v9[1] = v4[1] + (−2) = (−1) + (−2) = −3",
         "unsigned minimum": "v9[1] = min(v4[1], a1) = min(4294967295, 4) = 4",
-        "narrowing": "v10[1] = v8[1] >> 6 % (2 * 8) = 1540 >> 6 % (2 * 8) = 24",
+        "narrowing": "v10[1] = v8[1] >> 6 % (2 * sew) = 1540 >> 6 % (2 * 8) = 24",
         "comparison": "v0.mask[1] = signed(v4[1]) < signed(zero) = (−1) < 0 = 1",
-        "merge": "v13[1] = 0",
+        "merge": "v13[1] = 0, since v0.mask[1] (1) is true",
         "carry": "v13[1] = v4[1] + v4[1] + v0.mask[1] = (−1) + (−1) + 1 = −1",
-        "slide down": "v16[1] = v4[3] = 1",
-        "slide a scalar in": "v17[1] = v4[2] = 4",
-        "gather": "v6[1] = v4[0] = 3",
-        "gather one": "v6[1] = v4[4] = −5",
-        "compress": "v14[1] = −5",
-        "group of eight": "v8[1] = signed(v8[1]) >> 1 % 32 = (−1) >> 1 % 32 = −1",
+        "slide down": "v16[1] = v4[3] = 1, since 1 + a1 < vlmax (1 + 2 < 8) is true",
+        "slide a scalar in": "v17[1] = v4[2] = 4, since 1 < vl - 1 (1 < 8 - 1) is true",
+        "gather": "v6[1] = v4[0] = 3, since v5[1] < vlmax (0 < 8) is true",
+        "gather one": "v6[1] = v4[4] = −5, since 4 < vlmax (4 < 8) is true",
+        "compress": "v14[1] = v4[4] = −5",
+        "group of eight": "v8[1] = signed(v8[1]) >> 1 % sew = (−1) >> 1 % 32 = −1",
     }
     assert {name: shown[name]["calculations"][1] for name in calculations} == calculations
 
 
+def ran(pair: dict[str, Any], before: dict[str, Any] | None = None) -> dict[str, Any]:
+    """The state of a pair as the core makes it after a run, or once the state before the last instruction is known."""
+    state = pair["state"].copy()
+    add_last_instruction(cast(State, state), cast(State | None, before))
+    return cast(dict[str, Any], state)
+
+
 def test_sources_after_several_steps(tmp_path: pathlib.Path) -> None:
-    """Without the state before a single step sources are those that `read` has; else they are as they are now, without calculations."""
-    pair = stored()["multiply and add, masked"]
+    """After a run, sources that the instruction has written are as they are now; the state before it has all calculations."""
+    pair, shift = stored()["multiply and add, masked"], stored()["group of eight"]
     first = pair["before"] | {"pc": "10000", "v": pair["before"]["v"] | {"8": "00" * 32}}
-    read = {
-        "x": {},
-        "v": {"4": pair["before"]["v"]["4"]},
-        "v0": pair["before"]["v"]["0"],
-        "vl": 8,
-        "vtype": "50",
-        "vstart": 0,
-    }
-    states = [
-        pair["state"],
-        pair["state"] | {"read": read},
-        pair["state"] | {"read": read | {"v": pair["before"]["v"]}},
-    ]
-    shown = shown_columns([{"state": state, "before": first, "elements": [1]} for state in states], tmp_path)
+    views = [ran(shift), ran(pair), ran(pair, pair["before"])]
+    shown = shown_columns([{"state": state, "before": first, "elements": [1]} for state in views], tmp_path)
     words = [[row["head"] for row in each["rows"]] for each in shown]
-    assert words == [["v0 mask", source, "v8 before", "v8 after"] for source in ("v4 now", "v4 from", "v4 from")]
+    assert words[0] == ["v8–v15 before", "v8–v15 after"]  # without the source, which isn't known
+    assert words[1:] == [["v0 mask", "v4 from", "v8 before", "v8 after"]] * 2
     assert [each["calculations"] for each in shown] == [[""], [""], ["v8[1] = v4[1] * a1 + v8[1] = (−1) * 3 + 1 = −2"]]
     assert ["Several instructions ran" in each["card"]["meaning"] for each in shown] == [True, True, False]
-    assert [cells_of(each["rows"][2])[1] for each in shown] == ["0", "0", "1"]
+    assert [cells_of(each["rows"][2])[1] for each in shown[1:]] == ["0", "1"]
 
 
 def test_card_of_a_load_that_was_cut_has_its_start(tmp_path: pathlib.Path) -> None:
     """The end of a slice had cut it before element 5 of 8."""
     pair = stored()["load"]
-    views = [{"state": pair["state"], "before": pair["before"] | {"vstart": vstart}} for vstart in (0, 5)]
+    befores = [pair["before"] | {"vstart": vstart} for vstart in (0, 5)]
+    views = [{"state": ran(pair, before), "before": before} for before in befores]
     whole, rest = (each["card"] for each in shown_columns(views, tmp_path))
     assert "vstart" not in whole["meaning"] and "It started at element 5, its `vstart`." in rest["meaning"]
     assert [words for _, words in rest["counts"]][:2] == ["3 active", "5 before vstart"]
@@ -196,7 +195,7 @@ def test_memory_of_load_at_the_end_of_a_run(tmp_path: pathlib.Path) -> None:
     """The run has stored what the load read, so that the memory before the run has other bytes."""
     pair = stored()["load"]
     first = pair["before"] | {"pc": "10000", "memory": {"11000": "00" * 16}}
-    (shown,) = shown_columns([{"state": pair["state"], "before": first}], tmp_path)
+    (shown,) = shown_columns([{"state": ran(pair), "before": first}], tmp_path)
     rows = {row["head"]: cells_of(row) for row in shown["rows"]}
     assert list(rows) == ["(a0) memory", "v4 before", "v4 after"]
     assert rows["(a0) memory"] == ["3", "-1", "4", "1", "-5", "9", "2", "-6"]  # as the program has them
@@ -205,8 +204,8 @@ def test_memory_of_load_at_the_end_of_a_run(tmp_path: pathlib.Path) -> None:
 def test_a_page_opened_again_shows_no_values_before(tmp_path: pathlib.Path) -> None:
     """Without any state before the last instruction the result has no row before it, and no change is counted."""
     pair = stored()["multiply and add, masked"]
-    (shown,) = shown_columns([{"state": pair["state"], "elements": [1]}], tmp_path)
-    assert [row["head"] for row in shown["rows"]] == ["v0 mask", "v4 now", "v8 after"]
+    (shown,) = shown_columns([{"state": ran(pair), "elements": [1]}], tmp_path)
+    assert [row["head"] for row in shown["rows"]] == ["v0 mask", "v4 from", "v8 after"]
     assert "The values before it are unknown" in shown["card"]["meaning"]
     assert "changed" not in dict(shown["card"]["counts"]) and "before" not in shown["details"][0]
 
@@ -215,7 +214,7 @@ def test_a_page_opened_again_shows_no_memory_before(tmp_path: pathlib.Path) -> N
     """The same of a store: it has no row of memory before it, and no element counts as unchanged."""
     pair = stored()["store, masked"]
     views = [
-        {"state": pair["state"], "elements": [1]},
+        {"state": ran(pair), "elements": [1]},
         {"state": pair["state"], "before": pair["before"], "elements": [1]},
     ]
     again, stepped = shown_columns(views, tmp_path)
@@ -263,7 +262,10 @@ def test_curves_join_sources_and_results(shown: dict[str, dict[str, Any]]) -> No
 
 
 def test_columns_equal_golden_results(tmp_path: pathlib.Path) -> None:
-    """Values before and after, and outcomes, of each instruction with a vector result, compared with QEMU's and the formulas'."""
+    """Values before and after, and outcomes, of each instruction with a vector result, compared with QEMU's and the formulas'.
+
+    The equations are those of `why`, in each form of numbers.
+    """
     draws, views, cases = random.Random(1), list[dict[str, Any]](), list[tuple[Any, ...]]()
     vectors = list(golden_vectors())
     draws.shuffle(vectors)
@@ -282,11 +284,13 @@ def test_columns_equal_golden_results(tmp_path: pathlib.Path) -> None:
             continue
         for number, digits in vector["after"].get("v", {}).items():
             after[int(number) * 32 : int(number) * 32 + 32] = bytes.fromhex(digits)
-        views.append(_view(vector, before, bytes(after)))
+        active = Execution(before).active[:3] if not target.is_whole or target.eew == 1 else [0]
+        views.append(_view(vector, before, bytes(after)) | {"elements": active})
         cases.append((vector["id"], target, before, bytes(after)))
         seen.add(name)
     assert len(seen) > 200
-    for (case, target, before, after), found in zip(cases, shown_columns(views, tmp_path), strict=True):
+    shown = zip(cases, views, shown_columns(views, tmp_path), strict=True)
+    for (case, target, before, after), view, found in shown:
         first, width = target.registers.start, target.eew
         for kind, data in (("before", before.v), ("after", after)):
             rows = [row for row in found["rows"] if row["kind"] == kind]
@@ -299,6 +303,12 @@ def test_columns_equal_golden_results(tmp_path: pathlib.Path) -> None:
         if execution.record.layout == "compress":
             outcomes = ["tail" if each == "kept" else each for each in outcomes]
         assert (case, found["results"]) == (case, outcomes)
+        reasons = Explanation(before)
+        for form, equations in zip(FORMS, found["equations"], strict=True):
+            for element, equation in zip(view["elements"], equations, strict=True):
+                reason = reasons.why(f"v{first}", element).of
+                if equation or isinstance(reason, Calculation):
+                    assert (case, form, equation) == (case, form, reason.text(Notation(form, True, "−")))
 
 
 def _view(vector: dict[str, Any], before: Any, after: bytes) -> dict[str, Any]:
@@ -319,13 +329,11 @@ def _view(vector: dict[str, Any], before: Any, after: bytes) -> dict[str, Any]:
 
     word = int(vector["word"], 16)
     shown = {"10000800": f"{word:08x} {vector['text']}"}
-    meanings = {vector["name"]: shown_meaning(vector["name"])}
-    now = state(after) | {"vstart": 0, "instruction": "10000800", "code": shown, "meanings": meanings}
-    return {
-        "state": now | {"pc": "10000804", "operands": {"10000800": shown_operands(word)}},
-        "before": state(before.v),
-        "form": "unsigned",
-    }
+    changed = {"pc": "10000804", "vstart": 0, "instruction": "10000800", "vxrm": 0, "vxsat": 0}
+    now = state(after) | changed | {"code": shown, "operands": {"10000800": shown_operands(word)}}
+    earlier = state(before.v) | {"vxrm": before.control.vxrm, "vxsat": 0}
+    add_executed(cast(State, now), cast(State, earlier))
+    return {"state": now, "before": earlier, "form": "unsigned"}
 
 
 CHOSEN = "return [...document.querySelectorAll('#elements td.chosen')].map((cell) => cell.firstChild.data)"
@@ -384,7 +392,7 @@ def test_element_is_explained_and_changed(sit: Sit) -> None:
     tab.begin("vsetivli x0, 8, e32, m1, ta, ma", "vid.v v1", "vadd.vx v2, v1, x10")
     tab.command("set x10 5", *["step 1"] * 3)
     tab.click("#elements .after td[data-element='4']")
-    tab.wait("one('.detail').textContent.includes('v2[4] = vs2[4] + x10 = 4 + 5 = 9')")
+    tab.wait("one('.detail').textContent.includes('v2[4] = v1[4] + a0 = 4 + 5 = 9')")
     tab.keys("#elements .after td[data-element='4']", Keys.ENTER)
     tab.wait("id('edit').open && id('value').value === '9'")
     tab.keys("#value", Keys.CONTROL, "a", Keys.NULL, "-2", Keys.ENTER)

@@ -86,7 +86,7 @@ def test_page_operands_equal_decoded_words(browser: "Chrome", session: Session) 
     assert len({text.split()[0] for text, *_ in cases}) > 0.9 * len(names)
     script = f"""{join_modules("columns", page_file)}
         return arguments[0].map(([operands, vtype]) =>
-            operands.map((each) => $executed.operandOf(each, $words.vectorType(vtype), false)))"""
+            operands.map((each) => $columns.shapeOf(each, $words.vectorType(vtype))))"""
     shown = browser.execute_script(script, [(operands, f"{view.vtype:x}") for _, view, operands, _ in cases])
     for (text, view, operands, expected), groups in zip(cases, shown, strict=True):
         registers = dict[int, set[tuple[bool, int]]]()

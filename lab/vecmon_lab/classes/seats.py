@@ -110,6 +110,8 @@ class Seat:
         state, shown = self.state.copy(), self.shown.copy()
         add_last_instruction(state, before)
         shown["read"], shown["accessed"] = state["read"], state["accessed"]
+        if "executed" in state:
+            shown["executed"] = state["executed"]
         self.state, self.shown = state, shown
 
     def stop_at_breakpoint(self) -> None:
@@ -235,7 +237,8 @@ class Seats:
             if is_done and state["run"] == "stopped" and _ends_executing(done, digit):
                 add_last_instruction(state, before if _is_single_step(done, digit) else None)
             elif is_done and "faulted" not in state:
-                state.pop("instruction", None)  # registers have changed since, as by the lines that set up a case
+                state.pop("instruction", None)
+                state.pop("executed", None)  # registers have changed since, as by the lines that set up a case
             seat.rows.add(state)
             states[digit] = state, with_rows(state, seat.rows.rows(seat.watch_set, 1 + seat.watch_set.is_compiled))
         return states

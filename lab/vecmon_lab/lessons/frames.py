@@ -16,7 +16,7 @@ from ..machine.answers import Answer, Position, Refused, answers_by_user, read
 from ..machine.lines import DIGITS, BadLine, is_look, words_of
 from ..machine.process import Vecmon
 from ..machine.session import Session
-from ..page.state import ABSENT, VisibleRows, WatchSet, State, look_at, registers_of, with_rows
+from ..page.state import ABSENT, VisibleRows, WatchSet, State, add_executed, look_at, registers_of, with_rows
 from .script import Script, Step, refused_statement
 from .used_registers import UseCounter, UsedRegisters
 
@@ -143,7 +143,10 @@ class _Maker:
         for user, watch_set in self._watch_sets.items():
             if user in users or "*" in users:
                 own, before = [answer for whom, answer in answers if whom == user], self._states.get(user, ABSENT)
-                self._states[user] = look_at(Guest(self._single, int(user)), watch_set, before, own, executed)
+                state = look_at(Guest(self._single, int(user)), watch_set, before, own, executed)
+                if state["run"] == "stopped":
+                    add_executed(state, before)
+                self._states[user] = state
 
     def _count_run(self, before: Mapping[str, State]) -> None:
         """Adds the registers of the instructions that executed since these states."""

@@ -57,6 +57,9 @@ class Term:
     width: in bits: 1 of a bit of a mask; 0 of an immediate or a number of the machine
     sign: how the formula takes the bits
     function: written around the name: `signed`, `unsigned`, `sext`, `zext`; or ""
+    register, index: of an element of a vector register group: the group's first register, and the element; of the number of the element
+        itself only its index
+    step: the distance to the term in the calculation of the next element: 1, or 0 if it is the same one; None if that varies
     """
 
     name: str
@@ -65,6 +68,9 @@ class Term:
     sign: Sign = Sign.UNSIGNED
     scalar: int | None = None
     function: str = ""
+    register: int | None = None
+    index: int | None = None
+    step: int | None = 0
 
     def value(self, notation: Notation) -> int:
         """Return the number that the calculation takes."""
@@ -74,7 +80,9 @@ class Term:
         """Return the name as text."""
         has_abi_name = self.scalar is not None and notation.has_abi_names
         name = ABI_NAMES[f"x{self.scalar}"] if has_abi_name else self.name.replace("-", notation.minus)
-        return f"{self.function}({name})" if self.function else name
+        is_unsigned = self.name.startswith("-") and self.value(notation) >= 0  # a negative immediate
+        function = "unsigned" if is_unsigned else self.function
+        return f"{function}({name})" if function else name
 
 
 Part = str | Term

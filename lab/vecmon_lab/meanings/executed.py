@@ -77,7 +77,10 @@ class Numbers:
     name: `v4`, `x`, `memory`
     width: of each number in bits
     mask: a register's bits by their index; None of other numbers
+    register: the number of the group's first vector register; None of other numbers
     """
+
+    register: int | None = None
 
     def __init__(self, name: str, width: int, at: Callable[[int], Bits], mask: "Numbers | None" = None) -> None:
         self.name, self.width, self.mask, self._at = name, width, mask, at
@@ -128,7 +131,9 @@ def element_of(v: bytes | bytearray, register: int, width: int, number: int) -> 
 
 def _elements(v: bytes, register: int, width: int) -> Numbers:
     mask = Numbers(f"v{register}.mask", 1, functools.partial(element_of, v, register, 1))
-    return Numbers(f"v{register}", width, functools.partial(element_of, v, register, width), mask)
+    numbers = Numbers(f"v{register}", width, functools.partial(element_of, v, register, width), mask)
+    numbers.register = mask.register = register
+    return numbers
 
 
 def _memory(before: Before, width: int) -> Numbers:
@@ -200,6 +205,13 @@ class Execution:
         if self.operand and self.fields > 1:
             register = self.operand.registers.start + number * self.operand.group
             self.names["vd"] = self.names["vs3"] = _elements(self.before.v, register, self.operand.eew)
+
+    @property
+    def element(self) -> int:
+        """The element at present; 0 of an instruction without elements."""
+        number = self.names.get("i", 0)
+        assert isinstance(number, int)
+        return number
 
     def is_kept(self) -> bool:
         """Whether the record says that the element at present isn't written."""

@@ -137,12 +137,14 @@ class Assignment:
     kind: `element`, `mask`, `x`, `memory`, `pc`, `vl`, `vtype` or `csr`
     width: of memory, in bits; 0 for that of an element
     place: the index of the target; its name where it has none, and is one number
+    target: what the formula has before the sign of assignment
     """
 
     kind: str
     width: int
     place: ast.expr
     value: ast.expr
+    target: ast.expr
 
     @property
     def text(self) -> str:
@@ -177,6 +179,12 @@ def evaluate(node: ast.expr, names: Names) -> int:
     return int(_result(node, names))
 
 
+def evaluate_each(node: ast.expr, names: Names, elements: Iterable[int]) -> list[int]:
+    """The numbers that a part of a formula is for each of several elements."""
+    values, code = {"__builtins__": {}, "range": range, **FUNCTIONS, **names}, _code(node)
+    return [int(eval(code, values | {"i": element})) for element in elements]
+
+
 def condition(text: str) -> ast.expr:
     """A condition as an expression. Raises LabError."""
     return _checked(text, text)
@@ -193,10 +201,10 @@ def _assignment(text: str, whole: str) -> Assignment:
     if not is_assignment:
         raise LabError(f"formula {whole!r}: {text!r} assigns nothing; write TARGET = VALUE")
     if target in _NUMBER_TARGETS:
-        return Assignment(target, 64, ast.Name(target), _checked(value, whole))
-    match _checked(target, whole):
+        return Assignment(target, 64, ast.Name(target), _checked(value, whole), ast.Name(target))
+    match (node := _checked(target, whole)):
         case ast.Subscript(base, place) if (name := ast.unparse(base)) in _TARGETS:
-            return Assignment(*_TARGETS[name], place, _checked(value, whole))
+            return Assignment(*_TARGETS[name], place, _checked(value, whole), node)
     raise LabError(f"formula {whole!r}: {target!r} is no target")
 
 

@@ -114,7 +114,6 @@ export class Bench {
     on("show-reference", "click", () => this.refer(""));
     on("find", "input", () => showReference(this.parts.entries, find.value));
     this.desk.view.machine.addEventListener("click", ({ target }) => this.edit(/** @type {Element} */ (target)));
-    this.desk.view.lanes.explain = (name) => this.explain(name);
     this.editor.toggleBreakpoint = (line) => this.breakAt(line);
     this.editor.caretMoved = (text, place) => (tellName(entry, text, place), this.links.mark(this.editor.caretLine));
     document.addEventListener("selectionchange", () => {
@@ -245,12 +244,6 @@ export class Bench {
     const [command, address] = edit.split(" ");
     if (command === "break") return this.send([breaks.includes(address) ? `un${edit}` : edit]);
     return this.askValue(edit, value.replace("−", "-"));
-  }
-
-  /** Returns the calculation of an element of the present state; "" without one. */
-  async explain(/** @type {string} */ name) {
-    const isPresent = !this.desk.past.moment && this.desk.state.run === "stopped";
-    return (isPresent && (await this.connection.ask({ ask: "why", name }))?.why) || "";
   }
 
   /**

@@ -1,12 +1,13 @@
 // The card of the instruction that was executed last: its text, meaning, formula and counts; and the vector control registers.
 
-import { formulaText, scalarTexts } from "./calculation.js";
+import { OUTCOMES } from "./element_words.js";
 import { make, prose, renew } from "./elements.js";
-import { OUTCOMES } from "./outcomes.js";
+import { operandsText } from "./equations.js";
+import { numberText } from "./numbers.js";
 import { textOf } from "./texts.js";
-import { ROUNDING, typeText, typeWords, vectorType, withNames } from "./words.js";
+import { ROUNDING, scalarName, typeText, typeWords, vectorType, withNames } from "./words.js";
 
-/** @typedef {import("./executed.js").View} View */
+/** @typedef {import("./instruction.js").View} View */
 /** @typedef {import("./columns.js").Columns} Columns */
 /**
  * text: the instruction; alias: another text of the source for it; meaning: sentences, with backquotes around code;
@@ -23,15 +24,16 @@ const COUNTS = ["active", "masked", "prestart", "fault", "pending", "tail"];
  * @returns {Card}
  */
 export function cardOf(view, columns) {
-  const [{ executed }, { state }] = [columns, view];
+  const [{ executed }, { state, hasAbiNames }] = [columns, view];
   const line = state.code[state.instruction ?? ""] ?? "";
   const meaning = !line ? textOf("card.nothing") : state.faulted ? textOf("card.stopped") : textOf("card.no-operands");
-  if (!executed) return { text: withNames(line.slice(9), true), alias: "", meaning, formula: "", scalars: [], counts: [] };
-  const guard = executed.isMasked && executed.meaning.layout !== "reduce" ? "if v0.mask[i]: " : "";
+  const text = withNames(line.slice(9), hasAbiNames);
+  if (!executed) return { text, alias: "", meaning, formula: "", scalars: [], counts: [] };
+  const does = operandsText(executed.does, hasAbiNames);
   return {
-    ...aliasOf(state, executed.text),
-    meaning: [executed.meaning.does, maskSentence(state, executed), ...stopSentences(view, executed)].filter(Boolean).join(" "),
-    formula: executed.meaning.formula && guard + formulaText(executed),
+    ...aliasOf(state, text),
+    meaning: [does, maskSentence(state, executed), ...stopSentences(view, executed)].filter(Boolean).join(" "),
+    formula: operandsText(executed.formula, hasAbiNames),
     scalars: scalarTexts(view, executed),
     counts: countsOf(columns, view),
   };
@@ -39,7 +41,7 @@ export function cardOf(view, columns) {
 
 /**
  * Returns the text of an instruction, and the one in the source, where that is another name for it.
- * @param {import("./executed.js").State} state
+ * @param {import("./instruction.js").State} state
  * @param {string} text
  */
 function aliasOf(state, text) {
@@ -49,14 +51,25 @@ function aliasOf(state, text) {
 }
 
 /**
- * Returns what happens to elements that are masked off.
- * @param {import("./executed.js").State} state
- * @param {import("./executed.js").Executed} executed
+ * Returns the values of the scalar registers that an instruction names: `a0 = 3`; an address in hexadecimal.
+ * @param {View} view
+ * @param {import("./instruction.js").Executed} executed
  */
-function maskSentence(state, { isMasked, access, destination, meaning }) {
-  if (!isMasked) return "";
-  if (access?.isStore) return textOf("card.mask.store");
-  if (!destination || meaning.layout === "reduce") return textOf("card.mask.not-counted");
+const scalarTexts = ({ state, hasAbiNames }, { scalars, access }) => scalars.map((number) => {
+  const value = BigInt("0x" + state.x[number]);
+  const text = number === access?.base ? `0x${value.toString(16)}` : numberText(value, 64, "signed");
+  return `${scalarName(number, hasAbiNames)} = ${text}`;
+});
+
+/**
+ * Returns what happens to elements that are masked off.
+ * @param {import("./instruction.js").State} state
+ * @param {import("./instruction.js").Executed} executed
+ */
+function maskSentence(state, { mask, access, destination, layout }) {
+  if (mask !== "mask") return "";
+  if (access?.store) return textOf("card.mask.store");
+  if (!destination || layout === "reduce") return textOf("card.mask.not-counted");
   if (!vectorType(state.vtype).mask || destination.width === 1) return textOf("card.mask.undisturbed");
   return state.policy === "ones" ? textOf("card.mask.ones") : textOf("card.mask.keep");
 }
@@ -64,15 +77,15 @@ function maskSentence(state, { isMasked, access, destination, meaning }) {
 /**
  * Returns where an instruction started after element 0 and where an access stopped, or that values of sources are unknown.
  * @param {View} view
- * @param {import("./executed.js").Executed} executed
+ * @param {import("./instruction.js").Executed} executed
  */
-function stopSentences({ state, before }, { isIllegal, earlier, name, access }) {
-  if (isIllegal) return [textOf("card.illegal")];
-  if (state.faulted) return [textOf("card.fault", { element: state.vstart })];
-  const start = access && earlier.vstart ? textOf("card.start", { element: earlier.vstart }) : "";
-  const cut = name.endsWith("ff.v") && state.vl < earlier.vl ? textOf("card.cut", { element: state.vl }) : "";
-  if (earlier.isKnown && earlier.hasOld) return [start, cut];
-  const several = earlier.isKnown ? textOf("card.several") : textOf("card.several.unknown");
+function stopSentences({ state, before }, { end, vstart, shortened, access, known, old: hasOld }) {
+  if (end === "illegal") return [textOf("card.illegal")];
+  if (end === "fault") return [textOf("card.fault", { element: state.vstart })];
+  const start = access && vstart ? textOf("card.start", { element: vstart }) : "";
+  const cut = shortened ? textOf("card.cut", { element: state.vl }) : "";
+  if (known && hasOld) return [start, cut];
+  const several = known ? textOf("card.several") : textOf("card.several.unknown");
   return [start, cut, before === state ? textOf("card.unknown") : several];
 }
 
@@ -86,9 +99,9 @@ function countsOf({ outcomes, changed, executed }, { state, before }) {
   /** @type {Record<string, string>} */
   const words = { ...OUTCOMES };
   if (state.faulted) words.prestart = textOf("card.done");
-  if (state.faulted && !outcomes.includes("fault")) words.pending = textOf("card.not-executed");
-  if (executed?.name.endsWith("ff.v") && !state.faulted) words.pending = textOf("card.not-loaded");
-  const hasBefore = before !== state || (executed?.destination && executed.earlier.hasOld);
+  if (executed?.end === "illegal") words.pending = textOf("card.not-executed");
+  if (executed?.shortened) words.pending = textOf("card.not-loaded");
+  const hasBefore = before !== state || (executed?.destination && executed.old);
   const counts = COUNTS.map((kind) => ({ kind, number: outcomes.filter((each) => each === kind).length })).filter(({ number }) => number);
   if (hasBefore) counts.push({ kind: "changed", number: changed.filter(Boolean).length });
   return counts.map(({ kind, number }) => [number ? kind : "", textOf("card.count", { number, outcome: words[kind] })]);
@@ -112,8 +125,8 @@ export function paintCard(root, { text, alias, meaning, formula, scalars, counts
 /**
  * Puts the vector control registers into their list.
  * @param {HTMLElement} root
- * @param {import("./executed.js").State} state
- * @param {import("./executed.js").State} before
+ * @param {import("./instruction.js").State} state
+ * @param {import("./instruction.js").State} before
  */
 export function paintFacts(root, state, before) {
   const type = vectorType(state.vtype);

@@ -1,23 +1,23 @@
 // The elements of the last vector instruction as columns, and their strips.
 
-import { countOf, executedOf, operandOf } from "./executed.js";
+import { countOf, executedOf } from "./instruction.js";
 import { instructionRows, registerRow } from "./lane_rows.js";
 import { LETTER } from "./numbers.js";
 import { textOf } from "./texts.js";
 import { vectorType } from "./words.js";
 
-/** @typedef {import("./executed.js").View} View */
+/** @typedef {import("./instruction.js").View} View */
 /** @typedef {import("./lane_rows.js").Row} Row */
 /**
  * outcomes: by element, none where the last instruction is no vector instruction; changed: whether an element of a result changed;
  * pairs: of curves; longest: the number of characters of the longest cell
  * @typedef {object} Columns
- * @property {import("./executed.js").Executed | undefined} executed
+ * @property {import("./instruction.js").Executed | undefined} executed
  * @property {Row[]} rows
  * @property {number} elements
- * @property {import("./outcomes.js").Outcome[]} outcomes
+ * @property {import("./instruction.js").Outcome[]} outcomes
  * @property {boolean[]} changed
- * @property {import("./wires.js").Pair[]} pairs
+ * @property {import("./instruction.js").Pair[]} pairs
  * @property {number} longest
  * @property {number} vl
  */
@@ -40,7 +40,7 @@ export function columnsOf(view) {
   const elements = Math.max(outcomes.length, ...rows.map(({ cells }) => cells.length));
   const changed = Array.from({ length: elements }, (_, element) => rows.some(({ cells }) => cells[element]?.classes.includes("changed")));
   const longest = Math.max(2, ...rows.flatMap(({ cells }) => cells.map(({ text }) => text.length)));
-  return { executed, rows, elements, outcomes, changed, pairs, longest, vl: (executed?.earlier ?? view.state).vl };
+  return { executed, rows, elements, outcomes, changed, pairs, longest, vl: (executed ?? view.state).vl };
 }
 
 /**
@@ -66,16 +66,26 @@ function registerRows(view) {
 }
 
 /**
+ * Returns an operand's groups under a vector type. size: registers of a group; width: in bits
+ * @param {import("./messages").ShownOperand} operand
+ * @param {{ sew: number, lmul: number }} type
+ */
+export function shapeOf({ register, groups, bits, part, whole }, type) {
+  const width = bits || Math.min(64, Math.max(8, part * type.sew));
+  return { register, groups, width, size: whole ? 1 : Math.max(1, (type.lmul * width) / type.sew) };
+}
+
+/**
  * Returns the width of elements and the number of registers of each group that a program's instructions name: plain ones where they
  * don't agree.
- * @param {import("./executed.js").State} state
+ * @param {import("./instruction.js").State} state
  * @param {import("./words.js").VectorType} type
  * @param {{ width: number, size: number }} plain
  */
 function registerShapes({ operands }, type, plain) {
   /** @type {Map<number, { width: number, size: number }>} */
   const shapes = new Map();
-  for (const { register, size, groups, width } of Object.values(operands).flat().map((each) => operandOf(each, type, false))) {
+  for (const { register, size, groups, width } of Object.values(operands).flat().map((each) => shapeOf(each, type))) {
     const shape = shapes.get(register)?.width === width || !shapes.has(register) ? { width, size } : plain;
     Array.from({ length: groups }, (_, place) => shapes.set(register + place * size, shape));
   }

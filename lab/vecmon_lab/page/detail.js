@@ -1,16 +1,16 @@
 // The line of the chosen element: where it is, how it took part, and the line that can change it.
 
+import { OUTCOMES } from "./element_words.js";
+import { addressOf } from "./instruction.js";
 import { REGISTER_BITS, elementOf, numberText } from "./numbers.js";
-import { OUTCOMES } from "./outcomes.js";
 import { textOf } from "./texts.js";
 
-/** @typedef {import("./executed.js").View} View */
+/** @typedef {import("./instruction.js").View} View */
 /** @typedef {import("./columns.js").Columns} Columns */
 /**
  * name: of the element; place: its bytes or its address; sentence: how it took part, or what it was before;
- * value: as the pane shows it; edit: the line that sets it; explain: the element's name for `why`
- * @typedef {{ name: string, place: string, sentence: string, value: string, explain: string,
- *   edit: string | null }} Detail
+ * value: as the pane shows it; edit: the line that sets it
+ * @typedef {{ name: string, place: string, sentence: string, value: string, edit: string | null }} Detail
  */
 
 /**
@@ -25,16 +25,16 @@ export function detailOf(view, columns, element, chosen) {
   const results = columns.rows.filter(({ kind, cells }) => (kind === "after" || kind === "plain") && cells[element]);
   const row = results.find((each) => each.register === chosen) ?? results[0];
   const name = columns.rows.length ? textOf("detail.element", { element }) : "";
-  const detail = { name, place: "", sentence: sentenceOf(view, columns, element), value: "", edit: null, explain: "" };
+  const detail = { name, place: "", sentence: sentenceOf(view, columns, element), value: "", edit: null };
   if (!row) return detail;
   const { register, width } = row;
-  if (register < 0) return { ...detail, place: addressOf(columns, element) };
+  if (register < 0) return { ...detail, place: addressText(columns, element) };
   const own = register + Math.floor((element * width) / REGISTER_BITS);
   const index = element % (REGISTER_BITS / width);
   const value = row.cells[element].text;
   const hexadecimal = width > 1 ? ` = 0x${numberText(elementOf(view.state.v, register, width, element), width, "hexadecimal")}` : "";
   const place = `${placeText(own, width, index)}: ${value}${hexadecimal}`;
-  return { ...detail, place, value, edit: elementEdit(view, own, width, index), explain: `v${register}[${element}]` };
+  return { ...detail, place, value, edit: elementEdit(view, own, width, index) };
 }
 
 /**
@@ -42,8 +42,8 @@ export function detailOf(view, columns, element, chosen) {
  * @param {Columns} columns
  * @param {number} element
  */
-const addressOf = ({ executed, outcomes }, element) =>
-  executed?.access && outcomes[element] !== "tail" ? `0x${executed.access.address(element).toString(16)}` : "";
+const addressText = ({ executed, outcomes }, element) => executed?.access && outcomes[element] !== "tail"
+  ? `0x${addressOf(executed.access, executed.groups[0].width, element).toString(16)}` : "";
 
 /**
  * Returns what changes an element of a register. width: in bits
@@ -69,15 +69,15 @@ function placeText(register, width, place) {
 function sentenceOf({ state }, columns, element) {
   const { executed, rows, vl } = columns;
   if (!executed) return "";
-  const [outcome, address] = [executed.results[element], addressOf(columns, element)];
-  const where = address && (executed.access?.isStore ? textOf("detail.to", { address }) : textOf("detail.from", { address }));
+  const [outcome, address] = [executed.results[element], addressText(columns, element)];
+  const where = address && (executed.access?.store ? textOf("detail.to", { address }) : textOf("detail.from", { address }));
   const [before, after] = ["before", "after"].map((kind) => rows.find((row) => row.kind === kind)?.cells[element]?.text);
   const was = before === undefined ? "" : before === after ? textOf("detail.unchanged", { value: before }) : `${before} → ${after}`;
   /** @type {Record<string, string>} */
   const sentences = {
     masked: textOf("detail.masked", { element }),
     tail: element >= vl ? textOf("detail.tail", { element, vl }) : textOf("detail.unwritten"),
-    prestart: state.faulted ? textOf("detail.done", { where }) : textOf("detail.prestart", { vstart: executed.earlier.vstart }),
+    prestart: state.faulted ? textOf("detail.done", { where }) : textOf("detail.prestart", { vstart: executed.vstart }),
     fault: textOf("detail.fault", { where }),
     pending: OUTCOMES.pending,
     kept: textOf("detail.kept", { element }),

@@ -1,17 +1,18 @@
 // The rows of the pane of elements: the mask bits, the sources, memory, and the values before and after an instruction.
 
-import { countOf, isMoving } from "./executed.js";
+import { OUTCOMES } from "./element_words.js";
+import { addressOf, countOf, isMoving } from "./instruction.js";
 import { REGISTER_BITS, elementOf, memoryElement, numberText, registersText } from "./numbers.js";
-import { OUTCOMES } from "./outcomes.js";
 import { textOf } from "./texts.js";
+import { scalarName } from "./words.js";
 
-/** @typedef {import("./executed.js").Access} Access */
-/** @typedef {import("./executed.js").Executed} Executed */
-/** @typedef {import("./executed.js").Operand} Operand */
-/** @typedef {import("./executed.js").View} View */
+/** @typedef {import("./instruction.js").Access} Access */
+/** @typedef {import("./instruction.js").Executed} Executed */
+/** @typedef {import("./instruction.js").Group} Group */
+/** @typedef {import("./instruction.js").Outcome} Outcome */
+/** @typedef {import("./instruction.js").View} View */
 /** @typedef {import("./numbers.js").NumberForm} NumberForm */
 /** @typedef {import("./numbers.js").Registers} Registers */
-/** @typedef {import("./outcomes.js").Outcome} Outcome */
 /** @typedef {{ text: string, classes: string[], words: string }} Cell */
 /**
  * A row. register: the first one of its group, -1 in memory; head: the name of a place in memory; words: the row's role
@@ -75,11 +76,11 @@ const tailOr = (outcomes, other) => outcomes.map((outcome) => (outcome === "tail
  * @returns {Row[]}
  */
 export function instructionRows(view, executed) {
-  const { isMasked, hasChooser, earlier, elements, outcomes, access } = executed;
+  const { mask, earlier, elements, outcomes, access } = executed;
   const rows = access ? accessRows(view, executed, access) : operandRows(view, executed);
-  if (!isMasked && !hasChooser) return rows;
+  if (!mask) return rows;
   const values = { registers: earlier.v, outcomes: tailOr(outcomes, "active"), form: view.form };
-  const words = isMasked ? textOf("row.mask") : textOf("row.bits");
+  const words = mask === "mask" ? textOf("row.mask") : textOf("row.bits");
   return [registerRow("mask", words, { register: 0, width: 1, count: elements }, values), ...rows];
 }
 
@@ -90,33 +91,31 @@ export function instructionRows(view, executed) {
  * @returns {Row[]}
  */
 function operandRows(view, executed) {
-  const { destination, sources, meaning } = executed;
-  const hasAll = isMoving(executed) || meaning.layout === "reduce";
+  const { destination, sources, layout } = executed;
+  const hasAll = isMoving(executed) || layout === "reduce";
   const rows = sources.flatMap((each, place) => {
     const others = [destination, ...sources.slice(0, place)];
     const isDouble = others.some((other) => other?.register === each.register && other.width === each.width);
-    return hasAll || !isDouble ? [sourceRow(view, executed, each, place)] : [];
+    return hasAll || !isDouble ? [sourceRow(view, executed, each)] : [];
   });
   if (isMoving(executed)) rows.reverse(); // the moved source is next to the curves
-  return [...rows, ...resultRows(view, executed, !["gather", "compress"].includes(meaning.layout))];
+  return [...rows, ...resultRows(view, executed, !["gather", "compress"].includes(layout))];
 }
 
 /**
- * Returns the row of a source. place: 0 of vs2, 1 of vs1
+ * Returns the row of a source.
  * @param {View} view
  * @param {Executed} executed
- * @param {Operand} source
- * @param {number} place
+ * @param {Group} source
  */
-function sourceRow(view, executed, source, place) {
-  const { meaning, earlier, destination, elements, outcomes, pairs } = executed;
-  const isScalar = (!destination && source.isWhole && source.width > 1) || (meaning.layout === "reduce" && place > 0); // as vmv.x.s
-  const isMoved = isMoving(executed) && !place;
-  const read = isScalar ? [0] : pairs.map(([from]) => from);
+function sourceRow(view, executed, source) {
+  const { earlier, elements, outcomes, pairs, known } = executed;
+  const { role } = source;
+  const read = role === "single" ? [0] : pairs.map(([from]) => from);
   const own = outcomes.map((_, element) => (read.includes(element) ? "active" : "idle"));
-  const form = isMoving(executed) && place ? indexForm(view) : view.form;
-  const values = { registers: earlier.v, outcomes: isScalar || isMoved ? own : outcomes, form };
-  const words = earlier.isKnown ? textOf("row.from") : textOf("row.now");
+  const form = role === "index" ? indexForm(view) : view.form;
+  const values = { registers: earlier.v, outcomes: role === "single" || role === "moved" ? own : outcomes, form };
+  const words = known ? textOf("row.from") : textOf("row.now");
   return registerRow("source", words, { ...source, count: Math.min(elements, countOf(source)) }, values);
 }
 
@@ -127,10 +126,10 @@ function sourceRow(view, executed, source, place) {
  * @param {boolean} hasBefore
  * @returns {Row[]}
  */
-function resultRows({ state, before, form }, { destination, elements, earlier, results }, hasBefore) {
+function resultRows({ state, before, form }, { destination, elements, earlier, results, old: hasOld }, hasBefore) {
   if (!destination) return [];
   const { register, size, groups, width } = destination;
-  const isKnown = earlier.hasOld || before !== state; // as it isn't once a page was opened again
+  const isKnown = hasOld || before !== state; // as it isn't once a page was opened again
   const old = { registers: earlier.olds, outcomes: tailOr(results, ""), form };
   const now = { registers: state.v, olds: earlier.olds, outcomes: results, form };
   return Array.from({ length: groups }, (_, field) => {
@@ -148,14 +147,14 @@ function resultRows({ state, before, form }, { destination, elements, earlier, r
  * @returns {Row[]}
  */
 function accessRows(view, executed, access) {
-  const { sources: [data], elements, earlier, outcomes } = executed;
-  const source = (/** @type {string} */ words, /** @type {Operand} */ each, /** @type {NumberForm} */ form) =>
+  const { groups: [data, index], elements, earlier, outcomes } = executed;
+  const source = (/** @type {string} */ words, /** @type {Group} */ each, /** @type {NumberForm} */ form) =>
     registerRow("source", words, { ...each, count: elements }, { registers: earlier.v, outcomes, form });
-  const offsets = access.index ? [source(textOf("row.offset"), access.index, indexForm(view))] : [];
+  const offsets = index ? [source(textOf("row.offset"), index, indexForm(view))] : [];
   const fields = Array.from({ length: access.fields }, (_, field) => field);
   const rows = (/** @type {"memory" | "before" | "after"} */ kind) =>
     fields.map((field) => memoryRow(view, executed, access, kind, field));
-  if (!access.isStore) return [...offsets, ...rows("memory"), ...resultRows(view, executed, true)];
+  if (!access.store) return [...offsets, ...rows("memory"), ...resultRows(view, executed, true)];
   const stored = fields.map((field) =>
     source(fieldName(access, textOf("row.from"), field), { ...data, register: data.register + field * data.size }, view.form));
   // memory before the store is unknown once a page was opened again
@@ -174,10 +173,9 @@ const fieldName = ({ fields }, words, field) => (fields > 1 ? textOf("row.field"
  * @param {number} field
  * @returns {Row}
  */
-function memoryRow({ state, form }, { earlier, outcomes }, access, kind, field) {
-  const { width, base, address } = access;
+function memoryRow({ state, form, hasAbiNames }, { earlier, outcomes, groups: [{ width }] }, access, kind, field) {
   const read = (/** @type {Record<string, string> | undefined} */ rows, /** @type {number} */ element) => {
-    const found = memoryElement(rows, address(element, field), Math.max(8, width));
+    const found = memoryElement(rows, addressOf(access, width, element, field), Math.max(8, width));
     return width === 1 && found !== null ? (found >> BigInt(element & 7)) & 1n : found;
   };
   const cells = outcomes.map((outcome, element) => {
@@ -186,7 +184,7 @@ function memoryRow({ state, form }, { earlier, outcomes }, access, kind, field) 
     if (kind !== "after") return cellOf(old, kind === "before" ? "" : outcome, { width, form });
     return cellOf(read(state.memory, element), outcome, { width, form, was: old });
   });
-  return { kind, register: -1, width, head: `(${base})`, words: fieldName(access, KINDS[kind], field), cells };
+  return { kind, register: -1, width, head: `(${scalarName(access.base, hasAbiNames)})`, words: fieldName(access, KINDS[kind], field), cells };
 }
 
 /**

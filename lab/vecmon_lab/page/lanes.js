@@ -1,17 +1,17 @@
 // The pane of elements: a column for each element of the last vector instruction, with its mask bit, its sources, and its value
 // before and after it; or all vector registers. A press or an arrow key chooses an element, whose calculation is below the strips.
 
-import { calculationText } from "./calculation.js";
 import { cardOf, paintCard, paintFacts } from "./card.js";
 import { columnsOf, fit, stripsOf } from "./columns.js";
 import { detailOf, elementEdit } from "./detail.js";
 import { elementsIn, header, make, part, remPixels, unseen } from "./elements.js";
+import { equationText } from "./equations.js";
 import { headOf } from "./lane_rows.js";
 import { textOf } from "./texts.js";
 import { wiresPicture } from "./wires.js";
-import { vectorType } from "./words.js";
+import { vectorType, withNames } from "./words.js";
 
-/** @typedef {import("./executed.js").View} View */
+/** @typedef {import("./instruction.js").View} View */
 /** @typedef {import("./columns.js").Columns} Columns */
 /** @typedef {import("./columns.js").Fit} Fit */
 /** @typedef {import("./lane_rows.js").Row} Row */
@@ -25,9 +25,6 @@ export class Lanes {
   /** @type {View | undefined} */ view;
   /** @type {Columns | undefined} */ columns;
   /** @type {Fit} */ fit = { columns: 8, size: "medium", head: "wide" };
-
-  /** Returns the server's calculation of an element, whose name is as `v8[5]`; "" if it has none. */
-  /** @type {(name: string) => Promise<string>} */ explain = async () => "";
 
   /** @param {Element} root */
   constructor(root) {
@@ -83,7 +80,8 @@ export class Lanes {
     const wide = Object.assign(make("td", "", open), { colSpan: this.fit.columns + 1 });
     const tail = folded < columns.elements ? [make("tbody", "folded", make("tr", "", wide))] : [];
     const ofRegisters = view.width ? textOf("lanes.all.label") : textOf("lanes.used.label");
-    const ariaLabel = columns.executed ? textOf("lanes.executed.label", { instruction: columns.executed.text }) : ofRegisters;
+    const instruction = withNames((view.state.code[view.state.instruction ?? ""] ?? "").slice(9), view.hasAbiNames);
+    const ariaLabel = columns.executed ? textOf("lanes.executed.label", { instruction }) : ofRegisters;
     const parts = [make("colgroup", "", make("col", "head")), ...strips.map((first) => this.strip(view, columns, first)), ...tail];
     const grid = Object.assign(make("table", `lanes ${this.fit.size} ${this.fit.head}`, ...parts), { role: "grid", ariaLabel });
     this.box.replaceChildren(columns.rows.length ? grid : make("p", "empty", textOf("lanes.none")));
@@ -159,7 +157,7 @@ export class Lanes {
     const cell = down && column[column.indexOf(own) + down];
     if (cell) return this.chooseCell(view, columns, cell);
     if (goal !== undefined && goal >= 0 && goal < columns.elements) this.choose(view, columns, goal, true);
-    return this.ask(view, columns);
+    return undefined;
   }
 
   /**
@@ -171,7 +169,6 @@ export class Lanes {
   chooseCell(view, columns, cell) {
     this.register = Number(cell.parentElement?.dataset.register ?? -1);
     this.choose(view, columns, Number(cell.dataset.element), true);
-    this.ask(view, columns);
   }
 
   /**
@@ -188,7 +185,7 @@ export class Lanes {
       this.isOpen = true; // the element is in the folded tail
       return this.paintStrips(view, columns);
     }
-    const isMove = columns.executed?.meaning.layout !== "reduce"; // then the cells above curves go to others
+    const isMove = columns.executed?.layout !== "reduce"; // then the cells above curves go to others
     const source = columns.pairs.find(([, to]) => to === element)?.[0] ?? -1;
     for (const cell of elementsIn(this.box, "td[data-element]")) {
       const wanted = isMove && cell.matches("tr:has(+ .wires) > td") ? source : element;
@@ -202,32 +199,19 @@ export class Lanes {
     const reached = results.find((cell) => cell.matches(`[data-register="${this.register}"] > td`)) ?? results[0] ?? own.at(-1);
     if (reached) reached.tabIndex = 0;
     if (takesFocus) reached?.focus();
-    this.paintDetail(view, columns, calculationText(view, columns, element));
+    this.paintDetail(view, columns);
   }
 
   /**
    * @param {View} view
    * @param {Columns} columns
-   * @param {string} calculation
    */
-  paintDetail(view, columns, calculation) {
+  paintDetail(view, columns) {
+    const equation = equationText(view, columns.executed, this.chosen);
     const { name, place, sentence, value, edit } = detailOf(view, columns, this.chosen, this.register);
-    const parts = [make("b", "", name), make("small", "", place), make("span", "", sentence), make("code", "", calculation)];
+    const parts = [make("b", "", name), make("small", "", place), make("span", "", sentence), make("code", "", equation)];
     const change = Object.assign(make("button", "change", textOf("detail.change")), { title: textOf("detail.change.title") });
     Object.assign(change.dataset, { value, edit });
     this.detail.replaceChildren(...parts.filter((part) => part.textContent), ...(edit ? [change] : []));
-  }
-
-  /**
-   * Asks for the server's calculation of the chosen element.
-   * @param {View} view
-   * @param {Columns} columns
-   */
-  async ask(view, columns) {
-    const { chosen, register } = this;
-    const { explain } = detailOf(view, columns, chosen, register);
-    const text = columns.executed && explain ? await this.explain(explain) : "";
-    const isShown = this.chosen === chosen && this.view?.state === view.state;
-    if (text && isShown) this.paintDetail(this.view ?? view, this.columns ?? columns, text);
   }
 }

@@ -502,6 +502,12 @@ export interface Outcome {
   told: CheckResult;
 }
 
+/** How elements that follow one another took part, and their number. */
+export interface OutcomeRun {
+  outcome: "active" | "masked" | "tail" | "prestart" | "fault" | "pending" | "kept" | "idle";
+  count: number;
+}
+
 /** The first message to a page. lost: sentences on what couldn't be read of the saved texts */
 export interface PageHello {
   patch?: { [name: string]: unknown };
@@ -511,6 +517,14 @@ export interface PageHello {
   time: number;
   resumed?: boolean;
   lost: string[];
+}
+
+/** Pairs of an element of the source and one of the result; each is `step` elements of the result further than the one before. */
+export interface PairRun {
+  source: number;
+  result: number;
+  count: number;
+  step: number;
 }
 
 /** A source whose problems are found; the machine stays as it is. */
@@ -689,10 +703,89 @@ export interface ShoulderRequest {
   ask: "shoulder";
 }
 
+/**
+ * A memory access: `Access` in meanings/instruction.py.
+ *
+ * start, step: the address of element 0 in hexadecimal digits, and the bytes from one element to the next, or from a byte of a mask
+ * addresses: in place of them, of each element, in hexadecimal digits
+ */
+export interface ShownAccess {
+  base: number;
+  store: boolean;
+  fields: number;
+  bytes: number;
+  start?: string;
+  step?: number;
+  addresses?: string[];
+}
+
+/** A condition that selected an equation, and whether it holds. */
+export interface ShownCondition {
+  parts: (string | ShownTerm)[];
+  holds: boolean;
+}
+
 /** Numbers of a type, one behind another, or a text; count: of numbers, or bytes of a text */
 export interface ShownData {
   type: "i8" | "u8" | "i16" | "u16" | "i32" | "u32" | "i64" | "u64" | "text";
   count: number;
+}
+
+/**
+ * The calculation of elements of one form.
+ *
+ * elements: runs of them, each the first and the number of elements
+ * parts: the right side
+ * sign: of the results, which are the bits of the elements; without it as the reader's form of numbers says
+ * others: exact results that are other numbers, by element: signed terms as the reader wants, and unsigned
+ * target: a scalar register in place of elements
+ */
+export interface ShownEquation {
+  elements: number[][];
+  parts: (string | ShownTerm)[];
+  causes?: ShownCondition[];
+  sign?: "signed" | "unsigned";
+  others?: { [name: string]: string[] };
+  target?: ShownTerm;
+}
+
+/**
+ * The vector instruction that was executed last, or that faulted: `ExecutedInstruction` in meanings/instruction.py.
+ *
+ * does: its meaning in a sentence, with names in backquotes; the terms are its scalar registers
+ * results: without it, as the outcomes
+ * known, old: whether the registers of its sources, and of its destination, are known as they were before it
+ * follows: whether the state before is the one right before it
+ */
+export interface ShownExecuted {
+  does: (string | ShownTerm)[];
+  formula: (string | ShownTerm)[];
+  layout: string;
+  mask: "" | "mask" | "bits";
+  end: "ran" | "fault" | "illegal";
+  groups: ShownGroup[];
+  access?: ShownAccess;
+  elements: number;
+  vl: number;
+  vstart: number;
+  outcomes: OutcomeRun[];
+  results?: OutcomeRun[];
+  pairs: PairRun[];
+  scalars: number[];
+  equations: ShownEquation[];
+  shortened?: boolean;
+  known: boolean;
+  old: boolean;
+  follows: boolean;
+}
+
+/** A vector register operand: `Group` in meanings/instruction.py. */
+export interface ShownGroup {
+  role: "destination" | "data" | "element" | "single" | "moved" | "index";
+  register: number;
+  size: number;
+  groups: number;
+  width: number;
 }
 
 /**
@@ -708,19 +801,6 @@ export interface ShownLocation {
   kind: string;
   register: number;
   offset: string;
-}
-
-/**
- * The meaning of a mnemonic.
- *
- * does: a sentence, with names in backquotes
- * formula: in the language of `meanings/formula.py`; "" if there is none
- * layout: how the elements of the sources become those of the result: `Record.layout`
- */
-export interface ShownMeaning {
-  does: string;
-  formula: string;
-  layout: string;
 }
 
 /**
@@ -740,6 +820,30 @@ export interface ShownOperand {
   whole: boolean;
   written: boolean;
   masked: boolean;
+}
+
+/**
+ * A number in a formula or an equation, and its name; without what it doesn't have.
+ *
+ * value: in decimal digits, of a scalar register or a number with a name
+ * name: as `sew`; not of registers, and of the number of the element
+ * scalar: the number of a scalar register
+ * register: the first vector register of a group, of which it is an element; width: in bits, 1 of a bit of a mask
+ * sign: how the number is taken: signed or unsigned; without it as the reader's form of numbers says
+ * function: around its name, as `signed`
+ * index: of the element; where `by` is `element`, the distance from the element of the result; 0 is left out
+ * by: `element`, or `pair`: the source in the pair of the result's element; without it all elements take the same one
+ */
+export interface ShownTerm {
+  value?: string;
+  name?: string;
+  scalar?: number;
+  register?: number;
+  width?: number;
+  sign?: "signed" | "unsigned";
+  function?: string;
+  index?: number;
+  by?: "element" | "pair";
 }
 
 /**
@@ -821,10 +925,11 @@ export interface Start {
  * pc, and all up to `memory`: where the program was stopped at least once; a program that runs has them as they were before, but pc
  * x: 32 values by number; v: 32 times 32 bytes by number; policy: `keep` or `ones`
  * code, operands: the program's words with their texts, and their vector operands, by address
- * meanings: of the program's instructions with vector operands, by mnemonic
  * memory: rows of 16 bytes by address
  * instruction: the address of the instruction that the last lines executed last, or that faulted
+ * executed: that instruction's elements, if it has vector operands
  * read, accessed: in a class, registers before that instruction, and the memory that it accessed, as far as they are known
+ * faulted, illegal: whether that instruction faulted, and whether it is illegal
  * stop: why the program stopped in what was just done, in words
  * calls: calls that the machine doesn't support, in words by the address of the ECALL: those that the code shows, and those that the
  *     program reached; without one there is no such key
@@ -846,10 +951,11 @@ export interface State {
   v?: { [name: string]: string };
   code?: { [name: string]: string };
   operands?: { [name: string]: ShownOperand[] };
-  meanings?: { [name: string]: ShownMeaning };
   memory?: { [name: string]: string };
   instruction?: string;
+  executed?: ShownExecuted;
   faulted?: boolean;
+  illegal?: boolean;
   read?: ReadRegisters;
   accessed?: Access[];
   stop?: string;

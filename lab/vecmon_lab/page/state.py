@@ -8,7 +8,7 @@ from ..assembler.data_runs import DataType
 from ..guest.calls import shown_calls
 from ..guest.changes import Registers
 from ..guest.guest import SET_UP_ADDRESS, VECTOR_LOOKS, Guest
-from ..instructions.accesses import PAGE_BYTES, ROW_BYTES, base_address
+from ..instructions.accesses import PAGE_BYTES, ROW_BYTES, base_address, vector_instruction
 from ..instructions.calls import ECALL, unsupported_call
 from ..instructions.reasons import describe_stop
 from ..instructions.words import LOAD_FP, OP_V, STORE, STORE_FP
@@ -25,6 +25,8 @@ from ..machine.answers import (
     VectorRegister,
 )
 from ..machine.lines import words_of
+from ..meanings.instruction import End
+from .executed import ShownExecuted, shown_executed
 from .last_instruction import (
     Access,
     ReadRegisters,
@@ -34,7 +36,6 @@ from .last_instruction import (
     registers_kept,
     scalar_accesses,
 )
-from .meanings import ShownMeaning, shown_meaning
 from .operands import ShownOperand, shown_operands
 from .variables import ShownVariable
 
@@ -72,10 +73,11 @@ class State(TypedDict):
     pc, and all up to `memory`: where the program was stopped at least once; a program that runs has them as they were before, but pc
     x: 32 values by number; v: 32 times 32 bytes by number; policy: `keep` or `ones`
     code, operands: the program's words with their texts, and their vector operands, by address
-    meanings: of the program's instructions with vector operands, by mnemonic
     memory: rows of 16 bytes by address
     instruction: the address of the instruction that the last lines executed last, or that faulted
+    executed: that instruction's elements, if it has vector operands
     read, accessed: in a class, registers before that instruction, and the memory that it accessed, as far as they are known
+    faulted, illegal: whether that instruction faulted, and whether it is illegal
     stop: why the program stopped in what was just done, in words
     calls: calls that the machine doesn't support, in words by the address of the ECALL: those that the code shows, and those that the
         program reached; without one there is no such key
@@ -97,10 +99,11 @@ class State(TypedDict):
     v: NotRequired[dict[str, str]]
     code: NotRequired[dict[str, str]]
     operands: NotRequired[dict[str, Sequence[ShownOperand]]]
-    meanings: NotRequired[Mapping[str, ShownMeaning]]
     memory: NotRequired[dict[str, str]]
     instruction: NotRequired[str]
+    executed: NotRequired[ShownExecuted]
     faulted: NotRequired[bool]
+    illegal: NotRequired[bool]
     read: NotRequired[ReadRegisters]
     accessed: NotRequired[Sequence[Access]]
     stop: NotRequired[str]
@@ -120,6 +123,7 @@ ABSENT: State = {"run": "absent"}
 MAX_ROWS = 64
 MAPPED_PAGES, MAX_PAGES = 8, 32  # how many pages are looked at since they were mapped, and in all
 MAX_WORDS = 512
+ILLEGAL = 2  # cause of a fault
 WORDS_AHEAD = 8
 _ECALL_DIGITS = f"{ECALL:08x}"
 _LOOKS = ("state", "regs", "vcsr", "breaks", "trace")
@@ -229,9 +233,11 @@ def look_at(
 def _forget_last(state: State) -> None:
     """Remove the last instruction and the last stop from a state."""
     state.pop("instruction", None)
+    state.pop("executed", None)
     state.pop("read", None)
     state.pop("accessed", None)
     state.pop("faulted", None)
+    state.pop("illegal", None)
     state.pop("stop", None)
 
 
@@ -255,12 +261,11 @@ def _set_memory(
 
 
 def _set_code(state: State, code: dict[str, str]) -> None:
-    """Set the listing of a state, and the operands and meanings of its lines, if it has changed."""
+    """Set the listing of a state, and the operands of its lines, if it has changed."""
     if code != state.get("code"):
         state["code"] = code
         operands = {address: shown_operands(int(line[:8], 16)) for address, line in code.items()}
-        names = dict.fromkeys(line[9:].partition(" ")[0] for address, line in code.items() if operands[address])
-        state.update({"operands": operands, "meanings": {name: shown_meaning(name) for name in names}})
+        state["operands"] = operands
 
 
 def _set_stop(state: State, answers: Sequence[Answer], text: str, control: ControlRegisters) -> None:
@@ -270,6 +275,41 @@ def _set_stop(state: State, answers: Sequence[Answer], text: str, control: Contr
         state["stop"] = describe_stop(stop, int(text[:8], 16) if text else None, control, text[9:])
     if stop and stop.kind == "fault":
         state.update({"instruction": state["pc"], "faulted": True})
+        if stop.cause == ILLEGAL:
+            state["illegal"] = True
+
+
+def add_executed(state: State, before: State | None) -> None:
+    """Add the last instruction's elements to a state, if it has vector operands, and the listing has it.
+
+    before: the state before that instruction; None if it is unknown
+    """
+    line = state["code"].get(state.get("instruction", ""), "")
+    if not line or not state["operands"][state["instruction"]]:
+        return
+    word, after = int(line[:8], 16), registers_of(state)
+    end: End = "ran"
+    if state.get("faulted"):
+        end = "illegal" if state.get("illegal") else "fault"
+    if before is not None and before.get("pc") == state["instruction"]:
+        known, earlier = (True, True, True), registers_of(before)
+    else:
+        kept = registers_kept(word, state["x"], state["v"], after.control)
+        known, earlier = (*_known(word, after.control.vtype, kept), False), after
+    executed = shown_executed(word, earlier, after.control, bytes(after.v), end, known)
+    if executed:
+        state["executed"] = executed
+
+
+def _known(word: int, vtype: int, kept: ReadRegisters) -> tuple[bool, bool]:
+    """Whether the registers of an instruction's sources, and those of its destination, are among those that it can't have changed."""
+    instruction = vector_instruction(word, vtype)
+    if instruction is None:
+        return False, False
+    sources = [it for it in instruction.operands if it.noun != "destination"]
+    has_sources = all(f"{number}" in kept["v"] for it in sources for number in it.registers)
+    has_mask = "v0" in kept or not instruction.is_masked
+    return has_sources and has_mask, len(sources) == len(instruction.operands)
 
 
 def add_last_instruction(state: State, before: State | None) -> None:
@@ -280,6 +320,7 @@ def add_last_instruction(state: State, before: State | None) -> None:
     line = state["code"].get(state.get("instruction", ""), "")
     if not line:
         return
+    add_executed(state, before)
     word, is_faulting = int(line[:8], 16), state.get("faulted", False)
     if before and before.get("pc") == state["instruction"]:
         state["read"] = read_registers(word, before["x"], before["v"], control_of(before))

@@ -354,6 +354,13 @@ export interface Places {
   "detail.prestart": "vstart";
   "detail.fault": "where";
   "detail.kept": "element";
+  "equation.and": never;
+  "equation.since": "causes" | "equation";
+  "equation.true": "condition";
+  "equation.false": "condition";
+  "equation.signed": "result" | "stored";
+  "equation.unsigned": "result" | "stored";
+  "equation.lowest": "result" | "stored" | "width";
   "row.mask": never;
   "row.bits": never;
   "row.from": never;

@@ -63,7 +63,8 @@ export class MachineView {
     this.machine.classList.toggle("running", shown?.run === "running");
     if (!shown) return;
     this.output.paint(shown); // first, since it asks how the page is laid out
-    this.lanes.show({ state: shown, before: machineOf(step) ?? shown, used: used.v });
+    const hasAbiNames = this.parts.names.value === "abi";
+    this.lanes.show({ state: shown, before: machineOf(step) ?? shown, used: used.v, hasAbiNames });
     const before = machineOf(previous) ?? shown;
     for (const paint of this.paints) paint(shown, before);
     this.paintRegisters(shown, before, used.x ?? new Set());

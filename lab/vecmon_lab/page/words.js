@@ -39,6 +39,10 @@ export function typeWords(/** @type {VectorType} */ type) {
 /** A 64-bit number, in hexadecimal without leading zeros, as a signed decimal one. */
 export const signedText = (/** @type {string} */ hexadecimal) => BigInt.asIntN(64, BigInt("0x" + hexadecimal)).toString();
 
+/** The name of a scalar register. */
+/** @type {(number: number, abi: boolean) => string} */
+export const scalarName = (number, abi) => (abi ? ABI_NAMES[number] : `x${number}`);
+
 /** An instruction's text with the chosen names of scalar registers. */
 /** @type {(text: string, abi: boolean) => string} */
 export const withNames = (text, abi) => (abi ? text.replace(/\bx(\d+)\b/g, (_, number) => ABI_NAMES[number]) : text);

@@ -1,0 +1,323 @@
+"""The vector instruction that a state executed last, as data for pages: `meanings/instruction.py` as JSON, with runs of equal outcomes."""
+
+import itertools
+from collections.abc import Iterable, Iterator, Sequence
+from typing import Literal, NotRequired, TypedDict
+
+from ..guest.changes import Registers
+from ..machine.answers import ControlRegisters
+from ..meanings.calculation import Condition, Part, Sign, Term
+from ..meanings.executed import Before
+from ..meanings.instruction import (
+    Access,
+    End,
+    Equation,
+    ExecutedInstruction,
+    Group,
+    Outcome,
+    Role,
+    executed_instruction,
+)
+
+
+class ShownTerm(TypedDict):
+    """A number in a formula or an equation, and its name; without what it doesn't have.
+
+    value: in decimal digits, of a scalar register or a number with a name
+    name: as `sew`; not of registers, and of the number of the element
+    scalar: the number of a scalar register
+    register: the first vector register of a group, of which it is an element; width: in bits, 1 of a bit of a mask
+    sign: how the number is taken: signed or unsigned; without it as the reader's form of numbers says
+    function: around its name, as `signed`
+    index: of the element; where `by` is `element`, the distance from the element of the result; 0 is left out
+    by: `element`, or `pair`: the source in the pair of the result's element; without it all elements take the same one
+    """
+
+    value: NotRequired[str]
+    name: NotRequired[str]
+    scalar: NotRequired[int]
+    register: NotRequired[int]
+    width: NotRequired[int]
+    sign: NotRequired[Literal["signed", "unsigned"]]
+    function: NotRequired[str]
+    index: NotRequired[int]
+    by: NotRequired[Literal["element", "pair"]]
+
+
+class ShownCondition(TypedDict):
+    """A condition that selected an equation, and whether it holds."""
+
+    parts: Sequence[str | ShownTerm]
+    holds: bool
+
+
+class ShownEquation(TypedDict):
+    """The calculation of elements of one form.
+
+    elements: runs of them, each the first and the number of elements
+    parts: the right side
+    sign: of the results, which are the bits of the elements; without it as the reader's form of numbers says
+    others: exact results that are other numbers, by element: signed terms as the reader wants, and unsigned
+    target: a scalar register in place of elements
+    """
+
+    elements: Sequence[Sequence[int]]
+    parts: Sequence[str | ShownTerm]
+    causes: NotRequired[Sequence[ShownCondition]]
+    sign: NotRequired[Literal["signed", "unsigned"]]
+    others: NotRequired[dict[str, Sequence[str]]]
+    target: NotRequired[ShownTerm]
+
+
+class ShownGroup(TypedDict):
+    """A vector register operand: `Group` in meanings/instruction.py."""
+
+    role: Role
+    register: int
+    size: int
+    groups: int
+    width: int
+
+
+class ShownAccess(TypedDict):
+    """A memory access: `Access` in meanings/instruction.py.
+
+    start, step: the address of element 0 in hexadecimal digits, and the bytes from one element to the next, or from a byte of a mask
+    addresses: in place of them, of each element, in hexadecimal digits
+    """
+
+    base: int
+    store: bool
+    fields: int
+    bytes: int
+    start: NotRequired[str]
+    step: NotRequired[int]
+    addresses: NotRequired[Sequence[str]]
+
+
+class OutcomeRun(TypedDict):
+    """How elements that follow one another took part, and their number."""
+
+    outcome: Outcome
+    count: int
+
+
+class PairRun(TypedDict):
+    """Pairs of an element of the source and one of the result; each is `step` elements of the result further than the one before."""
+
+    source: int
+    result: int
+    count: int
+    step: int
+
+
+class ShownExecuted(TypedDict):
+    """The vector instruction that was executed last, or that faulted: `ExecutedInstruction` in meanings/instruction.py.
+
+    does: its meaning in a sentence, with names in backquotes; the terms are its scalar registers
+    results: without it, as the outcomes
+    known, old: whether the registers of its sources, and of its destination, are known as they were before it
+    follows: whether the state before is the one right before it
+    """
+
+    does: Sequence[str | ShownTerm]
+    formula: Sequence[str | ShownTerm]
+    layout: str
+    mask: Literal["", "mask", "bits"]
+    end: End
+    groups: Sequence[ShownGroup]
+    access: NotRequired[ShownAccess]
+    elements: int
+    vl: int
+    vstart: int
+    outcomes: Sequence[OutcomeRun]
+    results: NotRequired[Sequence[OutcomeRun]]
+    pairs: Sequence[PairRun]
+    scalars: Sequence[int]
+    equations: Sequence[ShownEquation]
+    shortened: NotRequired[bool]
+    known: bool
+    old: bool
+    follows: bool
+
+
+def shown_executed(
+    word: int,
+    before: Registers,
+    after: ControlRegisters,
+    v: bytes,
+    end: End,
+    known: tuple[bool, bool, bool],
+) -> ShownExecuted | None:
+    """Return the data of a word that was executed; None if it has no vector operands.
+
+    before: the registers before it, or where these are unknown those after it; after, v: the registers after it
+    known: whether those of its sources and of its destination are known, and whether all are
+    """
+    state = Before(0, word, before.x, before.control, bytes(before.v), False)
+    data = executed_instruction(state, after, v, end, known[0])
+    return _shown(data, *known) if data else None
+
+
+def _shown(data: ExecutedInstruction, known: bool, old: bool, follows: bool) -> ShownExecuted:
+    equations = [each for each in data.equations if old or not _reads_destination(data, each)]
+    shown: ShownExecuted = {
+        "does": _named(data.does),
+        "formula": _named(data.formula),
+        "layout": data.layout,
+        "mask": data.mask,
+        "end": data.end,
+        "groups": [_group(each) for each in data.groups],
+        "elements": data.elements,
+        "vl": data.vl,
+        "vstart": data.vstart,
+        "outcomes": _runs(data.outcomes),
+        "pairs": list(_pair_runs(data.pairs)),
+        "scalars": data.scalars,
+        "equations": [_equation(each) for each in equations],
+        "known": known,
+        "old": old,
+        "follows": follows,
+    }
+    if data.access:
+        shown["access"] = _access(data.access)
+    if data.results != data.outcomes:
+        shown["results"] = _runs(data.results)
+    if data.is_shortened:
+        shown["shortened"] = True
+    return shown
+
+
+def _reads_destination(data: ExecutedInstruction, equation: Equation) -> bool:
+    """Whether an equation has an element of the destination on its right side."""
+    first = data.groups[0]
+    parts = equation.calculation.parts
+    return first.role == "destination" and any(
+        isinstance(each, Term) and each.register == first.register for each in parts
+    )
+
+
+def _group(group: Group) -> ShownGroup:
+    return {
+        "role": group.role,
+        "register": group.register,
+        "size": group.size,
+        "groups": group.groups,
+        "width": group.width,
+    }
+
+
+def _access(access: Access) -> ShownAccess:
+    shown: ShownAccess = {
+        "base": access.base,
+        "store": access.is_store,
+        "fields": access.fields,
+        "bytes": access.field_bytes,
+    }
+    addresses = access.addresses
+    steps = {later - first for first, later in itertools.pairwise(addresses)}
+    if len(steps) <= 1:
+        shown["start"], shown["step"] = f"{addresses[0] if addresses else 0:x}", steps.pop() if steps else 0
+    else:
+        shown["addresses"] = [f"{address:x}" for address in addresses]
+    return shown
+
+
+def _runs(outcomes: Iterable[Outcome]) -> list[OutcomeRun]:
+    """Outcomes as runs of equal ones."""
+    return [{"outcome": outcome, "count": len([*run])} for outcome, run in itertools.groupby(outcomes)]
+
+
+def _pair_runs(pairs: Sequence[tuple[int, int]]) -> Iterator[PairRun]:
+    """Pairs as runs whose sources follow one another."""
+    run: PairRun | None = None
+    for source, result in pairs:
+        step = result - (run["result"] + run["step"] * (run["count"] - 1)) if run else 0
+        if (
+            run
+            and source == run["source"] + run["count"]
+            and step in (0, 1)
+            and (run["count"] == 1 or step == run["step"])
+        ):
+            run["count"], run["step"] = run["count"] + 1, step
+        else:
+            if run:
+                yield run
+            run = {"source": source, "result": result, "count": 1, "step": 1}
+    if run:
+        yield run
+
+
+def _equation(equation: Equation) -> ShownEquation:
+    calculation = equation.calculation
+    shown: ShownEquation = {
+        "elements": _element_runs(equation.elements),
+        "parts": _parts(calculation.parts, equation.elements[0]),
+    }
+    if calculation.causes:
+        shown["causes"] = [_condition(each, equation.elements[0]) for each in calculation.causes]
+    if equation.sign != Sign.EITHER:
+        shown["sign"] = "signed" if equation.sign == Sign.SIGNED else "unsigned"
+    if equation.others:
+        shown["others"] = {f"{element}": [f"{value}" for value in each] for element, each in equation.others.items()}
+    if calculation.target.scalar is not None:
+        shown["target"] = _term(calculation.target, 0)
+    return shown
+
+
+def _condition(condition: Condition, element: int) -> ShownCondition:
+    return {"parts": _parts(condition.parts, element), "holds": condition.holds}
+
+
+def _element_runs(elements: Sequence[int]) -> list[list[int]]:
+    """Runs of elements that follow one another, each its first one and their number."""
+    runs = list[list[int]]()
+    for element in elements:
+        if runs and element == sum(runs[-1]):
+            runs[-1][1] += 1
+        else:
+            runs.append([element, 1])
+    return runs
+
+
+def _named(parts: Sequence[Part]) -> list[str | ShownTerm]:
+    """Parts of a sentence or a formula for all elements, whose terms are scalar registers; texts next to each other are one."""
+    shown = list[str | ShownTerm]()
+    for part in parts:
+        last = shown[-1] if shown else None
+        if isinstance(part, str) and isinstance(last, str):
+            shown[-1] = last + part
+        else:
+            shown.append(part if isinstance(part, str) else {"scalar": part.scalar or 0})
+    return shown
+
+
+def _parts(parts: Sequence[Part], element: int = 0) -> list[str | ShownTerm]:
+    """Parts of a formula or of an element's calculation."""
+    return [part if isinstance(part, str) else _term(part, element) for part in parts]
+
+
+def _term(term: Term, element: int) -> ShownTerm:
+    """A term of the calculation of an element."""
+    shown: ShownTerm = {}
+    if term.scalar is not None:
+        shown["scalar"] = term.scalar
+    elif term.index is None:
+        shown["name"] = term.name
+    if term.index is None:
+        shown["value"] = f"{term.bits}"
+    if term.register is not None:
+        shown["register"] = term.register
+    if term.width:
+        shown["width"] = term.width
+    if term.sign != Sign.EITHER and term.width > 1:
+        shown["sign"] = "signed" if term.sign == Sign.SIGNED else "unsigned"
+    if term.function:
+        shown["function"] = term.function
+    if term.index is not None:
+        index = {1: term.index - element, None: 0}.get(term.step, term.index)
+        if index:
+            shown["index"] = index
+        if term.step != 0:
+            shown["by"] = "pair" if term.step is None else "element"
+    return shown
