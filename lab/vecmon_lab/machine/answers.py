@@ -116,7 +116,10 @@ class ControlRegisters:
     @property
     def vlmax(self) -> int:
         """How many elements a group has; 0 where the type is vill."""
-        return 0 if self.vtype >> 63 else int(256 * self.lmul / self.sew)
+        if self.vtype >> 63:
+            return 0
+        shift = ((self.vtype & 7) + 4) % 8 - 4  # of LMUL, as in lmul
+        return (256 << shift) // self.sew if shift >= 0 else 256 // self.sew >> -shift
 
 
 CONTROL = tuple(vars(ControlRegisters()))

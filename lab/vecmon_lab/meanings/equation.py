@@ -217,6 +217,7 @@ def _with_signs(node: ast.expr, free: frozenset[int]) -> ast.expr:
     return _changed(node, lambda each: _with_signs(each, free))
 
 
+@functools.lru_cache(maxsize=1024)
 def _step(index: ast.expr) -> int | None:
     """How far the index of an operand's element goes for the next element of the result; None if that varies."""
     parts = list(ast.walk(index))
