@@ -441,9 +441,11 @@ def test_tab_reconnects_after_server_restart(tabs: "Chrome", own_class: Served) 
     tab.wait("one(\"[data-edit='set x9']\").textContent === '9' && one(\"[data-edit='set x7']\").textContent === '1'")
     assert tab.run("window.marked === 1 && id('gone').hidden")
     tab.click("#backward")
-    assert tab.text("[data-edit='set x9']") == "0" and "past: step" in tab.text("#says-past")
-    tab.run("(id('moment').value = 0, id('moment').dispatchEvent(new Event('input')))")  # of the server before
-    assert "addi" not in tab.text("#listing") and "step 0 of" in tab.text("#says-past")
+    tab.wait("id('says-past').textContent.includes('past: step')")  # which the script of the server before has
+    assert tab.text("[data-edit='set x9']") == "0"
+    tab.run("(id('moment').value = 0, id('moment').dispatchEvent(new Event('input')))")
+    tab.wait("id('says-past').textContent.includes('step 0 of')")
+    assert "executed" not in tab.text("#step")
     tab.click("#now")
     teacher.wait("id('gone').hidden && !id('desk').hidden && id('log').textContent.includes('set x9 9')")
     script = own_class.check_replay(digest_of(teacher)).decode().splitlines()

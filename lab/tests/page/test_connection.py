@@ -95,6 +95,7 @@ def test_value_and_running_program_outlast_cut_connection(tabs: "Chrome", proxie
     tab.wait(f"window.shown?.startsWith('The server is gone.') && {BACK} && id('run').textContent === 'Running'")
     tab.click("#halt")
     tab.wait("id('run').textContent === 'Paused'")
+    tab.wait("/[0-9]/.test(id('moment-count').textContent)")  # the instructions are counted
     moments = tab.text("#moment-count")
     tab.run("delete window.shown")
     proxied.cut()

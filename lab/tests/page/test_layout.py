@@ -188,7 +188,7 @@ def test_bar_of_phone_is_one_row(tabs: "Chrome", served: Served) -> None:
         tab.click("#one")
         tab.wait("id('run').textContent === 'Paused'")
         press_key(tab, "F7")
-        assert tab.run("!id('says-past').hidden && id('now').checkVisibility()")
+        tab.wait("!id('says-past').hidden && id('now').checkVisibility()")
         press_key(tab, "Escape")
         assert tab.run("id('says-past').hidden")
         tab.click("#tab-vectors")

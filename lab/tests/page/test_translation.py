@@ -134,9 +134,9 @@ def show_student(tab: Tab) -> Iterator[str]:
     )
     tab.run("id('assemble').click()")
     tab.wait("one('#listing .next')")
-    for place, steps in (("2", 5), ("3", 1)):
+    for condition, steps in (("Paused", 5), ("Fault", 1)):
         tab.run("(id('number').value = arguments[0], id('many').click())", steps)
-        tab.wait("one('#moment-count').textContent.includes(arguments[0])", place)
+        tab.wait("id('run').dataset.condition === arguments[0]", condition)
         yield f"{steps} steps"
     for name in ("show-reference", "show-problems", "show-output", "show-memory", "show-listing", "backward"):
         tab.run("id(arguments[0]).click()", name)

@@ -9,6 +9,7 @@ from ..assembler.mistakes import Mistake
 from ..exercises.check import CheckResult
 from ..page.pages import merge_patch
 from ..page.state import State
+from .moments import PastResult
 from .requests import BadRequest, JsonObject
 from .seats import Seat
 from .shared_machine import Answers
@@ -190,6 +191,7 @@ Result = (
     | ReplacedResult
     | UnsentResult
     | WhyResult
+    | PastResult
     | CodesResult
     | Refusal
 )
@@ -238,6 +240,10 @@ class WhyAnswer(AnswerHead, WhyResult):
     """The answer to `why`."""
 
 
+class PastAnswer(AnswerHead, PastResult):
+    """The answer to `past`."""
+
+
 class CodesAnswer(AnswerHead, CodesResult):
     """The answer to `codes` and `renew`."""
 
@@ -256,6 +262,7 @@ Answer = (
     | ReplacedAnswer
     | UnsentAnswer
     | WhyAnswer
+    | PastAnswer
     | CodesAnswer
     | RefusedAnswer
 )

@@ -131,6 +131,18 @@ class BreakpointRequest(NumberedRequest):
     set: NotRequired[bool]
 
 
+class PastRequest(NumberedRequest):
+    """An earlier state of the program. The answer says how much of a long replay is done; the same request goes on with it.
+
+    at: the number of instructions since the machine began; a negative one counts from the present
+    to_break: whether to show the next state after that one at a breakpoint, by default not
+    """
+
+    ask: Literal["past"]
+    at: int
+    to_break: NotRequired[bool]
+
+
 class LastInstructionRequest(NumberedRequest):
     """That `read` and `accessed` of the state are completed after a run."""
 
@@ -355,6 +367,7 @@ StudentRequestForm = (
     | DraftRequest
     | OpenRequest
     | VersionRequest
+    | PastRequest
     | CheckRequest
     | CaseRequest
     | AnswerRequest
@@ -366,6 +379,7 @@ StudentRequestForm = (
 TeacherRequestForm = (
     MachineLinesRequest
     | VersionRequest
+    | PastRequest
     | AnswerRequest
     | NameRequest
     | GiveRequest

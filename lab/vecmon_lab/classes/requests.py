@@ -125,6 +125,17 @@ class ToggleBreakpoints:
 
 
 @dataclass(frozen=True)
+class ReadPast:
+    """The state of the program after a number of instructions since its machine began; a negative one counts from the present.
+
+    to_break: the next state after that one at a breakpoint instead
+    """
+
+    at: int
+    to_break: bool
+
+
+@dataclass(frozen=True)
 class FindLastRead:
     """Completes what the last instruction of a run read and accessed."""
 
@@ -334,6 +345,7 @@ SeatsRequest = (
     | Draft
     | OpenExercise
     | ReadVersion
+    | ReadPast
     | Check
     | TryCase
 )
@@ -366,6 +378,7 @@ Reader = Callable[[JsonObject], Request]
 _OF_ALL: Mapping[str, Reader] = {
     "name": lambda it: SetName(_name(it, "seat"), _name(it, "name")),
     "version": lambda it: ReadVersion(_number(it)),
+    "past": lambda it: ReadPast(_number(it, "at"), bool(it.get("to_break"))),
 }
 _OF_STUDENTS: Mapping[str, Reader] = {
     **_OF_ALL,

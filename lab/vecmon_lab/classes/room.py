@@ -18,15 +18,28 @@ from .builds import Builds
 from .clock import Clock
 from .languages import SourceText
 from .machine_thread import MachineThread
+from .moments import Budget
 from .history import History
 from .requests import BadRequest, Lines
 from .scripts import Scripts
 from .seats import Seat
-from .shared_machine import Answers, MakeProgram, Mistakes, Returned, SharedMachine, Steps, Turn, WorkApart, own_lines
+from .shared_machine import (
+    Answers,
+    MakeProgram,
+    Mistakes,
+    Replay,
+    Returned,
+    SharedMachine,
+    Steps,
+    Turn,
+    WorkApart,
+    own_lines,
+)
 from .stored_files import Notes
 from .store import ScriptFile
 
 WATCH_SECONDS = 0.5  # between looks at a program that runs
+REPLAYS = 2  # that execute at the same time
 UNSEEN_SECONDS = 60.0  # after which a program that runs is stopped, if nobody looks at it
 
 
@@ -51,6 +64,8 @@ class Room:
         self.make_checkpoint = self.scripts.make_checkpoint
         self._turns = {digit: asyncio.Lock() for digit in f"{DIGITS}*"}  # given first come, first served
         self._apart = asyncio.Semaphore(1)  # work that needs no turn
+        self.replays = asyncio.Semaphore(REPLAYS)
+        self.machine.budgets = {digit: Budget() for digit in DIGITS}
         self._assembler = concurrent.futures.ThreadPoolExecutor(1)  # which needs no machine
 
     @property
@@ -77,6 +92,7 @@ class Room:
         history = History(notes.scripts[-1], notes.stops)
         for block in self.scripts.file.replay(self.session, notes, lose):
             history.add(*block)
+            self.machine.follow_restored(notes.scripts[-1], *block)
         history.restore(self.seats, self.session)
         self.own_slices = notes.own_slices
         self.set_clock(notes.clock)
@@ -97,6 +113,9 @@ class Room:
                         await self.thread.execute(step)
                 elif isinstance(step, MakeProgram):
                     made = await self._make(seat, step)
+                elif isinstance(step, Replay):
+                    async with self.replays:
+                        await asyncio.to_thread(step.call)
                 elif isinstance(step, WorkApart):
                     async with self._apart:
                         await asyncio.to_thread(step.call)
@@ -163,6 +182,7 @@ class Room:
     def end(self) -> None:
         """Ends the machine, whatever it does."""
         self.thread.end()
+        self.machine.histories.close()
         self._assembler.shutdown()
         self.scripts.end()
 

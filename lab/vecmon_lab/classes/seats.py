@@ -149,8 +149,8 @@ class Seat:
         """The condition of its machine."""
         if self.state["run"] != "stopped":
             return "Not begun" if self.state["run"] == "absent" else "Running"
-        kind = first_word(f"{self.digit} {self.stop}") if "stop" in self.state else ""
-        return _ENDS.get(kind, "Paused" if self.is_started else "Ready")
+        stop = read([f"{self.digit} {self.stop}"]) if "stop" in self.state and self.stop else None
+        return condition_after(stop if isinstance(stop, Stop) else None, self.is_started)
 
     @property
     def has_failed(self) -> bool:
@@ -175,12 +175,25 @@ class Seat:
             self.watch_set.take_compiled(program.text(), variable_rows(program.variables)[:MAX_NAMED])
 
     def put_out(self, digits: str) -> None:
-        """Append output of the program. Full blocks stay as they are, so that pages don't receive them again."""
-        *full, last = list(self.output.items()) or [("0", "")]
-        text = last[1] + digits
-        blocks = (text[at : at + BLOCK_DIGITS] for at in range(0, len(text), BLOCK_DIGITS))
-        new = {f"{number}": block for number, block in enumerate(blocks, int(last[0]))}
-        self.output = dict([*full, *new.items()][-BLOCKS:])
+        """Append output of the program."""
+        self.output = output_blocks(self.output, digits)
+
+
+def condition_after(stop: Stop | None, is_started: bool) -> Condition:
+    """The condition of a stopped program. stop: if it stopped by itself, and nothing has changed since
+
+    is_started: whether it has executed anything since its machine began
+    """
+    return _ENDS.get(stop.kind if stop else "", "Paused" if is_started else "Ready")
+
+
+def output_blocks(before: Mapping[str, str], digits: str) -> dict[str, str]:
+    """Output in blocks by number, after some that there are. Full ones stay as they are, so that pages don't receive them again."""
+    *full, last = list(before.items()) or [("0", "")]
+    text = last[1] + digits
+    blocks = (text[at : at + BLOCK_DIGITS] for at in range(0, len(text), BLOCK_DIGITS))
+    new = {f"{number}": block for number, block in enumerate(blocks, int(last[0]))}
+    return dict([*full, *new.items()][-BLOCKS:])
 
 
 class Seats:

@@ -4,6 +4,7 @@ A task of several turns is a generator of steps. The server executes each step i
 gives other seats their turns between two of them; a program without a server executes them one after another.
 """
 
+import time
 from collections.abc import Callable, Generator, Iterable, Mapping, Sequence
 from dataclasses import dataclass, field
 from functools import partial
@@ -20,9 +21,12 @@ from ..machine.session import TOGETHER, ScriptFull, Session
 from ..meanings.stepped import explanation_of
 from ..meanings.why import NO_STEP, read_name
 from ..page.state import State, registers_of
+from ..replay.histories import Histories
+from ..replay.history import History
 from .languages import SourceText
 from .last_run import Run, run_at, state_before
 from .live import server_line, with_output
+from .moments import Budget, HistoryView, IsDue, PastResult, moment_at
 from .moved_breakpoints import moved_breakpoints
 from .requests import BadRequest, Lines
 from .seat_status import LIMIT_STATUS
@@ -30,6 +34,8 @@ from .seats import Done, Seat, Seats, may_change
 
 SEAT_BYTES = 1_500_000  # of a seat's lines in the script: eight leave 3,000,000 to the operator and the clock
 SOURCE_LINES = 4096
+REPLAY_SECONDS = 0.2  # of a part of a replay
+NO_PAST = "there is no earlier state: the program runs, or there is none"
 NO_RUN = "the state before the last instruction can't be found: step the program, or run it again"
 LEAVING: Mapping[str, Sequence[str]] = {"absent": [], "running": ["stop", "leave"], "stopped": ["leave"]}
 
@@ -86,6 +92,10 @@ class WorkApart:
     call: Callable[[], object]
 
 
+class Replay(WorkApart):
+    """A part of a replay on a private machine, of which some run at the same time."""
+
+
 @dataclass(frozen=True)
 class TakeSeat:
     """A step from which on no other request of the seat takes turns, until the steps end."""
@@ -100,6 +110,10 @@ class SharedMachine:
 
     def __init__(self, letter: str, session: Session, file: Recorder) -> None:
         self.letter, self.session, self.file, self.seats = letter, session, file, Seats(letter)
+        self.histories = Histories(session.quantum, lambda: self.session.rewound(b""))
+        self.budgets: Mapping[str, Budget] = {}  # of replays, by the user's digit; none without one
+        self.replay_pause: Callable[[], IsDue] = _pause
+        self._restored = 0  # lines of an earlier server
         self.has_run = False  # whether slices were granted since programs were looked at
         # By the user's digit: the session, and the number of the script's line that ended the last run.
         self._runs: dict[str, tuple[Session, int]] = {}
@@ -210,6 +224,52 @@ class SharedMachine:
             raise BadRequest(NO_RUN)
         seat.complete_last_instruction(before[0])
 
+    def moment(self, seat: Seat, at: int, to_break: bool) -> Steps[PastResult]:
+        """An earlier state of a seat's program, or how much of its replay is done. Raises BadRequest.
+
+        at: the number of instructions; to_break: the next state after that one at a breakpoint
+        """
+        yield TakeSeat()
+        if seat.state["run"] != "stopped":
+            raise BadRequest(NO_PAST)
+        history, budget = self.histories.users[seat.digit], self.budgets.get(seat.digit)
+        found, executed = list[PastResult](), history.executed
+        if budget:
+            budget.check()
+        try:
+            yield Replay(lambda: found.append(self._moment(seat, history, at, to_break)))
+        except LabError as error:
+            raise BadRequest(str(error)) from error
+        finally:
+            if budget:
+                budget.spend(history.executed - executed)
+        return found[0]
+
+    def _moment(self, seat: Seat, history: History, at: int, to_break: bool) -> PastResult:
+        """A part of a replay."""
+        is_due = self.replay_pause()
+        if to_break:
+            place = history.next_break(at, seat.watch_set.breaks, is_due)
+            if place is None:
+                return {"number": history.legs.number, "percent": history.percent}
+            at = place
+        return moment_at(seat, history, at, is_due)
+
+    def follow_restored(self, set_up: int, lines: Sequence[str], answers: Sequence[str]) -> None:
+        """Take up lines of an earlier server, whose first ones set the machine up."""
+        for line, answer in zip(lines, answers):
+            if self._restored in (0, set_up):
+                self.histories.set_up(self._restored < set_up)
+            self._restored += 1
+            self.histories.follow(line, answer.split("\n"))
+        self.histories.set_up(self._restored < set_up)
+
+    def history_view(self, seat: Seat) -> HistoryView:
+        """What is known of a seat's history."""
+        history = self.histories.users[seat.digit]
+        end = history.end
+        return {"number": history.legs.number} if end is None else {"number": history.legs.number, "end": end}
+
     def _last_run(self, seat: Seat) -> Run | None:
         session, number = self._runs[seat.digit]
         return run_at(session, number) if session is self.session else None
@@ -268,6 +328,7 @@ class SharedMachine:
         for line, answer in zip(lines, answers):
             number += not is_look(line)
             self._follow_run(line, answer, number)
+            self.histories.follow(line, answer)
             self.has_run = self.has_run or line[0] == "*"
             self.seats.follow(line, answer)
             turn.done.append((line, answer))
@@ -330,6 +391,12 @@ class SharedMachine:
         """Looks at whom the turn may have changed."""
         done = [*turn.before, *turn.done]
         turn.states = self.seats.look(self.session, done, self.seats.touched(done))
+
+
+def _pause() -> IsDue:
+    """Whether a part of a replay has taken its time, from now on."""
+    start = time.monotonic()
+    return lambda: time.monotonic() - start > REPLAY_SECONDS
 
 
 def own_lines(seat: Seat, texts: Iterable[str]) -> list[str]:

@@ -14,6 +14,7 @@ from .edits import breakpoint_lines, edit_line, setting_lines
 from .example_sources import ExampleSource
 from .languages import LANGUAGES, SourceText
 from .messages import Hand, Notice, Result, SourceResult, SourceView, TextResult, TryResult, shown, source_view
+from .moments import HistoryView, PastResult
 from .progress import Exercises, ExerciseView, Try, source_of
 from .requests import (
     BadRequest,
@@ -24,6 +25,7 @@ from .requests import (
     FindProblems,
     Lines,
     OpenExercise,
+    ReadPast,
     ReadVersion,
     RunProgram,
     SeatsRequest,
@@ -61,6 +63,7 @@ class SeatPart(TypedDict):
     stop: the last stop line without the digit; "" since `enter` or `go`
     quantum: ticks of a slice; again: whether a loaded source can be started again
     languages: names of source languages, numbered by their place; exercises: by name
+    history: of the program since its machine began
     """
 
     seat: str
@@ -73,6 +76,7 @@ class SeatPart(TypedDict):
     source: SourceView
     exercises: dict[str, ExerciseView]
     again: bool
+    history: HistoryView
 
 
 class ClassView(TypedDict):
@@ -178,6 +182,8 @@ class Student:
                 yield from self._toggle_breakpoints(number, is_only_set)
             case FindLastRead():
                 yield from self.machine.find_last_read(self.seat)
+            case ReadPast(at, to_break):
+                return (yield from self._read_past(at, to_break))
             case Why(name):
                 return {"why": (yield from self.machine.why(self.seat, name))}
             case Draft():
@@ -220,6 +226,14 @@ class Student:
         elif not problems["mistakes"]:
             yield from step(self.machine, self.seat, request.kind, request.by_lines, request.count)
         return problems
+
+    def _read_past(self, at: int, to_break: bool) -> Steps[PastResult]:
+        """An earlier state of the program, with the source in the machine if the seat's is another one. Raises BadRequest."""
+        result = yield from self.machine.moment(self.seat, at, to_break)
+        if self.seat.program and self.source.own != self.seat.written:
+            text = text_of(self.seat.written)
+            result["text"], result["language"] = text["text"], text["language"]
+        return result
 
     def _toggle_breakpoints(self, number: int, is_only_set: bool) -> Steps[None]:
         """Sets the breakpoints of a line of the source, or deletes those that are there, unless they are only set."""
@@ -296,6 +310,7 @@ class Student:
             "source": source_view(self.source, self.seat, self.exercises.titles),
             "exercises": self.exercises.views(self.seat.name),
             "again": self.seat.program is not None,
+            "history": self.machine.history_view(self.seat),
         }
         return cast(StudentView, {**own, **others})
 

@@ -20,7 +20,18 @@ from .requests import (
     OpenExercise,
     OpenOffer,
 )
-from .requests import ReadAnswer, ReadNotice, ReadVersion, Request, RunProgram, SeatsRequest, SetHand, SetName, Source
+from .requests import (
+    ReadAnswer,
+    ReadNotice,
+    ReadPast,
+    ReadVersion,
+    Request,
+    RunProgram,
+    SeatsRequest,
+    SetHand,
+    SetName,
+    Source,
+)
 from .requests import StepLine, StepProgram, ToggleBreakpoints, TryCase, Why, read_request
 from .seats import Seat
 from .shared_machine import Answers
@@ -109,7 +120,7 @@ class TabRequests:
             case ReadAnswer(seat_name, name, number):
                 seat = members.seat(seat_name if is_teacher else tab.who)
                 return try_result(members.checks.answer(seat.name, name, number))
-            case Source() | FindProblems() | StepLine() | Why() | Draft() | OpenExercise() | ReadVersion():
+            case Source() | FindProblems() | StepLine() | Why() | Draft() | OpenExercise() | ReadVersion() | ReadPast():
                 return await self._execute_for_seat(tab, request)
             case Check() | TryCase() | StepProgram() | FindLastRead() | Edit() | ToggleBreakpoints():
                 return await self._execute_for_seat(tab, request)

@@ -10,6 +10,7 @@ from .checks import ExerciseTable, OfferedExercise
 from .languages import LANGUAGES
 from .progress import CheckFailure
 from .messages import Hand, SentNotice, SourceResult, SourceView, shown, source_view
+from .moments import HistoryView
 from .room import Room
 from .seat_status import SeatStatus
 from .seats import Seat
@@ -98,7 +99,7 @@ class TeacherView(TypedDict):
     """The teacher's view.
 
     class_title: the title of the class; machines: by letter; share: a seat's bytes of the script
-    shoulder: the observed seat, or "". Of that alone: its state and source; caret: the number of the line in which it typed last, or 0;
+    shoulder: the observed seat, or "". Of that alone: its state, history and source; caret: the number of the line in which it typed last, or 0;
         problems: those of its last assembly; outcome: if an exercise is open
     wall: the seat on the wall, or ""; address: where students reach the class, or ""
     course: the exercises that may be turned on; exercises: the results by name
@@ -116,6 +117,7 @@ class TeacherView(TypedDict):
     exercises: dict[str, ExerciseTable]
     failures: list[CheckFailure]
     state: NotRequired[State]
+    history: NotRequired[HistoryView]
     source: NotRequired[SourceView]
     caret: NotRequired[int]
     problems: NotRequired[SourceResult]
@@ -163,6 +165,7 @@ def teacher_view(members: Class, tab: Tab) -> TeacherView:
         view["state"], view["source"] = shown(tab.shoulder), source_view(
             student.source, tab.shoulder, student.exercises.titles
         )
+        view["history"] = student.machine.history_view(tab.shoulder)
         view["caret"], view["problems"] = student.source.caret, student.problems
         if student.source.exercise in student.exercises.by_name:
             view["outcome"] = _outcome(student)

@@ -4,7 +4,7 @@ import { WaitingBreakpoints, keepLines, takeKeptLines } from "./breakpoints.js";
 import { Desk } from "./desk.js";
 import { editDialog, followCursor } from "./edits.js";
 import { Editor } from "./editor.js";
-import { ask, copy, offerCopy, part, parts, put } from "./elements.js";
+import { ask, copy, make, offerCopy, part, parts, put } from "./elements.js";
 import { goToPane } from "./keys.js";
 import { LineLinks } from "./line_links.js";
 import { offer, offerLanguages } from "./languages.js";
@@ -44,18 +44,21 @@ export class Bench {
   isImage = false; // whether the machine began with an image
   /** @type {number[]} */ due = []; // lines whose breakpoints are set once nothing is being built
   /** @type {State["read"]} */ askedRead; // that lacked registers, which were asked for
+  /** @type {State | undefined} */ counted; // whose instructions were asked for
+  /** @type {Editor | undefined} */ built; // has the source that is in the machine, if another one is shown in the past
 
   /** @param {HTMLElement} root @param {import("./types").Connection} connection */
   constructor(root, connection) {
     this.root = root;
     this.connection = connection;
-    this.desk = new Desk(root);
+    this.desk = new Desk(root, (request) => connection.ask(request));
     this.bar = new RunBar(root, this);
-    this.desk.painted = (state) => (this.mark(state), this.bar.paint());
+    this.desk.painted = (state) => (this.showText(), this.mark(state), this.bar.paint());
     const { numbers } = (this.parts = parts(root, "images", "against", "find", "entries", "entry", "hint", "run-place", "by", "numbers"));
     this.panes = new Panes(root, root.matches(".alone") ? "author" : "student");
     this.editor = new Editor(part(root, "source"), () => this.typed(), part(root, "language"));
     this.source = new Source(root, this.editor, connection);
+    this.desk.past.built = () => this.source.built;
     this.waiting = new WaitingBreakpoints(this.editor.code);
     this.links = new LineLinks(root, this.editor);
     this.problems = new Problems(root, this.editor, (panel) => this.panes.show(panel));
@@ -67,6 +70,7 @@ export class Bench {
   /** Takes up what was typed. */
   typed() {
     this.isEdited = true;
+    this.desk.past.showNow(); // the past has the text that was built
     this.source.typed();
     this.showMistakes([]);
     this.bar.paint();
@@ -92,7 +96,7 @@ export class Bench {
     const line = /** @type {HTMLTextAreaElement} */ (part(this.root, "line"));
     /** @type {(id: keyof import("./parts").Parts, event: string, heard: () => unknown) => void} */
     const on = (id, event, heard) => part(this.root, id).addEventListener(event, heard);
-    on("go", "click", () => this.execute({ ask: "run" }));
+    on("go", "click", () => this.run());
     on("halt", "click", () => this.send(["stop"]));
     on("one", "click", () => this.step("into"));
     on("step-over", "click", () => this.step("over"));
@@ -128,7 +132,8 @@ export class Bench {
     const start = entries.findLast((entry) => /^<. (entered|loaded)\b/.test(entry));
     if (start) Object.assign(this, { isEdited: false, isImage: start.slice(3).startsWith("load") });
     if (instruction) this.panes.makeRoom();
-    this.desk.show(view.seat, view.state, entries, isAnew);
+    this.desk.show(view.seat, view.state, view.history, entries, isAnew);
+    if (run === "stopped" && view.history.end === undefined) this.countSteps(view.state);
     this.askForRead(view.state);
     if (run === "absent" && !wasAbsent) this.panes.select(part(this.root, "show-source")); // in a pane that may be out of sight
     if (run !== "absent" && wasAbsent) this.panes.show(text && (stands || isAnew) ? "editor" : "listing");
@@ -158,8 +163,26 @@ export class Bench {
     return this.hasOther || (!this.source.stands && (this.isEdited || !Object.keys(this.desk.state.code ?? {}).length));
   }
 
-  /** Steps the program: into calls, over them, or out of a function. */
+  /** Asks once, after a run, for the number of instructions that the program has executed. */
+  countSteps(/** @type {State} */ state) {
+    if (state === this.counted) return;
+    this.counted = state;
+    this.desk.past.count();
+  }
+
+  /** Runs the program. In the past it goes on to the next breakpoint or the last stop, and then on from the present. */
+  async run() {
+    const { past } = this.desk;
+    if (!past.moment) return this.execute({ ask: "run" });
+    await past.forthToBreak();
+    const { stop, pc = "", breaks = [] } = this.desk.state;
+    const isAtEnd = past.moment !== undefined || past.why !== "" || stop || breaks.includes(pc);
+    return isAtEnd ? undefined : this.execute({ ask: "run" });
+  }
+
+  /** Steps the program: into calls, over them, or out of a function. In the past it goes forth by instructions. */
   step(/** @type {"into" | "over" | "out"} */ kind, count = 1) {
+    if (this.desk.past.moment) return this.desk.past.forth(count).then(() => undefined);
     const by = /** @type {"" | "instruction" | "line"} */ (this.parts.by.value) || (this.editor.isC ? "line" : "instruction");
     return this.execute({ ask: "step", kind, by, count });
   }
@@ -187,7 +210,7 @@ export class Bench {
 
   /** Sends requests one after the other; reports refusals in words. Returns the answer to the first one. */
   async request(/** @type {Request[]} */ ...requests) {
-    this.desk.past.show(Infinity);
+    this.desk.past.showNow();
     const answers = await Promise.all(requests.map((request) => this.connection.ask(request)));
     this.refuse(requests.flatMap((request, place) => refusals(request, answers[place])).filter(Boolean).join(" "));
     return answers[0];
@@ -204,10 +227,20 @@ export class Bench {
 
   /** Sends lines, unless one of them can't be sent. */
   send(/** @type {string[]} */ lines) {
+    const [, way, number = "1"] = /^(back|forth)(?: +([1-9][0-9]{0,8}))?$/.exec(lines.join("\n").trim()) ?? [];
+    if (way) return this.go(/** @type {"back" | "forth"} */ (way), Number(number));
     const unfit = unfitLines(lines);
     if (!unfit) return this.request(...requestsOf(lines));
-    this.desk.past.show(Infinity);
+    this.desk.past.showNow();
     return this.refuse(unfit);
+  }
+
+  /** Goes a number of instructions back or forth, as `back 3` says. */
+  async go(/** @type {"back" | "forth"} */ way, /** @type {number} */ number) {
+    const { past } = this.desk;
+    if (way === "back" && past.isStill && past.place !== 0) return void (await past.back(number));
+    if (way === "forth" && past.moment) return void (await past.forth(number));
+    return this.refuse(way === "back" ? textOf("past.no-back") : textOf("past.no-forth"));
   }
 
   /** Leaves the machine. */
@@ -277,6 +310,8 @@ export class Bench {
     const isGiven = told && told.versions !== source.versions && source.versions.at(-1)?.why === "given";
     this.source.show(seat, source);
     if (!told) takeKeptLines(this.waiting, this.source.loaded); // as before a reload
+    const { moment } = this.desk.past;
+    if (moment && !moment.source && !source.stands) this.desk.past.showNow();
     this.mark(this.desk.past.moment?.state ?? state);
     this.source.showLanguage(share);
     this.takeLinked();
@@ -285,10 +320,27 @@ export class Bench {
     this.editor.code.scrollTo(0, 0);
   }
 
+  /** In the past, shows the source that was built in place of one that has changed since; its problems are none. */
+  showText() {
+    const source = this.desk.past.moment?.source;
+    const box = this.editor.box;
+    if (source && !this.built) {
+      const field = Object.assign(make("textarea", ""), { readOnly: true, ariaLabel: textOf("past.built") });
+      box.after(field);
+      this.built = new Editor(field);
+    }
+    if (source && this.built?.code.getValue() !== source.text) this.built?.code.setValue(source.text);
+    const wasShown = box.hidden;
+    box.hidden = Boolean(source);
+    if (this.built) this.built.box.hidden = !source;
+    if (source && !wasShown) this.built?.code.refresh();
+  }
+
   /** Marks a state's lines in the source, and names them in the status line. */
   mark(/** @type {State} */ state) {
     this.setWaiting();
-    const { last, next } = this.source.mark(state);
+    const isOther = this.desk.past.moment?.source !== undefined;
+    const { last, next } = isOther && this.built ? this.source.markIn(this.built, state) : this.source.mark(state);
     this.links.show(this.source.stands ? state.starts : undefined);
     const done = state.faulted ? textOf("run.at-line", { line: last }) : textOf("run.after-line", { line: last });
     const texts = [last && done, next && state.run === "stopped" && textOf("run.next-line", { line: next })];

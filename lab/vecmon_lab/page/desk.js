@@ -7,6 +7,7 @@ import { Log } from "./transcript.js";
 import { MachineView, usedIn } from "./view.js";
 
 /** @typedef {import("./messages").State} State */
+/** @typedef {import("./messages").HistoryView} HistoryView */
 
 const BLANK = { vtype: "8000000000000000", vl: 0, vstart: 0, vxrm: 0, vxsat: 0 }; // vtype is vill
 const of32 = (/** @type {string} */ value) => Object.fromEntries(Array.from({ length: 32 }, (_, number) => [number, value]));
@@ -29,22 +30,25 @@ export class Desk {
   notice = ""; // in place of a refusal, until the state changes
   frame = 0; // in which it is painted
 
-  /** root: has the machine, its stage and its past */
-  constructor(/** @type {HTMLElement} */ root) {
+  /**
+   * @param {HTMLElement} root has the machine, its stage and its past
+   * @param {import("./past.js").Ask} ask asks the server for earlier states
+   */
+  constructor(root, ask) {
     this.view = new MachineView(root);
     this.log = part(root, "log");
     this.entries = new Log(this.log, true);
     this.view.machine.addEventListener("change", () => this.paint());
-    this.past = new Past(root, () => ((this.entries.isNew = true), this.paint())); // with lines up to it
+    this.past = new Past(root, ask, () => this.paint());
   }
 
-  /** @type {(seat: string, state: State, entries: string[], isAnew: boolean) => void} */
-  show(seat, state, entries, isAnew) {
+  /** @type {(seat: string, state: State, history: HistoryView, entries: string[], isAnew: boolean) => void} */
+  show(seat, state, history, entries, isAnew) {
     if (isAnew) this.entries.clear();
-    if (seat !== this.seat) this.past.forget();
+    if (seat !== this.seat) this.past.leave();
+    this.past.follow(state, history);
     this.seat = seat;
     this.entries.add(entries);
-    if (entries.some((entry) => /^>. go$/.test(entry))) this.past.hasRun = true;
     // once, for all messages before it
     if (entries.length || state !== this.state) this.frame ||= requestAnimationFrame(() => this.paint());
     if (state === this.state) return;
@@ -56,7 +60,6 @@ export class Desk {
     Object.assign(this, { state, notice: "" });
     if (isAnew || isNew || !state.v) this.used = new Set();
     usedIn(state).forEach((number) => this.used.add(number));
-    this.past.add({ state, before: this.before, used: this.used, entry: this.log.lastElementChild });
   }
 
   /** Called with each state that is painted. */
@@ -66,11 +69,9 @@ export class Desk {
   paint() {
     cancelAnimationFrame(this.frame);
     this.frame = 0;
-    const { state, before, used } = this.past.moment ?? this;
-    this.view.paint(state, before, { v: used });
+    const { state, before } = this.past.moment ?? this;
+    this.view.paint(state, before, { v: this.used });
     this.painted(state);
-    this.log.querySelector(".until")?.classList.remove("until");
-    this.past.moment?.entry?.classList.add("until");
     this.showStage();
     this.entries.showEnd();
   }
@@ -78,7 +79,7 @@ export class Desk {
   /** Shows the newest of a notice, a refusal and the reason for the stop; the reason is in the status line if another one is newer. */
   showStage() {
     const state = this.past.moment?.state ?? this.state;
-    const newer = this.notice || (this.past.moment ? "" : this.refusal);
+    const newer = this.notice || this.past.why || (this.past.moment ? "" : this.refusal);
     const absent = state.run === "absent" ? [make("small", "", textOf("step.no-machine"))] : [];
     const stop = newer && state.stop ? [make("span", "", ...prose(state.stop))] : [];
     this.view.showStep(state, ...absent, ...stop);

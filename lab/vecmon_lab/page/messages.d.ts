@@ -314,6 +314,17 @@ export interface Hello {
   resumed?: boolean;
 }
 
+/**
+ * What is known of a seat's history.
+ *
+ * number: how often it began anew: moments of another number belong to another program
+ * end: how many instructions the program has executed, if they are counted
+ */
+export interface HistoryView {
+  number: number;
+  end?: number;
+}
+
 /** That `read` and `accessed` of the state are completed after a run. */
 export interface LastInstructionRequest {
   id: number;
@@ -434,6 +445,21 @@ export interface Mistake {
   fix?: string[];
 }
 
+/**
+ * A state of the past.
+ *
+ * at: after this number of instructions; end: how many there are up to the present
+ * state, before: without the names of the source and the breakpoints; and the state before the last instruction
+ * condition: of the machine there
+ */
+export interface Moment {
+  at: number;
+  end: number;
+  state: State;
+  before: State;
+  condition: "Not begun" | "Ready" | "Running" | "Paused" | "Ended" | "Fault";
+}
+
 /** A student's name, "" for none. seat: at which seat; the student's own without it */
 export interface NameRequest {
   id: number;
@@ -525,6 +551,32 @@ export interface PairRun {
   result: number;
   count: number;
   step: number;
+}
+
+/** The answer to `past`. */
+export interface PastAnswer {
+  patch?: { [name: string]: unknown };
+  logs?: { [name: string]: string[] };
+  kind: "answer";
+  id: number;
+  number: number;
+  moment?: Moment;
+  percent?: number;
+  text?: string;
+  language?: number;
+}
+
+/**
+ * An earlier state of the program. The answer says how much of a long replay is done; the same request goes on with it.
+ *
+ * at: the number of instructions since the machine began; a negative one counts from the present
+ * to_break: whether to show the next state after that one at a breakpoint, by default not
+ */
+export interface PastRequest {
+  id: number;
+  ask: "past";
+  at: number;
+  to_break?: boolean;
 }
 
 /** A source whose problems are found; the machine stays as it is. */
@@ -1009,6 +1061,7 @@ export interface StudentView {
   source: SourceView;
   exercises: { [name: string]: ExerciseView };
   again: boolean;
+  history: HistoryView;
   title: string;
   class_title: string;
   name: string;
@@ -1036,7 +1089,7 @@ export interface TakeBackRequest {
  * The teacher's view.
  *
  * class_title: the title of the class; machines: by letter; share: a seat's bytes of the script
- * shoulder: the observed seat, or "". Of that alone: its state and source; caret: the number of the line in which it typed last, or 0;
+ * shoulder: the observed seat, or "". Of that alone: its state, history and source; caret: the number of the line in which it typed last, or 0;
  *     problems: those of its last assembly; outcome: if an exercise is open
  * wall: the seat on the wall, or ""; address: where students reach the class, or ""
  * course: the exercises that may be turned on; exercises: the results by name
@@ -1054,6 +1107,7 @@ export interface TeacherView {
   exercises: { [name: string]: ExerciseTable };
   failures: CheckFailure[];
   state?: State;
+  history?: HistoryView;
   source?: SourceView;
   caret?: number;
   problems?: SourceResult;
@@ -1184,6 +1238,7 @@ export type StudentRequestForm =
   | DraftRequest
   | OpenRequest
   | VersionRequest
+  | PastRequest
   | CheckRequest
   | CaseRequest
   | AnswerRequest
@@ -1195,6 +1250,7 @@ export type StudentRequestForm =
 export type TeacherRequestForm =
   | MachineLinesRequest
   | VersionRequest
+  | PastRequest
   | AnswerRequest
   | NameRequest
   | GiveRequest
@@ -1221,6 +1277,7 @@ export type Answer =
   | ReplacedAnswer
   | UnsentAnswer
   | WhyAnswer
+  | PastAnswer
   | CodesAnswer
   | RefusedAnswer;
 
@@ -1237,5 +1294,6 @@ export type Message =
   | ReplacedAnswer
   | UnsentAnswer
   | WhyAnswer
+  | PastAnswer
   | CodesAnswer
   | RefusedAnswer;

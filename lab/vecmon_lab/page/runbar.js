@@ -19,6 +19,9 @@ const CONDITIONS = { // in words
   Paused: textOf("condition.paused"), Ended: textOf("condition.ended"), Fault: textOf("condition.fault"),
 };
 
+/** @type {Name[]} */
+const IN_PAST = ["go", "one", "many"]; // that go on in the past
+
 export class RunBar {
   isBuilding = false; // whether a source is being assembled or compiled
   /** @type {Condition} */ condition = "Not begun";
@@ -41,12 +44,13 @@ export class RunBar {
   paint(view = this.view) {
     this.view = view;
     if (!view) return;
-    const present = this.isBuilding ? "Assembling" : view.condition;
+    const present = this.isBuilding ? "Assembling" : this.bench.desk.past.moment?.condition ?? view.condition;
     const absent = this.bench.connection.isStarting ? "Starting" : "No connection";
     this.condition = this.bench.connection.isReady ? present : absent;
     put(part(this.root, "run"), CONDITIONS[this.condition]);
     part(this.root, "run").dataset.condition = this.condition;
-    put(part(this.root, "go"), this.condition === "Paused" && !this.bench.hasChanged ? textOf("run.continue") : textOf("run"));
+    const isGoingOn = Boolean(this.bench.desk.past.moment) || (this.condition === "Paused" && !this.bench.hasChanged);
+    put(part(this.root, "go"), isGoingOn ? textOf("run.continue") : textOf("run"));
     part(this.root, "slice").hidden = !view.own_slices;
     for (const id of NAMES) {
       const [button, why] = [part(this.root, id), this.whyOff(id, view)];
@@ -57,7 +61,9 @@ export class RunBar {
 
   /** Why a button is off; "" where it is on. */
   whyOff(/** @type {Name} */ id, /** @type {View} */ { state, ready, again }) {
-    if (this.bench.desk.past.moment) return textOf("off.past");
+    const { moment, wanted } = this.bench.desk.past;
+    if (wanted) return textOf("off.replay");
+    if (moment) return IN_PAST.includes(id) ? "" : textOf("off.past");
     if (this.condition === "No connection") return textOf("off.no-connection");
     if (this.condition === "Assembling") return textOf("off.building");
     if (this.condition === "Starting" || !ready) return textOf("off.not-ready");

@@ -24,7 +24,7 @@ export class Shoulder {
     byId("tab-dock").after(byId("tab-answers"));
     byId("vectors-title").after(byId("past"));
     for (const each of elementsIn(root, ".missing")) put(each, textOf("shoulder.no-program"));
-    this.desk = new Desk(root);
+    this.desk = new Desk(root, (request) => teacher.connection.ask(request));
     byId("source").readOnly = byId("language").disabled = true;
     this.editor = new Editor(byId("source"), undefined, byId("language"));
     this.source = new Source(root, this.editor, teacher.connection);
@@ -41,7 +41,7 @@ export class Shoulder {
 
   /** @type {(view: TeacherView, before: Partial<TeacherView>, log: string[]) => void} before: {} on a new connection */
   show(view, before, log) {
-    const { shoulder: seat, source, state = { run: "absent" }, problems, caret = 0 } = view;
+    const { shoulder: seat, source, state = { run: "absent" }, history = { number: 0 }, problems, caret = 0 } = view;
     const isOther = seat !== before.shoulder;
     byId("shoulder").classList.toggle("looks", Boolean(seat));
     if (!source) return;
@@ -53,7 +53,7 @@ export class Shoulder {
     put(byId("shoulder-says"), `${statusOf(told)[1]}${work}`);
     byId("lower-hand").hidden = !told.hand;
     byId("on-wall").ariaPressed = `${view.wall === seat}`;
-    this.desk.show(seat, state, log, isOther);
+    this.desk.show(seat, state, history, log, isOther);
     this.source.show(seat, source);
     this.source.mark(state);
     const found = problems ? [...problems.mistakes, ...problems.warnings] : []; // by the last assembly

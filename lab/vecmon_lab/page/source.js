@@ -157,6 +157,12 @@ export class Source {
     } else if (this.isTyped && keyOf(source) !== keyOf(editor.source)) this.timer ||= setTimeout(() => this.send(), PAUSE);
   }
 
+  /** The source in the machine, if what was typed since isn't at the server yet. */
+  get built() {
+    const { told } = this;
+    return told?.stands && keyOf(told) !== keyOf(this.editor.source) ? { text: told.text, language: told.language } : undefined;
+  }
+
   /** Whether the machine has the source as it is here. */
   get stands() { return Boolean(this.told?.stands) && keyOf(this.told) === keyOf(this.editor.source); }
 
@@ -173,6 +179,14 @@ export class Source {
     const marks = this.stands ? lines : { ...NO_MARKS, held: [...this.held.keys()] };
     this.editor.mark(marks);
     return marks;
+  }
+
+  /** Marks the lines of a state in an editor with the source that is in the machine; returns them. */
+  markIn(/** @type {import("./editor.js").Editor} */ editor, /** @type {import("./messages").State} */ state) {
+    const { breaks = [], pc, instruction, stops = {} } = state;
+    const lines = { last: lineOf(state, instruction), next: lineOf(state, pc), stops: stoppedLines(stops, breaks), held: [] };
+    editor.mark(lines);
+    return lines;
   }
 
   /** Puts an earlier version into the editor, where undo takes it back; the last one has the place 1. */

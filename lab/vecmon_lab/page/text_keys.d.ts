@@ -99,6 +99,7 @@ export interface Places {
   "condition.ended": never;
   "condition.fault": never;
   "condition.no-connection": never;
+  "off.replay": never;
   "off.past": never;
   "off.no-connection": never;
   "off.building": never;
@@ -116,7 +117,11 @@ export interface Places {
   "past.step": "last" | "step";
   "past.at-now": "step";
   "past.shown": "count";
-  "past.gap": never;
+  "past.now-uncounted": never;
+  "past.replay": "percent";
+  "past.no-back": never;
+  "past.no-forth": never;
+  "past.built": never;
   "past.label": never;
   "past.back-arrow": never;
   "past.back.title": never;

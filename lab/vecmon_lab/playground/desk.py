@@ -25,7 +25,7 @@ from ..classes.requests import (
     OpenExercise,
     ReadAnswer,
 )
-from ..classes.requests import ReadVersion, Request, RunProgram, Settings, Source, StepLine, StepProgram
+from ..classes.requests import ReadPast, ReadVersion, Request, RunProgram, Settings, Source, StepLine, StepProgram
 from ..classes.requests import ToggleBreakpoints, TryCase, Why, read_request
 from ..classes.shared_machine import Answers, MakeProgram, Returned, SharedMachine, Steps, Turn, WorkApart
 from ..classes.sources import SeatSource
@@ -197,7 +197,7 @@ class Desk:
             case ReadAnswer(_, name, number):
                 self.exercises.exercise(name)
                 return try_result(self.try_of(name, number))
-            case Source() | FindProblems() | StepLine() | Why() | Draft() | OpenExercise() | ReadVersion():
+            case Source() | FindProblems() | StepLine() | Why() | Draft() | OpenExercise() | ReadVersion() | ReadPast():
                 return self.run(self.student.execute(request))
             case Check() | TryCase() | RunProgram() | StepProgram() | FindLastRead() | Edit() | ToggleBreakpoints():
                 return self.run(self.student.execute(request))

@@ -238,6 +238,7 @@ class PageDesk(Desk):
         try:
             for block in session.do_blocks(script):
                 history.add(*block)
+                self.machine.follow_restored(self._set_up, *block)
         except LabError as error:
             _set_aside(self.texts, SCRIPT)
             self.lost.append(f"the machine's lines can't be executed again: {error}")

@@ -1,0 +1,212 @@
+"""The states of a user's program since its machine began, by the number of instructions that it had executed.
+
+A private machine executes the user's own lines again, without those of other users: it prints the same.
+"""
+
+from collections.abc import Callable, Collection, Generator
+from dataclasses import dataclass
+from functools import partial
+from typing import TypeVar
+
+from .. import LabError
+from ..guest.guest import Guest
+from ..guest.runner import OUTPUT_BYTES
+from ..machine.answers import Stop
+from ..machine.session import Session
+from .counting import count_to_stop, count_to_ticks, first_stop
+from .legs import Leg, Legs
+from .private_machine import PrivateMachine
+
+MAX_BACK = 300_000_000  # instructions of a history: a script has room for no more steps
+TOO_FAR = f"there is no way back into a run of more than {MAX_BACK:,} instructions"
+UNCOUNTED = "the instructions before this pause can't be counted"
+
+IsDue = Callable[[], bool]
+"""Whether a replay pauses, and goes on with the next call."""
+Result = TypeVar("Result")
+
+
+class NoWayBack(LabError):
+    """There are no states before a place; the text says why."""
+
+
+@dataclass(frozen=True)
+class Instant:
+    """A state of the program, on a private machine, which is there until the next replay.
+
+    count: of executed instructions
+    output: what the program has written since its machine began
+    stop: why the program stopped there, if nothing has changed since
+    is_written: whether a line has set registers or memory since the last instruction
+    """
+
+    count: int
+    guest: Guest
+    output: bytes
+    stop: Stop | None
+    is_written: bool
+
+
+class History:
+    """A user's history. Its replays work until they are due, and go on with the next call: to cancel one, call none.
+
+    legs: takes up the user's lines
+    executed: how many instructions replays have executed in all, with lines by their cost
+    """
+
+    def __init__(self, digit: str, quantum: int, opening: Callable[[], Session]) -> None:
+        """opening: opens a session on a new machine with the same images and quantum"""
+        self.legs, self._quantum, self._opening = Legs(digit, quantum), quantum, opening
+        self._machine: PrivateMachine | None = None
+        self._machine_number = self._work_number = 0  # of the history that they belong to
+        self._work: Generator[None, None, object] | None = None
+        self._wanted: object = None
+        self._executed = 0
+
+    @property
+    def executed(self) -> int:
+        """The cost of all replays."""
+        return self._executed + (self._machine.executed if self._machine else 0)
+
+    @property
+    def end(self) -> int | None:
+        """The number of instructions up to the present; None until it is counted."""
+        counts = [leg.count for leg in self.legs.legs]
+        return sum(count for count in counts if count is not None) if None not in counts else None
+
+    @property
+    def percent(self) -> int:
+        """How much of the history the private machine has executed."""
+        legs, place = self.legs.legs, self._machine.place if self._machine else None
+        whole = sum(leg.most if leg.count is None else leg.count for leg in legs)
+        done = sum(leg.count or 0 for leg in legs[: place.leg]) + place.offset if place and place.leg >= 0 else 0
+        return min(99, 100 * done // max(1, whole))
+
+    def count(self, is_due: IsDue) -> int | None:
+        """Return the number of instructions up to the present; None if it is due before. Raises as `at`."""
+        return self._drive("count", self._counted, is_due)
+
+    def at(self, count: int, is_due: IsDue) -> Instant | None:
+        """Return the state after this number of instructions, from 0 to `end`; None if it is due before.
+
+        A negative number counts from the end. Raises NoWayBack, ReplayDiffers, and as a session does.
+        """
+        return self._drive(("at", count), partial(self._at, count), is_due)
+
+    def next_break(self, count: int, breaks: Collection[int], is_due: IsDue) -> int | None:
+        """Return the next number of instructions after one at which the program is at one of these addresses, or the end.
+
+        None if it is due before. Raises as `at`.
+        """
+        return self._drive(("break", count, *breaks), partial(self._next_break, count, breaks), is_due)
+
+    def close(self) -> None:
+        """End the private machine."""
+        self._drop_machine()
+        self._work = self._wanted = None
+
+    def _drop_machine(self) -> None:
+        if self._machine:
+            self._executed += self._machine.executed
+            self._machine.session.close()
+        self._machine = None
+
+    def _drive(self, wanted: object, work: Callable[[], Generator[None, None, Result]], is_due: IsDue) -> Result | None:
+        """Go on with a work until it is due; with another one than before, begin it."""
+        if self._wanted != wanted or self._work_number != self.legs.number or self._work is None:
+            if self._work:
+                self._work.close()
+            self._wanted, self._work, self._work_number = wanted, work(), self.legs.number
+        try:
+            while True:
+                next(self._work)
+                if is_due():
+                    return None
+        except StopIteration as end:
+            self._wanted = self._work = None
+            result: Result = end.value
+            return result
+        except BaseException:
+            self.close()
+            raise
+
+    def _fresh(self) -> PrivateMachine:
+        return PrivateMachine(self._opening(), self.legs.legs, self.legs.digit)
+
+    def _reach(self, leg: int, offset: int) -> Generator[None, None, PrivateMachine]:
+        """The private machine, or a new one if it is beyond the place, goes to that place."""
+        machine = self._machine
+        if (
+            machine is None
+            or self._machine_number != self.legs.number
+            or not machine.is_before(leg, offset)
+            or machine.is_used_up
+        ):
+            self._drop_machine()
+            machine = self._fresh()
+            self._machine, self._machine_number = machine, self.legs.number
+        yield from machine.go_to(leg, offset)
+        return machine
+
+    def _counted(self) -> Generator[None, None, int]:
+        """Count each leg whose count is unknown. A pause whose instructions can't be counted begins the history anew."""
+        legs = self.legs.legs
+        if sum(leg.most if leg.count is None else leg.count for leg in legs) > MAX_BACK:
+            raise NoWayBack(TOO_FAR)
+        for place, leg in enumerate(legs):
+            if leg.count is None and leg.stop:
+                yield from count_to_stop(legs, place, self._quantum, self._reach)
+            elif leg.count is None and leg.ticks is None:
+                raise NoWayBack(UNCOUNTED)
+            elif leg.count is None:
+                yield from count_to_ticks(legs, place, self._quantum, self._reach, self._fresh)
+        return sum(leg.count or 0 for leg in legs)
+
+    def _at(self, count: int) -> Generator[None, None, Instant]:
+        """The state after a number of instructions."""
+        end = yield from self._counted()
+        count = max(0, end + count) if count < 0 else min(count, end)
+        place, offset = self._find(count)
+        legs = self.legs.legs
+        leg = legs[place]
+        machine = yield from self._reach(place, offset)
+        yield from machine.go_to(place, offset, is_trying=offset == leg.count)
+        machine.take_output()
+        machine.is_used_up = self.legs.written >= OUTPUT_BYTES  # a later call may find more room there than there was
+        stop = leg.stop if offset == leg.count else None
+        if offset == 0 and place and not _writes(leg):
+            stop = legs[place - 1].stop
+        return Instant(count, machine.guest, bytes(machine.output), stop, offset == 0 and _writes(leg))
+
+    def _find(self, count: int) -> tuple[int, int]:
+        """The last place after a number of instructions."""
+        found, start = (0, 0), 0
+        for place, leg in enumerate(self.legs.legs):
+            if start > count:
+                break
+            found, start = (place, count - start), start + (leg.count or 0)
+        return found
+
+    def _next_break(self, count: int, breaks: Collection[int]) -> Generator[None, None, int]:
+        """The next number of instructions at which the program is at one of these addresses, or the end."""
+        end = yield from self._counted()
+        place, offset = self._find(min(count, end))
+        start = min(count, end) - offset
+        for number, leg in enumerate(self.legs.legs[place:], place):
+            last = leg.count or 0
+            found = yield from first_stop(number, offset, last, breaks, self._reach) if last > offset else _nothing()
+            if found and found[1].pc in breaks:
+                return start + found[0]
+            start, offset = start + last, 0
+        return end
+
+
+def _writes(leg: Leg) -> bool:
+    """Whether lines of a leg set registers or memory."""
+    return any(line[2:] != "out" for line in leg.lines)
+
+
+def _nothing() -> Generator[None, None, None]:
+    """No work."""
+    return
+    yield
