@@ -16,7 +16,7 @@ EXCEPTIONS = {  # the files with such decisions, and the reason for each
     "lab/vecmon_lab/compilers/hints.py": OTHERS,  # compilers and linkers
     "lab/vecmon_lab/compilers/sandbox_main.py": OTHERS,  # compilers, linkers and the dynamic loader
     "tools/wasm": OTHERS,  # linkers
-    "lab/vecmon_lab/runs/recorder.py": "docs/RECORDER.md fixes the messages of vecmon-record",
+    "lab/vecmon_lab/runs/recorder.py": "vecmon-record refuses in words, which tests/recordings states",
     "lab/vecmon_lab/machine/answers.py": "the reader of answers, whose format docs/COMMANDS.md fixes",
     "lab/vecmon_lab/machine/script.py": "a fast choice of lines, whose commands are read afterwards",
     "lab/vecmon_lab/checkpoints/machine_state.py": "a fast choice of lines, whose commands are read afterwards",

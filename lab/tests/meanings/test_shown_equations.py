@@ -14,9 +14,9 @@ from vecmon_lab.meanings.record import record_of
 
 SEED, VECTORS, ELEMENTS = 137, 1000, 4
 LEAST = {"equations": 4000, "kept": 4000}  # texts in three forms
-PLANTED = 40  # vectors of an erroneous core
+PLANTED = 20  # vectors of an erroneous core
 MIXED = ["vwmulsu.vv", "vwmulsu.vx", "vmulhsu.vv", "vmulhsu.vx", "vwmaccsu.vv", "vwmaccsu.vx", "vwmaccus.vx"]
-UNSIGNED = ["vmsgtu.vi", "vmsleu.vi", "vmadc.vi", "vwaddu.wv", "vdivu.vv", "vminu.vx", "vnclipu.wi"]
+UNSIGNED = ["vmsgtu.vi", "vmsleu.vi", "vmadc.vi", "vwaddu.wv", "vminu.vx"]
 
 
 def tally_of(names: list[str] | None = None, most: int = VECTORS, seed: int = SEED) -> Tally:
