@@ -22,9 +22,6 @@ from vecmon_lab.meanings.why import Explanation
 FORMS: Sequence[NumberForm] = ("signed", "unsigned", "hexadecimal")
 UNCLEAN = {"corrected", "versions", "qemu_value"}  # keys of vectors whose result isn't that of all versions of QEMU
 _TERM = re.compile(r"(?:(signed|unsigned|sext|zext)\()?(-?\w+)(\.mask)?(?:\[(\w+)\])?\)?")
-_IMMEDIATE = re.compile(
-    r"^[-−](\d+)$|(?<!\w)\([-−](\d+)\)"
-)  # as in the text of the instruction: its number is modulo 2**SEW
 _TARGET = re.compile(r"v(\d+)(\.mask)?\[(\d+)\]")
 _KEPT = re.compile(r"(\S+) kept its value (\S+): (.*)")
 _ALL_ONES = re.compile(r"(\S+) = (0x[0-9a-f]+), all ones, since it is agnostic under policy ones: (.*)")
@@ -93,7 +90,7 @@ def numbers_problem(text: str, form: NumberForm, width: int, expected: int) -> s
         return f"{equation.exact} isn't {expected} in {width} bits"
     for side in equation.sides:
         with contextlib.suppress(LeftOut, Unreadable):
-            if (value := evaluate(side, width)) != equation.exact and not _IMMEDIATE.fullmatch(side):
+            if (value := evaluate(side, width)) != equation.exact:
                 return f"{side} is {value}, and not {equation.exact}"
     return ""
 
@@ -188,11 +185,9 @@ class Checker:
         target_width = max(8, self.destination.eew) if self.destination else 64
         try:
             value = evaluate(side, target_width)
-            is_name = _IMMEDIATE.fullmatch(side) and value % (1 << self._state.control.sew) == exact
-            return "" if value == exact or is_name else f"{side} is {value}, and not {exact}"
+            return "" if value == exact else f"{side} is {value}, and not {exact}"
         except Unreadable:
-            sides = dict.fromkeys([side, _IMMEDIATE.sub(r"unsigned(-\2)", side)])
-        values = [evaluate(each, target_width, number) for each in sides for number in self._numbers(each)]
+            values = [evaluate(side, target_width, number) for number in self._numbers(side)]
         fits = [(bool(value) == bool(exact)) if width == 1 else (value - exact) % (1 << width) == 0 for value in values]
         return "" if any(fits) else f"{side} is {' or '.join(map(str, values))}, and not {exact}"
 
