@@ -25,6 +25,8 @@ def stubs(edits: list[Edit], many: int = MANY) -> list[Function]:
 def stub_body(function: Function) -> str:
     """Return the body `unreachable!()`, with as many lines as the function's body, so that places in its file stay the same."""
     begin, end = function.body
-    opening = "" if function.text[:begin].rstrip().endswith("{") else "\n{"  # that of a function without a contract is above
+    opening = (
+        "" if function.text[:begin].rstrip().endswith("{") else "\n{"
+    )  # that of a function without a contract is above
     body = f"{opening}\n    unreachable!()"
     return body + "\n" * (function.text[begin:end].count("\n") - body.count("\n")) + "}"

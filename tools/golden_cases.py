@@ -160,7 +160,10 @@ def _choice_of(vector: Vector) -> str:
 def _writes_mask(vector: Vector) -> bool:
     """Whether the destination of a vector operation is a mask."""
     stem = vector.name.rpartition(".")[0]
-    return re.fullmatch(r"vm(?:and|nand|andn|xor|or|nor|orn|xnor|s(?:eq|ne|lt|le|gt)u?|[as][db]c|s[bio]f)", stem) is not None
+    return (
+        re.fullmatch(r"vm(?:and|nand|andn|xor|or|nor|orn|xnor|s(?:eq|ne|lt|le|gt)u?|[as][db]c|s[bio]f)", stem)
+        is not None
+    )
 
 
 def rows_without_case(vectors: Sequence[Vector]) -> list[str]:

@@ -9,7 +9,6 @@ use Rattle.rv_model.specs.step.Hart.{HartState}
 use Rattle.vec_recorder.specs.Recorded.{IsStopped, IsUnstarted}
 use Rattle.vec_recorder.specs.Statuses.{HasCause, program_status, record_fault}
 use Rattle.vec_recorder.specs.declared.program_fault.ProgramFault.{ProgramFault}
-use Rattle.vec_recorder.specs.declared.program_fault.ProgramFault.TheVariants.{NoMemory}
 
 stopped_status : (stopped : RecordFault) → program_status (record_fault stopped) ≡ 5
 stopped_status TableFull = refl
@@ -83,17 +82,6 @@ module _ {K : Type 0} (took : K → List ℕ → K → Type 0) (ticks : ℕ) (s 
   caused_by before after old new (Ok x) ended is = tt
   caused_by before after old new (Err e) (inl unstarted) is = λ five. let six : program_status e ≡ 6 = ap program_status is ∙ unstarted.status in absurd (omega (arith, five, six))
   caused_by before after old new (Err e) (inr stopped) is = λ five. stopped.cause
-
--- no memory before the first instruction
-pub unstarted_by : {T K O : Type 0} (took : K → List ℕ → K → Type 0) (Stopped : ProgramFault → Type 0) (k : K) (files : O) (r : Result T ProgramFault) → took k [] k
-    → IsErrAnd r (λ e. e ≡ NoMemory) → IfErr r (λ fault. IsUnstarted took k k files files fault ⊎ Stopped fault)
-unstarted_by took Stopped k files (Ok x) none is = tt
-unstarted_by took Stopped k files (Err e) none is = inl (record { status = ap program_status is; nothing = none; files = refl })
-
--- a run that was started
-pub started : {T : Type 0} (Unstarted Stopped : ProgramFault → Type 0) (r : Result T ProgramFault) → IfErr r Stopped → IfErr r (λ fault. Unstarted fault ⊎ Stopped fault)
-started Unstarted Stopped (Ok x) of = tt
-started Unstarted Stopped (Err e) of = inr of
 
 -- another exit status than 5
 pub not_five : {T : Type 0} (P : Type 0) (r : Result T ProgramFault) (fault : ProgramFault) → (program_status fault ≡ 2) ⊎ ((program_status fault ≡ 4) ⊎ (program_status fault ≡ 6))

@@ -1,5 +1,5 @@
 -- The effect of the program with its arguments: the initial machine of a run, its output, and its records
-use Rattle.std.specs.Prelude.{◌≡◌, ◌≤◌, ◌%◌, ◌^◌, ◌++◌, ◌⊎◌, ℕ, Bool, List, [], Option, None, Some, flat_map}
+use Rattle.std.specs.Prelude.{◌≡◌, ◌≤◌, ◌%◌, ◌^◌, ◌++◌, ℕ, Bool, List, [], Option, None, Some, flat_map}
 use Rattle.std.specs.List.{All, AllZip}
 use Rattle.clap.specs.Walk.{Text}
 use Rattle.clap.specs.Words.{IsAmong}
