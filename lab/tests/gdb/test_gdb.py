@@ -19,6 +19,9 @@ from support.places import EXAMPLES, PREFIX_SUMS, SQUARES, STOCK, SUM, SUM_DWARF
 from support.sources import ARGUMENTS, COUNTDOWN
 from support.terminal import MAX_SECONDS
 from vecmon_lab.compilers.compiler import RUNTIME, Compiler
+from vecmon_lab.gdb.command import Target
+from vecmon_lab.gdb.packets import Link
+from vecmon_lab.guest.guest import started
 
 GDB = [sys.executable, "-m", "vecmon_lab", "gdb"]
 WRITES_AND_GOES_ON = """
@@ -32,6 +35,9 @@ loop:   j loop
 text:   .ascii "ready\\n"
 """
 
+
+PROGRESS = re.compile("vecmon: [a-z ]+: [0-9,]+ (?:%|million ticks); Ctrl-C ends it\n")
+"""A line that a way back or a search prints if it takes more than two seconds, as on a busy machine."""
 
 STOPS = """
 cause0: .word 0x0020006f # jal x0, 2
@@ -89,7 +95,9 @@ class Packets:
             assert byte, data
             data += byte
         assert int(self.read(2), 16) == sum(data) % 256
-        return re.sub(rb"}(.)", lambda pair: bytes([pair[1][0] ^ 0x20]), data, flags=re.DOTALL).decode()
+        text = re.sub(rb"}(.)", lambda pair: bytes([pair[1][0] ^ 0x20]), data, flags=re.DOTALL).decode()
+        is_progress = text[:1] == "O" and text != "OK" and PROGRESS.fullmatch(bytes.fromhex(text[1:]).decode())
+        return self.packet() if is_progress else text
 
     def ask(self, packet: str) -> str:
         """The answer to a packet, when it has been acknowledged."""
@@ -311,6 +319,46 @@ def test_interrupt_stops_program(tmp_path: pathlib.Path, program: pathlib.Path) 
         assert packets.ended() == (0, b"+", b"")
 
 
+@pytest.mark.parametrize("packet", ["bs", "bc"])
+def test_interrupt_ends_way_back(tmp_path: pathlib.Path, program: pathlib.Path, packet: str) -> None:
+    """Ctrl-C comes with the packet: the program stays where it is, and goes back when it is asked again."""
+    make_image(program, tmp_path / "image", COUNTDOWN)
+    with Packets(tmp_path / "image") as packets:
+        assert packets.ask("c") == "S05"
+        packets.write(f"${packet}#{sum(packet.encode()) % 256:02x}\x03".encode())
+        assert packets.read(1) == b"+" and (packets.packet(), packets.ask("p20")) == ("S02", little(0x10018))
+        assert packets.ask(packet) != "S02" and packets.ask("p20") == little(0x10014 if packet == "bs" else 0x10000)
+
+
+class Output(Link):
+    """A link that keeps the packets that are sent, and receives none."""
+
+    def __init__(self) -> None:
+        self.sent = list[str]()
+
+    def send(self, text: str) -> None:
+        self.sent.append(text)
+
+    def is_interrupted(self) -> bool:
+        return False
+
+
+@pytest.mark.parametrize("packets, work", [(["bs"], "going back"), (["Z2,11100,4", "bc"], "searching backwards")])
+def test_progress_is_printed(
+    tmp_path: pathlib.Path, program: pathlib.Path, monkeypatch: pytest.MonkeyPatch, packets: list[str], work: str
+) -> None:
+    """Each two seconds, and so at each step of the work where none have to pass."""
+    make_image(program, tmp_path / "image", COUNTDOWN)
+    with started(tmp_path / "image", write=lambda data: None) as guest:
+        link = Output()
+        target = Target(guest, link, tmp_path / "image", lambda words: None)
+        assert target.answer("c") == "S05" and not link.sent
+        monkeypatch.setattr("vecmon_lab.replay.control.SECONDS", 0.0)
+        assert [target.answer(packet) for packet in packets][-1] != "S02"
+        assert link.sent and all(PROGRESS.fullmatch(text(packet)) for packet in link.sent)
+        assert text(link.sent[0]).startswith(f"vecmon: {work}: ")
+
+
 def test_step_output_is_sent(tmp_path: pathlib.Path, program: pathlib.Path) -> None:
     make_image(program, tmp_path / "image", WRITES_AND_GOES_ON)
     with Packets(tmp_path / "image") as packets:
@@ -390,7 +438,7 @@ def gdb() -> Callable[..., str]:
         run = subprocess.run(
             command, cwd=TOP, stdin=subprocess.DEVNULL, stdout=subprocess.PIPE, stderr=subprocess.STDOUT
         )
-        return run.stdout.decode()
+        return PROGRESS.sub("", run.stdout.decode())
 
     return said
 

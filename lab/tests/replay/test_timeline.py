@@ -8,7 +8,6 @@ import pytest
 
 from support.images import make_image
 from support.sources import COUNTDOWN, WRITES
-from vecmon_lab import LabError
 from vecmon_lab.guest.guest import Guest, started
 from vecmon_lab.machine.answers import Addresses, ScalarRegisters, Stop
 from vecmon_lab.replay.timeline import Timeline
@@ -259,18 +258,6 @@ def test_watchpoints_stop_at_accesses(
         timeline.watches = [watch]
         assert guest.pc == found.pop()
     assert not found and guest.pc == 0x10000
-
-
-def test_back_beyond_limit_is_refused(
-    start: Callable[[str], tuple[Timeline, Guest]], monkeypatch: pytest.MonkeyPatch
-) -> None:
-    """1,000 ticks are more than 999."""
-    timeline, guest = start(COUNTDOWN)
-    assert timeline.go(never) == Stop("ebreak", 0x10018)
-    monkeypatch.setattr("vecmon_lab.replay.timeline.MAX_BACK", 999)
-    with pytest.raises(LabError, match="no way back into a run of more than 200,000,000 ticks"):
-        timeline.back()
-    assert state(guest) == (0x10018, 0, 3, 1)
 
 
 @pytest.mark.parametrize("steps", [0, 41])

@@ -29,7 +29,7 @@ TOUCHING = "vadd.vv v0, v1, v2, v0.t"
 Opening = Callable[[], Session]
 """Opens a session on a new machine."""
 
-_FOLLOWED = set(" elmv")  # how the commands begin that `_follow` knows
+_FOLLOWED = set(" elmv")  # how the commands begin that `follow_line` knows
 
 
 @dataclass
@@ -99,7 +99,7 @@ def replay_script(session: Session, script: bytes) -> dict[str, User]:
     users = dict[str, User]()
     for line, answer in session.do_script(script):
         if line[2:3] in _FOLLOWED and line[0] != "*" and not is_refusal(answer):
-            _follow(users, line)
+            follow_line(users, line)
     return users
 
 
@@ -125,7 +125,7 @@ def fresh_memory(opening: Opening, user: User) -> dict[int, bytes]:
     return memory
 
 
-def _follow(users: dict[str, User], line: str) -> None:
+def follow_line(users: dict[str, User], line: str) -> None:
     """Takes up a user's line that was accepted."""
     digit = line[0]
     match words_of(line):

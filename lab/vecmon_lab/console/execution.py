@@ -33,7 +33,8 @@ class Execution:
         self.changes: list[str] = []
         self.has_mask = False
         self._guest, self._stepper, self._screen = guest, stepper, screen
-        self._names, self._conditions, self._timeline = names, conditions, Timeline(guest)
+        self._names, self._conditions = names, conditions
+        self._timeline = Timeline(guest, screen.report)
 
     def run(self) -> None:
         """Runs the program to its next stop, or until Ctrl-C."""
@@ -78,8 +79,11 @@ class Execution:
     def back(self, number: int) -> None:
         """Go back a number of instructions."""
         self._guest.ask("stop")
-        if not self._timeline.back(number):
+        is_there = self._timeline.back(number, self.interrupt.is_set)
+        if is_there is False:
             self._screen.say("This is the start: there is nothing before.")
+        if is_there is None:
+            self._screen.say("Interrupted: the program stays here.")
         self._tell_changes()
 
     def back_to_write(self, digits: str) -> None:
@@ -97,6 +101,8 @@ class Execution:
             is_there = self._timeline.back_to_halt_if_any((), self.interrupt.is_set)
         finally:
             self._timeline.watches = []
+        if is_there is None:
+            self._screen.say("Interrupted: the program stays here.")
         if is_there is False:
             self._screen.say(
                 f"No earlier instruction has changed {self._names.place(address)}; the program stays here."

@@ -54,6 +54,11 @@ class Screen:
             self._is_new_line = True
         sys.stdout.flush()
 
+    def report(self, sentence: str) -> None:
+        """Print a sentence about progress on standard error, if that is a terminal."""
+        if sys.stderr.isatty():
+            print(f"{sentence[:1].upper()}{sentence[1:]}.", file=sys.stderr, flush=True)
+
     def paint(self, text: str, kind: str) -> str:
         """A text in the colour of its kind; an empty kind has none."""
         return f"\033[{COLOURS[kind]}m{text}\033[0m" if kind and self._has_colours else text

@@ -87,7 +87,7 @@ class Target:
         """restart: loads the program on a new machine, with these arguments, or with the command's own if there are none."""
         self.is_attached, self._image, self._restart = True, image, restart
         self._is_extended = False  # whether gdb can run the program again
-        self._guest, self._link, self._timeline = guest, link, Timeline(guest)
+        self._guest, self._link, self._timeline = guest, link, Timeline(guest, self._tell)
         self._last = BEGUN  # the last stop
         self._exit = ""  # the answer if gdb resumes a program that has exited
 
@@ -131,7 +131,7 @@ class Target:
         except (LabError, OSError) as error:
             self._tell(str(error))
             return REFUSED
-        self._timeline, self._last, self._exit = Timeline(self._guest), BEGUN, ""
+        self._timeline, self._last, self._exit = Timeline(self._guest, self._tell), BEGUN, ""
         return self._last
 
     def _answer(self, letter: str, words: list[str]) -> str:
@@ -203,7 +203,7 @@ class Target:
         """Go back by an instruction, or to a stop; if that isn't possible, print why."""
         try:
             if is_step:
-                is_there: bool | None = self._timeline.back()
+                is_there = self._timeline.back(1, self._link.is_interrupted)
             else:
                 breaks = self._guest.query("breaks", Addresses).addresses
                 is_there = self._timeline.back_to_halt(breaks, self._link.is_interrupted)

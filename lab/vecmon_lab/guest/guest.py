@@ -53,6 +53,7 @@ class Guest:
     start_commands: the commands that `start` gave behind `load`, without the policy
     write: is given what the program writes
     runner: what `go` does
+    on_pause: is called in a run after each part, whose output was taken, while the program is stopped
     """
 
     def __init__(
@@ -72,6 +73,7 @@ class Guest:
         self._kept: list[bytes] = []
         self.write = write or self._kept.append
         self.runner = Runner(self, report or Reporter())
+        self.on_pause: Callable[[], object] = lambda: None
 
     def ask(self, *commands: str) -> list[Answer]:
         """The answer to each command. Some dozens go to the machine together."""
@@ -154,6 +156,7 @@ class Guest:
     def go_back(self, size: int, pc: int) -> None:
         """Go back to where the script had this many bytes, and the program counter this value: in a new session."""
         session = self.session.rewound(self.session.script[:size])
+        session.on_lines = self.session.on_lines
         self.session.close()
         self.session, self.pc = session, pc
 

@@ -100,8 +100,25 @@ class Runner:
                 at_once = max(1, at_once // 2)
             guest.ticks += used * guest.session.quantum
             slices = None if slices is None else max(0, slices - used)
+            if stop is None:
+                guest.on_pause()
         self._set_places(())
         return stop
+
+    def pass_slices(self, number: int) -> tuple[Stop | None, bool]:
+        """Run a number of slices, 1,000 at most, which don't stop before calls; the stop, and whether they were run.
+
+        They weren't if a call may have found too little room for its output: then the program is where it was.
+        """
+        guest = self._guest
+        self._breaks, self._places = guest.query("breaks", Addresses).addresses, ()
+        size, pc = guest.session.size, guest.pc
+        stop, _, output = self._run_on(number)
+        if len(output) == OUTPUT_BYTES:
+            guest.go_back(size, pc)
+            return None, False
+        guest.emit_output(output)
+        return stop, True
 
     def look(self, pc: int, x: Sequence[int] | None = None) -> None:
         """Reports the call at an address, which is executed next, if it isn't supported. x: the registers, if known."""

@@ -4,7 +4,7 @@ import hashlib
 import time
 from array import array
 from binascii import crc32
-from collections.abc import Iterator, Sequence
+from collections.abc import Callable, Iterator, Mapping, Sequence
 from dataclasses import dataclass
 
 from .answers import is_refusal
@@ -20,6 +20,23 @@ class Checkpoint:
 
     number: int
     lines: bytes
+
+
+@dataclass(frozen=True)
+class ScriptStart:
+    """The first lines of a script, with what a session knows of them, so that a new process needn't execute them.
+
+    number, size: of the lines, and of their bytes
+    answers: a digest of their answers
+    policy: of agnostic elements, of each user who is there after them
+    lines: makes the lines that replace them; None if there are none that leave the machine as they do
+    """
+
+    number: int
+    size: int
+    answers: "hashlib._Hash"
+    policy: Mapping[int, str]
+    lines: Callable[[], bytes | None]
 
 
 class Script:
@@ -46,6 +63,17 @@ class Script:
             covered = self.text.index(b"\n", covered) + 1
         self.base = Checkpoint(before.number + removed, checkpoint.lines), covered
         self.spent -= spent
+
+    def start(self, lines: Callable[[], bytes | None]) -> ScriptStart:
+        """Return the whole script as the start of a longer one. lines: makes the lines that replace it."""
+        return ScriptStart(len(self.marks), len(self.text), self.answers.copy(), dict(self.policy), lines)
+
+    def begin(self, start: ScriptStart, lines: bytes, whole: "Script") -> None:
+        """Take over the start of another script, which these lines replace in a new process."""
+        self.text, self.marks = whole.text[: start.size], whole.marks[: start.number]
+        self.answers = start.answers.copy()
+        self.policy.update(start.policy)
+        self.base = Checkpoint(start.number, lines), start.size
 
     def record(self, lines: Sequence[str], answers: Sequence[str]) -> None:
         """Adds lines and their answers."""

@@ -17,7 +17,7 @@ from .lines import BadLine, check_line, is_look
 from .process import Process, ProgramGone, Vecmon, start
 from .program import check_is_vecmon
 from .replay import DIFFERS, Copy, Progress, Replayer, ReplayDiffers
-from .script import Block, Checkpoint, Script
+from .script import Block, Checkpoint, Script, ScriptStart
 
 __all__ = [
     "BadLine",
@@ -34,6 +34,7 @@ __all__ = [
 SCRIPT_BYTES = 15_000_000  # a process takes 16,777,216 bytes at most, and lines that look need room as well
 WEIGHTY_BYTES, WEIGHTY_SECONDS = 1_000_000, 1.0  # of lines that a new process replays
 TOGETHER = 40  # lines that go to the program at once: each has to fit into its pipe
+Observer = Callable[[int, Sequence[str], Sequence[str]], object]
 _OTHER_LINE = re.compile(rb"^(?![1-8*] [ -~]{0,1022}\n)", re.MULTILINE)  # than a session records, or the end
 
 
@@ -55,7 +56,8 @@ class Session(contextlib.AbstractContextManager["Session"]):
     `ones`, of each user who is there: no command shows it. `quantum` is the ticks of a slice. `command` starts the program
     with the `images`, and `losses` says why processes that were asked gave no answer, and were replaced. `recorded` has the
     script. `progress` is called while a new process carries it out, with how much of it that has done in percent: 0 first,
-    and 100 at the end.
+    and 100 at the end. `starts` has starts of the script, the shortest first, which `rewound` needn't execute. `on_lines` is
+    given lines and their answers once they are recorded, with the number of bytes that the script had before them.
     """
 
     def __init__(
@@ -89,6 +91,8 @@ class Session(contextlib.AbstractContextManager["Session"]):
         self._spare: Copy | None = None
         self._spare_turn = lock()
         self.losses: list[str] = []
+        self.starts: Sequence[ScriptStart] = ()
+        self.on_lines: Observer = lambda size, lines, answers: None
         self.progress: Progress = lambda percent: None
         self._percent = 100
         self._process: Process | None = None
@@ -208,15 +212,36 @@ class Session(contextlib.AbstractContextManager["Session"]):
         replacement.losses = self.losses
         return replacement
 
-    def rewound(self, script: bytes) -> "Session":
-        """A session with the same images whose script is this one. Raises as `do_script` does."""
+    def rewound(self, script: bytes, check: Callable[[], object] = lambda: None) -> "Session":
+        """A session with the same images whose script is this one. Raises as `do_script` does.
+
+        The longest of `starts` with which both scripts begin isn't executed. check: is called again and again meanwhile
+        """
         replacement = self._opening()
         try:
-            deque(replacement.do_blocks(script), 0)
+            replacement._skip_start(script, self.starts, self.recorded)
+            for _ in replacement.do_blocks(script[replacement.size :]):
+                check()
         except BaseException:
             replacement.close()
             raise
         return replacement
+
+    def _skip_start(self, script: bytes, starts: Sequence[ScriptStart], other: Script) -> None:
+        """Begin with the longest start that a script has in common with another one, if its machine can be set up."""
+        for number, first in reversed([*enumerate(starts, 1)]):
+            if first.size > len(script) or script[: first.size] != other.text[: first.size]:
+                continue
+            lines = first.lines()
+            if lines is not None and self._process:
+                deque(self._replayer.piped(self._process, lines), 0)
+                self.recorded.begin(first, lines, other)
+                self.starts = starts[:number]
+                return
+
+    def looks(self, lines: Sequence[str]) -> list[str]:
+        """The answers, of one line each, to dozens of a user's lines that only look; as `do_all`, but the lines aren't checked."""
+        return [answer for (answer,) in self._ask(lines)]
 
     def look(self, line: str) -> list[str]:
         """The answer to a line that only looks. Raises BadLine for any other one, and else as `do`."""
@@ -299,4 +324,6 @@ class Session(contextlib.AbstractContextManager["Session"]):
 
     def _record(self, lines: Sequence[str], answers: Sequence[str]) -> None:
         """Adds lines to the script, and takes up their answers."""
+        size = self.size
         self.recorded.record(lines, answers)
+        self.on_lines(size, lines, answers)

@@ -5,6 +5,7 @@ from collections.abc import Iterable, Sequence
 from dataclasses import dataclass
 
 from .. import mistakes_in
+from ..checkpoints.snapshot import Snapshot
 from ..guest.guest import STACK_END, Guest, argument_block, check_image
 from ..guest.input import input_of
 from ..instructions.accesses import PAGE_BYTES, Span
@@ -69,12 +70,26 @@ def initial_state_at(
             case ["step" | "go", *_]:  # the instructions may write to any page
                 spans |= dict.fromkeys((page, PAGE_BYTES) for page in pages)
     control, scalars = guest.query("vcsr", ControlRegisters), guest.query("regs", ScalarRegisters)
-    registers = [f"pc {scalars.pc:x}", *(f"{name} {value:x}" for name, value in vars(control).items())]
-    registers += [f"x{number} {scalars.x[number]:x}" for number in range(1, 32)]
-    registers += [f"v{number} {data.hex()}" for number, data in enumerate(guest.vectors())]
+    registers = _register_lines(scalars, control, guest.vectors())
     memory = [(page, permissions, bytes(PAGE_BYTES)) for page, permissions in pages.items()]
     memory += [(first, "rw", guest.peek(first, length)) for first, length in spans]
     return InitialState(image, _joined(memory), registers, guest.session.policy[guest.user])
+
+
+def initial_state_of_snapshot(snapshot: Snapshot) -> InitialState:
+    """The start of a run from a snapshot."""
+    shown, pages = snapshot.shown, snapshot.user.pages
+    memory = [(page, permissions, shown.memory[page]) for page, permissions in sorted(pages.items())]
+    return InitialState(
+        None, _joined(memory), _register_lines(shown.registers, shown.control, shown.vectors), shown.policy
+    )
+
+
+def _register_lines(scalars: ScalarRegisters, control: ControlRegisters, vectors: Sequence[bytes]) -> Sequence[str]:
+    """The lines that set registers."""
+    lines = [f"pc {scalars.pc:x}", *(f"{name} {value:x}" for name, value in vars(control).items())]
+    lines += [f"x{number} {scalars.x[number]:x}" for number in range(1, 32)]
+    return [*lines, *(f"v{number} {data.hex()}" for number, data in enumerate(vectors))]
 
 
 def _joined(memory: Iterable[PlacedBytes]) -> Sequence[PlacedBytes]:

@@ -4,6 +4,7 @@ import contextlib
 import io
 import os
 import re
+import select
 from collections.abc import Callable, Sequence
 from dataclasses import dataclass, replace
 from subprocess import DEVNULL, PIPE, Popen
@@ -14,6 +15,7 @@ from .initial_state import InitialState
 from .counts import Counts, read_counts
 
 TAKEN_BYTES = 1 << 16  # of the output, at once
+CHECK_SECONDS = 0.1  # between two calls of `check`
 LARGE_PAGES = "glibc.malloc.hugetlb=1"  # which spare a short run a third of its time
 
 
@@ -30,10 +32,12 @@ def record(
     ticks: int | None = None,
     write: Callable[[bytes], object] | None = None,
     more: Sequence[Record] = (),
+    check: Callable[[], object] = lambda: None,
 ) -> Counts:
     """Carries out a run to its end, or until its ticks have run out. `write` is given its output as it comes.
 
-    more: further records. Raises LabError without a recorder, or if it refuses its arguments.
+    more: further records; check: is called meanwhile, several times a second, and ends the run if it raises. Raises LabError
+    without a recorder, or if it refuses its arguments.
     """
     registers, counts = "\n".join(initial_state.registers).encode(), _in_memory()
     given = [
@@ -47,7 +51,7 @@ def record(
         for option, place, file in given:
             words += [*option, f"{place}/dev/fd/{file.fileno()}"]
         words += ["--", str(initial_state.image)] if initial_state.image else []
-        status, operands = _run_recorder(words, files, len(more), write)
+        status, operands = _run_recorder(words, files, len(more), write, check)
         counts.seek(0)
         text = counts.read().decode("ascii")
     if status != 0:
@@ -56,7 +60,11 @@ def record(
 
 
 def _run_recorder(
-    words: Sequence[str], files: Sequence[io.FileIO], number: int, write: Callable[[bytes], object] | None
+    words: Sequence[str],
+    files: Sequence[io.FileIO],
+    number: int,
+    write: Callable[[bytes], object] | None,
+    check: Callable[[], object],
 ) -> tuple[int, str]:
     """Runs the recorder, which is given files, to its end; its status, and what it says on standard error.
 
@@ -68,9 +76,15 @@ def _run_recorder(
         try:
             for file in files[len(files) - number :]:
                 file.close()
-            while write and (data := os.read(process.stdout.fileno(), TAKEN_BYTES) if process.stdout else b""):
-                write(data)
             assert process.stderr
+            source = process.stdout or process.stderr
+            while True:
+                while not select.select([source], [], [], CHECK_SECONDS)[0]:
+                    check()
+                if not (write and process.stdout) or not (data := os.read(source.fileno(), TAKEN_BYTES)):
+                    break
+                write(data)
+                check()
             operands = process.stderr.read().decode("utf-8", "replace")
             return process.wait(), operands
         except BaseException:  # as Ctrl-C, or output that can't be written

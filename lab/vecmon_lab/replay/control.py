@@ -1,0 +1,39 @@
+"""Progress and interrupts of work that may take long."""
+
+import time
+from collections.abc import Callable
+
+SECONDS = 2.0  # before the first report of progress, and between two
+
+
+class Interrupted(Exception):
+    """The user has ended the work, as by Ctrl-C."""
+
+
+class Control:
+    """Ends long work if the user asks for it, and reports its progress.
+
+    is_interrupted: whether the user asks for the end
+    report: is given the parts that are done, and all parts, once the work has taken two seconds, and then every two
+    """
+
+    def __init__(
+        self, is_interrupted: Callable[[], bool], report: Callable[[int, int], object] = lambda done, whole: None
+    ) -> None:
+        self._is_interrupted, self._report = is_interrupted, report
+        self._due = time.monotonic() + SECONDS
+        self._done, self._whole = 0, 1
+
+    def advance(self, done: int, whole: int) -> None:
+        """Note how much is done, in any unit. Raises Interrupted."""
+        self._done, self._whole = done, max(done, whole, 1)
+        self.check()
+
+    def check(self) -> None:
+        """Report progress if that is due. Raises Interrupted."""
+        if self._is_interrupted():
+            raise Interrupted
+        now = time.monotonic()
+        if now >= self._due:
+            self._due = now + SECONDS
+            self._report(self._done, self._whole)

@@ -1,0 +1,85 @@
+"""A part of a run that is executed again, in a session of its own, up to a number of instructions."""
+
+from dataclasses import replace
+
+from ..checkpoints.machine_state import User
+from ..guest.guest import MAX_STEPS, Guest, stepping
+from ..guest.runner import OUTPUT_BYTES, SAFE_STEPS
+from ..machine.answers import Answer, Output, Stop, read
+from ..machine.session import Session
+from .control import Control
+from .intervals import Interval
+from .saved_states import SavedState, SavedStates
+
+PART = 1 << 22  # instructions between two states that are saved
+NEAR = 4096  # instructions before the last one, where a state is saved: the next way back mostly begins there
+PARTS = 16  # of a part in which a call may have found too little room for its output
+
+
+class Replayed:
+    """Executes an interval again from its start.
+
+    session: at its start, without breakpoints, and then where `execute` has come to
+    saved: the states up to there; dropped: those that `execute` has dropped
+    """
+
+    def __init__(self, session: Session, digit: int, saved: SavedStates, position: int) -> None:
+        """saved: the states before; position: of the interval's start"""
+        self.session, self.saved, self.dropped = session, saved, list[SavedState]()
+        self._digit, self._position = digit, position
+
+    def execute(self, interval: Interval, count: int, user: User | None, control: Control) -> list[Interval]:
+        """Execute this number of the interval's instructions, and save states on the way; the intervals that they are.
+
+        user: the image and the pages; None if the states can't be saved. Raises Interrupted.
+        """
+        ticks, whole, left = interval.ticks, max(interval.count or 0, 1), count
+        made = [replace(interval, count=0, ticks=0, has_stopped=False)]
+        while left > NEAR and user:
+            part = min(PART, left - NEAR)
+            self._step(part, control)
+            made[-1].count, made[-1].ticks = part, ticks * part // whole
+            self._position += made[-1].work
+            made.append(Interval(self.session.size, 0, continues=True, maps=interval.maps))
+            self._save(user)
+            left -= part
+            control.advance(count - left, count)
+        self._step(left, control)
+        made[-1].count, made[-1].ticks = left, ticks * left // whole
+        return made
+
+    def _save(self, user: User) -> None:
+        """Save the state here."""
+        if dropped := self.saved.add(self._position, Guest(self.session, self._digit), user):
+            self.dropped.append(dropped)
+
+    def _step(self, number: int, control: Control) -> None:
+        """Execute a number of instructions, whose calls all find room for their output. Raises Interrupted."""
+        size = self.session.size
+        if self._step_at_once(number, MAX_STEPS, control):
+            return
+        session = self.session.rewound(self.session.script[:size], control.check)
+        self.session.close()
+        self.session = session
+        if number <= NEAR:
+            self._step_at_once(number, SAFE_STEPS, control)
+            return
+        for done in range(0, number, number // PARTS):
+            self._step(min(number // PARTS, number - done), control)
+
+    def _step_at_once(self, number: int, at_once: int, control: Control) -> bool:
+        """Execute instructions in groups; return whether each call has found room, else the session is of no use."""
+        commands = [*stepping(number, at_once), "out"]
+        lines = "".join(f"{self._digit} {command}\n" for command in commands).encode("ascii")
+        for _, answers in self.session.do_blocks(lines):
+            control.check()
+            if any(_is_full(read(answer.split("\n"))) for answer in answers):
+                return False
+        return True
+
+
+def _is_full(answer: Answer) -> bool:
+    """Whether an answer says that the output buffer is full."""
+    if isinstance(answer, Output):
+        return len(answer.data) == OUTPUT_BYTES
+    return isinstance(answer, Stop) and answer.kind == "outfull"
