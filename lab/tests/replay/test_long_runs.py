@@ -199,8 +199,8 @@ def test_interrupts_leave_the_state(guest: Guest, random_stores: pathlib.Path) -
         polls = iter(range(100))
         assert timeline.back(20_000, lambda: next(polls) >= number) is None and shown(guest) == before
         polls = iter(range(100))
-        timeline.watches = [Watch("watch", 0x11000, 4)]
-        assert timeline.back_to_halt((0x10000,), lambda: next(polls) >= number) is None and shown(guest) == before
+        timeline.watches = [Watch("watch", 0x11020, 4)]  # never changed: each of 33 intervals is searched
+        assert timeline.back_to_halt((), lambda: next(polls) >= number) is None and shown(guest) == before
         timeline.watches = []
     with pytest.raises(Interrupted):
         timeline.count(lambda: True)
@@ -212,7 +212,8 @@ def test_interrupts_leave_the_state(guest: Guest, random_stores: pathlib.Path) -
 def test_progress_is_reported(guest: Guest, monkeypatch: pytest.MonkeyPatch) -> None:
     sentences = list[str]()
     timeline = Timeline(guest, sentences.append)
-    assert timeline.go(never) and timeline.back() and not sentences  # two seconds haven't passed
+    monkeypatch.setattr("vecmon_lab.replay.control.SECONDS", 1e9)
+    assert timeline.go(never) and timeline.back() and not sentences  # this time hasn't passed
     monkeypatch.setattr("vecmon_lab.replay.control.SECONDS", 0.0)
     assert timeline.back(10_000)
     assert sentences and all(sentence.startswith("going back: ") for sentence in sentences)

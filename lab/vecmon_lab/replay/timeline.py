@@ -155,10 +155,11 @@ class Timeline:
     def _go_far(self, breaks: Sequence[int], control: Control) -> Stop | None:
         """As `go`, with watched places: the recorder determines how far the program may run. Raises Interrupted."""
         is_logged, ticks, passed = any(each.kind != "watch" for each in self.watches), FIRST_TICKS, 0
+        is_near = True  # whether a halt may be so near that the program is stepped there
         while True:
             control.advance(passed, 0)
             search = Search(self._present(), self.watches, breaks, control)
-            if is_logged or ticks <= FIRST_TICKS:
+            if is_logged or is_near:
                 is_over, stop = self._go_near(search, ticks, breaks)
                 if is_over:
                     return stop
@@ -172,8 +173,9 @@ class Timeline:
                 is_logged = not is_passed
             passed += end
             self.save_if_due()
-            most = LOGGED_TICKS if is_logged else SEARCHED_TICKS
-            ticks = min(GROWTH * ticks, most) if end == ticks and is_passed else FIRST_TICKS
+            is_near = end < ticks or not is_passed
+            near, most = self._guest.session.quantum + 2 * MAX_TICKS, LOGGED_TICKS if is_logged else SEARCHED_TICKS
+            ticks = near if is_near else min(GROWTH * ticks, most)
 
     def _go_near(self, search: Search, ticks: int, breaks: Sequence[int]) -> tuple[bool, Stop | None]:
         """Run the program for a number of ticks, or to the first halt or stop; whether there was one, and the stop."""
@@ -243,11 +245,10 @@ class Timeline:
     def _catch_up(self) -> None:
         """Takes up what the script has had since the last time."""
         session, new = self._guest.session, [each for each in self._new if each[0] < self._guest.session.size]
-        script, size = session.script, self._intervals.size
-        first = new[0][0] if new else session.size
+        size, first = self._intervals.size, new[0][0] if new else session.size
         if size < first:  # before this timeline was made
-            with session.rewound(script[:size]) as other:
-                for line, lines in other.do_script(script[size:first]):
+            with session.rewound(session.script[:size]) as other:
+                for line, lines in other.do_script(session.script[size:first]):
                     self._intervals.follow(line, lines)
         for _, line, answer in new:
             self._intervals.follow(line, answer.split("\n"))
