@@ -92,7 +92,7 @@ def test_help_lists_the_commands() -> None:
             [
                 "addi x1,  x0, 4096",
                 "              ^",
-                "E15: 4096 doesn't fit here, as the machine reads it: addi x1,  x0, 4096; the form is addi rd, rs1, imm",
+                "E15: 4096 doesn't fit here, as the machine reads it: addi x1,  x0, 4096; the form is addi rd, rs1, imm, with imm from -2048 to 2047",
             ],
         ),
         (

@@ -14,7 +14,7 @@ from vecmon_lab.assembler.trial import read_tried_source
     "line, marked, fix",
     [
         ("loop: vaddd.vv v1, v2, v3", "vaddd.vv", "vadd.vv"),
-        ("VADD.VV v1, v2, v3  # in capitals", "VADD.VV", "vadd.vv"),
+        ("VADDD.VV v1, v2, v3  # in capitals", "VADDD.VV", "vadd.vv"),
         (".wrod 5", ".wrod", ".word"),
         ("la a0, lenght\nlength: nop", "lenght", "length"),
         ('.asciz "no end', '"no end', None),
@@ -63,3 +63,100 @@ def test_mistake_at_no_place_has_no_length() -> None:
     assert (mistake["line"], mistake["column"], mistake["length"]) == (0, 0, 0)
     (mistake,) = mistakes_json([SourceError(7, 3, "behind the end")], "nop")
     assert mistake["length"] == 0
+
+
+FROM_MEMORY = """/* y = a * x + y,
+   strip-mined */
+        .section .rodata
+message: .asciz "done\\n"
+        .data
+x:      .word   1, 2, 3, 4, 5
+y:      .word   10, 20, 30, 40, 50
+        .text
+_start: la      a1, x
+        la      a2, y
+        li      a0, 5
+1:      vsetvli t0, a0, e32, m1, ta, ma
+        vle32.v v1, (a1)
+        vle32.v v2, (a2)
+        vmacc.vx v2, a3, v1
+        vse32.v v2, (a2)
+        sub     a0, a0, t0
+        slli    t1, t0, 2
+        add     a1, a1, t1
+        add     a2, a2, t1
+        bnez    a0, 1b
+        ebreak
+"""
+
+
+def test_loop_from_memory_assembles(program: pathlib.Path) -> None:
+    own = read_tried_source(FROM_MEMORY, program)
+    assert not own.mistakes and not own.warnings and len(own.statements) == 16
+    assert [line for line in own.lines if line.startswith("map ")] == [
+        "map 10000 1 rx",
+        "map 11000 1 r",
+        "map 12000 1 rw",
+    ]
+
+
+@pytest.mark.parametrize(
+    "line, problem",
+    [
+        (".float 1.5", ".float is refused, since floating point isn't in this machine"),
+        (".octa 1", ".octa isn't in this assembler"),
+        ("table: .byet 1", "there is no directive .byet"),
+        (".eqv size, 4", ".eqv isn't in this assembler"),
+        (".set size, 1 / 0", "this divides by zero"),
+        (".byte 300", "300 is out of range"),
+        ("size = nothing", None),
+    ],
+)
+def test_one_mistake_has_one_message(program: pathlib.Path, line: str, problem: str | None) -> None:
+    """What follows a refused line isn't refused, neither for its address nor for a name that the line defines."""
+    text = FROM_MEMORY.replace("1:  ", f".data\n{line}\n.text\n1:  ").replace(
+        "ebreak", "ebreak\n.data\n.align 2\n.word 1, size"
+    )
+    text = text if "size" in line else text.replace(", size", "")
+    messages = [it.message for it in read_tried_source(text, program).mistakes]
+    if problem is None:
+        assert len(messages) == 1 and messages[0].startswith("nothing is no register that fits here")
+    else:
+        assert len(messages) == 1 and messages[0].startswith(problem)
+    in_code = FROM_MEMORY.replace("1:  ", f"{line}\n1:  ")
+    assert len(read_tried_source(in_code, program).mistakes) <= 2
+
+
+def test_misaligned_instructions_are_one_mistake(program: pathlib.Path) -> None:
+    mistakes = read_tried_source("nop\n.byte 1\nnop\nnop\nnop", program).mistakes
+    assert [(it.line, it.message) for it in mistakes] == [
+        (3, "the address of nop isn't divisible by 4: put .align 2 before it")
+    ]
+
+
+@pytest.mark.parametrize(
+    "line, columns",
+    [
+        ("addi v1, a0, 5000", [6, 14]),
+        ("bnez b0, 1b", [6, 10]),
+        ("lw a9, 5000(v1)", [4]),
+        ("lw v9, 5000(v1)", [4, 8, 13]),
+        ("vadd.vi a0, a1, 99", [9, 13, 17]),
+        (".byte 300, nowhere, 7, -200", [7, 12, 24]),
+        ("addi a0, a0; lw b1, (b2); nop", [12, 17, 22]),
+    ],
+)
+def test_all_mistakes_of_line_are_listed(program: pathlib.Path, line: str, columns: list[int]) -> None:
+    assert [it.column for it in read_tried_source(line, program).mistakes] == columns
+
+
+def test_partial_vector_type_has_warning_and_fixes(program: pathlib.Path) -> None:
+    text = " vsetvli t0, a0, e32, m1 # as GNU as\n"
+    own = read_tried_source(text, program)
+    assert not own.mistakes and own.statements[0].text == "vsetvli x5, x10, e32, m1, tu, mu"
+    (warning,) = mistakes_json(own.warnings, text, severity="warning")
+    assert (warning["column"], warning["length"], warning["severity"]) == (23, 2, "warning")
+    for fix in warning.get("fix", []):
+        repaired = read_tried_source(text.replace("m1", fix), program)
+        assert not repaired.mistakes and not repaired.warnings
+    assert warning.get("fix") == ["m1, tu, mu", "m1, ta, ma"]

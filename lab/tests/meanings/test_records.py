@@ -41,7 +41,7 @@ def test_other_names_have_records() -> None:
 
 def test_named_sections_are_accepted() -> None:
     sections = re.findall(r"\.\w+", records()[".section"].does)
-    assert sections == [".text", ".data", ".bss"]
+    assert sections == [".text", ".rodata", ".data", ".bss"]
     assert not any(read_source(f".section {name}").mistakes for name in sections)
 
 

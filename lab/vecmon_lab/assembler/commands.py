@@ -74,7 +74,8 @@ def explain_refusal(line: str, answer: Refused) -> list[str]:
             message = _IMAGE_FAULTS[str(answer)]
         case "E15":
             text = line[2:].strip(" ").split(maxsplit=2)[2]
-            message = refusal(Statement(0, 1, text, tuple(range(1, len(text) + 2))), int(answer.detail)).message
+            places = tuple((1, column) for column in range(1, len(text) + 2))
+            message = refusal(Statement(0, 1, 1, text, places), int(answer.detail)).message
             return [text, f"{'^':>{answer.detail}}", f"E15: {message}"]
         case code:
             message = MEANINGS[code]

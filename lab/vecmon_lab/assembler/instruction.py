@@ -1,33 +1,38 @@
 """An instruction of a source as the machine takes it, and the places in the source that its text comes from."""
 
 import re
-from collections.abc import Iterator, Sequence
-from dataclasses import dataclass
+from collections.abc import Callable, Iterator, Sequence
+from dataclasses import dataclass, replace
 from string import Formatter
 
-from ..instructions.table import REGISTERS, instruction_table
-from ..tables.table import read_table
-from .line import Operand, SourceError, Token
+from ..instructions.table import Row, instruction_table
+from .expression import signed
+from .line import Operand, Place, SourceError, Token
 from .names import INSTRUCTION_NAMES, PSEUDO_NAMES, near_names, no_instruction
-from .value import Symbols, Value
+from .operands import KEYWORD, REGISTER_NAMES, address_register
+from .symbols import Symbols, UnknownName, control_register_error
+from .value import Value
 
 _TEXT_BYTES, _VECTOR_TYPE = 256, "eSEW, mLMUL, ta|tu, ma|mu"
-_REGISTERS = {name: name for name in ["v0.t", *(f"{letter}{number}" for letter in "xv" for number in range(32))]}
-_REGISTERS |= REGISTERS
-_KEYWORD = re.compile("|".join(f"{name} (?:{words.replace(' ', '|')})" for name, words in read_table("keywords")))
 _REACH = {"jal": 1 << 20, "auipc": 1 << 30}
 
-_Pieces = list[tuple[str, int]]  # of a text, each with the column of the source that it comes from
+_Pieces = list[tuple[str, Place]]  # of a text, each with the place in the source that it comes from
 
 
 @dataclass(frozen=True)
 class Statement:
-    """A machine instruction: its address, its source line, its text for asm, and each character's column in the source."""
+    """A machine instruction: its address, its source line, its text for asm, and where each character of it was typed.
+
+    line: that executes it; column: in that line, where the instruction begins
+    places: one more than the text has characters, for its end; within: the end of a message about it
+    """
 
     address: int
     line: int
+    column: int
     text: str
-    columns: tuple[int, ...]  # the text's end has one too
+    places: tuple[Place, ...]
+    within: str = ""
 
     @property
     def command(self) -> str:
@@ -35,8 +40,12 @@ class Statement:
         return f"asm {self.address:x} {self.text}"
 
 
-def refusal(statement: Statement, column: int) -> SourceError:
-    """The error in the source for the machine's answer E15 to a statement, with the column that it names."""
+def refusal(statement: Statement, column: int, written: str = "") -> SourceError:
+    """The error in the source for the machine's answer E15 to a statement, with the column that it names.
+
+    written: the text that the source has, if the statement has another operand in place of one that doesn't fit
+    """
+    read = written or statement.text
     token = re.match(r"[a-z0-9._]+|.", statement.text[column - 1 :])
     row = instruction_table().get(statement.text.split()[0])
     fix: Sequence[str] = ()
@@ -44,63 +53,140 @@ def refusal(statement: Statement, column: int) -> SourceError:
     if token is None:
         message = f"an operand is missing at the end{form}"
     elif token[0] == ",":
-        message = f"there is an operand too many, as the machine reads it: {statement.text}{form}"
+        message = f"there is an operand too many, as the machine reads it: {read}{form}"
     elif column == 1 and token[0] in PSEUDO_NAMES:
         message = f"{token[0]} is a pseudo-instruction, which only a source has"
     elif column == 1:
         message, fix = no_instruction(token[0], INSTRUCTION_NAMES), near_names(token[0], INSTRUCTION_NAMES)
     else:
-        message = f"{token[0]} doesn't fit here, as the machine reads it: {statement.text}{form}"
-    return SourceError(statement.line, statement.columns[column - 1], message, "E15", fix)
+        limits = number_range(row, statement.text[: column - 1]) if row and token[0][0].isdecimal() else ""
+        message = f"{token[0]} doesn't fit here, as the machine reads it: {read}{form}{limits}"
+    return SourceError(*statement.places[column - 1], message + statement.within, "E15", fix)
+
+
+_FITTING = {"imm": "0", "shamt": "0", "uimm": "0", "offset": "0", "csr": "vl", "imm(rs1)": "0(x0)", "(rs1)": "(x0)"}
+_FITTING |= {
+    **dict.fromkeys(("rd", "rs1", "rs2"), "x0"),
+    **dict.fromkeys(("vd", "vs1", "vs2", "vs3"), "v0"),
+    "v0": "v0",
+}
+
+
+def with_fitting_operand(statement: Statement, column: int) -> Statement | None:
+    """A statement with an operand that fits in place of the one at a column; None if it has none there, or the type is wrong."""
+    name, space, _ = statement.text.partition(" ")
+    row = instruction_table().get(name)
+    forms = row.operands.replace("[, v0.t]", "").split(", ") if row else []
+    before = statement.text[: column - 1]
+    number = before.count(",")
+    start = before.rfind(", ") + 2 if number else len(name + space)
+    if column <= start or column > len(statement.text) or number >= len(forms) or forms[number] not in _FITTING:
+        return None
+    form = forms[number]
+    if form.endswith("(rs1)") and "(" in statement.text[start:]:  # the number and the register are tried by themselves
+        opening = statement.text.index("(", start)
+        form, start, stop = ("rs1", opening + 1, ")") if column > opening else ("imm", start, "(")
+    else:
+        stop = ","
+    end = statement.text.find(stop, column - 1)
+    end = len(statement.text) if end < 0 else end
+    fitting, places = _FITTING[form], statement.places
+    text = statement.text[:start] + fitting + statement.text[end:]
+    return replace(statement, text=text, places=(*places[:start], *[places[start]] * len(fitting), *places[end:]))
+
+
+def number_range(row: Row, before: str) -> str:
+    """The end of a message with the range of the number that an operand takes, or "". before: the text up to the number"""
+    forms = row.operands.replace("[, v0.t]", "").split(", ")
+    place = before.count(",")
+    form = forms[place].split("(")[0] if place < len(forms) else ""
+    is_upper, is_vector = row.name in ("lui", "auipc"), row.name.startswith("v")
+    ranges = {
+        "imm": (0, 1048575) if is_upper else (-16, 15) if is_vector else (-2048, 2047),
+        "shamt": (0, 31 if row.name.endswith("w") else 63),
+        "uimm": (0, 31),
+        "csr": (0, 4095),
+        "vtypei": (0, 1023 if row.name == "vsetivli" else 2047),
+    }
+    return f", with {form} from {ranges[form][0]} to {ranges[form][1]}" if form in ranges else ""
 
 
 @dataclass(frozen=True)
 class Instruction:
-    """An instruction or pseudo-instruction, and its expansion; its operands wait for addresses."""
+    """An instruction or pseudo-instruction, and its expansion; its operands wait for addresses.
+
+    line, column: where it begins in the line that executes it, which for the body of a macro is the line that calls it
+    """
 
     name: Token
     operands: list[Operand]
     place: Value
     templates: list[str]
+    line: int
+    column: int
 
-    def statements(self, symbols: Symbols) -> Iterator[Statement]:
-        """The machine's instructions, once sections have their bases. Raises SourceError."""
-        last = self.operands[-1][-1] if self.operands else self.name
+    def statements(self, symbols: Symbols, note: Callable[[SourceError], None]) -> Iterator[Statement]:
+        """The machine's instructions, once sections have their bases, without those that have mistakes, which it notes."""
         for index, template in enumerate(self.templates):
-            pieces = _Pieces()
-            for literal, place, what, _ in Formatter().parse(template):
-                operand = [] if place is None else self.operands[int(place)]
-                pieces.append((literal, operand[0].column if operand and pieces else self.name.column))
-                pieces += self._pieces(symbols, operand, what or "") if operand else []
+            errors = list[SourceError]()
+            pieces = self._template_pieces(symbols, template, errors)
             text = "".join(piece for piece, _ in pieces)
-            if len(text) > _TEXT_BYTES:
-                raise self.name.error(f"an instruction has at most {_TEXT_BYTES} characters, and this one {len(text)}")
-            columns = [column for piece, column in pieces for _ in piece] + [last.column + len(last.text)]
-            yield Statement(self.place.resolved() + 4 * index, self.name.line, text, tuple(columns))
+            if len(text) > _TEXT_BYTES and not errors:
+                message = f"an instruction has at most {_TEXT_BYTES} characters, and this one {len(text)}"
+                errors.append(self.name.error(message))
+            for error in errors:
+                note(error)
+            if not errors:
+                last = self.operands[-1][-1] if self.operands else self.name
+                places = [place for piece, place in pieces for _ in piece]
+                places.append((last.line, last.column + len(last.text)))
+                address = self.place.resolved() + 4 * index
+                yield Statement(address, self.line, self.column, text, tuple(places), self.name.within)
+
+    def _template_pieces(self, symbols: Symbols, template: str, errors: list[SourceError]) -> _Pieces:
+        """The text of a template, with its operands in its holes. errors: takes up their mistakes"""
+        pieces = _Pieces()
+        for literal, hole, what, _ in Formatter().parse(template):
+            operand = [] if hole is None else self.operands[int(hole)]
+            pieces.append((literal, _place(operand[0] if operand and pieces else self.name)))
+            try:
+                pieces += self._pieces(symbols, operand, what or "") if operand else []
+            except SourceError as error:
+                errors.append(error)
+        return pieces
 
     def _pieces(self, symbols: Symbols, operand: Operand, what: str) -> _Pieces:
         """The text for a hole: an operand as the machine takes it, or the value that the template makes from it."""
-        texts, column, is_vector = [token.text for token in operand], operand[0].column, self.name.text.startswith("v")
-        if what.startswith("label"):
-            return [(self._distance(symbols, operand, what), column)]
+        first, place = operand[0], _place(operand[0])
+        if what.startswith(("label", "symbol")):
+            return [(self._distance(symbols, operand, what.partition(".")[2]), place)]
         if what == "word":
-            return [(f"0x{symbols.data(operand, self.place, 4)[::-1].hex()}", column)]
-        if texts[0] in _REGISTERS or _KEYWORD.fullmatch(f"{self.name.text} {texts[0]}"):
-            if len(texts) > 1:
-                raise operand[1].error(f"{texts[1]} doesn't fit here: a comma may be missing before it")
-            return [(_REGISTERS.get(texts[0], texts[0]), column)]
-        opening = texts.index("(") if "(" in texts else len(texts)
-        number = symbols.constant(operand[:opening], self.place) if opening else 0
+            return [(f"0x{symbols.data(operand, self.place, 4)[::-1].hex()}", place)]
+        if first.text in REGISTER_NAMES or KEYWORD.fullmatch(f"{self.name.text} {first.text}"):
+            if len(operand) > 1:
+                raise operand[1].error(f"{operand[1].text} doesn't fit here: a comma may be missing before it")
+            return [(REGISTER_NAMES.get(first.text, first.text), place)]
+        register = address_register(operand)
+        expression = operand[:-3] if register else operand
+        try:
+            number = symbols.constant(expression, self.place) if expression else 0
+        except UnknownName:
+            if self.name.text.startswith("csr") and operand is self.operands[self.name.text.startswith("csrr")]:
+                raise control_register_error(first) from None
+            raise
+        return self._number_pieces(operand, register, signed(number) if number >> 63 == 1 else number, what)
+
+    def _number_pieces(self, operand: Operand, register: Token | None, number: int, what: str) -> _Pieces:
+        """The text of a number, or of an address with this number before the register."""
+        place, is_vector = _place(operand[0]), self.name.text.startswith("v")
         if what == "imm-1" and not -15 <= number <= 16:
             raise operand[0].error(f"{self.name.text} takes a number from -15 to 16")
-        if opening == len(texts):
-            return [(str(number - (what == "imm-1")), column)]
-        if len(texts) != opening + 3 or texts[-1] != ")" or texts[opening + 1] not in _REGISTERS:
-            raise operand[opening].error("an address is a register in parentheses, with a number before it or without")
+        if register is None:
+            return [(str(number - (what == "imm-1")), place)]
         if is_vector and number:
             raise operand[0].error("the address of a vector instruction has no distance: it is (a0) or 0(a0)")
-        register = f"{_REGISTERS[texts[opening + 1]]})"
-        return [("(" if is_vector else f"{number}(", column), (register, operand[opening + 1].column)]
+        text = f"{REGISTER_NAMES[register.text]})"
+        return [("(" if is_vector else f"{number}(", place), (text, _place(register))]
 
     def _distance(self, symbols: Symbols, operand: Operand, part: str) -> str:
         """The distance to a label, whole for a jump and in parts for auipc and addi."""
@@ -113,5 +199,10 @@ class Instruction:
         if not -reach <= distance < reach:
             raise operand[0].error(f"this is {distance} bytes away, and {-reach} to {reach - 2} can be reached")
         high = distance + 0x800 >> 12
-        parts = {"label": distance, "label.high": high % (1 << 20), "label.low": distance - (high << 12)}
+        parts = {"": distance, "high": high % (1 << 20), "low": distance - (high << 12)}
         return str(parts[part])
+
+
+def _place(token: Token) -> Place:
+    """Where a token was typed."""
+    return token.line, token.column

@@ -3,18 +3,22 @@
 import enum
 import re
 from collections.abc import Sequence
-from dataclasses import dataclass
+from dataclasses import dataclass, replace
 
 from .. import LabError
 
 _TOKEN = re.compile(
     r"""(?P<SPACE>[ \t\f\v]+) | (?P<COMMENT>(?:\#|//).*) | (?P<STRING>"(?:[^"\\]|\\.)*") | (?P<OPEN>")
-    | (?P<NUMBER>[0-9][0-9A-Za-z_]*) | (?P<NAME>[A-Za-z_.$][A-Za-z0-9_.$]*) | (?P<MARK>.)""",
+    | (?P<NUMBER>[0-9][0-9A-Za-z_]*|'(?:\\[0-7]{1,3}|\\.|[^\\])'?) | (?P<NAME>[A-Za-z_.$][A-Za-z0-9_.$]*)
+    | (?P<MARK><<|>>|<=|>=|==|!=|<>|&&|\|\||.)""",
     re.VERBOSE,
 )
-_NUMBER = re.compile("0|[1-9][0-9]*|0x[0-9A-Fa-f]+")
+_NUMBER = re.compile("0|[1-9][0-9]*|0[xX][0-9A-Fa-f]+|0[bB][01]+")
 _PIECE = re.compile(r"\\([0-7]{1,3})|\\x([0-9A-Fa-f]{1,2})(?![0-9A-Fa-f])|\\(.)|([^\\]+)")
 _LETTERS = {"b": "\b", "f": "\f", "n": "\n", "r": "\r", "t": "\t", '"': '"', "\\": "\\"}
+
+Place = tuple[int, int]
+"""A line of a source and a column in it, both from 1 on."""
 
 Kind = enum.Enum("Kind", "NAME NUMBER STRING MARK")
 """The kinds of tokens; a mark is any other character."""
@@ -39,29 +43,81 @@ class SourceError(LabError):
 
 
 @dataclass(frozen=True)
+class Line:
+    """A statement of a source: a line, or the part of one up to a semicolon, without its comment.
+
+    number: of the line that executes it, which for the body of a macro is the line that calls it
+    column: of its first character, or where the line that executes it calls it
+    places: where each character was typed, if that isn't one after another in this line
+    within: the end of a message about it, as `; in macro NAME, called in line 7`, or ""
+    """
+
+    text: str
+    number: int
+    column: int = 1
+    places: Sequence[Place] = ()
+    within: str = ""
+
+    def place(self, at: int) -> Place:
+        """Where the character at this index was typed; at the end, one after the last character."""
+        if not self.places:
+            return self.number, self.column + at
+        line, column = self.places[min(at, len(self.places) - 1)]
+        return line, column + (at >= len(self.places))
+
+    def part(self, start: int, end: int | None = None) -> "Line":
+        """The part between two indices."""
+        if not self.places:
+            return replace(self, text=self.text[start:end], column=self.column + start)
+        return replace(self, text=self.text[start:end], places=self.places[start:end] or [self.place(start)])
+
+    def error(self, at: int, message: str, fix: Sequence[str] = ()) -> SourceError:
+        """An error at the character of this index. fix: texts that may replace the token there"""
+        return SourceError(*self.place(at), message + self.within, fix=fix)
+
+
+@dataclass(frozen=True)
 class Token:
-    """A token and where it begins."""
+    """A token and where it was typed.
+
+    symbol: the name of its value where that isn't its text, as of the label that `1b` means; within: as of its line
+    """
 
     kind: Kind
     text: str
     line: int
     column: int
+    within: str = ""
+    symbol: str = ""
 
     def error(self, message: str, fix: Sequence[str] = ()) -> SourceError:
         """An error that points at this token. fix: texts that may replace it"""
-        return SourceError(self.line, self.column, message, fix=fix)
+        return SourceError(self.line, self.column, message + self.within, fix=fix)
 
     def number(self) -> int:
-        """The value of a number: decimal without a leading zero, or hexadecimal after 0x; below 2^64."""
+        """The value of a number below 2^64: decimal, hexadecimal after 0x, binary after 0b, or a character."""
+        if self.text.startswith("'"):
+            return self._character()
         if re.fullmatch("0[0-9]+", self.text):
             problem = "begins with a zero: stock assemblers read that as octal, the machine as decimal"
         elif not _NUMBER.fullmatch(self.text):
-            problem = "is no number: those are decimal, or hexadecimal after 0x"
-        elif len(self.text) > 20 or int(self.text, 0) >> 64:
+            problem = "is no number: those are decimal, hexadecimal after 0x, or binary after 0b"
+        elif len(self.text) > 66 or int(self.text, 0) >> 64:
             problem = "has more than 64 bits"
         else:
             return int(self.text, 0)
         raise self.error(f"{self.text} {problem}")
+
+    def _character(self) -> int:
+        """The code of a character between apostrophes; the second apostrophe may be missing."""
+        text = self.text[1:].removesuffix("'") or "'"
+        escape = re.fullmatch(r"\\(?:([0-7]{1,3})|(.))", text)
+        if escape and escape[1]:
+            return int(escape[1], 8) & 0xFF
+        data = ((_LETTERS | {"'": "'"}).get(escape[2], "") if escape else text).encode("utf-8", "surrogateescape")
+        if len(data) != 1:
+            raise self.error(f"{self.text} isn't one byte: a character is one of ASCII, or an escape as '\\n'")
+        return data[0]
 
     def string(self) -> bytes:
         r"""The bytes of a string, in UTF-8. Escapes are \b \f \n \r \t \" \\, \101 and shorter octal ones, and \x41."""
@@ -99,15 +155,15 @@ Operand = list[Token]
 """The tokens of an operand, one or more."""
 
 
-def tokens_of(text: str, line: int) -> list[Token]:
-    """The tokens of the line of this number, without its comment. Raises SourceError."""
+def tokens_of(line: Line) -> list[Token]:
+    """The tokens of a statement. Raises SourceError."""
     tokens = []
-    for match in _TOKEN.finditer(text):
-        kind, column = match.lastgroup or "", match.start() + 1
+    for match in _TOKEN.finditer(line.text):
+        kind = match.lastgroup or ""
         if kind == "OPEN":
-            raise SourceError(line, column, "this string doesn't end on its line")
+            raise line.error(match.start(), "this string doesn't end on its line")
         if kind in Kind.__members__:
-            tokens.append(Token(Kind[kind], match[0], line, column))
+            tokens.append(Token(Kind[kind], match[0], *line.place(match.start()), line.within))
     return tokens
 
 
@@ -121,13 +177,13 @@ def token_length(text: str, column: int) -> int:
     return min(2, len(text) - column + 1) if token[0] == "\\" else len(token[0])
 
 
-def split_operands(tokens: list[Token]) -> list[Operand]:
-    """The operands that commas separate. Raises SourceError."""
+def split_operands(tokens: Sequence[Token], may_be_empty: bool = False) -> list[Operand]:
+    """The operands that commas separate. Raises SourceError for one without tokens, unless it may be empty."""
     operands: list[Operand] = [[]]
     for token in tokens:
         if token.text != ",":
             operands[-1].append(token)
-        elif operands[-1]:
+        elif operands[-1] or may_be_empty:
             operands.append([])
         else:
             raise token.error("an operand is missing before this comma")
@@ -136,7 +192,8 @@ def split_operands(tokens: list[Token]) -> list[Operand]:
     return operands if tokens else []
 
 
-def check_count(name: Token, operands: list[Operand], count: int) -> None:
-    """Raise SourceError unless there is this number of operands."""
-    if len(operands) != count:
-        raise name.error(f"{name.text} takes {count} operand{'' if count == 1 else 's'}, not {len(operands)}")
+def check_count(name: Token, operands: Sequence[Operand], count: int, most: int = 0) -> None:
+    """Raise SourceError unless there is this number of operands, or one up to `most`."""
+    if not count <= len(operands) <= max(count, most):
+        numbers = f"{count} to {most}" if most else f"{count}"
+        raise name.error(f"{name.text} takes {numbers} operand{'s' * (numbers != '1')}, not {len(operands)}")

@@ -6,6 +6,7 @@ from difflib import SequenceMatcher, get_close_matches
 from os.path import commonprefix
 
 from ..instructions.table import instruction_table
+from ..tables.absent import absent
 from ..tables.table import read_table
 
 INSTRUCTION_NAMES = frozenset(instruction_table())
@@ -28,8 +29,15 @@ def near_names(name: str, names: Set[str] = SOURCE_NAMES) -> list[str]:
     return sorted(near, key=ranks.__getitem__, reverse=True)[:MAX_NEAR]
 
 
+def absence(name: str) -> str:
+    """Why the machine lacks an instruction or a control register of another extension, without a full stop; "" if it isn't one."""
+    return next((does for pattern, does in absent() if pattern.fullmatch(name.lower())), "").rstrip(".")
+
+
 def no_instruction(name: str, names: Set[str] = SOURCE_NAMES) -> str:
-    """What is said of a name that isn't one of these: it has the nearest ones."""
+    """What is said of a name that isn't one of these: why the machine lacks it, if that is known, or the nearest names."""
+    if reason := absence(name):
+        return f"there is no instruction {name} here. {reason}"
     near = near_names(name, names)
     *others, last = near or [""]
     hint = f"; near it {'are' if others else 'is'} {' and '.join(filter(None, [', '.join(others), last]))}"

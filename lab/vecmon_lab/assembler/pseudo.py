@@ -1,6 +1,6 @@
 """Pseudo-instructions: the expansion of each, as in stock assemblers, in texts of the machine with holes.
 
-A hole is {N:WHAT}, where N is the number of an operand. It is the operand unchanged, unless WHAT is `label`, the
+A hole is {N:WHAT}, where N is the number of an operand. It is the operand unchanged, unless WHAT is `label` or `symbol`, the
 distance to it; `label.high` and `label.low`, the parts of that distance for auipc and addi; or `imm-1`, one less.
 """
 
@@ -9,9 +9,18 @@ from collections.abc import Callable
 
 from ..tables.table import read_table
 from .line import Operand, Token, check_count
+from .names import INSTRUCTION_NAMES
+from .operands import shape
 
 _LABEL_LAST = ("beq", "bne", "blt", "bge", "bltu", "bgeu", "jal")
-_FORMS = [(form.split()[0], re.split(",? ", form)[1:], texts) for form, *texts in read_table("pseudo")]
+_ROWS = [
+    (form.split()[0], re.split(",? ", form)[1:], texts) for form, *texts in read_table("aliases") + read_table("pseudo")
+]
+_FORMS: dict[str, list[tuple[list[str], list[str]]]] = {}
+for _name, _form, _texts in _ROWS:
+    _FORMS.setdefault(_name, []).append((_form, _texts))
+_SHAPES = {"scalar": "scalar", "indirect": "indirect", "number": "number", "symbol": "number"}
+_FENCE_SETS = re.compile("i?o?r?w?")
 
 Operation = tuple[str, int]
 """One of the instructions that make a constant: its name and its number. It works on what the one before it made."""
@@ -22,7 +31,9 @@ def templates(name: Token, operands: list[Operand], constant: Callable[[Operand]
     if name.text == "li":
         check_count(name, operands, 2)
         return _load_constant(operands[1], constant(operands[1]))
-    forms = [(form, texts) for own_name, form, texts in _FORMS if own_name == name.text]
+    if name.text == "fence" and operands:
+        return [_fence(name, operands)]
+    forms = _FORMS.get(name.text, [])
     for form, texts in forms:
         if _fits(form, operands, constant):
             if texts[0].startswith("error at "):
@@ -30,8 +41,8 @@ def templates(name: Token, operands: list[Operand], constant: Callable[[Operand]
                 raise (operands[place - 1][0] if place else name).error(texts[1])
             first, *others = [_filled(text, form) for text in texts]
             return [first + (f", {{{len(form)}:v0.t}}" if len(operands) > len(form) else ""), *others]
-    if forms and not any(texts[0].startswith(f"{name.text} ") for _, texts in forms):  # else the machine has it too
-        check_count(name, [operand for operand in operands if operand[0].text != "v0.t"], len(forms[0][0]))
+    if forms and name.text not in INSTRUCTION_NAMES:
+        check_count(name, [operand for operand in operands if operand[0].text != "v0.t"], len(forms[-1][0]))
     last = "label" if name.text in _LABEL_LAST else "operand"
     holes = [f"{{{place}:{last if place == len(operands) - 1 else 'operand'}}}" for place in range(len(operands))]
     return [f"{name.text} {', '.join(holes)}".rstrip()]
@@ -47,7 +58,22 @@ def _fits(form: list[str], operands: list[Operand], constant: Callable[[Operand]
         return False
     meant = dict(zip(form, words)) | {"v0": "v0", "v0.t": "v0.t"}
     own = zip(form, words, operands)
-    return all(constant(operand) == 0 if name == "0" else word == meant[name] for name, word, operand in own)
+    shapes = all(_SHAPES.get(name, "") in ("", shape(operand)) for name, operand in zip(form, operands))
+    return shapes and all(constant(it) == 0 if name == "0" else word == meant[name] for name, word, it in own)
+
+
+def _fence(name: Token, operands: list[Operand]) -> str:
+    """The word of a fence with two sets, each of i, o, r and w in this order. Raises SourceError."""
+    check_count(name, operands, 2)
+    word = 0x0000000F
+    for operand, shift in zip(operands, (24, 20)):
+        text = operand[0].text
+        if len(operand) > 1 or not _FENCE_SETS.fullmatch(text):
+            raise operand[0].error(
+                f"{name.text} takes two sets, each of the letters i, o, r and w in this order, as rw"
+            )
+        word |= sum(bit << shift for letter, bit in zip("iorw", (8, 4, 2, 1)) if letter in text)
+    return f".word {word:#010x}"
 
 
 def _filled(text: str, form: list[str]) -> str:

@@ -9,6 +9,7 @@ import tempfile
 from .. import LabError, mistakes_in
 from ..arguments import add_compiler, between
 from ..assembler.line import refuse_preprocessor_lines
+from ..assembler.own_files import files_beside
 from ..compilers.account import account_named, add_account
 from ..compilers.compiler import PREPROCESSED_SUFFIX, choice_for, find_compilers, refuse_cxx
 from ..machine.program import find_program
@@ -51,6 +52,7 @@ def run(arguments: argparse.Namespace) -> int:
         members.title = path.name if path else page_text("author.page")
         if path:
             members.students[SEAT].source.give(source)
+            members.read_files(files_beside(path))
         else:
             members.examples = example_sources()
         asyncio.run(serve(members, HOST, listening(HOST, arguments.port), {HOST}, SEAT))

@@ -9,6 +9,7 @@ from dataclasses import asdict, replace
 from functools import partial
 
 from .. import LabError
+from ..assembler.assembly import FileReader
 from ..assembler.source import Program
 from ..assembler.trial import read_tried_source, read_whole_source
 from ..machine.lines import DIGITS, is_look
@@ -58,6 +59,7 @@ class Room:
         self.save: Callable[[Notes], bool] = lambda notes: False
         self.watched: Callable[[], Container[str]] = set
         self.compile = Builds().compile
+        self.files: FileReader | None = None  # reads what a source includes, if that is your own
         self.thread = MachineThread(self.machine, self._change_all, lambda: self.set_clock({"on": False}))
         self.scripts = Scripts(self.thread, file, makers, lambda *it: self.save(self._notes(*it)))
         self.shorten, self.begin_script = self.scripts.shorten, self.scripts.start_next
@@ -195,7 +197,7 @@ class Room:
             pathlib.Path(self.session.command[0]),
             read_tried_source if step.is_tried else read_whole_source,
         )
-        return await loop.run_in_executor(self._assembler, read_program, source.text, vecmon)
+        return await loop.run_in_executor(self._assembler, read_program, source.text, vecmon, self.files)
 
     async def _stop_unattended(self, seat: Seat) -> None:
         """Shows a program that runs, if somebody looks at it. One that runs in vain is stopped, with a sentence."""

@@ -12,7 +12,6 @@ from typing import Protocol, TypeVar
 
 from .. import LabError
 from ..assembler.source import Program, SourceError, in_order, refusal
-from ..compilers.compiled import CompiledProgram
 from ..guest.changes import Retired
 from ..guest.guest import Guest
 from ..machine.answers import Granted, Position, Refused, Stop, is_refusal, is_stop, read
@@ -143,7 +142,7 @@ class SharedMachine:
             source, program = seat.written, seat.program
         if program is None:
             raise BadRequest("this machine has no loaded source to restart")
-        warnings = program.warnings if isinstance(program, CompiledProgram) else []
+        warnings = program.warnings
         if program.mistakes:
             return program.mistakes, warnings
         if (number := len(program.lines)) > SOURCE_LINES:

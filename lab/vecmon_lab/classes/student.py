@@ -7,7 +7,6 @@ from typing import NotRequired, TypedDict, cast
 from .. import LabError
 from ..assembler.mistakes import mistakes_json
 from ..assembler.source import Program
-from ..compilers.compiled import CompiledProgram
 from ..page.state import State
 from ..page.texts import page_text
 from .edits import breakpoint_lines, edit_line, setting_lines
@@ -317,8 +316,7 @@ class Student:
 
 def problems_of(program: Program, source: SourceText) -> SourceResult:
     """The mistakes and warnings of a program with this source, as a message has them."""
-    warnings = program.warnings if isinstance(program, CompiledProgram) else ()
-    return problems_json(source, program.mistakes, warnings)
+    return problems_json(source, program.mistakes, program.warnings)
 
 
 def share_warning(seat: Seat) -> str:

@@ -10,6 +10,7 @@ from functools import partial
 from typing import TypedDict
 
 from .. import LabError
+from ..assembler.assembly import FileReader
 from .worker_pool import WorkerPool, exclusive
 from .builds import Builds
 from .checks import Checks
@@ -109,6 +110,11 @@ class Class:
         name = script_name(letter, len(notes.scripts))
         room.restore(notes, progress, lambda sentence: self.store.lose(f"{name}: {sentence}"))
         self._seat_students(room)
+
+    def read_files(self, files: FileReader) -> None:
+        """Lets sources include files, which are only those of the one who serves the page."""
+        for room in self.rooms.values():
+            room.files = files
 
     def end(self) -> None:
         """Ends the machines, and leaves the folder."""

@@ -34,13 +34,12 @@ class CompiledProgram(Program):
 
     reply: the data it was read from
     rows: where instructions of a line of the source begin, with that line (0 for none) and the function that was inlined
-    there, in rising order; warnings: the compiler's; variables: those of the source
+    there, in rising order; variables: those of the source
     stops: the addresses of a line's breakpoints, by its number; entries: where functions and their inlined copies are
     entered, by name
     """
 
     rows: Sequence[tuple[int, int, str]] = ()
-    warnings: Sequence[SourceError] = ()
     variables: Sequence[Variable] = ()
     stops: Mapping[int, Sequence[int]] = field(default_factory=dict)
     entries: Mapping[str, Sequence[int]] = field(default_factory=dict)
@@ -107,7 +106,7 @@ def read_compiled_program(reply: bytes, limit: int = IMAGE_BYTES) -> CompiledPro
         for line, column, is_error, text in answer["messages"][:MAX_MESSAGES]:
             (errors if is_error else warnings).append(SourceError(int(line), int(column), str(text)[:MESSAGE_LETTERS]))
         if errors:
-            return CompiledProgram([], {}, [], 0, errors, (), warnings)
+            return CompiledProgram([], {}, [], 0, errors, warnings=warnings)
         program = program_of(answer["image"], warnings, limit)
         program.names()  # so that a malformed field is reported now
         return replace(program, reply=reply)
@@ -136,7 +135,8 @@ def program_of(
     labels = dict(islice(dict(image["symbols"]).items(), MAX_SYMBOLS))
     variables = read_variables(image["variables"])
     stops, entries = _stops(image.get("stops"), rows)
-    return CompiledProgram(lines, labels, [], int(image["entry"]), [], rows, warnings, variables, stops, entries)
+    entry = int(image["entry"])
+    return CompiledProgram(lines, labels, [], entry, [], rows, variables, stops, entries, warnings=warnings)
 
 
 def variable_rows(variables: Sequence[Variable]) -> list[int]:

@@ -8,6 +8,7 @@ from functools import partial
 
 from .. import LabError
 from ..assembler.commands import COMMANDS, explain_refusal
+from ..assembler.own_files import files_beside
 from ..guest.changes import Stepper, vtype_text
 from ..guest.guest import Guest
 from ..guest.symbols import Symbols
@@ -73,7 +74,7 @@ class Console:
         content = path.read_bytes()
         if path.suffix == ".c" or content.startswith(b"\x7fELF"):
             raise LabError(f"{path} isn't an assembler source; vecmon-lab console {path} starts with it")
-        script = read_assembled(content.decode("utf-8", "replace"), str(path))
+        script = read_assembled(content.decode("utf-8", "replace"), str(path), files_beside(path))
         commands = [line[2:] for line in script.steps[0].lines]
         with Session(find_program()) as trial:
             send(Guest(trial), commands, script)

@@ -119,8 +119,8 @@ def check(
         return {"mistakes": mistakes_json(mistakes, text, is_c=compiled is not None)}
     pairs = zip(exercise.cases, outcomes)
     reply: CheckResult = {"cases": [{"name": case.name, "passed": not each.reason} for case, each in pairs]}
-    if compiled and compiled.warnings:
-        reply["warnings"] = mistakes_json(compiled.warnings, text, is_c=True, severity="warning")
+    if answer.source and answer.source.program and answer.source.program.warnings:
+        reply["warnings"] = mistakes_json(answer.source.program.warnings, text, bool(compiled), "warning")
     for number, (case, each) in enumerate(zip(exercise.cases, outcomes)):
         if each.reason and not case.is_hidden:
             done = each.done

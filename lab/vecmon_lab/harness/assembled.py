@@ -4,10 +4,11 @@ import atexit
 import pathlib
 import tempfile
 
+from ..assembler.own_files import files_beside
 from ..compilers.compiling import read_own_source
 from ..guest.guest import Guest
 from ..instructions.accesses import PAGE_BYTES
-from ..lessons.script import read_assembled, send
+from ..lessons.script import print_warnings, read_assembled, send
 from ..machine.program import find_program
 from ..machine.session import Session
 from .elf import EXECUTE, READ, WRITE, Segment, elf
@@ -20,7 +21,8 @@ def assembled_image(path: pathlib.Path) -> pathlib.Path:
     It has the source's name without `.s`, its labels as symbols, and the lines of its instructions. The source's `#>` lines
     are for lessons. Raises LabError where the source has mistakes, and OSError.
     """
-    script = read_assembled(read_own_source(path), f"{path}")
+    script = read_assembled(read_own_source(path), f"{path}", files_beside(path))
+    print_warnings(script)
     program = script.program
     assert program
     with Session(find_program()) as session:
@@ -40,5 +42,6 @@ def _segment(guest: Guest, digits: str, pages: str, permissions: str) -> Segment
     address, size = int(digits, 16), int(pages) * PAGE_BYTES
     data, is_text = guest.peek(address, size), "x" in permissions
     data = data if is_text or any(data) else b""
-    section = ".text" if is_text else ".data" if data else ".bss"
-    return Segment(address, data, size, READ | (EXECUTE if is_text else WRITE), section)
+    section = ".text" if is_text else ".rodata" if "w" not in permissions else ".data" if data else ".bss"
+    rights = sum(right for letter, right in (("r", READ), ("w", WRITE), ("x", EXECUTE)) if letter in permissions)
+    return Segment(address, data, size, rights, section)

@@ -13,7 +13,7 @@ from ..machine.program import find_program, images_of
 from .frames import make_frames
 from .listings import CompiledListing, listing_of, listings_page
 from .page import lesson_page
-from .script import read_assembled, read_compiled, read_script
+from .script import print_warnings, read_assembled, read_compiled, read_script
 
 
 def add_arguments(parser: argparse.ArgumentParser) -> None:
@@ -64,6 +64,7 @@ def _lesson(arguments: argparse.Namespace, images: Mapping[str, pathlib.Path]) -
         script = read_compiled(text, path.name, program, path.suffix == C_SUFFIX)
     else:
         script = read_assembled(text, path.name) if path.suffix in ASSEMBLER_SUFFIXES else read_script(text)
+        print_warnings(script)
     if not script.steps:
         raise LabError(f"{path}: a lesson needs a line of a script, and this file has none")
     frames = make_frames(script, find_program(), images, arguments.quantum)

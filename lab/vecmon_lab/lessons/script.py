@@ -1,10 +1,12 @@
 """The file of a lesson: the lines for the monitor, and the author's sentences, which begin with `#`."""
 
 import re
+import sys
 from collections.abc import Sequence
 from dataclasses import dataclass, field, replace
 
 from .. import LabError, SourceMistakes
+from ..assembler.assembly import FileReader
 from ..assembler.commands import explain_refusal
 from ..assembler.line import refuse_preprocessor_lines
 from ..assembler.source import Program, SourceError, Statement, assemble, refusal
@@ -76,18 +78,25 @@ def add_line(steps: list[Step], line: str, note: str = "") -> None:
         steps.append(Step([line], note))
 
 
-def read_assembled(text: str, name: str) -> Script:
+def read_assembled(text: str, name: str, files: FileReader | None = None) -> Script:
     """The lesson of an assembler source, for user 1. Raises LabError where it doesn't assemble.
 
     name: of its file; a source of the suffix .S has no line for the preprocessor
+    files: reads what it includes; without it that is refused
     """
     try:
         if name.endswith(".S"):
             refuse_preprocessor_lines(text)
-        program = assemble(text)
+        program = assemble(text, files=files)
     except SourceError as error:
         raise SourceMistakes(error.diagnostic(name)) from error
     return replace(_script_of(program, [line.strip() for line in text.split("\n")], name), text=text)
+
+
+def print_warnings(script: Script) -> None:
+    """Print the warnings about a source on standard error."""
+    warnings = script.program.warnings if script.program else ()
+    sys.stderr.writelines(f"vecmon-lab: warning: {warning.diagnostic(script.source)}\n" for warning in warnings)
 
 
 def read_compiled(text: str, name: str, program: CompiledProgram, is_c: bool) -> Script:

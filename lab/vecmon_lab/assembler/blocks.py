@@ -1,0 +1,280 @@
+"""Statements of a source with its macros called, its repetitions repeated, and its conditions decided."""
+
+import re
+from collections.abc import Callable, Iterable, Iterator, Mapping
+from dataclasses import dataclass, replace
+
+from .assembly import Assembly
+from .data_directives import read_file
+from .line import Line, tokens_of
+from .macros import Macro, called, read_parameters, separate_arguments, with_arguments
+from .statements import statements, without_comments
+
+MAX_DEPTH = 50  # of calls and repetitions inside each other
+MAX_STATEMENTS = 20_000  # of all calls and repetitions
+_HEAD = re.compile(r"\s*((?:[\w.$]+\s*:\s*)*)([A-Za-z_.$][\w.$]*)?", re.ASCII)
+_REPETITIONS = (".rept", ".irp", ".irpc")
+_ENDS = {".macro": (".endm", ".endmacro"), **dict.fromkeys(_REPETITIONS, (".endr", ".endm"))}
+_OPENINGS: dict[str, tuple[str, ...]] = {".macro": (".macro",), **dict.fromkeys(_REPETITIONS, _REPETITIONS)}
+_NUMBER_TESTS: Mapping[str, Callable[[int], bool]] = {
+    ".if": lambda number: number != 0,
+    ".ifne": lambda number: number != 0,
+    ".ifeq": lambda number: number == 0,
+    ".ifge": lambda number: number >= 0,
+    ".ifgt": lambda number: number > 0,
+    ".ifle": lambda number: number <= 0,
+    ".iflt": lambda number: number < 0,
+}
+_TEXT_TESTS = (".ifb", ".ifnb", ".ifc", ".ifnc", ".ifeqs", ".ifnes")
+_NAME_TESTS = (".ifdef", ".ifndef", ".ifnotdef")
+_CONDITIONS = (*_NUMBER_TESTS, *_TEXT_TESTS, *_NAME_TESTS)
+_BRANCHES = (".else", ".elseif", ".endif")
+BLOCK_DIRECTIVES = (*_CONDITIONS, *_BRANCHES, *_ENDS, ".endr", ".endm", ".exitm", ".purgem", ".include")
+
+
+@dataclass
+class _Condition:
+    """An .if: where it is, whether its branch is assembled, and whether one was; is_reached: whether itself is assembled."""
+
+    line: Line
+    is_reached: bool
+    is_active: bool
+    was_taken: bool
+    has_else: bool = False
+
+
+class Blocks:
+    """The statements of a source after its blocks. The statements so far decide its conditions."""
+
+    def __init__(self, assembly: Assembly) -> None:
+        self._assembly = assembly
+        self.macros: dict[str, Macro] = {}
+        self._conditions: list[_Condition] = []
+        self._depth = self._count = self._calls = 0
+        self._is_leaving = False
+        self._handlers: dict[str, Callable[[str, Line, Iterator[Line]], Iterable[Line]]] = {
+            ".macro": self._define,
+            ".rept": self._repeat,
+            ".irp": self._repeat,
+            ".irpc": self._repeat,
+            ".include": self._include,
+            ".exitm": self._leave,
+            ".purgem": self._purge,
+            **dict.fromkeys((".endr", ".endm", ".endmacro"), self._unmatched),
+        }
+
+    def expanded(self, lines: Iterable[Line]) -> Iterator[Line]:
+        """The statements to assemble, one after another, of a whole source."""
+        yield from self._expand(iter(lines))
+        for condition in self._conditions[:1]:
+            self._assembly.note(condition.line.error(0, "this condition doesn't end: .endif is missing"))
+
+    def _expand(self, lines: Iterator[Line]) -> Iterator[Line]:
+        for line in lines:
+            if self._assembly.is_ended or self._is_leaving:
+                return
+            head = _HEAD.match(line.text)
+            name = head[2].lower() if head and head[2] else ""
+            if head and (name[:1] == "." or name in self.macros):
+                yield from self._expand_line(name, line, head, lines)
+            elif self._is_active():
+                yield line
+
+    def _expand_line(self, name: str, line: Line, head: re.Match[str], lines: Iterator[Line]) -> Iterator[Line]:
+        """The statements of a line that begins with a directive or with the name of a macro, after labels."""
+        is_macro = name in self.macros and not re.match(r"\s*=(?!=)", line.text[head.end() :])
+        is_condition = name in _CONDITIONS or name in _BRANCHES
+        if not is_macro and not is_condition and name not in self._handlers:
+            yield from [line] if self._is_active() else []
+            return
+        if not self._is_active() and not is_condition:
+            return
+        if head[1] and self._is_active():
+            yield line.part(0, head.end(1))
+        rest = line.part(head.start(2))
+        with self._assembly.noting():
+            if is_macro:
+                yield from self._call(self.macros[name], rest)
+            elif is_condition:
+                self._decide(name, rest)
+            else:
+                yield from self._handlers[name](name, rest, lines)
+
+    def _is_active(self) -> bool:
+        return not self._conditions or self._conditions[-1].is_active
+
+    def _nested(self, lines: Iterator[Line], opening: Line) -> Iterator[Line]:
+        """The statements of a call or a repetition. Raises SourceError where these are too many."""
+        if self._depth == MAX_DEPTH:
+            self._assembly.is_ended = True
+            raise opening.error(0, f"calls and repetitions are nested more than {MAX_DEPTH} deep here")
+        self._depth += 1
+        conditions = len(self._conditions)
+        try:
+            yield from self._expand(self._counted(lines, opening))
+        finally:
+            self._depth -= 1
+        if self._is_leaving:
+            del self._conditions[conditions:]
+        self._is_leaving = False
+
+    def _counted(self, lines: Iterator[Line], opening: Line) -> Iterator[Line]:
+        """The lines, of which each counts. Raises SourceError after MAX_STATEMENTS."""
+        for line in lines:
+            self._count_one(opening)
+            yield line
+
+    def _count_one(self, opening: Line) -> None:
+        self._count += 1
+        if self._count > MAX_STATEMENTS:
+            self._assembly.is_ended = True
+            raise opening.error(0, f"calls and repetitions make more than {MAX_STATEMENTS:,} statements")
+
+    def _call(self, macro: Macro, line: Line) -> Iterator[Line]:
+        """The statements of a macro that a line calls."""
+        length = len(macro.name)
+        self._calls += 1
+        made = called(macro, line, 0, length, self._calls - 1)
+        self._count_one(line)
+        yield from self._nested(self._made(made), line)
+
+    def _made(self, makers: Iterable[Callable[[], Line]]) -> Iterator[Line]:
+        """The statements that functions make, without those that have mistakes."""
+        for make in makers:
+            with self._assembly.noting():
+                yield make()
+
+    def _define(self, name: str, line: Line, lines: Iterator[Line]) -> Iterable[Line]:
+        """Takes up a macro."""
+        body = self._body(name, line, lines)
+        match = re.compile(r"\.\w+\s+([A-Za-z_.$][\w.$]*)", re.ASCII).match(line.text)
+        if match is None:
+            raise line.error(0, ".macro takes a name, and the names of its arguments")
+        key = match[1].lower()
+        if key in self.macros:
+            raise line.error(match.start(1), f"there already is a macro {match[1]}: .purgem {match[1]} forgets it")
+        self.macros[key] = Macro(match[1], read_parameters(line, match.end()), body)
+        return ()
+
+    def _body(self, name: str, line: Line, lines: Iterator[Line]) -> list[Line]:
+        """The statements up to the end of a block, which is left out. Raises SourceError if it doesn't end."""
+        body, depth = list[Line](), 1
+        for each in lines:
+            head = _HEAD.match(each.text)
+            word = head[2].lower() if head and head[2] else ""
+            depth += (word in _OPENINGS[name]) - (word in _ENDS[name])
+            if depth == 0:
+                return body
+            body.append(each)
+        raise line.error(0, f"{name} doesn't end: {_ENDS[name][0]} is missing")
+
+    def _repeat(self, name: str, line: Line, lines: Iterator[Line]) -> Iterator[Line]:
+        """The statements of a block once for each of its values."""
+        body = self._body(name, line, lines)
+        for arguments in self._rounds(name, line):
+            self._count_one(line)
+            yield from self._nested(self._made(self._with(each, arguments) for each in body), line)
+            if self._assembly.is_ended:
+                return
+
+    def _with(self, line: Line, arguments: Mapping[str, Line]) -> Callable[[], Line]:
+        """Returns a function that makes a statement of a repetition, which is executed where it was typed."""
+        column = line.column + len(line.text) - len(line.text.lstrip())
+        return lambda: line if not arguments else replace(with_arguments(line, arguments, None), column=column)
+
+    def _rounds(self, name: str, line: Line) -> Iterable[Mapping[str, Line]]:
+        """The arguments of each repetition. Raises SourceError."""
+        start = len(name)
+        if name == ".rept":
+            number = self._number(line)
+            if number < 0:
+                raise line.error(start, ".rept takes how often its lines are repeated")
+            return ({} for _ in range(number))
+        symbol, *values = separate_arguments(line, start) or [line.part(start)]
+        if not re.fullmatch(r"[A-Za-z_.$][\w.$]*", symbol.text, re.ASCII):
+            raise line.error(start, f"{name} takes a name, and its values after a comma")
+        if name == ".irpc":
+            values = [value.part(at, at + 1) for value in values[:1] for at in range(len(value.text))]
+        return [{symbol.text: value} for value in values or [line.part(len(line.text))]]
+
+    def _include(self, name: str, line: Line, lines: Iterator[Line]) -> Iterator[Line]:
+        """The statements of a file, which are executed at the line that names it."""
+        directive, *operand = tokens_of(line)
+        if not operand:
+            raise directive.error(".include takes the name of a file")
+        text, error = without_comments(read_file(self._assembly, directive, operand).decode("utf-8", "replace"))
+        if error:
+            raise directive.error(f"{error.message}; in {operand[0].text}, line {error.line}")
+        yield from self._nested(_at(line, operand[0].text, statements(text)), line)
+
+    def _leave(self, name: str, line: Line, lines: Iterator[Line]) -> Iterable[Line]:
+        """Leaves the call or the repetition that is assembled."""
+        if not self._depth:
+            raise line.error(0, ".exitm is outside of a macro")
+        self._is_leaving = True
+        return ()
+
+    def _purge(self, name: str, line: Line, lines: Iterator[Line]) -> Iterable[Line]:
+        """Forgets macros."""
+        for argument in separate_arguments(line, len(name)):
+            if self.macros.pop(argument.text.lower(), None) is None:
+                raise argument.error(0, f"there is no macro {argument.text}")
+        return ()
+
+    def _unmatched(self, name: str, line: Line, lines: Iterator[Line]) -> Iterable[Line]:
+        start = ".rept, .irp or .irpc" if name == ".endr" else ".macro"
+        raise line.error(0, f"{name} has no {start} before it")
+
+    def _decide(self, name: str, line: Line) -> None:
+        """Begins a condition, or goes on to its next branch. Raises SourceError."""
+        if name in _CONDITIONS:
+            is_reached = self._is_active()
+            self._conditions.append(_Condition(line, is_reached, False, False))
+            self._take(is_reached and self._holds(name, line))
+            return
+        if not self._conditions:
+            raise line.error(0, f"{name} has no .if before it")
+        condition = self._conditions[-1]
+        if name == ".endif":
+            self._conditions.pop()
+        elif condition.has_else:
+            raise line.error(0, f"{name} is after the .else of this condition")
+        else:
+            condition.has_else, condition.is_active = name == ".else", False
+            may = condition.is_reached and not condition.was_taken
+            self._take(may and (name == ".else" or self._holds(".if", line)))
+
+    def _take(self, holds: bool) -> None:
+        """Assembles the branch of the last condition from here on, if it holds."""
+        condition = self._conditions[-1]
+        condition.is_active = holds
+        condition.was_taken = condition.was_taken or holds
+
+    def _holds(self, name: str, line: Line) -> bool:
+        """Whether the test of a condition holds. Raises SourceError."""
+        head = re.compile(r"\.\w+\s*").match(line.text)
+        text = line.part(head.end() if head else 0)
+        if name in _NUMBER_TESTS:
+            return _NUMBER_TESTS[name](self._number(line))
+        if name in _NAME_TESTS:
+            return self._assembly.symbols.is_defined(text.text.strip()) == (name == ".ifdef")
+        if name in (".ifb", ".ifnb"):
+            return (text.text.strip().strip('"') == "") == (name == ".ifb")
+        values = [value.strip() for value in text.text.split(",", 1)]
+        if len(values) < 2:
+            raise line.error(0, f"{name} takes two texts, with a comma between them")
+        return (values[0] == values[1]) == (name in (".ifc", ".ifeqs"))
+
+    def _number(self, line: Line) -> int:
+        """The value of the expression after a directive. Raises SourceError."""
+        directive, *tokens = tokens_of(line)
+        if not tokens:
+            raise directive.error(f"{directive.text} takes a number")
+        return self._assembly.constant(self._assembly.symbols.bound(tokens))
+
+
+def _at(line: Line, file: str, lines: Iterable[Line]) -> Iterator[Line]:
+    """The lines of a file as if they were typed where a line includes it."""
+    for each in lines:
+        within = f"; in {file}, line {each.number}{line.within}"
+        yield Line(each.text, line.number, line.place(0)[1], [line.place(0)] * (len(each.text) + 1), within)

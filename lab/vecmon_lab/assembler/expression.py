@@ -1,0 +1,184 @@
+"""Expressions of a source, with the operators and precedences of GNU as."""
+
+from collections.abc import Callable
+from dataclasses import dataclass, field
+
+from .line import Kind, Operand, Token
+from .value import Value
+
+MAX_DEPTH = 50  # of parentheses and prefixes
+_RANKS: dict[str, int] = {
+    **dict.fromkeys(("||",), 1),
+    **dict.fromkeys(("&&",), 2),
+    **dict.fromkeys(("==", "!=", "<>", "<", "<=", ">", ">="), 3),
+    **dict.fromkeys(("+", "-"), 4),
+    **dict.fromkeys(("|", "&", "^", "!"), 5),
+    **dict.fromkeys(("*", "/", "%", "<<", ">>"), 6),
+}
+_COMPARISONS: dict[str, Callable[[int], bool]] = {  # of the difference with 0
+    "==": lambda difference: difference == 0,
+    "!=": lambda difference: difference != 0,
+    "<>": lambda difference: difference != 0,
+    "<": lambda difference: difference < 0,
+    "<=": lambda difference: difference <= 0,
+    ">": lambda difference: difference > 0,
+    ">=": lambda difference: difference >= 0,
+}
+_PREFIXES: dict[str, Callable[[int], int]] = {"~": lambda number: ~number, "!": lambda number: int(number == 0)}
+ONLY_DIFFERENCES = "of two addresses only the difference can be taken"
+
+
+def signed(number: int) -> int:
+    """The lowest 64 bits of a number, as a signed number."""
+    return (number + (1 << 63)) % (1 << 64) - (1 << 63)
+
+
+def _wrapped(number: int) -> int:
+    """A number of 64 bits, signed or unsigned, unchanged; of others the lowest 64 bits."""
+    return number if -(1 << 63) <= number < 1 << 64 else signed(number)
+
+
+def _quotient(left: int, right: int) -> int:
+    """The quotient rounded to 0, as in C."""
+    left, right = signed(left), signed(right)
+    quotient = abs(left) // abs(right)
+    return quotient if (left < 0) == (right < 0) else -quotient
+
+
+_OPERATIONS: dict[str, Callable[[int, int], int]] = {
+    "||": lambda left, right: int(left != 0 or right != 0),
+    "&&": lambda left, right: int(left != 0 and right != 0),
+    "|": lambda left, right: left | right,
+    "&": lambda left, right: left & right,
+    "^": lambda left, right: left ^ right,
+    "!": lambda left, right: left | ~right,
+    "*": lambda left, right: _wrapped(left * right),
+    "/": _quotient,
+    "%": lambda left, right: signed(left) - signed(right) * _quotient(left, right),
+    "<<": lambda left, right: _wrapped(left << right) if right < 64 else 0,
+    ">>": lambda left, right: left % (1 << 64) >> right if right < 64 else 0,
+}
+
+
+@dataclass
+class Expression:
+    """An operand that is evaluated from its first token on.
+
+    term: returns the value of a name or a dot; function: returns the value of %NAME(..) for the tokens between its parentheses
+    """
+
+    tokens: Operand
+    term: Callable[[Token], Value]
+    function: Callable[[Token, Operand], Value]
+    _next: int = field(default=0, init=False)
+    _depth: int = field(default=0, init=False)
+
+    def value(self) -> Value:
+        """The value of the whole operand. Raises SourceError."""
+        value = self._operation(1)
+        if token := self._peek():
+            if token.text == "(":
+                raise token.error("an address is a register in parentheses, with a number before it or without")
+            raise token.error(f"{token.text} doesn't fit here: a comma may be missing before it")
+        if not (value.is_number or value.section or value.is_difference):
+            raise self.tokens[-1].error(ONLY_DIFFERENCES)
+        return value
+
+    def _peek(self) -> Token | None:
+        return self.tokens[self._next] if self._next < len(self.tokens) else None
+
+    def _take(self) -> Token:
+        if self._next == len(self.tokens):
+            raise self.tokens[-1].error(f"a number is missing after {self.tokens[-1].text}")
+        self._next += 1
+        return self.tokens[self._next - 1]
+
+    def _operation(self, rank: int) -> Value:
+        """The value of terms and operators of this rank and above."""
+        left = self._term()
+        while (operator := self._peek()) and operator.kind is Kind.MARK and _RANKS.get(operator.text, 0) >= rank:
+            self._take()
+            right = self._operation(_RANKS[operator.text] + 1)
+            left = _applied(operator, left, right)
+        return left
+
+    def _term(self) -> Value:
+        token = self._take()
+        self._depth += 1
+        if self._depth > MAX_DEPTH:
+            raise token.error(f"this expression has more than {MAX_DEPTH} parentheses and prefixes inside each other")
+        value = self._term_from(token)
+        self._depth -= 1
+        return value
+
+    def _term_from(self, token: Token) -> Value:
+        """The value of the term that begins with a token."""
+        if token.kind is Kind.NUMBER and not token.symbol:
+            return Value(token.number())
+        if token.kind is not Kind.MARK:
+            return self.term(token)
+        if token.text == "(":
+            value = self._operation(1)
+            self._close(token)
+            return value
+        if token.text in "+-":
+            return Value(0).plus(self._term(), -1 if token.text == "-" else 1)
+        if token.text in _PREFIXES:
+            return Value(_PREFIXES[token.text](_number(token, self._term())))
+        name = self._peek()
+        if token.text == "%" and name and name.kind is Kind.NAME:
+            return self._function(self._take())
+        raise token.error(f"{token.text} doesn't fit here")
+
+    def _function(self, name: Token) -> Value:
+        opening = self._peek()
+        if opening is None or opening.text != "(":
+            raise name.error(f"%{name.text} takes a symbol in parentheses, as %{name.text}(x)")
+        self._take()
+        start = self._next
+        self._next = _closing(self.tokens, start)
+        self._close(opening)
+        inner = self.tokens[start : self._next - 1]
+        if not inner:
+            raise opening.error(f"%{name.text} takes a symbol in parentheses, as %{name.text}(x)")
+        return self.function(name, inner)
+
+    def _close(self, opening: Token) -> None:
+        token = self._peek()
+        if token is None or token.text != ")":
+            raise (token or opening).error(f"a closing parenthesis is missing{' before this' if token else ''}")
+        self._take()
+
+
+def _closing(tokens: Operand, start: int) -> int:
+    """The index of the closing parenthesis for one before `start`; the number of tokens if there is none."""
+    depth = 1
+    for index in range(start, len(tokens)):
+        depth += {"(": 1, ")": -1}.get(tokens[index].text, 0)
+        if depth == 0:
+            return index
+    return len(tokens)
+
+
+def _number(token: Token, value: Value) -> int:
+    """A value that has to be a number for this operator."""
+    if not value.is_number:
+        raise token.error(f"{token.text} takes numbers, and this has an address: {ONLY_DIFFERENCES}")
+    return value.number
+
+
+def _applied(operator: Token, left: Value, right: Value) -> Value:
+    """The value of two terms and an operator between them. Raises SourceError."""
+    name = operator.text
+    if name in "+-":
+        return left.plus(right, 1 if name == "+" else -1)
+    if name in _COMPARISONS:
+        if left.is_number and right.is_number:
+            left, right = Value(signed(left.number)), Value(signed(right.number))
+        return Value(-int(_COMPARISONS[name](_number(operator, left.plus(right, -1)))))
+    numbers = _number(operator, left), _number(operator, right)
+    if name in "/%" and numbers[1] == 0:
+        raise operator.error("this divides by zero")
+    if name in ("<<", ">>") and not 0 <= numbers[1] < 64:
+        raise operator.error(f"this shifts by {numbers[1]}: 0 to 63 fit")
+    return Value(_OPERATIONS[name](*numbers))

@@ -1,0 +1,153 @@
+"""Macros of a source: their parameters, the arguments of a call, and their texts with arguments."""
+
+import re
+from collections.abc import Callable, Iterator, Mapping, Sequence
+from dataclasses import dataclass, replace
+
+from .line import Line, Place
+
+MAX_CHARACTERS = 10_000  # of a statement with its arguments
+_NAME = r"[A-Za-z_.$][\w.$]*"
+_QUOTED = r'"(?:[^"\\]|\\.)*"'
+_PARAMETER = re.compile(rf"[\s,]*({_NAME})(?:\s*:\s*(\w+))?(?:\s*=\s*({_QUOTED}|[^\s,]*))?", re.ASCII)
+_ARGUMENT = re.compile(rf"{_QUOTED}|'(?:\\.|[^\\])'?|\s*[-+*/%<>=&|^~!(]\s*|\s+(?=\))|[^\s,]", re.ASCII)
+_KEYWORD = re.compile(rf"({_NAME})\s*=(?!=)\s*", re.ASCII)
+_HOLE = re.compile(rf"\\(?:(@)|(\(\))|({_NAME}))", re.ASCII)
+
+
+@dataclass(frozen=True)
+class Parameter:
+    """A parameter of a macro. default: its text if a call gives none"""
+
+    name: str
+    default: Line | None = None
+    is_required: bool = False
+    takes_rest: bool = False
+
+
+@dataclass(frozen=True)
+class Macro:
+    """A macro: its name, its parameters, and the statements between .macro and .endm."""
+
+    name: str
+    parameters: Sequence[Parameter]
+    body: Sequence[Line]
+
+    def arguments(self, line: Line, start: int, end: int) -> dict[str, Line]:
+        """The texts of the parameters in a call, whose name is between these indices. Raises SourceError."""
+        given: dict[str, Line] = {}
+        positions = iter(self.parameters)
+        at, by_name = end, {each.name: each for each in self.parameters}
+        for _ in range(len(line.text)):
+            at = _skip_separator(line.text, at)
+            if at >= len(line.text):
+                break
+            keyword = _KEYWORD.match(line.text, at)
+            if keyword and keyword[1] in by_name:
+                parameter, at = by_name[keyword[1]], keyword.end()
+            elif (next_one := next(positions, None)) is None:
+                raise line.error(at, f"{self.name} takes {len(self.parameters)} arguments, and this is one more")
+            else:
+                parameter = next_one
+            stop = len(line.text.rstrip()) if parameter.takes_rest else _argument_end(line.text, at)
+            given[parameter.name] = unquoted(line.part(at, stop))
+            at = stop
+        for parameter in self.parameters:
+            if parameter.is_required and not given.get(parameter.name, line.part(end, end)).text:
+                raise line.error(start, f"{self.name} needs a value for its argument {parameter.name}")
+            if parameter.default and not given.get(parameter.name, line.part(end, end)).text:
+                given[parameter.name] = parameter.default
+            given.setdefault(parameter.name, line.part(end, end))
+        return given
+
+
+def read_parameters(line: Line, start: int) -> list[Parameter]:
+    """The parameters of a macro, from an index of its first line on. Raises SourceError."""
+    parameters, at, text = list[Parameter](), start, line.text.rstrip()
+    while at < len(text):
+        match = _PARAMETER.match(text, at)
+        if match is None or match[2] not in (None, "req", "vararg"):
+            message = "a parameter is a name, and after it :req, :vararg or = and a text, as size=4"
+            raise line.error(at + len(text[at:]) - len(text[at:].lstrip()), message)
+        default = unquoted(line.part(match.start(3), match.end(3))) if match[3] else None
+        parameters.append(Parameter(match[1], default, match[2] == "req", match[2] == "vararg"))
+        at = match.end()
+    return parameters
+
+
+def separate_arguments(line: Line, start: int) -> list[Line]:
+    """The arguments from an index on, which commas or spaces separate."""
+    found, at = list[Line](), _skip_separator(line.text, start)
+    while at < len(line.text):
+        stop = _argument_end(line.text, at)
+        found.append(unquoted(line.part(at, stop)))
+        at = _skip_separator(line.text, stop)
+    return found
+
+
+def _skip_separator(text: str, at: int) -> int:
+    """The index after spaces, and a comma between them."""
+    match = re.compile(r"\s*,?\s*").match(text, at)
+    return match.end() if match else at
+
+
+def _argument_end(text: str, start: int) -> int:
+    """The index after an argument: a comma ends it, and a space that isn't next to an operator."""
+    end = start
+    while match := _ARGUMENT.match(text, end):
+        end = match.end()
+    return len(text[:end].rstrip()) if end > start else start + 1 if text[start : start + 1] not in (",", "") else start
+
+
+def unquoted(line: Line) -> Line:
+    """A text without the quotation marks around it."""
+    return line.part(1, len(line.text) - 1) if re.fullmatch(_QUOTED, line.text) else line
+
+
+def with_arguments(line: Line, arguments: Mapping[str, Line], count: int | None) -> Line:
+    r"""A statement with arguments in place of \NAME, and a number in place of \@, if there is one. Raises SourceError."""
+    if "\\" not in line.text:
+        return line
+    text, places, at = list[str](), list[Place](), 0
+    for match in _HOLE.finditer(line.text):
+        if match[1] and count is None:
+            continue
+        value = _value_of(line, match, arguments, count)
+        if value is None:
+            continue
+        text += [line.text[at : match.start()], value.text]
+        places += [line.place(index) for index in range(at, match.start())]
+        places += [value.place(index) for index in range(len(value.text))]
+        at = match.end()
+    text.append(line.text[at:])
+    places += [line.place(index) for index in range(at, len(line.text))]
+    if len(places) > MAX_CHARACTERS:
+        raise line.error(0, f"this statement has more than {MAX_CHARACTERS:,} characters with its arguments")
+    return replace(line, text="".join(text), places=places or [line.place(0)])
+
+
+def _value_of(line: Line, match: re.Match[str], arguments: Mapping[str, Line], count: int | None) -> Line | None:
+    """The text for a hole; None if it isn't one of an argument. Raises SourceError for one that a dot hides."""
+    if match[1] or match[2]:
+        here = [line.place(match.start())] * 20
+        return Line(f"{count}" if match[1] else "", line.number, places=here)
+    name, dot, rest = match[3].partition(".")
+    if match[3] not in arguments and dot and name in arguments:
+        problem = f"there is no argument {match[3]}, and a dot belongs to a name: write \\{name}\\().{rest}"
+        raise line.error(match.start(), problem)
+    return arguments.get(match[3])
+
+
+def called(macro: Macro, line: Line, start: int, end: int, count: int) -> Iterator[Callable[[], Line]]:
+    """The statements of a call, whose name is between two indices of a line; each raises SourceError where it is made."""
+    arguments = macro.arguments(line, start, end)
+    within = f"; in macro {macro.name}, called in line {line.place(start)[0]}{line.within}"
+    column = line.column if line.places else line.place(start)[1]
+
+    def make(each: Line) -> Line:
+        places = each.places or [each.place(index) for index in range(len(each.text) + 1)]
+        own = replace(each, number=line.number, column=column, places=places, within=within)
+        return with_arguments(own, arguments, count)
+
+    for each in macro.body:
+        yield lambda each=each: make(each)  # type: ignore[misc]

@@ -1,0 +1,27 @@
+"""Files that your own source includes."""
+
+import pathlib
+
+from .. import LabError
+from .assembly import FileReader
+
+MAX_BYTES = 1 << 20  # of a file, as many as a user has
+
+
+def files_beside(source: pathlib.Path) -> FileReader:
+    """A reader of the files in the folder of your own source, and in folders below it."""
+    folder = source.absolute().parent.resolve()
+
+    def read(name: str) -> bytes:
+        """The bytes of a file. Raises LabError if it isn't one below the folder, or too large."""
+        try:
+            path = (folder / name).resolve()
+            if not path.is_relative_to(folder):
+                raise LabError(f"{name} is outside of the folder of the source, and isn't read")
+            if path.stat().st_size > MAX_BYTES:
+                raise LabError(f"{name} has more than {MAX_BYTES:,} bytes")
+            return path.read_bytes()
+        except (OSError, ValueError) as error:
+            raise LabError(f"{name} can't be read: {getattr(error, 'strerror', None) or error}") from error
+
+    return read

@@ -1,0 +1,122 @@
+"""The sections of a source: which there are, where their bytes go, and the section that lines are in.
+
+The sections of one kind follow one another, as a linker's default layout has them: code, constants, data, zeros. Each kind begins at a page.
+"""
+
+import re
+from collections.abc import Iterator
+
+from ..instructions.accesses import PAGE_BYTES
+from .line import Kind, Operand, Token
+from .value import Section, Value
+
+USER_PAGES = 256
+TEXT, DATA, BSS = ".text", ".data", ".bss"
+_Kind = tuple[str, bool]  # permissions, and whether it has zeros alone
+_ORDER: list[_Kind] = [("rx", False), ("rwx", False), ("r", False), ("rw", False), ("rw", True)]
+_NAMED = [
+    (re.compile(pattern), kind)
+    for pattern, kind in (
+        (r"\.(text|init|fini)(\..*)?", ("rx", False)),
+        (r"\.(s?rodata|srodata|eh_frame|gcc_except_table)(\..*)?", ("r", False)),
+        (r"\.(s?data|(init|fini|preinit)_array)(\..*)?", ("rw", False)),
+        (r"\.s?bss(\..*)?", ("rw", True)),
+        (r"\.(note|comment|debug|stab|riscv\.attributes|gnu|llvm)[\w.-]*", ("", False)),
+    )
+]
+NO_THREADS = "thread-local storage isn't in this machine: a program has one hart"
+
+
+class Sections:
+    """The sections of a source by name, and the one that lines are in."""
+
+    def __init__(self) -> None:
+        self._sections = {TEXT: Section("rx"), DATA: Section("rw"), BSS: Section("rw", True)}
+        self.current = self._previous = self._sections[TEXT]
+        self._stack: list[tuple[Section, Section]] = []
+        self._common = Section("rw", True)
+
+    def here(self) -> Value:
+        """The address of the next byte."""
+        return Value(self.current.size, ((self.current, 1),))
+
+    def enter(self, section: Section) -> None:
+        """Goes on in a section."""
+        self._previous, self.current = self.current, section
+
+    def named(self, name: str) -> Section:
+        """One of .text, .data and .bss."""
+        return self._sections[name]
+
+    def common(self, alignment: int) -> Section:
+        """The section of .comm, behind .bss. alignment: of the next name in it, a power of two"""
+        self._common.size += -self._common.size % alignment
+        self._common.alignment = max(self._common.alignment, alignment)
+        return self._common
+
+    def push(self) -> None:
+        """Keeps the section, for `pop`."""
+        self._stack.append((self.current, self._previous))
+
+    def pop(self, name: Token) -> None:
+        """Goes on in the section that the last `push` kept. Raises SourceError without one."""
+        if not self._stack:
+            raise name.error(f"{name.text} has no .pushsection before it")
+        self.current, self._previous = self._stack.pop()
+
+    def return_to_previous(self) -> None:
+        """Goes on in the section before this one."""
+        self.enter(self._previous)
+
+    def open(self, which: Token, name: str, operands: list[Operand]) -> bool:
+        """Goes on in the section of a name, with the flags and the type of .section. Raises SourceError.
+
+        Returns whether it is known to be loaded: of an unknown name without flags stock tools load nothing.
+        """
+        is_new = name not in self._sections
+        kind = _kind_of(which, name, operands)
+        if is_new:
+            permissions, zeros = kind or ("rw", False)
+            self._sections[name] = Section(permissions, zeros)
+        self.enter(self._sections[name])
+        return not is_new or kind is not None
+
+    def filled(self) -> list[Section]:
+        """The sections that have bytes, in the order of their addresses."""
+        sections = [*self._sections.values(), self._common]
+        return [each for kind in _ORDER for each in sections if (each.permissions, each.zeros) == kind and each.size]
+
+    def pages(self) -> int:
+        """How many pages the sections take, without the room that alignment takes between two of them."""
+        sizes = dict.fromkeys(_ORDER, 0)
+        for each in self.filled():
+            sizes[each.permissions, each.zeros] += each.size
+        return sum(-(-size // PAGE_BYTES) for size in sizes.values())
+
+    def place(self, origin: int) -> Iterator[str]:
+        """Give all sections their bases, from an address that is a multiple of a page; the lines that map their pages."""
+        for kind in _ORDER:
+            start = origin
+            for section in (*self._sections.values(), self._common):
+                if (section.permissions, section.zeros) == kind:
+                    origin += -origin % section.alignment
+                    section.base = origin
+                    origin += section.size
+            pages = -(-(origin - start) // PAGE_BYTES)
+            if pages:
+                yield f"map {start:x} {pages} {kind[0]}"
+            origin = start + pages * PAGE_BYTES
+
+
+def _kind_of(which: Token, name: str, operands: list[Operand]) -> _Kind | None:
+    """What a section is by its flags, or else by its name; None if neither says so."""
+    if re.match(r"\.t(data|bss|comm)\b", name):
+        raise which.error(NO_THREADS)
+    if operands and operands[0][0].kind is Kind.STRING:
+        flags = operands[0][0].string().decode("utf-8", "replace")
+        if "T" in flags:
+            raise operands[0][0].error(NO_THREADS)
+        permissions = "".join(("r", "w" * ("w" in flags), "x" * ("x" in flags))) if "a" in flags else ""
+        is_empty = "nobits" in [token.text for token in (operands[1] if len(operands) > 1 else [])]
+        return (permissions, is_empty and permissions == "rw")
+    return next((kind for pattern, kind in _NAMED if pattern.fullmatch(name)), None)

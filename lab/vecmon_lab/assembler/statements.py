@@ -1,0 +1,42 @@
+"""A source as statements: without comments, and with the semicolons of a line as ends."""
+
+import re
+from collections.abc import Iterator
+
+from .line import Line, SourceError
+
+_TEXT = r""""(?:[^"\\\n]|\\[^\n])*"?|'(?:\\[^\n]|[^\\\n])'?"""
+_COMMENT = re.compile(rf"(?:{_TEXT})|(?P<LINE>(?:#|//)[^\n]*)|(?P<BLOCK>/\*.*?(?:(?P<END>\*/)|\Z))", re.DOTALL)
+_END = re.compile(rf"(?:{_TEXT})|(?P<END>;)")
+
+
+def without_comments(text: str) -> tuple[str, SourceError | None]:
+    """A source with spaces in place of its comments, so that columns stay, and the error of a comment that doesn't end."""
+    error: SourceError | None = None
+
+    def blank(match: re.Match[str]) -> str:
+        nonlocal error
+        if match["BLOCK"] is None:
+            return "" if match["LINE"] is not None else match[0]
+        if match["END"] is None:
+            line, column = text.count("\n", 0, match.start()) + 1, match.start() - text.rfind("\n", 0, match.start())
+            error = SourceError(line, column, "this comment doesn't end: */ is missing", fix=())
+        return re.sub(r"[^\n]", " ", match[0])
+
+    return _COMMENT.sub(blank, text), error
+
+
+def statements(text: str) -> Iterator[Line]:
+    """The statements of a source without comments."""
+    for number, line in enumerate(text.split("\n"), 1):
+        yield from split_line(Line(line.removesuffix("\r"), number))
+
+
+def split_line(line: Line) -> Iterator[Line]:
+    """The statements of a line, which semicolons end."""
+    start = 0
+    for match in _END.finditer(line.text) if ";" in line.text else ():
+        if match["END"]:
+            yield line.part(start, match.start())
+            start = match.end()
+    yield line.part(start) if start else line

@@ -1,0 +1,203 @@
+"""Labels and constants of a source by name, and the values of operands that use them."""
+
+from collections import Counter
+from collections.abc import Sequence
+from dataclasses import dataclass, replace
+from difflib import get_close_matches
+
+from ..tables.table import read_table
+from .expression import Expression, signed
+from .line import Kind, Operand, SourceError, Token
+from .names import absence
+from .value import Value
+
+_NO_FUNCTIONS = {
+    "got": "the machine has no global offset table: compile with -fno-pic",
+    "t": "thread-local storage isn't in this machine",
+    "": "those of this assembler are %hi, %lo, %pcrel_hi and %pcrel_lo",
+}
+_CONTROL_REGISTERS = dict(read_table("keywords"))[r"csr\w*"].split()
+
+
+class UnknownName(SourceError):
+    """A name that has no value here."""
+
+
+@dataclass(frozen=True)
+class _Later:
+    """An operand that is evaluated when its value is asked for, since a name in it isn't known before."""
+
+    operand: Operand
+    here: Value
+
+
+class Symbols:
+    """Labels and constants by name, and the values of operands that use them.
+
+    is_placed: whether sections have their bases
+    """
+
+    def __init__(self) -> None:
+        self.is_placed = False
+        self._values: dict[str, Value | _Later] = {}
+        self._lines: dict[str, int] = {}
+        self._versions: dict[
+            str, str
+        ] = {}  # of constants that directives define, the name of the value that counts now
+        self._numeric = Counter[int]()
+        self._highs: dict[Value, tuple[Operand, Value]] = {}  # operands of %pcrel_hi by the instruction's address
+        self._pending: set[str] = set()
+
+    def define(self, name: Token, here: Value) -> None:
+        """Defines a label, which may be a number. Raises SourceError if a name is defined already."""
+        if name.kind is Kind.NUMBER:
+            self._numeric[int(name.text)] += 1
+            self._values[f"{int(name.text)}\n{self._numeric[int(name.text)]}"] = here
+            return
+        self._check_is_new(name)
+        self._values[name.text], self._lines[name.text] = here, name.line
+
+    def assign(self, name: Token, operand: Operand, here: Value, is_once: bool = False) -> None:
+        """Gives a name the value of an operand, in place of one that it got so before. Raises SourceError.
+
+        is_once: whether it must not have a value yet
+        """
+        if is_once or name.text not in self._versions:
+            self._check_is_new(name)
+        value: Value | _Later
+        try:
+            value = self.evaluate(operand, here)
+        except UnknownName:
+            value = _Later(operand, here)
+        except SourceError:
+            self.assume(name.text)
+            raise
+        version = f"{name.text}\n={len(self._values)}"
+        self._values[version] = self._values[name.text] = value
+        self._versions[name.text], self._lines[name.text] = version, name.line
+
+    def move(self, place: Value, size: int) -> None:
+        """Moves the labels at a place on by a number of bytes."""
+        moved = {name: place.plus(Value(size)) for name, value in self._values.items() if value == place}
+        self._values |= moved
+
+    def assume(self, name: str) -> None:
+        """Gives a name a value, whose definition is refused, so that what uses it isn't refused too."""
+        self._values.setdefault(name, Value(0))
+        self._lines.setdefault(name, 0)
+
+    def _check_is_new(self, name: Token) -> None:
+        if name.text in self._values:
+            raise name.error(f"{name.text} is defined in line {self._lines[name.text]} already")
+
+    def is_defined(self, name: str) -> bool:
+        """Whether a name has a value up to here."""
+        return name in self._values
+
+    def bound(self, operand: Operand) -> Operand:
+        """An operand whose numeric labels, and names that may get another value later, mean those of here."""
+        return [self._bound(token) for token in operand]
+
+    def _bound(self, token: Token) -> Token:
+        if token.kind is Kind.NAME and token.text in self._versions:
+            return replace(token, symbol=self._versions[token.text])
+        if token.kind is Kind.NUMBER and token.text[-1] in "bf" and token.text[:-1].isdecimal():
+            number = int(token.text[:-1])
+            return replace(token, symbol=f"{number}\n{self._numeric[number] + (token.text[-1] == 'f')}")
+        return token
+
+    def note_high(self, operands: Sequence[Operand], here: Value) -> None:
+        """Notes the symbol of %pcrel_hi in an instruction, for %pcrel_lo of its label."""
+        for operand in operands:
+            texts = [token.text for token in operand[:3]]
+            if texts == ["%", "pcrel_hi", "("] and len(operand) > 4:
+                self._highs[here] = operand[3:-1], here
+
+    def evaluate(self, operand: Operand, here: Value) -> Value:
+        """The value of an operand; a dot is the address here. Raises SourceError."""
+        return Expression(
+            operand,
+            lambda token: here if token.text == "." else self._named(token),
+            lambda name, inner: self._function(name, inner, here),
+        ).value()
+
+    def constant(self, operand: Operand, here: Value) -> int:
+        """The value of an operand that has to be a number. Raises SourceError."""
+        value = self.evaluate(operand, here)
+        if value.section is not None:
+            raise operand[0].error("a number is needed here, and this is an address: la loads one into a register")
+        if not value.is_number and not self.is_placed:
+            raise operand[0].error("the distance between two sections isn't known here")
+        return value.resolved()
+
+    def data(self, operand: Operand, here: Value, size: int) -> bytes:
+        """The value of an operand, signed or unsigned, in this number of bytes. Raises SourceError if it needs more."""
+        value, width = self.evaluate(operand, here).resolved(), 8 * size
+        if not -(1 << width - 1) <= value < 1 << width:
+            raise operand[0].error(f"{value} is out of range: {-(1 << width - 1)} to {(1 << width) - 1} fit")
+        return (value % (1 << width)).to_bytes(size, "little")
+
+    def addresses(self) -> dict[str, int]:
+        """The addresses that have names, once sections have their bases; of loaded sections, without numeric labels."""
+        values = {name: value for name, value in self._values.items() if _is_word(name) and isinstance(value, Value)}
+        return {name: it.resolved() for name, it in values.items() if it.section and it.section.permissions}
+
+    def _named(self, token: Token) -> Value:
+        """The value of a name. Raises SourceError."""
+        name = token.symbol or (token.string().decode("utf-8", "replace") if token.kind is Kind.STRING else token.text)
+        if name not in self._values:
+            raise self._unknown(token)
+        value = self._values[name]
+        if isinstance(value, Value):
+            return value
+        if name in self._pending:
+            raise token.error(f"{token.text} is defined by itself")
+        self._pending.add(name)
+        try:
+            return self.evaluate(value.operand, value.here)
+        finally:
+            self._pending.discard(name)
+
+    def _unknown(self, token: Token) -> SourceError:
+        near = () if token.symbol else get_close_matches(token.text, [name for name in self._values if _is_word(name)])
+        if token.symbol:
+            side = "after" if token.text.endswith("f") else "before"
+            message = f"there is no label {token.text[:-1]}: {side} here, where {token.text} looks for one"
+        else:
+            message = f"{token.text} is no register that fits here, and no label or constant known here"
+        return UnknownName(token.line, token.column, message + token.within, fix=near)
+
+    def _function(self, name: Token, inner: Operand, here: Value) -> Value:
+        """The value of %hi, %lo, %pcrel_hi and %pcrel_lo of a symbol. Raises SourceError."""
+        function = name.text.lower()
+        if function not in ("hi", "lo", "pcrel_hi", "pcrel_lo"):
+            reason = next(text for start, text in _NO_FUNCTIONS.items() if function.startswith(start))
+            raise name.error(f"there is no %{name.text} here: {reason}")
+        value = self.evaluate(inner, here)
+        if not (self.is_placed or value.is_number):
+            raise name.error(f"%{name.text} of an address is for instructions: its value isn't known here")
+        number = value.resolved()
+        if function == "pcrel_lo":
+            if value not in self._highs:
+                raise name.error("%pcrel_lo takes the label of an instruction with %pcrel_hi")
+            symbol, here = self._highs[value]
+            number = self.evaluate(symbol, here).resolved() - here.resolved()
+        elif function == "pcrel_hi":
+            number -= here.resolved()
+        high = number + 0x800 >> 12
+        return Value(high % (1 << 20) if function.endswith("hi") else signed(number - (high << 12)))
+
+
+def _is_word(name: str) -> bool:
+    """Whether a name is one of a label or a constant, and has no space."""
+    return " " not in name and "\n" not in name
+
+
+def control_register_error(token: Token) -> SourceError:
+    """The error of a name that isn't a control register, with the reason if it is one elsewhere."""
+    *others, last = _CONTROL_REGISTERS
+    reason = absence(token.text)
+    return token.error(
+        f"{token.text} isn't a control register of this machine, which has {', '.join(others)} and {last}"
+        f"{'. ' if reason else ''}{reason}"
+    )
