@@ -19,8 +19,8 @@ Outcome = Literal["active", "masked", "tail", "prestart", "fault", "pending", "k
 element before it wasn't possible; idle: the instruction doesn't read it."""
 
 Role = Literal["destination", "data", "element", "single", "moved", "index"]
-"""What an operand is for. data: what a store writes; element: read element by element; single: only element 0 is read; moved: its elements
-go to other places; index: numbers of elements, or offsets of addresses."""
+"""The purpose of an operand. data: stored; element: read element by element; single: read at element 0; moved: its elements go to other
+places; index: numbers of elements, or offsets of addresses."""
 
 End = Literal["ran", "fault", "illegal"]
 """How an instruction ended."""
