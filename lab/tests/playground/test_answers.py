@@ -51,7 +51,8 @@ def common(sent: Sent) -> Sent:
 
 def _common(message: Mapping[str, Any]) -> dict[str, Any]:
     patch = {name: part for name, part in message.get("patch", {}).items() if name not in OWN}
-    patch.get("source", {}).pop("exercise", None)
+    for own in ("exercise", "own_program"):
+        patch.get("source", {}).pop(own, None)
     for version in patch.get("source", {}).get("versions", []):
         version["exercise"] = version["title"] = ""  # of the free program there are none
     return {**message, "patch": patch, "lost": []}
