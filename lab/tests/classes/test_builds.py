@@ -87,6 +87,7 @@ async def test_c_source_builds_and_class_restores_it_without_compiler(tmp_path: 
 
 
 MACRO = "        .macro twice of\n        add \\of, \\of, \\of\n        .endm\n        li a0, 3\n        twice a0\n        ebreak\n"
+MACRO += "        .insn r 0x33, 0, 0, t6, zero, zero\n"  # which the lab's assembler doesn't take
 
 
 async def test_stock_assembler_source_builds(tmp_path: pathlib.Path, builds: Builds) -> None:

@@ -25,6 +25,7 @@ class StandIn:
     def __init__(self, path: pathlib.Path) -> None:
         self.path = path
         self.order: list[str] = []
+        self.quantum = 100
         self.go = threading.Semaphore(0)
         self.size, self.lines, self.digest, self.weight, self.losses = 0, 0, "", 0.0, list[str]()
 

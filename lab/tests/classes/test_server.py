@@ -328,7 +328,7 @@ async def test_source_is_assembled_and_loaded(room: Served) -> None:
     script = (await room.get("A/script"))[1]
     reply = await tab.ask("source", text="addi a0, a0, 5000\njmp x\nvadd.vv v1, v2, v3\nvadd.vv v1, v2, q\n")
     assert [(each["line"], each["column"]) for each in reply["mistakes"]] == [(1, 14), (2, 1), (4, 17)]
-    assert "near it are j, jr and jal" in reply["mistakes"][1]["message"]
+    assert "near it is jump" in reply["mistakes"][1]["message"]
     assert (await room.get("A/script"))[1] == script  # nothing was done
     reply = await tab.ask("source", text="nop\naddi a0, a0, 5000\nnop\nslli a0, a0, 99\n")
     assert [(each["line"], each["column"]) for each in reply["mistakes"]] == [(2, 14), (4, 14)]

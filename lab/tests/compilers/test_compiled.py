@@ -207,6 +207,8 @@ def test_compiler_arguments_are_closed_list() -> None:
     assert clang.has_vectors and gcc.has_vectors and not Compiler("riscv64-linux-gnu-gcc").has_vectors
 
 
+INSN = "        .insn r 0x33, 0, 0, t6, zero, zero\n"
+NO_INSN = ".insn isn't in this assembler: write .word with the instruction's 32 bits"
 DOUBLES = """\
 ## Doubles by a macro
 # Three times.
@@ -331,10 +333,10 @@ def test_c_source_with_mistakes_makes_no_lesson(clang: Compiler, tmp_path: pathl
 def test_stock_assembler_source_makes_lesson(clang: Compiler, tmp_path: pathlib.Path) -> None:
     """Which the lab's own assembler doesn't take; sentences and set-up are as they are there."""
     source, page = tmp_path / "doubles.s", tmp_path / "page.html"
-    source.write_text(DOUBLES, "ascii")
+    source.write_text(DOUBLES.replace("        .bss\n", f"{INSN}        .bss\n"), "ascii")
     words = [sys.executable, "-m", "vecmon_lab", "lesson", str(source), "-o", str(page)]
     completed = subprocess.run(words, capture_output=True, text=True)
-    assert (completed.returncode, completed.stderr) == (2, "vecmon-lab: doubles.s:3:9: there is no directive .macro\n")
+    assert (completed.returncode, completed.stderr) == (2, f"vecmon-lab: doubles.s:25:9: {NO_INSN}\n")
     subprocess.run([*words, "--cc", clang.name, "--options", "stock"], check=True)
     text = page.read_text("utf-8")
     assert "<title>Doubles by a macro" in text and "The numbers 0 to 7." in text and "Three times." in text

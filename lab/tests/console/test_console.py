@@ -283,7 +283,7 @@ def test_non_text_input_is_refused() -> None:
         ("_start: li t0, 0\n  add t0, t1 t2\n", "2:14: t2 doesn't fit here: a comma may be missing before it"),
         (
             "_start: addi t0, t1, 5000\n",
-            "1:22: 5000 doesn't fit here, as the machine reads it: addi x5, x6, 5000; the form is addi rd, rs1, imm",
+            "1:22: 5000 doesn't fit here, as the machine reads it: addi x5, x6, 5000; the form is addi rd, rs1, imm, with imm from -2048 to 2047",
         ),
         ("  j nowhere\n", "1:5: nowhere is no register that fits here, and no label or constant known here"),
     ],

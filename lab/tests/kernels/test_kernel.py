@@ -293,7 +293,7 @@ def test_kernel_calls_c_function(clang: Compiler, tmp_path: pathlib.Path) -> Non
 
 
 def test_stock_assembler_takes_source(clang: Compiler, tmp_path: pathlib.Path) -> None:
-    """Of a form that the lab's assembler doesn't have: local labels with numbers, and another section."""
+    """With a directive that the lab's assembler doesn't have, local labels with numbers, and another section."""
     text = """
         .section .rodata
 table:  .byte 3, 1, 4
@@ -310,11 +310,12 @@ total:  li a2, 0
         lbu t0, 2(t0)
         add a0, a2, t0
         ret
+        .insn r 0x33, 0, 0, t6, zero, zero
 """
     (tmp_path / "total.S").write_text(text)
     with Kernel(tmp_path / "total.S", options="stock", compiler=clang.name) as kernel:
         assert kernel.call("total", bytes([1, 2, 250]), 3, policy="both").value == 253 + 4
-    with pytest.raises(LabError, match="^total.S:2:"):
+    with pytest.raises(LabError, match="^total.S:17:9: .insn isn't in this assembler"):
         Kernel(tmp_path / "total.S")
     (tmp_path / "total.s").write_text("total: add a0, a0, a1\n ret a0\n")
     with pytest.raises(LabError, match="^total.s:2:6: invalid operand for instruction$"):

@@ -174,16 +174,16 @@ def test_exercise_is_solved(tabs: "Chrome", course: Served) -> None:
     tab.click("#start-over")
     tab.wait("text()")
     assert "a0: address of the doubles" in tab.run("text()") and not tab.run("id('editor').hidden")
-    tab.run(TYPE, "ret\nvsetvli t0, a2, e32")
+    tab.run(TYPE, "ret\nvadd.vv v1, v2")
     tab.run("id('check').click()")
     tab.wait(
-        "one('#mistakes button')?.textContent.startsWith('2:20: an operand is missing at the end; the form is vsetvli rd')"
+        "one('#mistakes button')?.textContent.startsWith('2:15: an operand is missing at the end; the form is vadd.vv vd')"
     )
     tab.wait(f"{VERDICT} === 'The source has problems.'")
     assert not tab.run("id('editor').hidden")
     assert tab.text("#try-count") == "" and not tab.run("one('#exercise .hints h3')")
     tab.click("#mistakes button")
-    assert tab.run("code().indexFromPos(code().getCursor('from'))") == 23
+    assert tab.run("code().indexFromPos(code().getCursor('from'))") == 18
     tab.run(TYPE, "ret")
     assert tab.text("#mistakes") == ""
     wrong = (OURS / "doubles" / "wrong" / "always_eight.s").read_text()

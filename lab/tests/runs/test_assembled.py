@@ -33,6 +33,7 @@ done:   li a7, 93
 input:  .zero most
 input_size: .zero 8
 """
+INSN = ".insn isn't in this assembler: write .word with the instruction's 32 bits"
 REPEATED = """        .macro thrice register
         .rept 3
         addi \\register, \\register, 1
@@ -47,6 +48,7 @@ seven:  .word 7
         add a0, a0, a1
         li a7, 93
         ecall
+        .insn r 0x33, 0, 0, t6, zero, zero
 """
 PREPROCESSED = """#define STATUS 5
 _start: li a0, STATUS
@@ -120,17 +122,17 @@ def test_mistakes_of_source_are_reported(lab: Lab, tmp_path: pathlib.Path) -> No
 
 
 def test_stock_assembler_is_an_option(lab: Lab, clang: Compiler, tmp_path: pathlib.Path) -> None:
-    """For what the lab's own assembler doesn't take: 3 + 7 by a macro, a repetition, a section and a numeric label."""
+    """For what the lab's own assembler doesn't take, here `.insn`; and 3 + 7 by a macro, a repetition, a section and a numeric label."""
     source = tmp_path / "repeated.S"
     source.write_text(REPEATED, "ascii")
-    assert lab("run", source) == (2, b"", f"vecmon-lab: {source}:1:9: there is no directive .macro\n")
+    assert lab("run", source) == (2, b"", f"vecmon-lab: {source}:15:9: {INSN}\n")
     assert lab("run", "--options", "stock", source) == (10, b"", "")
     status, output, _ = lab("profile", "--options", "stock", "--cc", clang.name, source)
     assert status == 0 and ["repeated.S:9", "3", "3"] == output.decode().split("\n\n")[1].splitlines()[1].split()[:3]
     assert lab("compare", "--options", "stock", source)[0] == 1  # nothing has written a0
     source.write_text(f"{REPEATED} bad x0\n", "ascii")
     assert lab("run", "--options", "stock", source)[2].startswith(
-        f"vecmon-lab: {source}:15:2: unrecognized instruction"
+        f"vecmon-lab: {source}:16:2: unrecognized instruction"
     )
 
 

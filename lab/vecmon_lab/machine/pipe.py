@@ -11,6 +11,16 @@ from .answers import OutOfStep, is_whole
 from .process import BLOCK_BYTES, ProgramGone
 
 
+@contextlib.contextmanager
+def _blocked_interrupts() -> Iterator[None]:
+    """Block SIGINT in this thread, and in processes that it starts meanwhile."""
+    before = signal.pthread_sigmask(signal.SIG_BLOCK, {signal.SIGINT})
+    try:
+        yield
+    finally:
+        signal.pthread_sigmask(signal.SIG_SETMASK, before)
+
+
 class PipedProcess:
     """A process of the program: a line goes in, its whole answer comes out.
 
@@ -22,8 +32,9 @@ class PipedProcess:
         self.fed = 0
         self._patience = patience
         self._unread = b""
-        try:  # in a session of its own, so that Ctrl-C in a terminal doesn't end it
-            self._child = Popen(command, stdin=PIPE, stdout=PIPE, stderr=PIPE, bufsize=0, start_new_session=True)
+        try:  # in a session of its own, so that Ctrl-C in a terminal doesn't end it, nor while it starts
+            with _blocked_interrupts():
+                self._child = Popen(command, stdin=PIPE, stdout=PIPE, stderr=PIPE, bufsize=0, start_new_session=True)
         except OSError as error:
             raise ProgramGone(f"{command[0]} can't be started: {error.strerror}") from error
         assert self._child.stdin and self._child.stdout and self._child.stderr

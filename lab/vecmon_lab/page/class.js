@@ -65,7 +65,11 @@ const listener = {
 };
 
 window.addEventListener("hashchange", () => (takeHash(), location.reload()));
-byId("forget").onclick = () => ask(textOf("class.leaving"), textOf("menu.leave"), () => (sitDown(""), location.reload()));
+byId("forget").onclick = () => ask(textOf("class.leaving"), textOf("menu.leave"), () => {
+  sitDown("");
+  addEventListener("pagehide", () => sessionStorage.clear()); // after others have kept what a reload brings back
+  location.reload();
+});
 document.addEventListener("submit", (event) => /** @type {HTMLFormElement} */ (event.target).method !== "dialog" && event.preventDefault());
 byId("join").onsubmit = () => {
   sitDown(byId("code").value.toLowerCase().replace(/[\s-]/g, ""));

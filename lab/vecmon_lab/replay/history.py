@@ -12,6 +12,7 @@ from .. import LabError
 from ..guest.guest import Guest
 from ..guest.runner import OUTPUT_BYTES
 from ..machine.answers import Stop
+from ..machine.lines import command_of
 from ..machine.session import Session
 from .counting import count_to_stop, count_to_ticks, first_stop
 from .legs import Leg, Legs
@@ -203,7 +204,7 @@ class History:
 
 def _writes(leg: Leg) -> bool:
     """Whether lines of a leg set registers or memory."""
-    return any(line[2:] != "out" for line in leg.lines)
+    return any(command_of(line) != "out" for line in leg.lines)
 
 
 def _nothing() -> Generator[None, None, None]:
