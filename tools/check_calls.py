@@ -7,7 +7,7 @@ with status 1, if
 
 - a function is called by its address, or its address is taken: then the calls that it sees wouldn't be all;
 - code that runs after `Machine::new` can allocate memory: `Machine::answer` and `Machine::operator`, which do all lines of a script, and
-  `hart::step::step`, which the recorder calls;
+  `hart::instruction_cycle::step`, which the recorder calls;
 - a function can call itself, directly or by others, and RECURSIONS doesn't name it with its greatest depth.
 
 It prints a line for each module. Status 2, with one line, if a module can't be read.
@@ -30,7 +30,7 @@ ALLOCATORS = {"rattle_alloc", "rattle_realloc"}
 WITHOUT_MEMORY = (
     "monitor_machine::machine::Machine::answer",
     "monitor_machine::machine::Machine::operator",
-    "hart::step::step",
+    "hart::instruction_cycle::step",
 )
 RECURSIONS = {
     "rv_asm::print::put_hex_digits": "9 frames at most: one for each of 8 digits, and one for none",
@@ -38,6 +38,7 @@ RECURSIONS = {
     "vec_monitor::clap++": "clap's arguments that are dropped: of one level",
     "vec_recorder::clap++": "the same",
     "std_collections::btree::node::Node::": "the height of a tree of clap's arguments",
+    "core::slice::sort::": "twice the binary logarithm of the number of rows, 34; then it sorts by a heap. The choice of a pivot: log8 of it",
 }
 ELF = b"\x7fELF"
 NAME = r'@("(?:[^"\\]|\\.)*"|[\w.$-]+)'
