@@ -326,6 +326,7 @@ def test_earlier_lines_and_refusals_are_shown(sit: Sit) -> None:
     assert "vill" in tab.text("#step") and "vle32.v" in tab.text("#step")
     tab.command("step 1")
     tab.wait("id('stop').textContent.includes('vill') && !id('step').textContent.includes('vill')")
+    tab.run("id('show-source')?.click()")  # the listing hides the button
     tab.copied_link()
     assert "vill" in tab.text("#step")
     teacher = sit("teacher")
