@@ -44,6 +44,8 @@ impl<'a, A: Allocator> Machine<'a, A> {
     /// Create a machine with absent users and slices of `quantum` ticks. Return the first fault
     /// that applies; `NoMemory` is the last. No later call allocates memory.
     #[tactic(auto, using(crate::proofs::PartLaws::new_are_eight))]
+    // Out of line, as the calls below it are: inlined, each adds copies of the machine to the caller's stack frame.
+    #[inline(never)]
     pub fn new(alloc: A, quantum: usize, images: &'a [Image<'a>]) -> Result<Self, NewFault>
     where
         A: Clone,

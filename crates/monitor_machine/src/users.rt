@@ -71,6 +71,8 @@ fn absent_contexts() -> [Context; USER_COUNT]
 }
 
 /// Create eight empty traces, or fail if memory runs out.
+// Out of line: with its loop in `Users::new`, LLVM copies the fault's bytes from a second result of 217 KB.
+#[inline(never)]
 fn empty_traces<A: Allocator + Clone>(alloc: &A) -> Result<Vec<Trace<A>, A>, AllocError>
     ensures { IfOk result (λ traces. traces.items ≡ replicate user_count []) }
 {
@@ -106,6 +108,7 @@ fn run_states_of(contexts: &[Context; USER_COUNT]) -> [RunState; USER_COUNT]
 impl<A: Allocator> Users<A> {
     /// Create eight absent users, or fail if memory runs out.
     #[tactic(auto, using(crate::proofs::PartLaws::new_users))]
+    #[inline(never)]
     pub(crate) fn new(alloc: A) -> Result<Self, NoMemory>
     where
         A: Clone,

@@ -62,6 +62,8 @@ impl<A: Allocator> Model for Pool<A> {
 
 impl<A: Allocator> Pool<A> {
     /// Return a pool in which each user's memory is empty.
+    // Out of line: inlined, it adds copies of the pool, of 197 KB each, to the caller's stack frame.
+    #[inline(never)]
     pub fn new(alloc: A) -> Result<Self, NoMemory>
         ensures { IfOk result (λ pool. pool ≡ no_memories) }
     {
