@@ -31,6 +31,10 @@ cell_at word a =
 pub record Holds (m : Memory) (w : ℕ) : Type 0 where
   pub cells : (a : ℕ) → get m a ≡ cell_at w a
 
+-- for each word, there is such a memory
+abbrev pub MemoriesExist : Type 0
+MemoriesExist = (w : ℕ) → (m : Memory) × Holds m w
+
 -- ---- loads
 
 -- A step of the state before ends so, and leaves the state after, and the memory as it is.

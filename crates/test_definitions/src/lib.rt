@@ -3,6 +3,7 @@
 
 mod legality;
 mod list_laws;
+mod memories;
 mod memory;
 mod scalar;
 mod slice_bounds;
@@ -11,6 +12,7 @@ mod vector;
 
 pub use legality::legality_agree;
 pub use list_laws::lists_by_index;
+pub use memories::memories_exist;
 pub use memory::{faults_agree, loads_agree, scalar_accesses_agree, stores_agree};
 pub use scalar::{branches_agree, control_registers_agree, scalars_agree};
 pub use slice_bounds::slices_are_bounded;
