@@ -24,6 +24,8 @@ UNCLEAN = {"corrected", "versions", "qemu_value"}  # keys of vectors whose resul
 _TERM = re.compile(r"(?:(signed|unsigned|sext|zext)\()?(-?\w+)(\.mask)?(?:\[(\w+)\])?\)?")
 _TARGET = re.compile(r"v(\d+)(\.mask)?\[(\d+)\]")
 _KEPT = re.compile(r"(\S+) kept its value (\S+): (.*)")
+_NAMED_EQUALITY = re.compile(r"v\d+\[\d+\] [!=]= \([-−]\d+\)")
+_NEGATIVE_EQUALITY = re.compile(r"\([-−]\d+\) [!=]= \([-−]\d+\)")
 _ALL_ONES = re.compile(r"(\S+) = (0x[0-9a-f]+), all ones, since it is agnostic under policy ones: (.*)")
 _UNMASKED = (
     "vmerge",
@@ -161,7 +163,8 @@ class Checker:
             return Found(kind, problem)
         for side in equation.sides:
             try:
-                problem = self._side_problem(side, equation.exact, width)
+                is_signed = _is_negative_equality(side, equation.sides[-1])
+                problem = self._side_problem(side, equation.exact, width, is_signed)
             except LeftOut:
                 kind, problem = "equations that leave numbers out", ""
             if problem:
@@ -180,14 +183,17 @@ class Checker:
                     return f"{side} isn't {verdict}"
         return ""
 
-    def _side_problem(self, side: str, exact: int, width: int) -> str:
-        """What is wrong with a side of an equation: with numbers it is the exact result, with names the same in the target's bits."""
+    def _side_problem(self, side: str, exact: int, width: int, is_signed: bool) -> str:
+        """What is wrong with a side of an equation: with numbers it is the exact result, with names the same in the target's bits.
+
+        is_signed: whether the names of elements are signed numbers
+        """
         target_width = max(8, self.destination.eew) if self.destination else 64
         try:
             value = evaluate(side, target_width)
             return "" if value == exact else f"{side} is {value}, and not {exact}"
         except Unreadable:
-            values = [evaluate(side, target_width, number) for number in self._numbers(side)]
+            values = [evaluate(side, target_width, number) for number in self._numbers(side, is_signed)]
         fits = [(bool(value) == bool(exact)) if width == 1 else (value - exact) % (1 << width) == 0 for value in values]
         return "" if any(fits) else f"{side} is {' or '.join(map(str, values))}, and not {exact}"
 
@@ -200,12 +206,15 @@ class Checker:
         is_masked = not self._word >> 25 & 1 and not self.name.startswith(_UNMASKED)
         return f"element {index} is masked off" if is_masked and not bits_of(self._state.before.v, index, 1) else ""
 
-    def _numbers(self, side: str) -> Iterator["Numbers"]:
-        """The numbers of the names in a side, with each width that a register may be read with."""
+    def _numbers(self, side: str, is_signed: bool = False) -> Iterator["Numbers"]:
+        """The numbers of the names in a side, with each width that a register may be read with.
+
+        is_signed: whether the names of elements are signed numbers
+        """
         registers = sorted({found[2] for found in _TERM.finditer(side) if not found[3]})
         choices = [[(name, width) for width in self._widths(REGISTERS.get(name, name))] for name in registers]
         for chosen in itertools.product(*choices):
-            yield Numbers(self._state, dict(chosen), self._access_width())
+            yield Numbers(self._state, dict(chosen), self._access_width(), is_signed)
 
     def _access_width(self) -> int:
         """The width of an element in memory, in bits."""
@@ -290,6 +299,14 @@ class Found:
     problem: str = ""
 
 
+def _is_negative_equality(side: str, numbers: str) -> bool:
+    """Whether a side compares an element with negative digits, and the side with numbers has a negative number in its place.
+
+    Equal bits are equal numbers only if both have one sign.
+    """
+    return bool(_NAMED_EQUALITY.fullmatch(side) and _NEGATIVE_EQUALITY.fullmatch(numbers))
+
+
 def _control_value(control: ControlRegisters, number: int) -> int:
     """The value of a control register by its number (sections 3.1 to 3.9); 0 for another number."""
     rounding = control.vxrm << 1 | control.vxsat
@@ -314,8 +331,9 @@ def _asked(before: Before) -> dict[str, int]:
 class Numbers:
     """The numbers of names in an equation, by the state before the instruction. Calling it raises KeyError for other names."""
 
-    def __init__(self, state: State, widths: Mapping[str, int], element: int) -> None:
-        self._state, self._widths, self._element = state, widths, element
+    def __init__(self, state: State, widths: Mapping[str, int], element: int, is_signed: bool) -> None:
+        """widths: of registers in bits; element: the width of memory; is_signed: whether elements without a function are signed"""
+        self._state, self._widths, self._element, self._is_signed = state, widths, element, is_signed
 
     def __call__(self, term: str) -> int:
         found = _TERM.fullmatch(term)
@@ -323,7 +341,8 @@ class Numbers:
             raise KeyError(term)
         function, name, mask, place = found.groups()
         value, width = self._value(name, bool(mask), place)
-        return signed(value, width) if function in ("signed", "sext") else value
+        has_sign = function in ("signed", "sext") or self._is_signed and function is None and place is not None
+        return signed(value, width) if has_sign and width > 1 else value
 
     def _value(self, name: str, is_mask: bool, place: str | None) -> tuple[int, int]:
         """The unsigned number that a name has, and its width."""

@@ -1,21 +1,24 @@
 """Equations that are shown, evaluated by an independent reader and compared with QEMU's results for the golden vectors."""
 
+import ast
 import random
+from collections.abc import Iterator
 
 import pytest
 
 from support.golden import golden_vectors
-from support.golden_equations import Tally, check_vectors, clean_vectors
+from support.golden_equations import Tally, check_vectors, clean_vectors, state_of
 from support.shown_equations import Equation, LeftOut, Unreadable, evaluate, read_causes, read_equation
-from vecmon_lab.meanings import why
+from vecmon_lab.meanings import equation, why
 from vecmon_lab.meanings.calculation import Notation, Sign, Term
-from vecmon_lab.meanings.formula import sext
+from vecmon_lab.meanings.formula import Names, sext
 from vecmon_lab.meanings.record import record_of
 
 SEED, VECTORS, ELEMENTS = 137, 1000, 4
 LEAST = {"equations": 4000, "kept": 4000}  # texts in three forms
 PLANTED = 20  # vectors of an erroneous core
 MIXED = ["vwmulsu.vv", "vwmulsu.vx", "vmulhsu.vv", "vmulhsu.vx", "vwmaccsu.vv", "vwmaccsu.vx", "vwmaccus.vx"]
+EQUALITIES = {0x65EFBF57, 0x62983557}  # vmsne.vi and vmseq.vi, each with an element that equals its negative immediate
 UNSIGNED = ["vmsgtu.vi", "vmsleu.vi", "vmadc.vi", "vwaddu.wv", "vminu.vx"]
 
 
@@ -44,6 +47,37 @@ def test_operand_with_wrong_sign_is_found(monkeypatch: pytest.MonkeyPatch, name:
     assert tally_of([name], PLANTED).wrong == []
     monkeypatch.setattr(Notation, "taken", one_sign)
     assert any("in signed numbers" in problem for problem in tally_of([name], PLANTED).wrong)
+
+
+def tally_of_equalities() -> Tally:
+    """The equations of all elements that are compared with a negative immediate."""
+    vectors = [each for each in clean_vectors(golden_vectors()) if state_of(*each).before.word in EQUALITIES]
+    assert {vector["name"] for _, vector in vectors} == {"vmsne.vi", "vmseq.vi"}
+    return check_vectors(vectors, 256, random.Random(SEED))
+
+
+def test_element_equals_negative_immediate() -> None:
+    """Both are signed numbers in the signed form, and both unsigned in the others, as QEMU compares their bits."""
+    assert tally_of_equalities().wrong == []
+
+
+def compare_unlike(node: ast.expr, _: Names) -> Iterator[ast.expr]:
+    """As `_compared`, but only the immediate is shown as the reader wants."""
+    if isinstance(node, ast.Compare):
+        yield node.comparators[0]
+
+
+def test_unlike_signs_of_an_equality_are_found(monkeypatch: pytest.MonkeyPatch) -> None:
+    """`v30[3] != (-1) = 255 != (-1)` isn't how the instruction compares."""
+    monkeypatch.setattr(equation, "_compared", compare_unlike)
+    assert any("= 255 != (−1) =" in problem for problem in tally_of_equalities().wrong)
+
+
+def test_signed_name_of_an_unsigned_immediate_is_found(monkeypatch: pytest.MonkeyPatch) -> None:
+    """Unsigned numbers of `v30[3] != unsigned(-1) = 255 != 255` under names without `unsigned`."""
+    named = Term.named
+    monkeypatch.setattr(Term, "named", lambda term, notation: named(term, notation).replace("unsigned(-1)", "-1"))
+    assert any("in unsigned numbers" in problem for problem in tally_of_equalities().wrong)
 
 
 def test_calculation_with_wrong_sign_is_found(monkeypatch: pytest.MonkeyPatch) -> None:
