@@ -12,7 +12,7 @@ import sys
 import time
 from collections.abc import Iterator
 
-SECONDS = 10
+SECONDS = 60
 VARIABLE = "VECMON_TEST_RUN"
 
 

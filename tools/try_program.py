@@ -20,7 +20,7 @@ IMAGES = TOP / "tests/command_lines/data"
 
 # Less than the frames of the users' memory, which are 8 MiB, and enough to start.
 TOO_LITTLE_MEMORY = 8000 * 1024
-SECONDS = 60
+SECONDS = 180
 
 
 class Run(NamedTuple):

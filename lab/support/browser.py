@@ -7,6 +7,7 @@ import shutil
 from collections.abc import Iterator
 from typing import TYPE_CHECKING
 
+from support.busy_host import PATIENCE
 from support.processes import descendants, end_all
 
 if TYPE_CHECKING:
@@ -72,7 +73,9 @@ def _start(command: str, more: tuple[str, ...]) -> "Chrome":
     for word in ("headless=new", "no-sandbox", "disable-dev-shm-usage", "disable-gpu", size, *more):
         options.add_argument(f"--{word}")
     options.set_capability("goog:loggingPrefs", {"browser": "ALL"})
-    return Chrome(options=options, service=Service(driver))
+    browser = Chrome(options=options, service=Service(driver))
+    browser.set_script_timeout(PATIENCE)
+    return browser
 
 
 def click(browser: "Chrome", selector: str) -> None:
@@ -84,7 +87,7 @@ def click(browser: "Chrome", selector: str) -> None:
         on.find_element("css selector", selector).click()
         return True
 
-    WebDriverWait(browser, 30, ignored_exceptions=[StaleElementReferenceException]).until(is_clicked)
+    WebDriverWait(browser, PATIENCE, ignored_exceptions=[StaleElementReferenceException]).until(is_clicked)
 
 
 def press(browser: "Chrome", *keys: str) -> None:

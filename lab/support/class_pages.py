@@ -14,6 +14,7 @@ import urllib.request
 from collections.abc import Callable, Iterator, Sequence
 from typing import IO, TYPE_CHECKING, Any
 
+from support.busy_host import PATIENCE
 from support.checked_requests import invalid_requests
 from support.places import SUM, TOP
 
@@ -27,20 +28,22 @@ PIECES = """all('#source + .CodeMirror .CodeMirror-line [class^=cm-]').map((piec
     `${piece.className.slice(3)} ${piece.textContent}`)"""  # of the source in sight, with their kinds
 SIGNS = """Array.from({ length: code().lineCount() }, (_, line) =>
     `${code().lineInfo(line).gutterMarkers?.marks?.textContent ?? ""}${line + 1}`).filter((sign) => /[●○▶]/.test(sign)).join()"""
-PATIENCE = 180  # seconds: after so long a test that waits has failed
 FRAME = "requestAnimationFrame(() => setTimeout(arguments[0])), setTimeout(arguments[0], 100)"  # which none has out of sight
 
 
 def lab_command(takes_c: bool, before: str = "") -> list[str]:
-    """The command that runs the lab, with checked requests; root may compile others' C, if that is asked for.
+    """The command that runs the lab, with limits for a busy host and checked requests.
+
+    takes_c: whether root may compile others' C
 
     before: statements of Python that end with `; `
     """
     compiles = (
         "from vecmon_lab.compilers import sandbox; sandbox.check_sandbox = lambda account: None; " if takes_c else ""
     )
+    limits = "from support.busy_host import raise_limits; raise_limits(); "
     checks = "from support.checked_requests import check_requests; check_requests(); "
-    return [sys.executable, "-c", f"{compiles}{checks}{before}import vecmon_lab.__main__ as lab; lab.main()"]
+    return [sys.executable, "-c", f"{compiles}{limits}{checks}{before}import vecmon_lab.__main__ as lab; lab.main()"]
 
 
 class Served:
@@ -93,9 +96,11 @@ class Served:
         return role.title() if role in ("teacher", "wall") else f"Seat {role}"
 
     def programs(self) -> list[int]:
-        """The numbers of the program's processes, the server's children."""
-        output = subprocess.run(["ps", "-o", "pid=", "--ppid", str(self.server.pid)], stdout=subprocess.PIPE, text=True)
-        return [int(word) for word in output.stdout.split() if word != str(self.server.pid)]
+        """The numbers of the program's processes, children of the server, whose others make checkpoints."""
+        command = ["ps", "-o", "pid=,comm=", "--ppid", str(self.server.pid)]
+        output = subprocess.run(command, stdout=subprocess.PIPE, text=True, check=True)
+        children = [line.split(maxsplit=1) for line in output.stdout.splitlines()]
+        return [int(number) for number, name in children if name == self.program.name]
 
     def fetch(self, name: str) -> bytes:
         """A script or a transcript, as the teacher fetches it."""

@@ -14,6 +14,7 @@ from typing import Any
 
 import aiohttp
 
+from support.busy_host import PATIENCE
 from support.message_schema import check_message, check_request, check_view
 from support.places import TOP
 from vecmon_lab.classes import server as class_server
@@ -23,7 +24,7 @@ from vecmon_lab.classes.view import Class
 from vecmon_lab.machine.program import find_program
 
 LOOP = ["enter", "map 10000 1 rwx", "asm 10000 addi x5, x5, 1", "asm 10004 jal x0, -4", "setpc 10000"]
-SECONDS = 60.0  # until a test that waits in vain is given up
+SECONDS = float(PATIENCE)
 
 Message = dict[str, Any]
 
@@ -183,7 +184,7 @@ async def served(
 ) -> AsyncIterator[Served]:
     """A class that is served in this process."""
     store = Store(folder, find_program(), images, quantum, machines)
-    members = Class(store, 5.0, clock=clock, exercises=exercises, builds=builds)
+    members = Class(store, SECONDS, clock=clock, exercises=exercises, builds=builds)
     async with class_server.served(
         members, class_server.listening("127.0.0.1", 0), {name}
     ) as port, _session() as session:
@@ -194,9 +195,10 @@ async def served(
 
 def command(folder: pathlib.Path, *words: str, makes_checkpoints: bool = True) -> list[str]:
     """The command that serves a class."""
-    start = "from vecmon_lab.classes import scripts; scripts.SHORTEN_SECONDS = 1e9; import vecmon_lab.__main__ as lab; lab.main()"
-    lab = ["-m", "vecmon_lab"] if makes_checkpoints else ["-c", start]
-    return [sys.executable, *lab, "class", str(folder), *words, "--port", "0", "--no-clock"]
+    limits = "from support.busy_host import raise_limits; raise_limits(); "
+    spares = "" if makes_checkpoints else "from vecmon_lab.classes import scripts; scripts.SHORTEN_SECONDS = 1e9; "
+    start = f"{limits}{spares}import vecmon_lab.__main__ as lab; lab.main()"
+    return [sys.executable, "-c", start, "class", str(folder), *words, "--port", "0", "--no-clock"]
 
 
 @asynccontextmanager

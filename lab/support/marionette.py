@@ -101,8 +101,8 @@ class Firefox:
 
 
 def _connected(port: int) -> socket.socket:
-    """A connection to a port that is opened within half a minute."""
-    end = time.monotonic() + 30
+    """A connection to a port that is opened in time."""
+    end = time.monotonic() + SECONDS
     while True:
         try:
             return socket.create_connection(("127.0.0.1", port))

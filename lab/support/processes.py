@@ -8,7 +8,7 @@ import time
 from collections.abc import Collection
 from typing import NamedTuple
 
-SECONDS = 10.0
+SECONDS = 60.0
 
 
 class Process(NamedTuple):

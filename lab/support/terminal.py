@@ -12,7 +12,7 @@ import time
 from collections.abc import Mapping, Sequence
 from types import TracebackType
 
-MAX_SECONDS = 60  # of silence, after which a test that waits fails
+MAX_SECONDS = 180  # of silence, after which a test that waits fails
 FORTH, ESCAPES = re.compile(r"\x1b\[[0-9]*C"), re.compile(r"\x1b(?:\[[0-9;?]*[A-Za-z]|[()][A-Z0-9]|[=>])|\r")
 WHERE, HERE = "\x1b[6n", b"\x1b[1;1R"  # a program asks for the place of the cursor, and the terminal's answer
 INTERRUPT, END, UP = "\x03", "\x04", "\x1b[A"

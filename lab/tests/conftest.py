@@ -10,8 +10,10 @@ from typing import TYPE_CHECKING
 
 import pytest
 from _pytest.terminal import TerminalReporter
+from hypothesis import HealthCheck, settings
 
 from support.browser import WINDOWS, browser_with
+from support.busy_host import raise_limits
 from support.commands import Lab
 from support.skips import (
     NO_BINUTILS,
@@ -48,6 +50,9 @@ LEFT_OUT = {
     "of documented commands": NO_TOOL,
 }
 
+raise_limits()
+settings.register_profile("busy host", deadline=None, suppress_health_check=[HealthCheck.too_slow])
+settings.load_profile("busy host")
 signal.signal(signal.SIGINT, signal.default_int_handler)  # which a job in the background ignores, with what it starts
 
 

@@ -17,6 +17,7 @@ from typing import IO
 
 import pytest
 
+from support.busy_host import PATIENCE
 from support.places import TOP
 from vecmon_lab import check
 
@@ -191,8 +192,8 @@ def clone(tmp_path: pathlib.Path, program: pathlib.Path) -> Iterator[Clone]:
 
 
 def until(holds: Callable[[], object]) -> None:
-    """Waits until something holds, at most 60 seconds."""
-    end = time.monotonic() + 60
+    """Waits until something holds, but not for ever."""
+    end = time.monotonic() + PATIENCE
     while not holds():
         assert time.monotonic() < end
         time.sleep(0.02)
@@ -336,7 +337,7 @@ def test_wait_for_a_build_of_another_start(clone: Clone) -> None:
     process = clone.start("--wait")
     assert process.stderr and "waiting for another tools/run" in process.stderr.readline()
     clone.hold()
-    assert process.communicate(timeout=60)[0] == check.first_script()[1]
+    assert process.communicate(timeout=PATIENCE)[0] == check.first_script()[1]
     assert process.returncode == 0 and clone.programs() == OPTIMIZED and clone.builds() == ALL
 
 
@@ -419,7 +420,7 @@ def test_interrupted_first_build_is_repeated(clone: Clone, step: str, number: in
     process = clone.start()
     clone.wait_for_step(step)
     os.killpg(process.pid, number)
-    process.communicate(timeout=60)
+    process.communicate(timeout=PATIENCE)
     assert process.returncode == status
     until(lambda: not running_builds(clone))
     assert clone.folders() == [] and not (clone.unproved / "current").exists()
@@ -432,7 +433,7 @@ def test_killed_first_build_is_repeated(clone: Clone) -> None:
     process = clone.start()
     clone.wait_for_step(FIRST[1])
     process.kill()
-    process.communicate(timeout=60)
+    process.communicate(timeout=PATIENCE)
     assert len(clone.rooms()) == 1 and clone.folders() == []
     clone.hold()
     until(lambda: not running_builds(clone))
@@ -477,7 +478,7 @@ def test_interrupted_script_leaves_the_background_build(clone: Clone) -> None:
         assert process.stdout.readline()
         clone.wait_for_step(*SECOND)
         os.killpg(process.pid, number)
-        process.communicate(timeout=60)
+        process.communicate(timeout=PATIENCE)
         assert process.returncode == -number and running_builds(clone)
     clone.hold()
     clone.wait_for_background()
@@ -544,7 +545,7 @@ def test_concurrent_starts_build_once(clone: Clone, tmp_path: pathlib.Path) -> N
         processes = [clone.start(errors=one), clone.start(errors=other)]
     until(lambda: any("waiting for another tools/run" in file.read_text() for file in files))
     clone.hold()
-    ended = [process.communicate(timeout=60) for process in processes]
+    ended = [process.communicate(timeout=PATIENCE) for process in processes]
     assert [process.returncode for process in processes] == [0, 0]
     assert [output for output, _ in ended] == [check.first_script()[1]] * 2
     clone.wait_for_background()
@@ -614,7 +615,7 @@ def test_changed_sources_during_first_build_are_detected(clone: Clone) -> None:
     clone.wait_for_step("compile vecmon -O0")
     clone.write("crates/low/src/lib.rt", "fn changed() {}\n")
     clone.hold()
-    _, errors = process.communicate(timeout=60)
+    _, errors = process.communicate(timeout=PATIENCE)
     assert (process.returncode, clone.folders()) == (2, [])
     assert errors.endswith("tools/run: the sources changed during the build: run tools/run again\n")
 

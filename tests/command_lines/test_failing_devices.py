@@ -13,7 +13,7 @@ from tests.program import built
 SCRIPT = b"1 enter\n1 state\n"
 ANSWERS = (b"1 entered\n", b"1 state stopped pc=0000000000000000\n")
 OUTPUT = b"".join(ANSWERS)
-SECONDS = 20
+SECONDS = 180
 
 
 @pytest.mark.parametrize("taken", range(len(OUTPUT)))

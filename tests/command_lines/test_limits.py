@@ -14,7 +14,7 @@ from tests.program import built
 MAX_IMAGE = 4_194_304  # bytes
 MAX_SCRIPT = 16_777_216  # bytes
 MAX_MEMORY = 64 << 20  # bytes of a process: its users' 8 MiB, an image and more
-SECONDS = 20
+SECONDS = 180
 LOADS = b"1 enter\n1 load a\n1 load b"
 LOADED = b"1 entered\n1 E09 Magic\n1 E08\n"
 

@@ -16,7 +16,7 @@ from vecmon_lab.machine.session import Session
 STOCK = DATA / "stock"
 INSTRUCTIONS = DOCS / "INSTRUCTIONS.md"
 SOURCES = sorted(path.stem for path in STOCK.glob("*.s"))
-PURE = settings(derandomize=True, database=None, deadline=None)
+PURE = settings(derandomize=True, database=None)
 
 
 def load(session: Session, program: Program) -> None:

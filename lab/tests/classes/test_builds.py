@@ -201,8 +201,13 @@ async def test_sandbox_hides_system_files(tmp_path: pathlib.Path, builds: Builds
 async def test_endless_compile_delays_no_other_seat(
     tmp_path: pathlib.Path, builds: Builds, monkeypatch: pytest.MonkeyPatch
 ) -> None:
-    """Another seat's steps are answered meanwhile, and the seat's own; it has one at a time, which ends."""
-    monkeypatch.setattr(sandbox, "SECONDS", 4)
+    """Another seat's steps are answered meanwhile, and the seat's own; it has one at a time, which ends.
+
+    The steps together take a small part of the compiler's limit of processor time, which a busy host shares among both.
+    """
+    limit = "sandbox_main.CPU_SECONDS, sandbox_main.LIMITS[sandbox_main.resource.RLIMIT_CPU] = 4, (4, 5)"
+    start = f"from vecmon_lab.compilers import sandbox_main; {limit}; sandbox_main.main()"
+    monkeypatch.setattr(sandbox, "MODULE", ("-c", start))
     async with served(tmp_path / "class", builds=builds) as room:
         hostile, second, other = await room.sit("A1"), await room.sit("A1"), await room.sit("A2")
         await other.ask("source", text="loop: addi t0, t0, 1\n j loop\n")
@@ -215,7 +220,7 @@ async def test_endless_compile_delays_no_other_seat(
         while not endless.done():
             await other.do("step 1")
             steps += 1
-        assert steps > 20 and "was stopped" in (await endless)["error"]
+        assert steps > 20 and "was stopped" in (await endless)["mistakes"][0]["text"]
         monkeypatch.undo()
         assert "error" not in await hostile.ask("source", text=EMPTY, language=C)
 

@@ -20,8 +20,6 @@ TABLE = pathlib.Path("/proc/self/net/tcp")
 
 @pytest_asyncio.fixture  # type: ignore[misc]
 async def room(tmp_path: pathlib.Path, monkeypatch: pytest.MonkeyPatch) -> AsyncIterator[Served]:
-    monkeypatch.setattr(class_server, "PATIENCE", 2.0)
-    monkeypatch.setattr(class_server, "READ_SECONDS", 2.0)
     monkeypatch.setattr(class_server, "UNKNOWN", 3)
     async with served(tmp_path / "class") as room:
         yield room
@@ -57,7 +55,8 @@ def request(room: Served) -> bytes:
     return f"GET / HTTP/1.1\r\nHost: 127.0.0.1:{room.port}\r\n\r\n".encode("ascii")
 
 
-async def test_pings_prolong_no_wait_for_code(room: Served) -> None:
+async def test_pings_prolong_no_wait_for_code(room: Served, monkeypatch: pytest.MonkeyPatch) -> None:
+    monkeypatch.setattr(class_server, "PATIENCE", 2.0)
     silent = await room.session.ws_connect(room.url + "socket")
     end, start = asyncio.create_task(silent.receive()), asyncio.get_running_loop().time()
     while not end.done():
@@ -75,22 +74,23 @@ async def test_oldest_socket_without_code_makes_room(room: Served) -> None:
     assert (await asyncio.wait_for(last.receive_json(), SECONDS))["who"] == "A2"
 
 
-async def test_connection_that_takes_no_answer_is_closed(room: Served) -> None:
-    own = await connection(room, request(room) * connections.AHEAD)  # more than the system's buffers hold
-    await until_closed(room, own)
-    await room.sit("A1")
-
-
-async def test_oldest_connection_with_unread_answers_makes_room(
+async def test_connection_that_takes_no_answer_is_closed(
     tmp_path: pathlib.Path, monkeypatch: pytest.MonkeyPatch
 ) -> None:
-    monkeypatch.setattr(class_server, "UNKNOWN", 3)
+    monkeypatch.setattr(class_server, "READ_SECONDS", 2.0)
     async with served(tmp_path / "class") as room:
-        oldest, *others = [await connection(room, request(room) * connections.AHEAD) for _ in range(4)]
-        await until_closed(room, oldest)
+        own = await connection(room, request(room) * connections.AHEAD)  # more than the system's buffers hold
+        await until_closed(room, own)
+        monkeypatch.undo()  # a tab has more time for its answers to pings
         await room.sit("A1")
-        for each in others:
-            each.close()
+
+
+async def test_oldest_connection_with_unread_answers_makes_room(room: Served) -> None:
+    oldest, *others = [await connection(room, request(room) * connections.AHEAD) for _ in range(4)]
+    await until_closed(room, oldest)
+    await room.sit("A1")
+    for each in others:
+        each.close()
 
 
 async def test_connection_with_requests_ahead_is_closed(room: Served) -> None:

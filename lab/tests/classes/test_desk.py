@@ -7,7 +7,6 @@ import random
 from collections.abc import Iterable, Mapping
 from typing import Any
 
-import pytest
 
 from support.class_tabs import SECONDS, patched
 from support.desk import Desk, untimed
@@ -84,8 +83,7 @@ def test_desk_equals_server_for_repository_sources(tmp_path: pathlib.Path) -> No
     assert len(desk) > 900 and (b"hallo" * 9).hex() in json.dumps(desk)
 
 
-def test_desk_equals_server_for_exercise_answers(tmp_path: pathlib.Path, monkeypatch: pytest.MonkeyPatch) -> None:
-    monkeypatch.setattr("vecmon_lab.classes.checks.SECONDS", SECONDS)  # as other tests may take all cores
+def test_desk_equals_server_for_exercise_answers(tmp_path: pathlib.Path) -> None:
     requests = exercise_requests()
     names = sorted(path.name for path in OURS.iterdir() if path.is_dir())
     server, desk = answered(tmp_path / "class", requests, names, has_clock=True)

@@ -1,11 +1,12 @@
 """Power cuts of a served class on ext4: its disk is copied while four seats work, and each copy is mounted and opened.
 
-It needs root, loop devices and mkfs.ext4. In CI it makes four cuts where it has them, and opens the copies; by
-hand, POWER_CUTS=30 python -m pytest FILE also counts the steps of more than a second before each cut.
+It needs root, loop devices and mkfs.ext4. In CI it makes four cuts where it has them, opens the copies, and waits until a copy has
+all steps before the last cut; by hand, POWER_CUTS=30 python -m pytest FILE also counts the steps of more than a second before each cut.
 """
 
 import asyncio
 import contextlib
+import math
 import os
 import pathlib
 import shutil
@@ -16,13 +17,14 @@ from collections.abc import Iterator
 
 import pytest
 
-from support.class_tabs import LOOP, Tab, process
+from support.busy_host import PATIENCE
+from support.class_tabs import LOOP, Served, Tab, process
 from vecmon_lab.classes.store import Store
 from vecmon_lab.classes.view import Class
 
 IN_CI = os.environ.get("CI") and shutil.which("mkfs.ext4") and os.access("/dev/loop-control", os.W_OK)
 CUTS = int(os.environ.get("POWER_CUTS", "4" if IN_CI else "0"))
-SECONDS = 1.0 if "POWER_CUTS" in os.environ else 4.0  # in CI other tests keep the disk busy
+SECONDS = 1.0 if "POWER_CUTS" in os.environ else math.inf  # in CI other tests keep the disk busy
 SEATS = ["A1", "A2", "A3", "A4"]
 DISK_BYTES = 32 << 20
 
@@ -63,6 +65,27 @@ def check(image: pathlib.Path, program: pathlib.Path, known: list[int]) -> list[
     return counts
 
 
+def cut(room: Served, image: pathlib.Path, copy: pathlib.Path) -> float:
+    """Copies the disk of a class at one moment; returns when that was."""
+    assert room.server
+    room.server.send_signal(signal.SIGSTOP)
+    now = time.monotonic()
+    shutil.copyfile(image, copy)
+    room.server.send_signal(signal.SIGCONT)
+    return now
+
+
+async def wait_for_steps(room: Served, image: pathlib.Path, program: pathlib.Path, steps: list[int]) -> None:
+    """Waits until a copy of the disk has these numbers of steps."""
+    copy, end = image.with_suffix(".copy"), time.monotonic() + PATIENCE
+    cut(room, image, copy)
+    while any(count < minimum for count, minimum in zip(check(copy, program, [0] * len(steps)), steps)):
+        assert time.monotonic() < end
+        await asyncio.sleep(0.3)
+        cut(room, image, copy)
+    copy.unlink()
+
+
 @pytest.mark.asyncio
 async def test_every_copy_opens(tmp_path: pathlib.Path, program: pathlib.Path) -> None:
     image = tmp_path / "disk"
@@ -75,17 +98,14 @@ async def test_every_copy_opens(tmp_path: pathlib.Path, program: pathlib.Path) -
             done: list[list[float]] = [[] for _ in SEATS]
             is_over = asyncio.Event()
             workers = [asyncio.create_task(work(await room.sit(seat), own, is_over)) for seat, own in zip(SEATS, done)]
-            assert room.server
             for number in range(CUTS):
                 await asyncio.sleep(0.3 + 0.037 * (number % 10))
-                room.server.send_signal(signal.SIGSTOP)  # so that the copy is of one moment
-                now = time.monotonic()
                 copy = tmp_path / f"cut{number}"
-                shutil.copyfile(image, copy)
-                room.server.send_signal(signal.SIGCONT)
+                now = cut(room, image, copy)
                 cuts.append(
                     (copy, [sum(when <= now - SECONDS for when in own) for own in done], [len(own) for own in done])
                 )
+            await wait_for_steps(room, image, program, cuts[-1][2])
             is_over.set()  # wait_for, which a tab uses, can lose a cancellation
             await asyncio.gather(*workers)
             assert await room.end() == 0

@@ -8,6 +8,7 @@ from typing import Any
 
 import pytest
 
+from vecmon_lab.classes import scripts
 from vecmon_lab.classes.worker_pool import WorkerPool
 from vecmon_lab.classes.requests import BadRequest, Lines
 from vecmon_lab.classes.room import Room
@@ -101,8 +102,9 @@ async def test_clock_gets_turn(tmp_path: pathlib.Path) -> None:
     assert machine.session.order.index("*") <= 4
 
 
-async def test_slices_wait_for_late_checkpoint(tmp_path: pathlib.Path) -> None:
+async def test_slices_wait_for_late_checkpoint(tmp_path: pathlib.Path, monkeypatch: pytest.MonkeyPatch) -> None:
     """A student who presses on gets a message; the clock skips; students' lines go on; a checkpoint ends the wait."""
+    monkeypatch.setattr(scripts, "MAX_BEHIND", 3.0)
     machine = Machine(tmp_path)
     room, session = machine.room, machine.session
     room.seats.users["8"].state = {"run": "running", "pc": "0"}
@@ -132,6 +134,7 @@ async def test_slices_wait_for_late_checkpoint(tmp_path: pathlib.Path) -> None:
 async def test_overview_does_not_wait_for_machine(tmp_path: pathlib.Path) -> None:
     machine = Machine(tmp_path)
     task = machine.ask(machine.room.seats.users["1"], "step 1")
-    await asyncio.sleep(0.05)
-    assert machine.room.is_busy() and machine.room.notes().lines == 0
+    while not machine.room.is_busy():
+        await asyncio.sleep(0)
+    assert machine.room.notes().lines == 0
     assert await machine.order(1, task) == "1"

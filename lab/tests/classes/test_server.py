@@ -505,14 +505,30 @@ async def test_unread_connections_are_closed(room: Served) -> None:
 
 
 async def test_waiting_tab_stays_connected(tmp_path: pathlib.Path, monkeypatch: pytest.MonkeyPatch) -> None:
-    monkeypatch.setattr(class_server, "READ_SECONDS", 1.5)  # between pings; each needs an answer in half of it
+    """The server asks each tab for a sign of life, and closes one that gives none in half of that time."""
+    monkeypatch.setattr(class_server, "READ_SECONDS", 60.0)  # between pings
+    loop, passed_seconds, pongs = asyncio.get_running_loop(), [0.0], asyncio.Queue[bytes]()
+    clock = loop.time
+    monkeypatch.setattr(loop, "time", lambda: clock() + passed_seconds[0])
     async with served(tmp_path / "class") as room:
-        tab = await room.sit("A1")
+        tab, other = await room.sit("A1"), await room.sit("A2")
         await tab.do("enter")
+        pong = tab.socket.pong
+
+        async def counted_pong(message: bytes = b"") -> None:
+            await pong(message)
+            pongs.put_nowait(message)
+
+        monkeypatch.setattr(tab.socket, "pong", counted_pong)
         assert room.members and (machine := room.members.rooms["A"].session.process)
         os.kill(machine, signal.SIGSTOP)
         waits = asyncio.create_task(tab.do(*LOOP[1:]))  # whose socket answers pings meanwhile
-        await asyncio.sleep(3.5)
+        for _ in range(2):
+            passed_seconds[0] += 61  # and half of that would be too long without the answer to the ping before
+            await pongs.get()
+            await other.socket.send_json({"ask": "beat"})  # whose answer comes after the server has read the pong
+            while (await other.receive())["kind"] != "beat":
+                pass
         os.kill(machine, signal.SIGCONT)
         assert len(await waits) == 4 and not room.members.rooms["A"].session.losses
 

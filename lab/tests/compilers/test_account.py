@@ -34,12 +34,6 @@ exit 1
 needs_root = pytest.mark.skipif(os.geteuid() != 0, reason="only root can become another user")
 
 
-@pytest.fixture(autouse=True)
-def patient(monkeypatch: pytest.MonkeyPatch) -> None:
-    """Compilers have more time by the clock, as other tests may take all cores."""
-    monkeypatch.setattr(sandbox, "SECONDS", 200)
-
-
 @pytest.fixture
 def shared() -> Iterator[pathlib.Path]:
     """A folder that all users may enter."""

@@ -1,6 +1,7 @@
 """Failures of the sandbox, of compilers and of what they need: each has its own sentence, and none is a fault of the source."""
 
 import asyncio
+import contextlib
 import json
 import os
 import pathlib
@@ -12,6 +13,7 @@ import pytest
 
 from support.commands import Lab
 from support.places import EXAMPLES, TOP
+from support.processes import descendants
 from vecmon_lab.classes.builds import builds_by
 from vecmon_lab.compilers import sandbox
 from vecmon_lab.compilers.compiled import read_compiled_program
@@ -26,12 +28,6 @@ MAIN = "int main(void) { return 0; }\n"
 WORDS = "bwrap: No permissions to create new namespace, likely because the kernel does not allow non-privileged user namespaces."
 ENDLESS = "#if __INCLUDE_LEVEL__ < 100\n#include __FILE__\n#include __FILE__\n#endif\n"
 GOOD = TOP / "lab" / "vecmon_lab" / "exercises" / "given" / "doubles" / "good.c"
-
-
-@pytest.fixture(autouse=True)
-def patient(monkeypatch: pytest.MonkeyPatch) -> None:
-    """Compilers have more time by the clock, as other tests may take all cores."""
-    monkeypatch.setattr(sandbox, "SECONDS", 200)
 
 
 @pytest.fixture
@@ -200,10 +196,9 @@ def test_killed_sandbox_is_reported(sandboxed_clang: Compiler) -> None:
 
     async def kill() -> bytes:
         made = asyncio.create_task(sandbox.run_in_sandbox_async([sandboxed_clang.name, "0"], ENDLESS))
-        while not (children := _children("bwrap")):
+        while not _descendants("clang"):  # since then the process in the sandbox ends with bwrap
             await asyncio.sleep(0.02)
-        await asyncio.sleep(0.5)  # by then the process in the sandbox ends with bwrap
-        os.kill(children[0], signal.SIGKILL)
+        os.kill(_descendants("bwrap")[0], signal.SIGKILL)
         return await made
 
     with pytest.raises(ToolError, match="ended by the signal SIGKILL"):
@@ -229,8 +224,11 @@ def test_missing_package_is_explained(clang: Compiler, tmp_path: pathlib.Path) -
     )
 
 
-def _children(name: str) -> list[int]:
-    """The processes of this name that this one has started."""
-    tasks = pathlib.Path(f"/proc/{os.getpid()}/task").glob("*/children")
-    children = [int(word) for path in tasks for word in path.read_text().split()]
-    return [each for each in children if pathlib.Path(f"/proc/{each}/comm").read_text().strip() == name]
+def _descendants(name: str) -> list[int]:
+    """The processes below this one whose names start so; those that this one has started come first."""
+    found = list[int]()
+    for each in descendants(os.getpid()):
+        with contextlib.suppress(OSError):  # it has ended
+            if pathlib.Path(f"/proc/{each.number}/comm").read_text().startswith(name):
+                found.append(each.number)
+    return found

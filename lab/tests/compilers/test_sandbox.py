@@ -3,9 +3,9 @@
 import json
 import os
 import pathlib
+import resource
 import shutil
 import struct
-import time
 from collections.abc import Callable, Sequence
 from typing import Any
 
@@ -17,7 +17,8 @@ from vecmon_lab.compilers import sandbox
 from vecmon_lab.compilers.compiler import Compiler, choice_of
 from vecmon_lab.compilers.debug import image_of
 from vecmon_lab.compilers.failures import ToolError
-from vecmon_lab.compilers.sandbox import SECONDS, answer_sandboxed, check_sandbox
+from vecmon_lab.compilers.sandbox import answer_sandboxed, check_sandbox
+from vecmon_lab.compilers.sandbox_main import CPU_SECONDS
 
 MAIN = "int main(void) { return 0; }\n"
 SECRET = "root:"  # as a file of the system begins that isn't a program's
@@ -42,6 +43,12 @@ def fork(command, own):
 sandbox_main.compile_source = fork
 sandbox_main.main()
 """
+
+
+def used_seconds() -> float:
+    """The processor time that ended children of this process have used, with that of their own."""
+    usage = resource.getrusage(resource.RUSAGE_CHILDREN)
+    return usage.ru_utime + usage.ru_stime
 
 
 @pytest.fixture
@@ -91,13 +98,15 @@ def test_stock_assembler_reads_no_files(answer: Ask, line: str) -> None:
 
 @pytest.mark.parametrize("text", [".rept 100000000\n.dword 1\n.endr\n", '.incbin "/dev/zero"\n', ".fill 1 << 40\n"])
 def test_stock_assembler_is_limited(answer: Ask, text: str) -> None:
-    started = time.monotonic()
+    started = used_seconds()
     try:
         reply = answer(text, "stock")
         assert reply["image"] is None and reply["messages"]
     except LabError as error:
         assert "was stopped" in str(error)
-    assert time.monotonic() - started < SECONDS + 5
+    assert (
+        used_seconds() - started < 2 * CPU_SECONDS + 5
+    )  # of the compiler, of the process around it, and of their starts
 
 
 def test_fork_bomb_ends(answer: Ask, monkeypatch: pytest.MonkeyPatch) -> None:
@@ -131,24 +140,28 @@ def test_fork_bomb_ends(answer: Ask, monkeypatch: pytest.MonkeyPatch) -> None:
     ],
 )
 def test_compiler_resources_are_limited(answer: Ask, text: str, sentence: str) -> None:
-    started = time.monotonic()
+    started = used_seconds()
     try:
         reply = answer(text)
         assert reply["image"] is None and sentence in reply["messages"][0][3]
     except ToolError as error:
         assert "by the clock" in str(error)
-    assert time.monotonic() - started < SECONDS + 5
+    assert (
+        used_seconds() - started < 2 * CPU_SECONDS + 5
+    )  # of the compiler, of the process around it, and of their starts
 
 
 def test_endless_macro_ends(answer: Ask) -> None:
     doubled = "".join(f"#define A{i + 1} A{i} A{i} A{i} A{i}\n" for i in range(30))
-    started = time.monotonic()
+    started = used_seconds()
     try:
         reply = answer(f"#define A0 x\n{doubled}int y = A30;\n{MAIN}")
         assert reply["image"] is None and reply["messages"]
     except LabError as error:
         assert "was stopped" in str(error)
-    assert time.monotonic() - started < SECONDS + 5
+    assert (
+        used_seconds() - started < 2 * CPU_SECONDS + 5
+    )  # of the compiler, of the process around it, and of their starts
 
 
 def test_named_library_is_not_linked(answer: Ask) -> None:

@@ -40,12 +40,6 @@ for path in sys.stdin.read().splitlines():
 Inside = Callable[[str, Iterable[object]], list[str]]
 
 
-@pytest.fixture(autouse=True)
-def patient(monkeypatch: pytest.MonkeyPatch) -> None:
-    """Compilers have more time by the clock, as other tests may take all cores."""
-    monkeypatch.setattr(sandbox, "SECONDS", 200)
-
-
 @pytest.fixture
 def inside(sandboxed_clang: Compiler, monkeypatch: pytest.MonkeyPatch) -> Inside:
     """A function that runs Python in the sandbox, with paths on its input; the lines that it prints."""

@@ -57,11 +57,8 @@ def test_exercise_is_complete(program: pathlib.Path, name: str) -> None:
 
 
 @pytest.mark.parametrize("name", COURSE)
-def test_exercise_is_solvable_in_c(
-    program: pathlib.Path, clang: Compiler, monkeypatch: pytest.MonkeyPatch, name: str
-) -> None:
+def test_exercise_is_solvable_in_c(program: pathlib.Path, clang: Compiler, name: str) -> None:
     """The start has no mistake, and nothing to be warned of; it fails, the good answer passes, and wrong ones fail."""
-    monkeypatch.setattr("vecmon_lab.compilers.sandbox.SECONDS", 200)  # as other tests may take all cores
     exercise = settled(program, read_exercise(pathlib.Path(name)))
     start = exercise.files["start_c"]
     compiled = compile_c(start.read_text("utf-8"), clang, 0, exercise.folder, is_answer=True)

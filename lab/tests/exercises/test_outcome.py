@@ -12,7 +12,6 @@ import pytest
 
 from support.commands import Lab
 from vecmon_lab import LabError
-from vecmon_lab.compilers import sandbox
 from vecmon_lab.compilers.compiler import Compiler
 from vecmon_lab.compilers.container import check_container
 from vecmon_lab.compilers.failures import ToolError
@@ -24,12 +23,6 @@ from vecmon_lab.exercises.grade import graded, graded_or_failure
 
 GOOD = OURS / "doubles" / "good.s"
 AS_IN_A_CONTAINER = ["setpriv", "--bounding-set=-sys_admin", "--inh-caps=-sys_admin"]  # of Docker's default profile
-
-
-@pytest.fixture(autouse=True)
-def patient(monkeypatch: pytest.MonkeyPatch) -> None:
-    """Compilers have more time by the clock, as other tests may take all cores."""
-    monkeypatch.setattr(sandbox, "SECONDS", 200)
 
 
 @pytest.fixture(scope="module")

@@ -126,7 +126,7 @@ def test_registers_equal_those_of_compiled_caller(image: pathlib.Path, kernel: K
     assert kernel.call("register_u16", 0xFFFF).value == 0xFFFF
 
 
-@settings(max_examples=60, deadline=None)
+@settings(max_examples=60)
 @given(st.data(), st.sampled_from(list(KINDS)))
 def test_functions_convert_as_c_does(kernel: Kernel, data: st.DataObject, name: str) -> None:
     kind = KINDS[name]

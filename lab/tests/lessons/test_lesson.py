@@ -239,7 +239,7 @@ OBJECTS = st.recursive(
 )
 
 
-@settings(derandomize=True, database=None, deadline=None, max_examples=200)
+@settings(derandomize=True, database=None, max_examples=200)
 @given(st.dictionaries(st.text("abc", max_size=1), OBJECTS), st.dictionaries(st.text("abc", max_size=1), OBJECTS))
 def test_merge_patch_restores_new_state(old: dict[str, Any], new: dict[str, Any]) -> None:
     assert patched(old, merge_patch(old, new)) == new

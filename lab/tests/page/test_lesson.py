@@ -9,6 +9,7 @@ from typing import TYPE_CHECKING
 import pytest
 
 from support.browser import CONTRAST, media, press
+from support.busy_host import PATIENCE
 from support.lesson_follower import PICTURE, Follower
 from support.places import EXAMPLES
 from vecmon_lab.exercises.answer import settled
@@ -108,7 +109,7 @@ def test_lesson_is_navigated_by_keys_and_clicks(opened: Callable[[str], "Chrome"
         browser.find_element(By.ID, button).click()
     browser.find_element(By.ID, "place").send_keys(Keys.ARROW_RIGHT)
     assert text_of(browser, "#count") == "2 of 17"
-    WebDriverWait(browser, 60).until(lambda browser: browser.current_url.endswith("#2"))
+    WebDriverWait(browser, PATIENCE).until(lambda browser: browser.current_url.endswith("#2"))
     browser.get(browser.current_url.partition("#")[0] + f"#{place.split()[0]}")
     browser.refresh()
     assert text_of(browser, "#count") == place

@@ -4,6 +4,7 @@ import pathlib
 import shutil
 import subprocess
 
+from support.busy_host import PATIENCE
 from support.places import TOP
 from vecmon_lab.page.pages import FILES
 from vecmon_lab.page.texts import fill
@@ -22,5 +23,5 @@ def test_functions_without_page(tmp_path: pathlib.Path) -> None:
     for path in tmp_path.glob("lab/vecmon_lab/**/*.js"):
         path.write_text(fill(path.name, path.read_text("utf-8")), "utf-8")
     units = sorted(tmp_path.glob("lab/tests/**/*.test.mjs"))
-    node = subprocess.run(["node", "--test", *map(str, units)], capture_output=True, encoding="utf-8", timeout=60)
+    node = subprocess.run(["node", "--test", *map(str, units)], capture_output=True, encoding="utf-8", timeout=PATIENCE)
     assert units and node.returncode == 0, node.stdout

@@ -4,12 +4,14 @@ import base64
 import hashlib
 import json
 import pathlib
+import time
 from collections.abc import Iterator
 from typing import TYPE_CHECKING
 
 import pytest
 
-from support.class_pages import PATIENCE, close_all
+from support.busy_host import PATIENCE
+from support.class_pages import close_all
 from support.places import SUM, TOP
 from support.site import SiteTab, built_site, served_files
 
@@ -117,14 +119,12 @@ def test_work_comes_back_after_a_reload(tabs: "Chrome", server: tuple[str, list[
     tab.wait("id('run').textContent === 'Ready'")
     tab.command("step 3", "set x11 1f")
     answer = "a = indexedDB.open('vecmon playground'); a.onsuccess = () => { const all = a.result.transaction('texts').objectStore('texts').get('A.script');"
-    tab.activate().set_script_timeout(30)
-    for _ in range(50):
+    kept, end = "", time.monotonic() + PATIENCE
+    while "1 set x11 1f" not in kept:
+        assert time.monotonic() < end, kept
         kept = tab.activate().execute_async_script(
             f"const done = arguments[0], {answer} all.onsuccess = () => done(all.result?.text ?? ''); }}"
         )
-        if "set x11 1f" in kept:
-            break
-    assert "1 set x11 1f" in kept
     tab.open(f"{server[0]}/play/index.html")
     tab.wait("['Ready', 'Paused'].includes(id('run').textContent) && text() === arguments[0]", LOOP)
     assert "x11" in tab.text("body") and tab.run("!id('versions').hidden")

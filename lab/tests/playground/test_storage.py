@@ -9,7 +9,8 @@ from typing import TYPE_CHECKING, Any
 import pytest
 
 from playground.test_site import LOOP
-from support.class_pages import PATIENCE, close_all
+from support.busy_host import PATIENCE
+from support.class_pages import close_all
 from support.site import TITLE, SiteTab, built_site, served_files
 
 if TYPE_CHECKING:
