@@ -205,7 +205,7 @@ async def test_endless_compile_delays_no_other_seat(
 
     The steps together take a small part of the compiler's limit of processor time, which a busy host shares among both.
     """
-    limit = "sandbox_main.CPU_SECONDS, sandbox_main.LIMITS[sandbox_main.resource.RLIMIT_CPU] = 4, (4, 5)"
+    limit = "sandbox_main.CPU_SECONDS, sandbox_main.LIMITS[sandbox_main.resource.RLIMIT_CPU] = 2, (2, 3)"
     start = f"from vecmon_lab.compilers import sandbox_main; {limit}; sandbox_main.main()"
     monkeypatch.setattr(sandbox, "MODULE", ("-c", start))
     async with served(tmp_path / "class", builds=builds) as room:
@@ -220,7 +220,7 @@ async def test_endless_compile_delays_no_other_seat(
         while not endless.done():
             await other.do("step 1")
             steps += 1
-        assert steps > 20 and "was stopped" in (await endless)["mistakes"][0]["text"]
+        assert steps > 20 and "was stopped" in (await endless)["mistakes"][0]["message"]
         monkeypatch.undo()
         assert "error" not in await hostile.ask("source", text=EMPTY, language=C)
 

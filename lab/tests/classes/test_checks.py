@@ -296,13 +296,12 @@ async def test_bad_answers_delay_no_other_seat(room: Served) -> None:
     tab, others = await room.sit("A8"), [await room.sit(f"A{number}") for number in range(1, 8)]
     await tab.do("enter", "map 10000 1 rwx", "asm 10000 jal x0, 0", "setpc 10000")
     checks = [asyncio.create_task(check(other, "square", HOSTILE[at % 4])) for at, other in enumerate(others)]
-    waits = []
+    steps = 0  # that were answered while all checks went on
     while not all(each.done() for each in checks):
-        start = time.monotonic()
         assert (await tab.do("step 1"))[0][0].startswith("stepped 1")
-        waits.append(time.monotonic() - start)
+        steps += not any(each.done() for each in checks)
         await asyncio.sleep(0.02)
-    assert max(waits) < 30 and len(waits) > 5  # a check may take 60 seconds
+    assert steps > 5
     assert not any([passes for expected in await asyncio.gather(*checks) for passes in passed(expected)])
 
 

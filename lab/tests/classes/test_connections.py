@@ -5,6 +5,8 @@ import contextlib
 import pathlib
 import socket
 from collections.abc import AsyncIterator, Sequence
+from types import SimpleNamespace
+from typing import Any
 
 import aiohttp
 import pytest
@@ -91,6 +93,35 @@ async def test_oldest_connection_with_unread_answers_makes_room(room: Served) ->
     await room.sit("A1")
     for each in others:
         each.close()
+
+
+class SilentConnection:
+    """A connection without a request, and its own transport. A set has the later ones first."""
+
+    def __init__(self, number: int) -> None:
+        self.transport, self.number, self.is_aborted = self, number, False
+        self._messages = list[object]()
+
+    def __hash__(self) -> int:
+        return 8 - self.number
+
+    def get_write_buffer_size(self) -> int:
+        return 0
+
+    def abort(self) -> None:
+        self.is_aborted = True
+
+
+async def test_oldest_of_one_sweep_make_room(monkeypatch: pytest.MonkeyPatch) -> None:
+    """Of connections that are seen at the same time for the first time, those that were there first are closed."""
+    monkeypatch.setattr(connections, "SWEEP_SECONDS", 0)
+    there = [SilentConnection(number) for number in range(8)]
+    runner: Any = SimpleNamespace(server=SimpleNamespace(connections=there))
+    sweep = asyncio.create_task(connections.Connections(3, SECONDS, SECONDS).sweep(runner))
+    while not any(each.is_aborted for each in there):
+        await asyncio.sleep(0)
+    sweep.cancel()
+    assert [each.number for each in there if each.is_aborted] == [0, 1, 2, 3, 4]
 
 
 async def test_connection_with_requests_ahead_is_closed(room: Served) -> None:

@@ -7,7 +7,6 @@ import random
 from collections.abc import Iterable, Mapping
 from typing import Any
 
-
 from support.class_tabs import SECONDS, patched
 from support.desk import Desk, untimed
 from support.desk_requests import Request, drawn_requests, exercise_requests, source_requests

@@ -4,7 +4,7 @@ A client may send nothing, take no answer, or send requests without end before i
 """
 
 import asyncio
-from collections.abc import Mapping
+from collections.abc import Mapping, Sequence
 
 from aiohttp import web
 
@@ -36,21 +36,21 @@ class Connections:
         loop = asyncio.get_running_loop()
         while True:
             await asyncio.sleep(SWEEP_SECONDS)
-            there = set(runner.server.connections) if runner.server else set()
-            self.spoken &= there
-            self.tabs &= there
+            there = runner.server.connections if runner.server else []  # the oldest first
+            self.spoken &= set(there)
+            self.tabs &= set(there)
             ahead, now = {it for it in there if len(it._messages) > AHEAD}, loop.time()
             for handler in ahead | self._silent_too_long(there, now) | self._unread_too_long(there, now):
                 handler._messages.clear()
                 if handler.transport:
                     handler.transport.abort()
 
-    def _silent_too_long(self, there: set[web.RequestHandler], now: float) -> set[web.RequestHandler]:
+    def _silent_too_long(self, there: Sequence[web.RequestHandler], now: float) -> set[web.RequestHandler]:
         """Connections that have made no request in time, and the oldest such if there are too many."""
-        self._silent = {it: self._silent.get(it, now) for it in there - self.spoken}
+        self._silent = {it: self._silent.get(it, now) for it in there if it not in self.spoken}
         return _before(self._silent, now - self._silent_seconds) | _excess(self._silent, self._limit)
 
-    def _unread_too_long(self, there: set[web.RequestHandler], now: float) -> set[web.RequestHandler]:
+    def _unread_too_long(self, there: Sequence[web.RequestHandler], now: float) -> set[web.RequestHandler]:
         """Connections that have taken no part of an answer in time, and the oldest ones with unread answers if there are too many."""
         sizes = {it: it.transport.get_write_buffer_size() for it in there if it.transport}
         unread = {it: size for it, size in sizes.items() if size}
@@ -68,5 +68,5 @@ def _before(since: Mapping[web.RequestHandler, float], time: float) -> set[web.R
 
 
 def _excess(since: Mapping[web.RequestHandler, float], limit: int) -> set[web.RequestHandler]:
-    """The oldest ones, so that a number of them is left."""
+    """The oldest ones, so that a number of them is left; of those since the same time the first ones."""
     return set(sorted(since, key=since.__getitem__)[: max(0, len(since) - limit)])
