@@ -5,9 +5,11 @@ import pathlib
 import random
 import sys
 import tempfile
-from collections.abc import Mapping, Sequence
+from collections.abc import Iterator, Mapping, Sequence
+from contextlib import ExitStack, contextmanager, nullcontext
 from dataclasses import dataclass, replace
 from typing import Any, Protocol
+from unittest.mock import patch
 
 from support.class_tabs import patched
 from support.desk import Desk
@@ -23,6 +25,7 @@ from vecmon_lab.machine.program import find_program
 from vecmon_lab.machine.session import Session
 from vecmon_lab.playground.kept_texts import KeptTexts
 from vecmon_lab.playground.page_desk import PageDesk
+from vecmon_lab.replay import history, private_machine, saved_states
 
 PROGRAMS = [
     "li t0, {n}\nli t1, 0\nloop: add t1, t1, t0\naddi t0, t0, -1\nbnez t0, loop\nebreak\n",
@@ -385,12 +388,23 @@ class PlaygroundPage:
         self._desk.machine.session.close()
 
 
+@contextmanager
+def dense_states() -> Iterator[None]:
+    """Let replays save states after a few instructions, so that short programs have them, too."""
+    names = ((saved_states, "SPACING", 40), (saved_states, "PAGE_SPACING", 0), (saved_states, "MAX_STATES", 6))
+    values = (*names, (history, "WORTH", 15), (history, "NEAR", 4), (private_machine, "CHUNK", 32))
+    with ExitStack() as stack:
+        for module, name, value in values:
+            stack.enter_context(patch.object(module, name, value))
+        yield
+
+
 def main() -> None:
-    """Check sequences of all seeds below a number: `python -m support.past_sequences 2000`."""
+    """Check sequences of all seeds below a number: `python -m support.past_sequences 2000`. Half of them save many states."""
     vecmon = find_program()
     exercises = {EXERCISE: settled(vecmon, read_exercise(pathlib.Path(EXERCISE)))}
     for seed in range(int(sys.argv[1])):
-        with tempfile.TemporaryDirectory() as folder:
+        with tempfile.TemporaryDirectory() as folder, dense_states() if seed % 4 > 1 else nullcontext():
             is_desk = seed % 2 == 0
             page: Page = DeskPage(vecmon, exercises)
             if not is_desk:

@@ -5,10 +5,13 @@ from collections.abc import Iterator
 
 import pytest
 
+from support.past_sequences import dense_states
+from vecmon_lab.guest.guest import VECTOR_LOOKS
 from vecmon_lab.machine.answers import ScalarRegisters
 from vecmon_lab.machine.session import Session
 from vecmon_lab.replay.histories import Histories
 from vecmon_lab.replay.history import History, NoWayBack
+from vecmon_lab.replay.saved_states import SavedStates
 
 SUM = ["addi x5, x5, 1", "bne x5, x6, -4", "ebreak"]  # two instructions for each addition, and one at its end
 LOADS = [
@@ -157,3 +160,75 @@ def test_new_machine_begins_anew(played: Played) -> None:
     assert history.count(never) == 0
     instant = history.at(-5, never)
     assert instant is not None and instant.count == 0
+
+
+def looks(session: Session) -> list[list[str]]:
+    """All registers, and the data."""
+    return session.do_all([f"1 {look}" for look in ("regs", "vcsr", "peek 20000 64", *VECTOR_LOOKS)])
+
+
+def test_long_way_starts_at_a_saved_state(played: Played) -> None:
+    """The first way back executes the run; later ones, also from its start, at most what lies between two saved states."""
+    history = played.load("1", SUM, x6=5_000_000)
+    played.do("1 go", *["* slices 1000"] * 101)
+    assert history.count(never) == 10_000_000 and x5(history, -1) == 5_000_000
+    executed = history.executed
+    assert x5(history, -4) == 4_999_998 and x5(history, 0) == 0 and x5(history, -6) == 4_999_997
+    assert history.executed - executed < 200_000
+    assert x5(history, 5_000_001) == 2_500_001
+    assert history.executed - executed < 5_000_000
+
+
+def test_states_from_saved_ones_are_those_of_stepped_machines(program: pathlib.Path, played: Played) -> None:
+    """Values are written after 60 instructions, when states are saved already, and after 260."""
+    code = [*LOADS[:2], "vadd.vx v1, v1, x5", "vse32.v v1, (x7)", LOADS[2], "jal x0, -20"]
+    edits = {60: ["1 set x5 1000", "1 vset v7 " + "12" * 32], 260: ["1 poke 20000 ff"]}
+    with dense_states():
+        history = played.load("1", code, x7=0x20000)
+        history.saved = SavedStates(lambda: Session(program), 6)
+        loaded = played.session.script.decode("ascii").splitlines()
+        played.do("1 step 60")
+        history.at(50, never)
+        played.do(*edits[60], "1 step 200", *edits[260], "1 step 90")
+        for count in (349, 348, 263, 200, 59, 349, 301, 260, 60, 120, 5):
+            instant = history.at(count, never)
+            with Session(program) as session:
+                for line in loaded:
+                    session.do(line)
+                for number in range(count + 1):
+                    session.do_all(edits.get(number, []))
+                    session.do_all(["1 step 1"] * (number < count))
+                assert instant is not None and looks(instant.guest.session) == looks(session), count
+        assert 2 < len(history.saved.states) <= 6
+
+
+def test_saved_states_have_the_output_before(played: Played) -> None:
+    """As above, each full buffer has lost a byte: two of 3,000."""
+    with dense_states():
+        history = played.load("1", PRINTS, x6=600, x11=0x20000)
+        for _ in range(3):
+            played.do("1 go", "* slices 99", "1 out")
+        assert history.count(never) == 1 + 5 * 600 and history.saved.states
+        for calls, size in ((600, 2998), (410, 2048), (205, 1024), (520, 2598), (204, 1020), (1, 5), (411, 2053)):
+            instant = history.at(1 + 5 * (calls - 1) + 3, never)
+            assert instant is not None and len(instant.output) == size
+
+
+def test_memory_of_saved_states_is_bounded(program: pathlib.Path, played: Played) -> None:
+    """States share the page of code, and the page of data is another one in each: five pages are four states."""
+    with dense_states():
+        history = played.load("1", ["addi x5, x5, 1", "sw x5, 0(x7)", "jal x0, -8"], x7=0x20000)
+        history.saved = SavedStates(lambda: Session(program), 10, max_bytes=5 * 4096)
+        played.do("1 step 256", "1 step 256")
+        assert x5(history, -3) == 170 and len(history.saved.states) == 4
+
+
+def test_limit_of_a_way_back_is_one_of_instructions(played: Played, monkeypatch: pytest.MonkeyPatch) -> None:
+    """As above, a round has three instructions and ten ticks: 1,000 ticks are more than 400, and 301 instructions aren't."""
+    monkeypatch.setattr("vecmon_lab.replay.history.MAX_BACK", 400)
+    history = played.load("1", LOADS, x7=0x20000)
+    played.do("1 go", "* slices 10", "1 stop")
+    assert history.count(never) == 1 + 3 * 99 + 2
+    played.do("1 go", "* slices 10", "1 stop")
+    with pytest.raises(NoWayBack, match="more than 300,000,000 instructions"):
+        history.count(never)

@@ -1,7 +1,6 @@
 """Counts the instructions of a leg: of one that ended with a stop by steps, and of one that ended with ticks by a second machine."""
 
 from collections.abc import Callable, Collection, Generator, Sequence
-from contextlib import suppress
 
 from ..guest.guest import MAX_STEPS
 from ..machine.answers import ControlRegisters, Position, Stop, read
@@ -11,23 +10,29 @@ from .private_machine import CHUNK, Parts, PrivateMachine, ReplayDiffers, Signat
 WINDOW = 512  # instructions around an expected number
 GROWTH = 8  # times the ticks of the number before
 MAX_SLICES = 1000  # of one line
+SHORT = 1 << 20  # ticks that are first taken for as many instructions, without a look at fewer of them
 
 Reach = Callable[[int, int], Generator[None, None, PrivateMachine]]
 """Makes a machine that is at a place: a leg and a number of its instructions."""
-Fresh = Callable[[], PrivateMachine]
-"""Makes a machine that is at the start."""
+Open = Callable[[int], PrivateMachine]
+"""Makes a new machine that can go to the start of a leg."""
 
 
-def count_to_stop(legs: Sequence[Leg], place: int, quantum: int, reach: Reach) -> Parts:
-    """Set the count of a leg that ended with a stop. Raises ReplayDiffers. quantum: of a slice in ticks
+def count_to_stop(legs: Sequence[Leg], place: int, most: int, quantum: int, reach: Reach) -> Parts:
+    """Set the count of a leg that ended with a stop, unless it is above a number. Raises ReplayDiffers.
 
     If each instruction took one tick, and there is no breakpoint before, the stop is in the last slice.
+    most: that number; quantum: of a slice in ticks
     """
-    leg, found = legs[place], None
-    if leg.ticks is not None and leg.ticks > quantum and not leg.breaks:
-        with suppress(ReplayDiffers):
+    leg, found, least = legs[place], None, 0
+    if leg.ticks is not None and quantum < leg.ticks <= most and not leg.breaks:
+        try:
             found = yield from first_stop(place, leg.ticks - quantum, leg.most, (), reach)
-    found = found or (yield from first_stop(place, 0, leg.most, leg.breaks, reach))
+        except ReplayDiffers as error:
+            least = error.offset
+    found = found or (yield from first_stop(place, least, min(leg.most, most), leg.breaks, reach))
+    if found is None and leg.most > most:
+        return
     if found is None or leg.stop is None or found[1].pc != leg.stop.pc:
         raise ReplayDiffers("a replay comes to another stop than the program did")
     leg.count = found[0]
@@ -49,6 +54,7 @@ def first_stop(
         if found is None:
             least += unit * number
             machine.place.offset = least
+            machine.save_if_due()
             unit = MAX_STEPS
             yield
             continue
@@ -81,34 +87,36 @@ def _first_irregular(answers: Sequence[str], breaks: Collection[int]) -> int | N
     return next((place for place, each in enumerate(is_regular) if not each), None)
 
 
-def count_to_ticks(legs: Sequence[Leg], place: int, quantum: int, reach: Reach, fresh: Fresh) -> Parts:
-    """Set the count of a leg that ended with a known number of ticks. Raises ReplayDiffers if it isn't found.
+def count_to_ticks(legs: Sequence[Leg], place: int, most: int, quantum: int, reach: Reach, open_at: Open) -> Parts:
+    """Set the count of a leg that ended with a known number of ticks, unless it is above a number.
 
     Each instruction but a vector load or store takes one tick. With these, the count of a few ticks is looked for, and then
-    those of more and more of them, near the count that the rate before predicts.
-    quantum: of a slice in ticks
+    those of more and more of them, near the count that the rate before predicts. Raises ReplayDiffers if it isn't found.
+    most: that number; quantum: of a slice in ticks
     """
-    leg, rate, ticks, count = legs[place], 1.0, 0, 0
-    whole = leg.ticks or 0
-    wanted, is_cut = yield from _after(legs, place, whole, quantum, fresh)
-    if not whole or (yield from _find(place, whole, 0, reach, wanted)) is not None:
-        leg.count = whole - is_cut
-        return
-    while ticks < whole:
-        more = min(whole, max(quantum, ticks * GROWTH)) - ticks
-        wanted, is_cut = yield from _after(legs, place, ticks + more, quantum, fresh)
-        found = yield from _find(place, count + round(more * rate), WINDOW, reach, wanted)
+    leg, rate, ticks, count, is_cut = legs[place], 1.0, 0, 0, False
+    whole, may_be_equal = leg.ticks or 0, True
+    while ticks < whole and count <= most:
+        is_equal = may_be_equal and ticks == count and (ticks > 0 or whole <= SHORT)
+        end = whole if is_equal else min(whole, max(quantum, ticks * GROWTH))
+        wanted, is_cut = yield from _after(legs, place, end, quantum, open_at)
+        expected = end if is_equal else count + round((end - ticks) * rate)
+        found = yield from _find(place, expected, 0 if is_equal else WINDOW, reach, wanted)
+        if is_equal and found is None:
+            may_be_equal = False
+            continue
         if found is None:
             raise ReplayDiffers("the instructions can't be counted")
-        rate, ticks, count = (found - count) / more, ticks + more, found
-    leg.count = count - is_cut
+        rate, ticks, count = (found - count) / (end - ticks), end, found
+    if ticks == whole and count <= most:
+        leg.count = count - is_cut
 
 
 def _after(
-    legs: Sequence[Leg], place: int, ticks: int, quantum: int, fresh: Fresh
+    legs: Sequence[Leg], place: int, ticks: int, quantum: int, open_at: Open
 ) -> Generator[None, None, tuple[Signature, bool]]:
     """The registers after a number of a leg's ticks, and whether they cut an instruction, which is completed."""
-    machine, slices, leg = fresh(), ticks // quantum, legs[place]
+    machine, slices, leg = open_at(place), ticks // quantum, legs[place]
     try:
         yield from machine.go_to(place, 0)
         digit = machine.digit

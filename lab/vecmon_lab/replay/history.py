@@ -17,8 +17,11 @@ from ..machine.session import Session
 from .counting import count_to_stop, count_to_ticks, first_stop
 from .legs import Leg, Legs
 from .private_machine import PrivateMachine
+from .saved_states import NEAR, SavedStates
 
 MAX_BACK = 300_000_000  # instructions of a history: a script has room for no more steps
+MAX_BYTES = 8 << 20  # of the memory of saved states
+WORTH = 1 << 18  # instructions that take as long as to set up a saved state
 TOO_FAR = f"there is no way back into a run of more than {MAX_BACK:,} instructions"
 UNCOUNTED = "the instructions before this pause can't be counted"
 
@@ -52,12 +55,14 @@ class History:
     """A user's history. Its replays work until they are due, and go on with the next call: to cancel one, call none.
 
     legs: takes up the user's lines
+    saved: states on the way, from which a replay may start
     executed: how many instructions replays have executed in all, with lines by their cost
     """
 
     def __init__(self, digit: str, quantum: int, opening: Callable[[], Session]) -> None:
         """opening: opens a session on a new machine with the same images and quantum"""
         self.legs, self._quantum, self._opening = Legs(digit, quantum), quantum, opening
+        self.saved = SavedStates(opening, max_bytes=MAX_BYTES)
         self._machine: PrivateMachine | None = None
         self._machine_number = self._work_number = 0  # of the history that they belong to
         self._work: Generator[None, None, object] | None = None
@@ -102,8 +107,9 @@ class History:
         return self._drive(("break", count, *breaks), partial(self._next_break, count, breaks), is_due)
 
     def close(self) -> None:
-        """End the private machine."""
+        """End the private machine, and forget the saved states."""
         self._drop_machine()
+        self.saved.states.clear()
         self._work = self._wanted = None
 
     def _drop_machine(self) -> None:
@@ -131,37 +137,48 @@ class History:
             self.close()
             raise
 
-    def _fresh(self) -> PrivateMachine:
-        return PrivateMachine(self._opening(), self.legs.legs, self.legs.digit)
+    def _open(self, leg: int, offset: int = 0) -> PrivateMachine:
+        """A new private machine, at the last saved state before a place, or at the start."""
+        machine = PrivateMachine(self._opening(), self.legs, self.saved)
+        if state := self.saved.before(leg, offset):
+            machine.begin(state)
+        return machine
 
     def _reach(self, leg: int, offset: int) -> Generator[None, None, PrivateMachine]:
-        """The private machine, or a new one if it is beyond the place, goes to that place."""
+        """The private machine goes to a place: from where it is, or a new one from the last saved state before."""
         machine = self._machine
-        if (
-            machine is None
-            or self._machine_number != self.legs.number
-            or not machine.is_before(leg, offset)
-            or machine.is_used_up
-        ):
+        if machine is None or not self._is_useful(machine, leg, offset):
             self._drop_machine()
-            machine = self._fresh()
+            machine = self._open(leg, offset)
             self._machine, self._machine_number = machine, self.legs.number
+        if offset > NEAR and machine.is_before(leg, offset - NEAR):
+            yield from machine.go_to(leg, offset - NEAR)
+            machine.save_if_due(WORTH)
         yield from machine.go_to(leg, offset)
         return machine
 
+    def _is_useful(self, machine: PrivateMachine, leg: int, offset: int) -> bool:
+        """Whether a machine can go on to a place, and no saved state is much nearer to it."""
+        if self._machine_number != self.legs.number or machine.is_used_up or not machine.is_before(leg, offset):
+            return False
+        state = self.saved.before(leg, offset)
+        return state is None or state.position <= machine.position + WORTH
+
     def _counted(self) -> Generator[None, None, int]:
         """Count each leg whose count is unknown. A pause whose instructions can't be counted begins the history anew."""
-        legs = self.legs.legs
-        if sum(leg.most if leg.count is None else leg.count for leg in legs) > MAX_BACK:
-            raise NoWayBack(TOO_FAR)
+        legs, done = self.legs.legs, 0
         for place, leg in enumerate(legs):
+            most = MAX_BACK - done
             if leg.count is None and leg.stop:
-                yield from count_to_stop(legs, place, self._quantum, self._reach)
+                yield from count_to_stop(legs, place, most, self._quantum, self._reach)
             elif leg.count is None and leg.ticks is None:
                 raise NoWayBack(UNCOUNTED)
             elif leg.count is None:
-                yield from count_to_ticks(legs, place, self._quantum, self._reach, self._fresh)
-        return sum(leg.count or 0 for leg in legs)
+                yield from count_to_ticks(legs, place, most, self._quantum, self._reach, self._open)
+            if leg.count is None or leg.count > most:
+                raise NoWayBack(TOO_FAR)
+            done += leg.count
+        return done
 
     def _at(self, count: int) -> Generator[None, None, Instant]:
         """The state after a number of instructions."""

@@ -37,6 +37,18 @@ class Leg:
         return self.count == 0 and self.stop is None
 
 
+@dataclass
+class Place:
+    """A place in legs: after the lines of one of them, and a number of its instructions.
+
+    has_tried: whether the instruction at which the leg stops was tried
+    """
+
+    leg: int = -1
+    offset: int = 0
+    has_tried: bool = False
+
+
 class Legs:
     """The legs of a user since the user's machine began, by the lines of a script and their answers.
 

@@ -1,13 +1,18 @@
 """A private machine that executes the legs of a user again, and stops at any of their instructions."""
 
 from collections.abc import Generator, Sequence
-from dataclasses import dataclass
+from dataclasses import replace
 
 from .. import LabError
+from ..checkpoints.machine_state import User, follow_line, pages_of
 from ..guest.guest import MAX_STEPS, VECTOR_LOOKS, Guest
+from ..guest.runner import OUTPUT_BYTES
+from ..instructions.accesses import LINE_BYTES, PAGE_BYTES
 from ..machine.answers import Output, first_word, read
+from ..machine.lines import command_of
 from ..machine.session import Session
-from .legs import TRIED, TRYING, Leg
+from .legs import TRIED, TRYING, Legs, Place
+from .saved_states import SavedState, SavedStates
 
 CHUNK = 1 << 17  # instructions of one part of a replay
 _LINE_COST = 32  # instructions that take as long as a line
@@ -18,31 +23,36 @@ Signature = Sequence[Sequence[str]]
 """Registers in the machine's answers."""
 
 
+_FOLLOWED = tuple("elmv")  # how commands start that change what is known of the user: enter, load, map, vset
+
+
 class ReplayDiffers(LabError):
-    """A private machine doesn't do what the user's machine did."""
+    """A private machine doesn't do what the user's machine did. offset: of the leg's instructions that it has executed"""
 
-
-@dataclass
-class Place:
-    """A place in legs: after the lines of one of them, and a number of its instructions.
-
-    has_tried: whether the instruction at which the leg stops was tried
-    """
-
-    leg: int = -1
-    offset: int = 0
-    has_tried: bool = False
+    def __init__(self, message: str, offset: int = 0) -> None:
+        super().__init__(message)
+        self.offset = offset
 
 
 class PrivateMachine:
-    """A machine in which the user is alone. output: what the program has written, as far as it was taken."""
+    """A machine in which the user is alone. It saves states on its way. output: what the program has written, as far as it was taken."""
 
-    def __init__(self, session: Session, legs: Sequence[Leg], digit: str) -> None:
-        """session: on a new machine"""
+    def __init__(self, session: Session, legs: Legs, saved: SavedStates) -> None:
+        """session: on a new machine; saved: the states of the legs"""
         self.session, self.place, self.output = session, Place(), bytearray()
         self.executed = 0  # instructions, and lines by their cost
         self.is_used_up = False  # whether it may not go on as the user's machine did
-        self._legs, self.digit = legs, digit
+        self._all, self._legs, self.digit = legs, legs.legs, legs.digit
+        self._saved, self._users = saved, dict[str, User]()
+
+    def begin(self, state: SavedState) -> None:
+        """Set up a saved state, whose lines leave it, on the new machine."""
+        lines, user = state.lines() or b"", state.snapshot.user
+        for _ in self.session.do_blocks(lines):
+            pass
+        self.executed += _LINE_COST * lines.count(b"\n")
+        self.place, self.output = replace(state.place), bytearray(state.output)
+        self._users = {self.digit: User(user.image, [*user.maps], user.has_area, user.pages)}
 
     @property
     def guest(self) -> Guest:
@@ -59,10 +69,13 @@ class PrivateMachine:
     def go_to(self, leg: int, offset: int, is_trying: bool = False) -> Parts:
         """Go on to a place. is_trying: also try the instruction at which the leg stops. Raises ReplayDiffers."""
         while (self.place.leg, self.place.offset) != (leg, offset):
+            before = self.place.offset if self.place.leg == leg else 0
             part = self._part(leg, offset)
             for line, answer in zip(part, self.do(part)):
                 if first_word(answer) != "stepped" and is_step(line):
-                    raise ReplayDiffers(f"a replay stops at a step of the program: {answer}")
+                    self.is_used_up = True
+                    raise ReplayDiffers(f"a replay stops at a step of the program: {answer}", before)
+            self.save_if_due()
             yield
         stop = self._legs[leg].stop
         if is_trying and not self.place.has_tried and stop and stop.kind in TRIED:
@@ -77,12 +90,46 @@ class PrivateMachine:
         for line, answer in zip(lines, answers):
             if line == f"{self.digit} out" and isinstance(reply := read([answer]), Output):
                 self.output += reply.data
+            elif line[2:3] in _FOLLOWED:
+                follow_line(self._users, line)
+                self._users[self.digit].pages = {}
         self.executed += _LINE_COST * len(lines)
         return answers
 
     def take_output(self) -> None:
         """Empty the output buffer."""
         self.do([f"{self.digit} out"])
+
+    @property
+    def position(self) -> int:
+        """How many instructions the program has executed."""
+        return sum(leg.count or 0 for leg in self._legs[: max(0, self.place.leg)]) + self.place.offset
+
+    def save_if_due(self, gap: int | None = None) -> None:
+        """Save the state here, if it is far after the last one that is saved.
+
+        gap: the number of instructions that is far; None for the distance of the states on a long way
+        """
+        position = self.position
+        is_due = self._saved.is_due(position) if gap is None else self._saved.gap_before(position) >= gap
+        if not is_due or not self._can_save:
+            return
+        user = self._users[self.digit]
+        user.pages = user.pages or dict(pages_of(user, self.session.images))
+        if gap is None and not self._saved.is_due(position, len(user.pages)):
+            return
+        self.take_output()
+        self._saved.add(position, self.guest, replace(user, maps=[*user.maps]), replace(self.place), bytes(self.output))
+        self.executed += _LINE_COST * len(user.pages) * (PAGE_BYTES // LINE_BYTES)
+
+    @property
+    def _can_save(self) -> bool:
+        """Whether the state here stays the place's, and the output buffer is empty, or all output has room in it."""
+        leg, lines = self._legs[self.place.leg], self._legs[self.place.leg].lines
+        if self.place.has_tried or leg.is_blank:
+            return False
+        has_room = self._all.written < OUTPUT_BYTES and self.place.offset > 0
+        return has_room or self.place.offset == 0 and bool(lines) and command_of(lines[-1]) == "out"
 
     def signature(self) -> Signature:
         """The registers of the stopped program."""
@@ -105,6 +152,8 @@ class PrivateMachine:
             here.leg, here.offset, here.has_tried = here.leg + 1, 0, False
             lines += self._legs[here.leg].lines
             left -= _LINE_COST * len(self._legs[here.leg].lines)
+            if lines and command_of(lines[-1]) == "out" and self._saved.is_due(self.position):
+                break  # where a state can be saved
         return lines
 
 

@@ -1,5 +1,6 @@
 """States of a run that are saved on its way, so that a way back needn't start at its beginning: a bounded number."""
 
+import bisect
 from collections.abc import Callable, Mapping, Sequence
 from dataclasses import dataclass, field
 
@@ -8,8 +9,11 @@ from ..checkpoints.snapshot import Snapshot, take_snapshot
 from ..guest.guest import Guest
 from ..machine.script import ScriptStart
 from ..machine.session import Session
+from .legs import Place
 
 MAX_STATES = 48  # of a run; each has 1 MiB of memory at most, and equal pages are shared
+SPACING, PAGE_SPACING = 1 << 22, 1 << 18  # instructions or ticks between two saved states, and more for each page
+NEAR = 4096  # instructions before a wanted one, where a state is saved: the next way back mostly starts there
 
 Opening = Callable[[], Session]
 """Opens a session on a new machine with the same images."""
@@ -22,11 +26,14 @@ class SavedState:
     position: of the place, a number that rises as the run goes on, such as the number of its instructions
     size: how many bytes of the session's script bring a machine there
     start: the script's start up to there
+    place, output: in legs, and what the program has written up to there, for a run that is followed by legs
     """
 
     position: int
     size: int
     snapshot: Snapshot
+    place: Place
+    output: bytes
     _digit: str
     _opening: Opening
     _fresh: Callable[[], Mapping[int, bytes]]
@@ -48,35 +55,58 @@ class SavedState:
 
 
 class SavedStates:
-    """States of one user's run, dense near the last one, and ever sparser before: MAX_STATES at most."""
+    """States of one user's run, dense near a place, and ever sparser away from it.
 
-    def __init__(self, opening: Opening, max_states: int = MAX_STATES) -> None:
-        """opening: opens a session on a new machine with the run's images"""
+    states: in the order of their positions, MAX_STATES at most
+    """
+
+    def __init__(self, opening: Opening, max_states: int | None = None, max_bytes: int | None = None) -> None:
+        """opening: opens a session on a new machine with the run's images
+
+        max_states: None for MAX_STATES; max_bytes: of the memory of all states, of which there is at least one; None for no limit
+        """
         self.states = list[SavedState]()
-        self._opening, self._max_states = opening, max_states
+        self._opening, self._max_states, self._max_bytes = opening, max_states or MAX_STATES, max_bytes
         self._fresh: tuple[User, Mapping[int, bytes]] | None = None
 
-    def add(self, position: int, guest: Guest, user: User) -> SavedState | None:
+    def is_due(self, position: int, pages: int = 0) -> bool:
+        """Whether a state of this number of pages at a position is so far after the one before that it is worth its time."""
+        return self.gap_before(position) >= SPACING + pages * PAGE_SPACING
+
+    def gap_before(self, position: int) -> int:
+        """How far a position is after the last state at or before it, or after the start."""
+        place = bisect.bisect_right(self.states, position, key=lambda state: state.position)
+        return position - (self.states[place - 1].position if place else 0)
+
+    def add(
+        self, position: int, guest: Guest, user: User, place: Place = Place(), output: bytes = b""
+    ) -> SavedState | None:
         """Save the state of a guest, whose program is stopped, and whose output was taken; return the one that is dropped.
 
-        position: above those of all states; user: the image and the pages
+        position: of none of the states; user: the image and the pages; place, output: as a saved state has them
         """
-        before = self.states[-1].snapshot if self.states else None
+        number = bisect.bisect(self.states, position, key=lambda state: state.position)
+        before = self.states[number - 1].snapshot if self.states else None
         snapshot, digit = take_snapshot(guest, user, before), str(guest.user)
-        state = SavedState(
-            position, guest.session.size, snapshot, digit, self._opening, lambda: self._fresh_memory(user)
-        )
+        opening, fresh = self._opening, lambda: self._fresh_memory(user)
+        state = SavedState(position, guest.session.size, snapshot, place, output, digit, opening, fresh)
         state.start = guest.session.recorded.start(state.lines)
-        self.states.append(state)
+        self.states.insert(number, state)
         dropped = None
-        if len(self.states) > self._max_states:
-            dropped = self.states.pop(sparsest([each.position for each in self.states]))
+        while len(self.states) > self._max_states or self._has_too_many_bytes():
+            dropped = self.states.pop(sparsest([each.position for each in self.states], position))
         guest.session.starts = self.starts()
         return dropped
 
+    def _has_too_many_bytes(self) -> bool:
+        if self._max_bytes is None or len(self.states) == 1:
+            return False
+        pages = {id(page): len(page) for state in self.states for page in state.snapshot.shown.memory.values()}
+        return sum(pages.values()) > self._max_bytes
+
     def until(self, size: int) -> "SavedStates":
         """The states up to this number of bytes of the script, to which others can be added."""
-        states = SavedStates(self._opening, self._max_states)
+        states = SavedStates(self._opening, self._max_states, self._max_bytes)
         states.states, states._fresh = [state for state in self.states if state.size <= size], self._fresh
         return states
 
@@ -84,9 +114,10 @@ class SavedStates:
         """The state at this number of bytes of the script."""
         return next((state for state in self.states if state.size == size), None)
 
-    def before(self, position: int) -> SavedState | None:
-        """The last state at a position or before it."""
-        return next((state for state in reversed(self.states) if state.position <= position), None)
+    def before(self, leg: int, offset: int) -> SavedState | None:
+        """The last state at or before a place in legs, whose lines leave that state."""
+        earlier = (state for state in reversed(self.states) if (state.place.leg, state.place.offset) <= (leg, offset))
+        return next((state for state in earlier if state.lines() is not None), None)
 
     def starts(self) -> Sequence[ScriptStart]:
         """The starts of the script up to the states, the shortest first."""
@@ -99,8 +130,12 @@ class SavedStates:
         return self._fresh[1]
 
 
-def sparsest(positions: Sequence[int]) -> int:
-    """The number of the position whose loss leaves the smallest gap in relation to its distance from the last one."""
-    last, before = positions[-1], [0, *positions]
-    gaps = [(positions[at + 1] - before[at]) / (last - before[at]) for at in range(len(positions) - 1)]
+def sparsest(positions: Sequence[int], here: int | None = None) -> int:
+    """The number of the position whose loss leaves the smallest gap in relation to its distance from a position.
+
+    The last one is never lost. here: that position; None for the last one
+    """
+    last, before = positions[-1] if here is None else here, [0, *positions]
+    ends = [(before[at], positions[at + 1]) for at in range(len(positions) - 1)]
+    gaps = [(end - start) / max(last - start, end - last) for start, end in ends]
     return gaps.index(min(gaps))
