@@ -179,7 +179,8 @@ def test_help_describes_instruction() -> None:
     assert help_lines("vcsr")[0].startswith("vcsr: prints") and len(help_lines("vcsr")) > 1
     assert help_lines("nonsense") == ["nothing is called nonsense; help lists the commands"]
     output = shown(["help vadd.vv", "help vfadd.vv", "help E03", "help add with carry"])
-    assert output[1].startswith("vadd.vv vd, vs2, vs1[, v0.t]: Adds the elements") and output[-1].startswith("vadc: ")
+    assert output[1].startswith("vadd.vv vd, vs2, vs1[, v0.t]: Adds the elements")
+    assert [line.partition(":")[0] for line in output[-2:]] == ["vadc", "carry"]
 
 
 def test_encodings_have_32_bits() -> None:

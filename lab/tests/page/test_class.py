@@ -184,8 +184,32 @@ def _check_help(tab: Tab) -> None:
     tab.keys("#line", Keys.HOME)
     tab.wait("id('hint').textContent.startsWith('peek ADDR N')")
     tab.keys("#line", Keys.CONTROL, "a", Keys.NULL, Keys.DELETE, Keys.F1)
-    tab.wait("all('#entries code').length > 700 && all('#entries h3').length === 7")
+    tab.wait("all('#entries code').length > 700 && all('#entries h3').length === 9")
+    _check_search(tab)
     assert "help" not in tab.text("#log")
+
+
+def _check_search(tab: Tab) -> None:
+    """Exactly this name comes first, everyday words find instructions, and F1 shows the entry at the caret."""
+    from selenium.webdriver.common.keys import Keys
+
+    names = "all('#entries li > code:first-child').map((each) => each.textContent.split(' ')[0])"
+    for name in ("li", "la", "vl", "j", "mv", "ret", "stack", "tail", "reduce", "shuffle"):
+        tab.run("id('find').value = ''")
+        tab.keys("#find", name)
+        tab.wait(f"{names}[0] === arguments[0]", name)
+    for words, name in (
+        ("load word", "lw"),
+        ("multiply signed unsigned widening", "vwmulsu.vv"),
+        ("tail agnostic", "ta"),
+    ):
+        tab.run("id('find').value = ''")
+        tab.keys("#find", words)
+        tab.wait("id('entries').textContent.includes(arguments[0])", name)
+    tab.click("#show-source")
+    tab.run("(code().focus(), code().setCursor(2, 10))")
+    tab.type(Keys.F1)
+    tab.wait(f"id('find').value === {names}[0] && document.activeElement.id === 'find'")
 
 
 def test_first_view_and_keys_work(sit: Sit) -> None:

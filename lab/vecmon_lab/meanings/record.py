@@ -23,7 +23,7 @@ BY_ELEMENT = "by element"
 class Record:
     """The meaning of a name, or of a family of instructions.
 
-    kind: `instruction`, `pseudo-instruction`, `directive`, `control register`, `call` or `absent`
+    kind: `instruction`, `pseudo-instruction`, `directive`, `operand`, `control register`, `call`, `term` or `absent`
     does: a sentence of 25 words at most, which may name vs1 for all forms: `does_of` has that of a form
     template: `does` with braces around the words that other forms replace
     formulas: of an instruction, by the end of a name, as `vx`; "" is for all others
@@ -114,7 +114,7 @@ def instruction_records() -> list[Record]:
 
 
 KINDS = {"pseudo": "pseudo-instruction", "directives": "directive", "registers": "control register"}
-KINDS |= {"calls": "call", "absent": "absent"}
+KINDS |= {"calls": "call", "absent": "absent", "operands": "operand", "terms": "term"}
 
 
 def _record(name: str, file: str, cells: Mapping[str, object]) -> Record:

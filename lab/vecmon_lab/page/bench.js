@@ -12,7 +12,7 @@ import { listenToLines, requestsOf, unfitLines } from "./lines.js";
 import { linkOf, sourceOf } from "./links.js";
 import { Panes } from "./panes.js";
 import { Problems } from "./problems.js";
-import { entryText, showReference, tellName } from "./reference.js";
+import { entryText, nameAt, showReference, tellName } from "./reference.js";
 import { RunBar } from "./runbar.js";
 import { MOST_LETTERS, Source } from "./source.js";
 import { textOf } from "./texts.js";
@@ -115,7 +115,7 @@ export class Bench {
     on("assemble", "click", () => this.write());
     on("against", "change", () => this.write({ ask: "listings", other: against.selectedIndex - 1 }));
     on("link", "click", () => this.link());
-    on("show-reference", "click", () => this.refer(""));
+    on("show-reference", "click", () => this.refer(this.nameAtCaret));
     on("find", "input", () => showReference(this.parts.entries, find.value));
     this.desk.view.machine.addEventListener("click", ({ target }) => this.edit(/** @type {Element} */ (target)));
     this.editor.toggleBreakpoint = (line) => this.breakAt(line);
@@ -297,11 +297,19 @@ export class Bench {
     for (const line of this.due.splice(0)) this.connection.ask({ ask: "breakpoint", line, set: true });
   }
 
+  /** The name at the caret, if the source or the command line has the focus; "" if the name has no entry. */
+  get nameAtCaret() {
+    const line = /** @type {HTMLTextAreaElement} */ (part(this.root, "line"));
+    if (document.activeElement === line) return nameAt([line.value, line.selectionStart]);
+    return this.editor.code.hasFocus() ? nameAt(this.editor.caret) : "";
+  }
+
   /** Shows the reference, or what is found in it. */
   refer(/** @type {string} */ find) {
     this.parts.find.value = find;
     showReference(this.parts.entries, find);
     this.parts.find.focus();
+    this.parts.find.select(); // what is typed replaces it
   }
 
   /** Shows the seat's source; one that the teacher has just given is opened. */

@@ -67,6 +67,7 @@ export interface Editor {
   closeHint(): void;
   execCommand(name: string): void;
   focus(): void;
+  hasFocus(): boolean;
   getCursor(): Position;
   getInputField(): HTMLElement;
   getLine(line: number): string;

@@ -140,6 +140,15 @@ export class Editor {
   /** The number of the caret's line. */
   get caretLine() { return this.code.getCursor().line + 1; }
 
+  /**
+   * The text of the caret's line, and the caret's place in it.
+   * @returns {[line: string, place: number]}
+   */
+  get caret() {
+    const { line, ch } = this.code.getCursor();
+    return [this.code.getLine(line), ch];
+  }
+
   /** Takes up the text as it has become. isTurned: by undo or redo, which bring back the language of then */
   took(/** @type {boolean} */ isTurned) {
     const number = this.code.changeGeneration();

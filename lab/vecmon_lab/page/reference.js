@@ -1,26 +1,30 @@
 // Commands, instructions and refusals: the server's tables, and the entry of a name.
 
 import { byId, make, prose, put } from "./elements.js";
+import { search } from "./search.js";
 import { textOf } from "./texts.js";
 
-/** @typedef {[name: string, form: string, does: string]} Entry */
+/** @typedef {import("./search.js").Entry} Entry */
 
 /** @type {Record<string, Entry[]>} */
 export const SECTIONS = JSON.parse(byId("reference-data").text);
 const { "Not supported": ABSENT, ...KNOWN } = SECTIONS;
-const ENTRIES = Object.values(KNOWN).flat();
+const NAMED = Object.fromEntries(Object.entries(KNOWN).filter(([section]) => section !== "Terms")); // names of sources and commands
 
-/** An entry as a line of its own. */
-const entryItem = (/** @type {Entry} */ [, form, does]) => make("li", "", make("code", "", form), ...(does ? [" ", ...prose(does)] : []));
+/** An entry as a line of its own, with its section if it is in a list of several. */
+/** @type {(entry: Entry, section?: string) => HTMLElement} */
+const entryItem = ([, form, does], section = "") =>
+  make("li", "", make("code", "", form), ...(does ? [" ", ...prose(does)] : []), ...(section ? [" ", make("small", "", section)] : []));
 
 /** Why a name that other extensions have isn't here, as an entry; none of other names. */
 /** @type {(name: string) => Entry[]} */
 const absentEntry = (name) =>
   ABSENT.filter(([title, form]) => new RegExp(`^(?:${form.slice(title.length + 1)})$`).test(name)).map(([, , does]) => [name, name, does]);
 
-/** The entry of a name, with code between backquotes; "" without one. */
-export function entryText(/** @type {string} */ name) {
-  const here = ENTRIES.filter(([each]) => [name, `* ${name}`].includes(each));
+/** The entry of a name in some sections, with code between backquotes; "" without one. */
+/** @type {(name: string, sections?: Record<string, Entry[]>) => string} */
+export function entryText(name, sections = KNOWN) {
+  const here = Object.values(sections).flat().filter(([each]) => [name, `* ${name}`].includes(each));
   const own = here.length ? here : absentEntry(name);
   return own.map(([, form, does]) => `\`${form}\`${does && `: ${does}`}`).join("\n");
 }
@@ -30,22 +34,27 @@ export function entryText(/** @type {string} */ name) {
 const wordAt = (text, place) =>
   text.slice(Math.max(0, place - 99), place).split(/[^\w.]/).at(-1) + text.slice(place, place + 99).split(/[^\w.]/, 1)[0];
 
-/** Shows those entries that have a text in their form or in what they do, or all. */
+/** The name at a place of a text that has an entry; "" without one. */
+/** @type {(caret: [text: string, place: number]) => string} */
+export function nameAt([text, place]) {
+  const word = wordAt(text, place);
+  return entryText(word, NAMED) ? word : "";
+}
+
+/** Shows the entries that have a text's words, the closest first; or all of them by section. */
 export function showReference(/** @type {HTMLElement} */ box, /** @type {string} */ text) {
   const wanted = text.trim().toLowerCase();
-  const whole = wanted.split(/\s+/).filter((word) => !["with", "a", "an", "the", "of", "to", "in"].includes(word));
-  const words = whole.map((word) => word.replace(/(?<=\w{4})(ing|ed|es|s|y|ies)$/, "")); // `shifting` finds `Shifts`
-  const shown = { ...KNOWN, "Not supported": wanted ? absentEntry(wanted) : [] };
-  const parts = Object.entries(shown).flatMap(([section, entries]) => {
-    const found = entries.filter((entry) => words.every((word) => entry.join(" ").toLowerCase().includes(word)));
-    found.sort(([one], [other]) => Number(other === wanted) - Number(one === wanted)); // exactly this name first
-    return found.length ? [make("h3", "", section), make("ul", "", ...found.map(entryItem))] : [];
-  });
-  box.replaceChildren(...(parts.length ? parts : [make("p", "empty", textOf("reference.none"))]));
+  const found = wanted ? search({ ...KNOWN, "Not supported": absentEntry(wanted) }, wanted) : [];
+  const bySection = () => Object.entries(KNOWN).flatMap(([section, entries]) =>
+    [make("h3", "", section), make("ul", "", ...entries.map((entry) => entryItem(entry)))]);
+  const ranked = () => [make("ul", "", ...found.map(([section, entry]) => entryItem(entry, section)))];
+  const none = [make("p", "empty", textOf("reference.none"))];
+  box.replaceChildren(...(!wanted ? bySection() : found.length ? ranked() : none));
+  box.scrollTop = 0;
 }
 
 /** Shows in an element the entry of the name at a place of a text. */
 export function tellName(/** @type {HTMLElement} */ element, /** @type {string} */ text, /** @type {number} */ place) {
-  const words = entryText(wordAt(text, place));
+  const words = entryText(wordAt(text, place), NAMED);
   put(element, words, prose(words));
 }
