@@ -13,8 +13,9 @@ from support.places import DOCS
 from vecmon_lab.compilers.compiling import compile_c
 from vecmon_lab.compilers.compiler import Compiler
 from vecmon_lab.exercises.answer import Answer, Attempt, read_answer, ready, settled
-from vecmon_lab.exercises.exercise import FILES, OURS, Results, read_exercise
+from vecmon_lab.exercises.exercise import OURS, Results, read_exercise
 from vecmon_lab.exercises.grade import grade
+from vecmon_lab.exercises.named_files import FILES
 from vecmon_lab.exercises.outcome import difference
 from vecmon_lab.guest.guest import Guest, pokes
 from vecmon_lab.machine.answers import ScalarRegisters

@@ -472,7 +472,7 @@ def in_memory(place: str) -> str:
         ("limits.ticks = 0\n" + CASE, "exercise.toml: limits: each is from 1 up"),
         ("limits = 5\n" + CASE, "limits isn't a table"),
         ("hints = ['go on', 5]\n" + CASE, "exercise.toml: hints is a list of texts"),
-        ("start = 'none.s'\n" + CASE, "exercise.toml: start: there is no file "),
+        ("start = 'none.s'\n" + CASE, "exercise.toml:1: start: there is no file "),
         ("set_up = [5]\n" + CASE, "exercise.toml: set_up is a list of texts, which are lines of the monitor"),
         ("cases = [5]", "case 1 isn't a table"),
         (CASE + CASE.replace("]]\n", "]]\nname = 'case 1'\n"), "exercise.toml: two cases are called case 1"),
@@ -504,7 +504,10 @@ def in_memory(place: str) -> str:
             "case 1: map 0 1: E04: PERM is missing; the form is map ADDR PAGES PERM",
         ),
         ("reference = 'none.s'\n" + CASE, "case 1: expected by the reference: registers isn't a list"),
-        ("reference = 'none.s'\n" + CASE.replace("{ a0 = 1 }", "['a0']"), "reference: there is no file "),
+        (
+            "reference = 'none.s'\n" + CASE.replace("{ a0 = 1 }", "['a0']"),
+            "exercise.toml:1: reference: there is no file ",
+        ),
         (
             "reference = 'none.s'\n[[cases]]\nexpected.memory = [{ at = 4, u8 = [1] }]",
             "case 1: the place at 0x4 has how many numbers there are, by their type, i8 to u64, and not u8 = [1]",

@@ -7,6 +7,7 @@ from collections.abc import Iterator
 
 from ..compilers.compiler import find_compilers
 from ..compilers.sandbox import check_start
+from ..guest.entries import printable
 from ..machine.program import find_program
 from .answer import C_SUFFIX, settled
 from .exercise import OURS, Exercise, read_exercise
@@ -41,11 +42,11 @@ def run(arguments: argparse.Namespace) -> int:
     is_fit = True
     for path, should_pass in _answers(exercise):
         if path.suffix == C_SUFFIX and not find_compilers():
-            print(f"{path.relative_to(exercise.folder)}: it isn't tried, since there is no compiler for C")
+            print(f"{_name(exercise, path)}: it isn't tried, since there is no compiler for C")
             continue
         outcomes = grade(program, exercise, path, is_own=True)
         is_fit &= any(outcomes) != should_pass
-        print(f"{path.relative_to(exercise.folder)}: {_verdict(exercise, outcomes)}", end="")
+        print(f"{_name(exercise, path)}: {_verdict(exercise, outcomes)}", end="")
         print("" if any(outcomes) != should_pass else f", and it shall {'pass' if should_pass else 'fail'}")
     return int(not is_fit)
 
@@ -64,6 +65,11 @@ def _answers(exercise: Exercise) -> Iterator[tuple[pathlib.Path, bool]]:
             yield exercise.files[key], should_pass
     for path in sorted((exercise.folder / "wrong").glob("*")):
         yield path, False
+
+
+def _name(exercise: Exercise, path: pathlib.Path) -> str:
+    """The name of an answer in the exercise's folder, for a terminal."""
+    return printable(str(path.relative_to(exercise.folder)))
 
 
 def _verdict(exercise: Exercise, outcomes: list[str]) -> str:

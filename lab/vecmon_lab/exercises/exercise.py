@@ -13,10 +13,10 @@ from .. import LabError, mistakes_in
 from ..guest.guest import IMAGE_BYTES
 from ..instructions.table import REGISTERS
 from ..tables.table import read_table
+from .named_files import FILES, SOURCE_BYTES, TOML_BYTES, KeyPlace, check_source, check_text, named_file
 
 OURS = pathlib.Path(__file__).with_name("given")
 UNLIMITED = 1 << 63
-FILES = ("reference", "good", "start", "start_c", "lesson")  # keys of an exercise that name a file in its folder
 PLACE_BYTES = 1 << 20  # all that a user's pages have
 ADDRESSES = 0x10000  # a register with so much in it may have an address
 
@@ -102,13 +102,12 @@ def read_exercise(folder: pathlib.Path) -> Exercise:
     path = _home(folder) / "exercise.toml"
     if not path.is_file():
         raise _not_found(folder)
-    with mistakes_in(path, tomllib.TOMLDecodeError, UnicodeDecodeError):
-        entries = tomllib.loads(path.read_text("utf-8"))
+    toml, entries = _entries(path)
     texts = dict.fromkeys(["text", *FILES], "") | {"title": path.parent.name}
     table = _taken(str(path), entries, {**texts, "limits": {}, "hints": [], "set_up": [], "junk": False, "cases": []})
     limits = Limits(**vars(_taken(f"{path}: limits", table.limits, vars(Limits()))))
-    files = {key: path.parent / getattr(table, key) for key in FILES if getattr(table, key)}
-    cases = [_case(f"{path}: case {number}", each, "reference" in files) for number, each in enumerate(table.cases, 1)]
+    by_reference = bool(table.reference)
+    cases = [_case(f"{path}: case {number}", each, by_reference) for number, each in enumerate(table.cases, 1)]
     twice = [name for name, count in Counter(case.name for case in cases).items() if count > 1]
     mistakes = {
         "there is no case: [[cases]] begins one": not cases,
@@ -116,12 +115,42 @@ def read_exercise(folder: pathlib.Path) -> Exercise:
         "limits: each is from 1 up": min(vars(limits).values()) < 1,
         "set_up is a list of texts, which are lines of the monitor": {*map(type, table.set_up)} - {str},
         "hints is a list of texts": {*map(type, table.hints)} - {str},
-    } | {f"{key}: there is no file {file}": not file.is_file() for key, file in files.items()}
+    }
     for mistake, is_made in mistakes.items():
         if is_made:
             raise LabError(f"{path}: {mistake}")
+    _check_texts(path, toml, table)
+    files = _files(path, toml, {key: getattr(table, key) for key in FILES if getattr(table, key)})
     about = (table.title, table.text, table.hints, table.set_up, table.junk)
     return Exercise(path.parent, *about, limits, cases, files)
+
+
+def _entries(path: pathlib.Path) -> tuple[str, dict[str, object]]:
+    """The text of a TOML file, and its top table. Raises LabError and OSError."""
+    if (size := path.stat().st_size) > TOML_BYTES:
+        raise LabError(f"{path} has {size:,} bytes, and {TOML_BYTES:,} is the maximum")
+    with mistakes_in(path, tomllib.TOMLDecodeError, UnicodeDecodeError):
+        toml = path.read_text("utf-8")
+        return toml, tomllib.loads(toml)
+
+
+def _check_texts(path: pathlib.Path, toml: str, table: SimpleNamespace) -> None:
+    """Raise LabError if the title, the text or a hint has characters that control a terminal, or reorder what is shown."""
+    for key, texts in (("title", [table.title]), ("text", [table.text]), ("hints", table.hints)):
+        for text in texts:
+            with mistakes_in(KeyPlace(path, toml, key)):
+                check_text(text, has_lines=key != "title")
+
+
+def _files(path: pathlib.Path, toml: str, names: Mapping[str, str]) -> dict[str, pathlib.Path]:
+    """The files in the exercise's folder that its keys name. Raises LabError and OSError."""
+    files = {}
+    for key, name in names.items():
+        with mistakes_in(KeyPlace(path, toml, key)):
+            files[key] = named_file(path.parent, name, FILES[key])
+            if FILES[key] == SOURCE_BYTES:
+                check_source(files[key])
+    return files
 
 
 def with_course(folders: Sequence[pathlib.Path]) -> list[pathlib.Path]:
@@ -172,6 +201,8 @@ def _case(where: str, entries: object, by_reference: bool) -> Case:
         raise LabError(f"{where}: policy is keep or ones, and not {table.policy}")
     if not (asked or places or output is not None):
         raise LabError(f"{where}: nothing is expected: expected has registers, memory or output")
+    with mistakes_in(f"{where}: name"):
+        check_text(table.name)
     memory = [_place(where, each, False) for each in table.memory]
     expectation = Results(_registers(where, asked), places, output)
     return Case(table.name, table.hidden, table.policy, _registers(where, table.registers), memory, expectation)
