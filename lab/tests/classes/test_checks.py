@@ -16,6 +16,7 @@ import pytest_asyncio
 from support.class_tabs import SECONDS, Message, Served, Tab, passed, process, served
 from vecmon_lab import LabError
 from vecmon_lab.classes.builds import Builds
+from vecmon_lab.classes.checks import Checks
 from vecmon_lab.classes.languages import LANGUAGES, C
 from vecmon_lab.classes.store import Store
 from vecmon_lab.classes.view import Class
@@ -433,3 +434,37 @@ async def test_failed_case_in_c_loads_at_desk(
         assert int(tab.view["state"]["x"]["10"], 16) == 12 and "return b + b;" in str(tab.view["state"]["lines"])
         script, _ = await room.check_replay()
         assert script.startswith(b"1 enter\n") and b"E16" not in (await room.get("A/transcript"))[1]
+
+
+async def test_check_under_way_at_end_is_taken_up_again(
+    tmp_path: pathlib.Path, square: pathlib.Path, monkeypatch: pytest.MonkeyPatch
+) -> None:
+    """By the next server, once: a check whose try is saved isn't made again, nor is one that an earlier server left damaged."""
+    folder, blocked = tmp_path / "class", asyncio.Event()
+    original = Checks._check_result
+
+    async def wait_for_end(*words: Any) -> Any:
+        await blocked.wait()  # the server ends first
+
+    monkeypatch.setattr(Checks, "_check_result", wait_for_end)
+    async with served(folder, exercises=[square]) as room:
+        tab = await room.sit("A1")
+        assert "error" not in await tab.ask("check", exercise="square", text=RIGHT)
+        await tab.until(lambda view: view["exercises"]["square"]["checking"])
+    monkeypatch.setattr(Checks, "_check_result", original)
+    pending = (folder / "checking" / "A1.json").read_text()
+    (folder / "checking" / "A2.json").write_text("{")
+    async with served(folder) as room:
+        tab = await room.sit("A1")
+        await tab.until(lambda view: view["exercises"]["square"]["passed"])
+        own = tab.view["exercises"]["square"]
+        assert (own["tries"], own["told"], own["checking"]) == (1, {"cases": cases(True, True)}, False)
+        assert room.members and "checking/A2.json is damaged" in room.members.store.loss
+    assert [path.name for path in (folder / "checking").iterdir()] == ["A2.json.damaged"]
+    (folder / "checking" / "A1.json").write_text(
+        pending
+    )  # as after a power cut between the try and the end of the check
+    async with served(folder) as room:
+        tab = await room.sit("A1")
+        assert tab.view["exercises"]["square"]["tries"] == 1 and not tab.view["exercises"]["square"]["checking"]
+    assert not (folder / "checking" / "A1.json").exists()

@@ -72,7 +72,7 @@ async def test_pages_show_machine_rebuild(tmp_path: pathlib.Path) -> None:
         assert terminal.end()[0] == 0
 
 
-@pytest.mark.parametrize("sign", [signal.SIGINT, signal.SIGTERM])
+@pytest.mark.parametrize("sign", [signal.SIGINT, signal.SIGTERM, signal.SIGHUP])
 async def test_signalled_server_ends_cleanly(tmp_path: pathlib.Path, sign: signal.Signals) -> None:
     async with process(tmp_path / "class", "--patience", "1000") as room:
         tab, unresponsive = await room.sit("A1"), await room.sit("teacher")

@@ -2,6 +2,7 @@
 
 import asyncio
 import json
+import os
 import pathlib
 import re
 import shlex
@@ -56,7 +57,7 @@ async def served(folder: pathlib.Path, pair: Pair) -> AsyncIterator[tuple[int, a
 
 
 async def test_seat_connects_over_https(tmp_path: pathlib.Path, pair: Pair) -> None:
-    """Page and socket; a client that doesn't trust the certificate has neither, nor has one without TLS."""
+    """Page and socket; a client that doesn't trust the certificate has neither, and one without TLS is told to use https."""
     async with served(tmp_path / "class", pair) as (port, session):
         async with session.get(f"https://127.0.0.1:{port}/") as page:
             assert page.status == 200 and f"wss://127.0.0.1:{port}" in page.headers["Content-Security-Policy"]
@@ -71,8 +72,10 @@ async def test_seat_connects_over_https(tmp_path: pathlib.Path, pair: Pair) -> N
         async with aiohttp.ClientSession() as other:
             with pytest.raises(aiohttp.ClientConnectorCertificateError):
                 await other.get(f"https://127.0.0.1:{port}/")
-            with pytest.raises(aiohttp.ClientConnectionError):
-                await other.get(f"http://127.0.0.1:{port}/")
+            async with other.get(f"http://127.0.0.1:{port}/", headers={"X-Long": "a" * 8000}) as plain:
+                assert (plain.status, plain.reason) == (400, "Bad Request") and "https://" in await plain.text()
+            async with other.post(f"http://127.0.0.1:{port}/", data=b"a" * 30_000) as plain:
+                assert plain.status == 400
 
 
 async def test_silent_connections_are_closed(
@@ -106,7 +109,14 @@ async def test_bad_certificate_or_key_is_refused(tmp_path: pathlib.Path, pair: P
     openssl(tmp_path, "genpkey -algorithm EC -pkeyopt ec_paramgen_curve:P-256 -out other.pem")
     openssl(tmp_path, f"pkey -in {key} -aes256 -passout pass:secret -out encrypted.pem")
     (tmp_path / "junk.pem").write_bytes(b"\0" * 100)
+    os.mkfifo(tmp_path / "pipe.pem")
+    os.truncate(os.open(tmp_path / "large.pem", os.O_CREAT | os.O_RDWR), 1_048_577)
+    zero = pathlib.Path("/dev/zero")
     refused = {
+        (zero, key): "/dev/zero is no regular file: name a file with the certificate or key",
+        (certificate, zero): "/dev/zero is no regular file",
+        (certificate, tmp_path / "pipe.pem"): "pipe.pem is no regular file",
+        (certificate, tmp_path / "large.pem"): "large.pem has 1,048,577 bytes, and 1,048,576 is the maximum",
         (tmp_path / "old.pem", key): "old.pem isn't valid: certificate has expired",
         (certificate, tmp_path / "rsa.pem"): f"rsa.pem isn't the private key of the certificate {certificate}",
         (certificate, tmp_path / "other.pem"): f"other.pem isn't the private key of the certificate {certificate}",

@@ -4,6 +4,7 @@ exercises.json: the folder of each exercise that students have, by its name
 offered.json: the folders of all exercises that the teacher may turn on, in their order; version 1.0 wrote none of the course
 answers/A3.doubles.2.json: the second answer of seat A3 to `doubles`: its time, its text and the suffix of its language, and
 the result of its check
+checking/A3.json: the answer of seat A3 whose check is under way: after the server has ended, the next one checks it again
 """
 
 import asyncio
@@ -27,15 +28,15 @@ from ..exercises.exercise import OURS, Exercise, read_exercise, with_course
 from ..exercises.answer_cost import AnswerCost
 from .worker_pool import WorkerPool
 from .builds import Builds
-from .stored_files import attempt, texts
+from .stored_files import attempt, pending_check, texts
 from .languages import SourceText
 from .names import local_time
 from .requests import BadRequest
 from .store import BadFolder, Store
-from .progress import MAX_TRIES, Exercises, SeatResult, Try, source_of, starts_of
+from .progress import MAX_TRIES, Exercises, PendingCheck, SeatResult, Try, source_of, starts_of
 from ..tables.table import read_table
 
-EXERCISES, OFFERED, ANSWERS = "exercises.json", "offered.json", "answers"
+EXERCISES, OFFERED, ANSWERS, CHECKING = "exercises.json", "offered.json", "answers", "checking"
 LOST = "this answer is lost, and counts as a try in which nothing passes"
 WITHOUT = "the class has no exercises but those that --exercise and --course name"
 _COURSE = dict(read_table("course"))
@@ -102,11 +103,30 @@ class Checks:
         if source.choice is not None and self._builds.no_c:
             raise BadRequest(f"this class takes no C: {self._builds.no_c}")
         self.exercises.check_may_start(seat, name)
+        number = len(self.exercises.progress(seat, name).tries) + 1
+        pending = PendingCheck(exercise=name, number=number, text=source.text, language=source.language)
+        self._store.write(_pending_file(seat), pending)
         self.exercises.busy[seat] = name
         task = asyncio.get_running_loop().create_task(self._check(seat, name, source))
         self._tasks.add(task)
         task.add_done_callback(self._tasks.discard)
         self._notify([seat])
+
+    def resume(self) -> None:
+        """Begin the checks again that were under way when the last server ended; in a running event loop.
+
+        One whose try is saved has ended; one whose exercise is off, or in C where there is no compiler any more, is dropped.
+        """
+        for file, _ in list(self._store.files(f"{CHECKING}/*.json")):
+            seat, pending = pathlib.PurePath(file).stem, self._store.read(file, pending_check, "this check is lost")
+            name, source = pending["exercise"], SourceText(pending["text"], pending["language"])
+            is_seat = re.fullmatch("[A-L][1-8]", seat) and seat[0] in self._store.machines
+            try:
+                if not is_seat or len(self.exercises.progress(seat, name).tries) >= pending["number"]:
+                    raise BadRequest("nothing is left to check")
+                self.begin(seat, name, source)
+            except BadRequest:
+                self._store.remove(file)
 
     async def choose(self, names: Sequence[str]) -> None:
         """Set the exercises that students have, in this order. Raises BadRequest for one that the class doesn't offer, or a bad one."""
@@ -226,6 +246,7 @@ class Checks:
         if self.exercises.take(seat, name, done):
             self._unsaved[_file(seat, name, len(self.exercises.progress(seat, name).tries))] = done
             self.save()
+        self._store.remove(_pending_file(seat))
         self._notify([seat])
 
     async def _check_result(self, seat: str, name: str, source: SourceText) -> CheckResult:
@@ -278,3 +299,7 @@ def found_answers(store: Store) -> Iterator[tuple[str, str, int, Try]]:
 
 def _file(seat: str, name: str, number: int) -> str:
     return f"{ANSWERS}/{seat}.{name}.{number}.json"
+
+
+def _pending_file(seat: str) -> str:
+    return f"{CHECKING}/{seat}.json"

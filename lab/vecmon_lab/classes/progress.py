@@ -22,6 +22,8 @@ Try = TypedDict("Try", {"time": int, "text": str, "suffix": NotRequired[str], "t
 """An answer: when, in seconds since 1970; the source, and that of its language, else `s`; and the result of its check."""
 CheckFailure = TypedDict("CheckFailure", {"seat": str, "exercise": str, "time": int, "cause": str})
 """A check that failed twice on the server's side: the seat, the exercise, the time in seconds since 1970, and the cause."""
+PendingCheck = TypedDict("PendingCheck", {"exercise": str, "number": int, "text": str, "language": int})
+"""A check under way: the exercise, the number of the try that it may become, the source, and the number of its language."""
 Start = TypedDict("Start", {"text": str, "language": int})
 SeatResult = TypedDict("SeatResult", {"tries": int, "passed": int, "best": int, "time": int})
 """Of a seat at an exercise: tries; which passed first, or 0; the most cases that passed; when it passed, or the last."""

@@ -246,6 +246,7 @@ async def served(
     await runner.setup()
     tasks = []
     try:
+        members.checks.resume()
         for listener in listeners:
             plain = web.SockSite(runner, listener, shutdown_timeout=LAST_SECONDS)
             await (TlsSite(runner, listener, tls, UNKNOWN, PATIENCE) if tls else plain).start()
@@ -268,6 +269,12 @@ async def served(
         await runner.cleanup()
 
 
+def end_signals() -> list[signal.Signals]:
+    """The signals that end a server in order: also SIGHUP, of a terminal that was closed, unless `nohup` has it ignored."""
+    is_ignored = signal.getsignal(signal.SIGHUP) is signal.SIG_IGN
+    return [signal.SIGINT, signal.SIGTERM, *([] if is_ignored else [signal.SIGHUP])]
+
+
 async def serve(
     members: Class,
     host: str,
@@ -276,7 +283,7 @@ async def serve(
     role: str = TEACHER,
     tls: ssl.SSLContext | None = None,
 ) -> None:
-    """Serves a class at a host's sockets until SIGINT or SIGTERM, and prints the address of somebody's page.
+    """Serves a class at a host's sockets until one of `end_signals` arrives, and prints the address of somebody's page.
 
     Raises BadFolder once the program was replaced or taken away, as with its package.
     """
@@ -284,7 +291,7 @@ async def serve(
     limit = resource.getrlimit(resource.RLIMIT_NOFILE)[1]
     resource.setrlimit(resource.RLIMIT_NOFILE, (limit, limit))
     ended, loop = asyncio.Event(), asyncio.get_running_loop()
-    for sign in (signal.SIGINT, signal.SIGTERM):
+    for sign in end_signals():
         loop.add_signal_handler(sign, ended.set)
     members.is_unencrypted = tls is None and not is_loopback(host)
     async with served(members, listeners, {host, *names}, tls) as port:

@@ -8,7 +8,7 @@ from typing import cast
 from ..exercises.check import CaseResult, CheckResult
 from ..machine.answers import is_stop
 from .codes import LETTERS
-from .progress import Try
+from .progress import PendingCheck, Try
 from .requests import Settings
 
 MOST = 2**31  # more than any count
@@ -82,6 +82,16 @@ def attempt(**values: object) -> Try:
             told = cast(CheckResult, {**result, "cases": cases})
             return Try(time=time, text=text, suffix=f"{suffix or 's'}", told=told)
     raise ValueError("no try")
+
+
+def pending_check(**values: object) -> PendingCheck:
+    """A check that was under way; without values one of no exercise."""
+    exercise, number, text, language = (values.get(key) for key in ("exercise", "number", "text", "language"))
+    if not values:
+        return PendingCheck(exercise="", number=0, text="", language=0)
+    if isinstance(exercise, str) and isinstance(text, str) and _is_count(number) and _is_count(language):
+        return PendingCheck(exercise=exercise, number=cast(int, number), text=text, language=cast(int, language))
+    raise ValueError("no check")
 
 
 def _cases(cases: object) -> list[CaseResult]:

@@ -2,6 +2,7 @@
 
 import asyncio
 import contextlib
+import os
 import pathlib
 import socket
 import ssl
@@ -17,6 +18,14 @@ from .. import LabError
 LAST_SECONDS = 2.0  # of connections once the server ends
 FLIGHTS = 20  # more than a handshake has, of both sides
 ACCEPT_PAUSE = 1.0  # seconds, where the process may have no more files
+PEM_BYTES = 1 << 20  # of a certificate with its issuers', or a key
+PLAIN_BYTES = 1 << 16  # of a plain request that are read before its connection is closed
+METHOD_STARTS = [bytes([letter]) for letter in b"ABCDEFGHIJKLMNOPQRSTUVWXYZ"]  # of plain requests; TLS starts with 0x16
+NOT_HTTPS = b"This class is served by HTTPS: open the same address with https:// at its beginning.\n"
+PLAIN_REFUSAL = (
+    b"HTTP/1.1 400 Bad Request\r\nContent-Type: text/plain; charset=utf-8\r\nCache-Control: no-store\r\n"
+    b"Content-Length: %d\r\nConnection: close\r\n\r\n%s" % (len(NOT_HTTPS), NOT_HTTPS)
+)
 WRONG_KEY = ("KEY_VALUES_MISMATCH", "KEY_TYPE_MISMATCH", "NO_CERTIFICATE_ASSIGNED")
 
 
@@ -33,7 +42,7 @@ def tls_context(certificate: pathlib.Path, key: pathlib.Path) -> ssl.SSLContext:
 
     try:
         for path in (certificate, key):
-            path.read_bytes()  # whose error names the file
+            _check_file(path)
         context.load_cert_chain(certificate, key, refuse_encrypted)
     except ssl.SSLError as error:
         if error.reason in WRONG_KEY:
@@ -42,6 +51,21 @@ def tls_context(certificate: pathlib.Path, key: pathlib.Path) -> ssl.SSLContext:
         raise LabError(f"{certificate} and {key} can't be used as certificate and private key: {cause}") from error
     _check_validity(context, certificate)
     return context
+
+
+def _check_file(path: pathlib.Path) -> None:
+    """Raise OSError, which names the file, if it isn't readable, and LabError if it is no regular file of a fit size."""
+    with open(path, "rb", opener=_open_at_once) as file:
+        status = os.fstat(file.fileno())
+    if not stat.S_ISREG(status.st_mode):
+        raise LabError(f"{path} is no regular file: name a file with the certificate or key")
+    if status.st_size > PEM_BYTES:
+        raise LabError(f"{path} has {status.st_size:,} bytes, and {PEM_BYTES:,} is the maximum of a certificate or key")
+
+
+def _open_at_once(name: str, flags: int) -> int:
+    """Open a file, or a pipe without waiting for its writer."""
+    return os.open(name, flags | os.O_NONBLOCK)
 
 
 def key_warning(key: pathlib.Path) -> str:
@@ -113,6 +137,9 @@ class HandshakeServer:
         with contextlib.suppress(OSError):  # of a client that sends nothing, speaks no TLS, or goes away
             async with asyncio.timeout(self._seconds):
                 await _readable(connection)
+                if connection.recv(1, socket.MSG_PEEK) in METHOD_STARTS:
+                    await _refuse_plain(connection)
+                    return
                 await asyncio.get_running_loop().connect_accepted_socket(self._make, connection, ssl=self._context)
 
 
@@ -127,6 +154,16 @@ async def _readable(connection: socket.socket) -> None:
         connection.close()
         raise
     loop.remove_reader(connection)
+
+
+async def _refuse_plain(connection: socket.socket) -> None:
+    """Answer a request without TLS, and close its connection once the client has read that: a reset could discard the answer."""
+    loop, left = asyncio.get_running_loop(), PLAIN_BYTES
+    with connection:
+        await loop.sock_sendall(connection, PLAIN_REFUSAL)
+        connection.shutdown(socket.SHUT_WR)
+        while left > 0 and (data := await loop.sock_recv(connection, left)):
+            left -= len(data)
 
 
 class TlsSite(web.SockSite):
