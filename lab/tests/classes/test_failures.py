@@ -173,6 +173,26 @@ async def test_killed_server_restarts_with_same_state(tmp_path: pathlib.Path) ->
         await room.check_replay()
 
 
+async def test_changed_script_with_same_answers_is_reported(tmp_path: pathlib.Path) -> None:
+    """A value of a register shows in no answer; notes of 2.0 have no digest of the lines."""
+    folder = tmp_path / "class"
+    async with served(folder) as room:
+        await (await room.sit("A1")).do(*LOOP, "set x5 7")
+    shutil.copytree(folder, tmp_path / "old")
+    for place in (folder, tmp_path / "old"):
+        (place / "A.script").write_bytes((place / "A.script").read_bytes().replace(b"set x5 7", b"set x5 8"))
+    notes = json.loads((folder / "A.json").read_text())
+    del notes["script"]
+    (tmp_path / "old" / "A.json").write_text(json.dumps(notes))
+    async with served(folder) as room:
+        assert room.members and room.members.store.lost == [
+            "A.script: its first 6 lines were changed, and are answered as before"
+        ]
+    async with served(folder) as room, served(tmp_path / "old") as old:
+        assert room.members and room.members.store.lost == []  # the present lines count from then on
+        assert old.members and old.members.store.lost == []
+
+
 async def test_changed_script_answers_are_refused(tmp_path: pathlib.Path, program: pathlib.Path) -> None:
     folder = tmp_path / "class"
     async with served(folder) as room:

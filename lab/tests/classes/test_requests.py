@@ -1,7 +1,11 @@
 """Valid requests, by who may send them; all other input is refused."""
 
+import json
+from collections.abc import Iterator
+
 import pytest
 
+from support.places import DOCS
 from vecmon_lab import LabError
 from vecmon_lab.classes.languages import LANGUAGES, SourceText
 from vecmon_lab.classes.requests import (
@@ -36,7 +40,7 @@ SHARED: list[tuple[dict[str, object], bool, Request]] = [
         Compare(SourceText("int x;", 2), 5),
     ),
     ({"ask": "clock", "machine": "A", "on": True, "ms": 10}, True, SetClock("A", {"on": True, "ms": 10})),
-    ({"ask": "clock", "machine": "A", "on": 0, "slices": 1000}, True, SetClock("A", {"on": False, "slices": 1000})),
+    ({"ask": "clock", "machine": "A", "on": False, "slices": 1000}, True, SetClock("A", {"on": False, "slices": 1000})),
     ({"ask": "rights", "machine": "A", "own_slices": False}, True, SetRights("A", False)),
     ({"ask": "renew", "seat": "A3"}, True, Renew("A3")),
     ({"ask": "shoulder", "seat": ""}, True, LookOver("")),
@@ -74,9 +78,53 @@ def test_request_is_parsed(message: dict[str, object], is_teacher: bool, request
         ({"ask": "give", "text": "", "language": "@file"}, True, "languages have numbers from 0"),
         ({"ask": "listings", "text": "", "language": 1, "other": "clang @file"}, False, "options have whole numbers"),
         ({"ask": "clock", "machine": "A", "slices": 0}, True, "slices of the clock is 1 to 1000"),
-        ({"ask": "clock", "machine": "A", "on": "yes"}, True, "on of the clock is 0 to 1"),
+        ({"ask": "clock", "machine": "A", "on": "yes"}, True, "on is true or false"),
+        ({"ask": "clock", "machine": "A", "on": 0}, True, "on is true or false"),
+        ({"ask": "name", "name": None}, False, "there is no such name: it is a text"),
+        ({"ask": "hand", "up": "yes"}, False, "up is true or false"),
+        (
+            {"ask": "hand", "up": True, "text": "a\x1b"},
+            False,
+            "a question for the teacher has 1 to 400 characters that can",
+        ),
+        ({"ask": "hand", "up": True, "text": None}, False, "a question for the teacher has 1 to 400 characters"),
+        ({"ask": "write", "text": "a\x1b"}, True, "a line for students has 1 to 400 characters"),
     ],
 )
 def test_invalid_request_is_refused(message: dict[str, object], is_teacher: bool, expected: str) -> None:
     with pytest.raises(LabError, match=expected):
         read_request(message, is_teacher)
+
+
+WRONG: dict[str, list[object]] = {
+    "string": [None, 5, True, ["a"]],
+    "boolean": [None, "yes", 1, 0],
+    "integer": [None, "5", True, 1.0],
+    "array": [None, "a", 5, {"a": 5}],
+}
+
+
+def values_of_other_types() -> Iterator[tuple[bool, dict[str, object]]]:
+    """Requests with one value of another type than the schema's: whether they are a teacher's, and the messages."""
+    definitions = json.loads((DOCS / "CLASS_PROTOCOL.schema.json").read_text())["$defs"]
+    samples: dict[str, object] = {"string": "a", "boolean": True, "integer": 1, "array": []}
+    for is_teacher, form in ((False, "StudentRequestForm"), (True, "TeacherRequestForm")):
+        for reference in definitions[form]["anyOf"]:
+            properties = definitions[reference["$ref"].rpartition("/")[2]]["properties"]
+            kinds = {name: each["type"] for name, each in properties.items() if name != "id" and "type" in each}
+            fit = {name: samples[kind] for name, kind in kinds.items()} | {"ask": properties["ask"]["enum"][0]}
+            for name, kind in kinds.items():
+                others = {
+                    key: value for key, value in fit.items() if key != {"seat": "seats", "seats": "seat"}.get(name)
+                }
+                yield from ((is_teacher, others | {name: value}) for value in WRONG[kind])
+
+
+def test_values_of_other_types_are_refused() -> None:
+    """Each value of each request, by the published schema."""
+    count = 0
+    for is_teacher, message in values_of_other_types():
+        count += 1
+        with pytest.raises(LabError):
+            pytest.fail(f"{message} is taken: {read_request(message, is_teacher)}")
+    assert count > 200

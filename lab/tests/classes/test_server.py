@@ -258,6 +258,27 @@ async def test_page_has_security_headers(room: Served) -> None:
         assert answer.status == 405
 
 
+async def test_long_script_number_is_not_found(room: Served) -> None:
+    """More digits than Python reads as a number (4,300)."""
+    assert (await room.get("A.1/script"))[0] == 200
+    for number in ("2", "1000000", "9" * 5000):
+        assert (await room.get(f"A.{number}/script"))[0] == 404
+
+
+async def test_responses_name_no_version(room: Served) -> None:
+    """Also those to requests that can't be read, and the handshake of a socket."""
+    socket = await room.session.ws_connect(room.url + "socket")
+    assert socket._response.headers["Server"] == "vecmon-lab"
+    for path in ("", "none", "A/script"):
+        async with room.session.get(room.url + path) as answer:
+            assert answer.headers["Server"] == "vecmon-lab"
+    reader, writer = await asyncio.open_connection("127.0.0.1", room.port)
+    writer.write(b"\x16\x03\x01 no request\r\n\r\n")
+    answer = await asyncio.wait_for(reader.read(), SECONDS)
+    assert answer.startswith(b"HTTP/1.0 400 ") and b"Python" not in answer and b"aiohttp" not in answer
+    writer.close()
+
+
 async def test_stop_is_sent_without_request(room: Served) -> None:
     tab, other, teacher = await room.sit("A2"), await room.sit("A3"), await room.sit("teacher")
     await tab.do(*LOOP, "break 10004", "go")

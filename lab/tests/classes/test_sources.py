@@ -199,8 +199,11 @@ async def test_full_disk_keeps_source_in_memory(room: Served, monkeypatch: pytes
         keep(members)
         members.save()
         await teacher.until(lambda view: "A1.s isn't saved: No space left on device" in view["trouble"])
+        await tab.until(lambda view: view["trouble"] == "your text isn't saved: No space left on device")
+        assert (await room.sit("A2")).view["trouble"] == ""
         assert (await tab.ask("version", number=1))["text"] == "nop"
     keep(members)
     members.save()
     await teacher.until(lambda view: view["trouble"] == "")
+    await tab.until(lambda view: view["trouble"] == "")
     assert (room.folder / "sources" / "A1.1.written.s").read_text() == "nop"

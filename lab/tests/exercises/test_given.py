@@ -134,6 +134,7 @@ def test_new_exercise_passes_try(lab: Lab, tmp_path: pathlib.Path) -> None:
     lines = output.decode().splitlines()
     assert (status, lines[0]) == (0, "Doubles")
     assert "good.s: passes 5 cases" in lines and lines[-3].startswith("wrong/always_eight.s: passes 2 of 5 cases; ")
+    assert [line for line in lines if "warning" in line] == ["warning: an answer that only returns passes: none"]
     (folder / "wrong" / "good.s").write_text((folder / "good.s").read_text())
     (folder / "good.s").write_text("ret\n")
     status, output, _ = lab("exercise", "try", folder)

@@ -226,6 +226,19 @@ def test_a_script_that_another_machine_answers_otherwise_is_given_up(
     again.close()
 
 
+def test_excess_lines_are_set_aside(
+    program: pathlib.Path, tmp_path: pathlib.Path, monkeypatch: pytest.MonkeyPatch
+) -> None:
+    """A file with more lines than a page ever has opens with the first ones, and an export has all."""
+    assert page_desk.MOST_LINES == 250_000
+    monkeypatch.setattr(page_desk, "MOST_LINES", 3)
+    script = "1 enter\n1 set x5 7\n1 set x6 8\n1 set x5 9\n"
+    page = Page(program, tmp_path, {"A.script": [script, 0.0]})
+    assert page.desk.lost == ["the machine has 4 lines, and only the first 3 are executed again"]
+    assert page.desk.machine.session.lines == 3
+    assert page.close()["damaged/A.script"][0] == script
+
+
 def test_a_long_run_becomes_a_checkpoint(program: pathlib.Path, tmp_path: pathlib.Path) -> None:
     page = Page(program, tmp_path)
     page.ask("source", text="li t1, 400000\n" + SOURCE)

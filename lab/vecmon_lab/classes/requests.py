@@ -376,9 +376,10 @@ Reader = Callable[[JsonObject], Request]
 """Makes the request of a message. Raises BadRequest and BadLine."""
 
 _OF_ALL: Mapping[str, Reader] = {
+    "answer": lambda it: ReadAnswer(_name(it, "seat"), _name(it, "exercise"), _number(it)),
     "name": lambda it: SetName(_name(it, "seat"), _name(it, "name")),
     "version": lambda it: ReadVersion(_number(it)),
-    "past": lambda it: ReadPast(_number(it, "at"), bool(it.get("to_break"))),
+    "past": lambda it: ReadPast(_number(it, "at"), _flag(it, "to_break")),
 }
 _OF_STUDENTS: Mapping[str, Reader] = {
     **_OF_ALL,
@@ -389,15 +390,14 @@ _OF_STUDENTS: Mapping[str, Reader] = {
     "run": lambda it: RunProgram(*_source_to_build(it)),
     "step": lambda it: _step(it),
     "step-line": lambda it: StepLine(),
-    "edit": lambda it: Edit(_text(it, "edit"), _text(it, "text"), bool(it.get("decimal"))),
-    "breakpoint": lambda it: ToggleBreakpoints(_line(it), bool(it.get("set"))),
+    "edit": lambda it: Edit(_text(it, "edit"), _text(it, "text"), _flag(it, "decimal")),
+    "breakpoint": lambda it: ToggleBreakpoints(_line(it), _flag(it, "set")),
     "last-instruction": lambda it: FindLastRead(),
     "why": lambda it: Why(_name(it, "name")),
-    "draft": lambda it: Draft(_source(it), _number(it), _name(it, "exercise"), bool(it.get("keep")), _line(it)),
+    "draft": lambda it: Draft(_source(it), _number(it), _name(it, "exercise"), _flag(it, "keep"), _line(it)),
     "open": lambda it: OpenOffer(_number(it)) if "number" in it else OpenExercise(_name(it, "exercise")),
-    "answer": lambda it: ReadAnswer("", _name(it, "exercise"), _number(it)),
     "read": lambda it: ReadNotice(_number(it)),
-    "hand": lambda it: SetHand(bool(it.get("up")), _sentence(it) if it.get("text") else ""),
+    "hand": lambda it: _hand(it),
     "listings": lambda it: Compare(_source(it), _number(it, "other")),
     "check": lambda it: Check(_name(it, "exercise"), _source(it)),
     "case": lambda it: _case(it),
@@ -405,7 +405,6 @@ _OF_STUDENTS: Mapping[str, Reader] = {
 _OF_TEACHERS: Mapping[str, Reader] = {
     **_OF_ALL,
     "lines": lambda it: _lines(it, is_teacher=True),
-    "answer": lambda it: ReadAnswer(_name(it, "seat"), _name(it, "exercise"), _number(it)),
     "give": lambda it: _give(it),
     "take-back": lambda it: TakeBack(_seats(it)),
     "write": lambda it: Write(_seats(it), _sentence(it)),
@@ -414,11 +413,11 @@ _OF_TEACHERS: Mapping[str, Reader] = {
     "hand": lambda it: LowerHand(_name(it, "seat")),
     "reset": lambda it: Reset(_name(it, "seat")),
     "clock": lambda it: SetClock(_name(it, "machine"), _settings(it)),
-    "rights": lambda it: SetRights(_name(it, "machine"), bool(it.get("own_slices"))),
+    "rights": lambda it: SetRights(_name(it, "machine"), _flag(it, "own_slices")),
     "renew": lambda it: Renew(_name(it, "seat")),
     "shoulder": lambda it: LookOver(_name(it, "seat")),
     "wall": lambda it: PutOnWall(_name(it, "seat")),
-    "codes": lambda it: ShowCodes(_name(it, "seat"), bool(it.get("pictures"))),
+    "codes": lambda it: ShowCodes(_name(it, "seat"), _flag(it, "pictures")),
 }
 
 
@@ -434,7 +433,7 @@ def _lines(message: JsonObject, is_teacher: bool) -> Lines:
     do, look, slices = message.get("do", []), message.get("look", []), message.get("slices", 0)
     if not isinstance(do, list) or not isinstance(look, list) or len(do) + len(look) > REQUEST_LINES:
         raise BadRequest(f"a request has lists of {REQUEST_LINES} lines at most")
-    if not isinstance(slices, int) or not 0 <= slices <= MAX_SLICES:
+    if type(slices) is not int or not 0 <= slices <= MAX_SLICES:
         raise BadRequest(f"a request grants 0 to {MAX_SLICES} slices")
     for text in (*do, *look):
         check_text(text)
@@ -452,21 +451,24 @@ def _settings(message: JsonObject) -> Mapping[str, int]:
     settings = {}
     for name in _LIMITS.keys() & message.keys():
         (minimum, maximum), value = _LIMITS[name], message[name]
-        if not isinstance(value, int) or not minimum <= value <= maximum:
+        if name == "on":
+            settings[name] = _flag(message, name)
+        elif type(value) is not int or not minimum <= value <= maximum:
             raise BadRequest(f"{name} of the clock is {minimum} to {maximum}")
-        settings[name] = bool(value) if name == "on" else value
+        else:
+            settings[name] = value
     return settings
 
 
 def _source(message: JsonObject) -> SourceText:
     """The source of a message, in assembler where that doesn't say its language."""
     language = message.get("language", 0)
-    if not isinstance(language, int) or not 0 <= language < len(LANGUAGES):
+    if type(language) is not int or not 0 <= language < len(LANGUAGES):
         raise BadRequest(f"languages have numbers from 0 to {len(LANGUAGES) - 1}")
     text = message.get("text")
     if not isinstance(text, str) or len(text) > SOURCE_LETTERS:
         raise BadRequest(f"a source is a text of {SOURCE_LETTERS} characters at most")
-    return SourceText(text.encode("utf-8", "replace").decode(), int(language))
+    return SourceText(text.encode("utf-8", "replace").decode(), language)
 
 
 def _source_to_build(message: JsonObject) -> tuple[SourceText | None, int, Sequence[int]]:
@@ -517,7 +519,7 @@ def _give(message: JsonObject) -> Give | OfferSource:
     if not source.text.strip():
         raise BadRequest("the source to give is empty: type one, or copy a seat's")
     if how == "offer":
-        return OfferSource(seats, source, _sentence(message, "title") if message.get("title") else "")
+        return OfferSource(seats, source, _sentence(message, "title") if message.get("title", "") != "" else "")
     if how != "replace":
         raise BadRequest("a source is given as replace or offer")
     return Give(seats, source)
@@ -542,18 +544,32 @@ def _exercises(message: JsonObject) -> Sequence[str]:
     return [*dict.fromkeys(names)]
 
 
-def _sentence(message: JsonObject, name: str = "text") -> str:
-    """The sentence that a message has by a name."""
+def _hand(message: JsonObject) -> SetHand:
+    """The raised or lowered hand of a message, with its text for the teacher, or ""."""
+    text = _sentence(message, what="a question for the teacher") if message.get("text", "") != "" else ""
+    return SetHand(_flag(message, "up"), text)
+
+
+def _sentence(message: JsonObject, name: str = "text", what: str = "a line for students") -> str:
+    """The sentence that a message has by a name. what: its description in a refusal"""
     text = message.get(name)
     if not isinstance(text, str) or not 0 < len(text) <= SENTENCE_LETTERS or not text.isprintable():
-        raise BadRequest(f"a line for students has 1 to {SENTENCE_LETTERS} characters that can be printed")
+        raise BadRequest(f"{what} has 1 to {SENTENCE_LETTERS} characters that can be printed")
     return text
+
+
+def _flag(message: JsonObject, name: str) -> bool:
+    """Whether something by this name in a message is true; false without it."""
+    value = message.get(name, False)
+    if not isinstance(value, bool):
+        raise BadRequest(f"{name} is true or false")
+    return value
 
 
 def _number(message: JsonObject, name: str = "number") -> int:
     """The number that a message has by a name."""
     number = message.get(name)
-    if not isinstance(number, int):
+    if type(number) is not int:
         raise BadRequest("sources, versions, answers, cases, messages and options have whole numbers")
     return number
 
@@ -568,7 +584,7 @@ def _line(message: JsonObject, name: str = "line") -> int:
 
 def _name(message: JsonObject, kind: str) -> str:
     """The name of a machine or a seat; "" without one."""
-    name = message.get(kind) or ""
+    name = message.get(kind, "")
     if not isinstance(name, str):
-        raise BadRequest(f"there is no such {kind}")
+        raise BadRequest(f"there is no such {kind}: it is a text")
     return name

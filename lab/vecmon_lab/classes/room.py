@@ -222,7 +222,8 @@ class Room:
 
     def _notes(self, session: Session, scripts: Sequence[int], stops: Mapping[str, str]) -> Notes:
         """Notes of a session, whose script is the last one of these. stops: the last ones when that started, by digit"""
-        return Notes(session.lines, session.digest, asdict(self.clock.settings), self.own_slices, scripts, stops)
+        settings, digest = asdict(self.clock.settings), session.script_digest
+        return Notes(session.lines, session.digest, settings, self.own_slices, scripts, stops, digest)
 
     def _change_all(self) -> None:
         """All seats, and the operator's, have news."""

@@ -99,6 +99,8 @@ class ScriptFile:
                 lose(
                     f"its first {notes.lines:,} lines are answered otherwise than before: it, or an image, was changed"
                 )
+            elif notes.script and len(answered) == notes.lines and session.script_digest != notes.script:
+                lose(f"its first {notes.lines:,} lines were changed, and are answered as before")
             yield from session.do_blocks(later)
         except (BadLine, OutOfStep) as error:
             raise BadFolder(f"machine {self._machine} doesn't take its script: {error}") from error
@@ -277,7 +279,8 @@ class Store:
             self.lose(f"{last_name} has lost lines that set the machine up: it goes on as the script before left it")
             scripts.pop()
         if len(scripts) < len(notes.scripts):
-            notes = replace(notes, scripts=scripts, stops={}, lines=len(self._lines(machine, len(scripts))), answers="")
+            lines = len(self._lines(machine, len(scripts)))
+            notes = replace(notes, scripts=scripts, stops={}, lines=lines, answers="", script="")
         return notes
 
     def check_script(self, machine: str, number: int) -> None:
@@ -350,6 +353,13 @@ class Store:
     def warning(self) -> str:
         """Why something isn't saved; empty if all is."""
         return "".join(list(self._flusher.failures.values())[:1]) if self._flusher else ""
+
+    def warning_of(self, seat: str) -> str:
+        """Why a file of a seat's own isn't saved, without its name; empty if all are."""
+        failures = self._flusher.failures if self._flusher else {}
+        own = (text for name, text in list(failures.items()) if name.rpartition("/")[2].startswith(f"{seat}."))
+        cause = next(own, "").rpartition(": ")[2]
+        return f"your text isn't saved: {cause}" if cause else ""
 
     def files(self, pattern: str) -> Iterator[tuple[str, float]]:
         """The names that match a pattern, and their times; of those that wait for the disk the present time."""

@@ -37,6 +37,7 @@ class Notes:
 
     scripts: of each script how many lines at its beginning set the machine up, as the one before left it
     stops: the last stops of users when the last one of them started, by digit
+    script: digest of the last script's lines that were answered; "" in notes of version 2.0 and earlier
     """
 
     lines: int = 0
@@ -45,9 +46,15 @@ class Notes:
     own_slices: bool = True
     scripts: Sequence[int] = field(default_factory=lambda: [0])
     stops: Mapping[str, str] = field(default_factory=dict)
+    script: str = ""
 
     def __post_init__(self) -> None:
-        is_whole = type(self.answers) is str and type(self.own_slices) is bool and bool(self.scripts)
+        is_whole = (
+            type(self.answers) is str
+            and type(self.script) is str
+            and type(self.own_slices) is bool
+            and bool(self.scripts)
+        )
         are_stops = all(is_stop(f"{digit} {stop}") for digit, stop in {**self.stops}.items())
         if not is_whole or not are_stops or not all(map(_is_count, (self.lines, *self.scripts))):
             raise ValueError("no notes of a machine")

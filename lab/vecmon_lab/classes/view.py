@@ -87,6 +87,7 @@ class Class:
         self._kept: dict[str, tuple[Notes, float]] = {}  # and when they were kept
         self._stuck: Sequence[str] = ()  # seats whose students were stuck at the last save
         self.warning = ""  # why something isn't saved, as pages have it
+        self._seat_warnings = dict[str, str]()  # the same by seat, of its own files
         makers, self._packers, self._packing = WorkerPool(1), WorkerPool(2), set[str]()
         try:
             self.checks = Checks(store, exercises, self.tell, self.builds)
@@ -148,6 +149,10 @@ class Class:
         if self.store.warning != self.warning:
             self.warning = self.store.warning
             self.tell([])
+        warnings = {seat: warning for seat in self.students if (warning := self.store.warning_of(seat))}
+        if warnings != self._seat_warnings:
+            self.tell({*warnings, *self._seat_warnings})
+            self._seat_warnings = warnings
 
     async def take_home(self, seat: str) -> bytes:
         """The archive that a student takes home. Raises LabError where there is none, or it is being made already."""
@@ -186,6 +191,7 @@ class Class:
     def student_view(self, student: Student) -> StudentView:
         """The student's view."""
         room = self.rooms[student.seat.name[0]]
+        own_warning = self.store.warning_of(student.seat.name)
         others: ClassView = {
             "title": self.title,
             "class_title": "" if self.title else self.class_title,
@@ -197,7 +203,7 @@ class Class:
             "no_c": self.builds.no_c,
             "against": self.comparisons.names,
             "ready": not room.thread.rebuilding,
-            "trouble": " ".join(filter(None, [room.warning, share_warning(student.seat)])),
+            "trouble": " ".join(filter(None, [room.warning, own_warning, share_warning(student.seat)])),
         }
         if hand := self.hands.of(student.seat.name):
             others["hand"] = hand
@@ -288,7 +294,8 @@ class Class:
         """Whether notes are to be kept: they differ, and not only in their counts, or these are to be kept now."""
         stored, since = self._kept.get(letter, (Notes(), -math.inf))
         with_counts = with_counts or time.monotonic() - since >= COUNTS_SECONDS
-        return stored != (notes if with_counts else replace(notes, lines=stored.lines, answers=stored.answers))
+        counted = replace(notes, lines=stored.lines, answers=stored.answers, script=stored.script)
+        return stored != (notes if with_counts else counted)
 
     def _watched(self) -> set[str]:
         """The names of seats that somebody looks at: with a tab, over the shoulder, or on a wall."""

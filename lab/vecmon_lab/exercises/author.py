@@ -9,9 +9,10 @@ from ..compilers.compiler import find_compilers
 from ..compilers.sandbox import check_start
 from ..guest.entries import printable
 from ..machine.program import find_program
-from .answer import C_SUFFIX, settled
+from .answer import C_SUFFIX, settled, source_answer
 from .exercise import OURS, Exercise, read_exercise
 from .grade import grade
+from .outcome import outcome
 from .reports import reason_shown
 
 SKELETON = OURS / "doubles"
@@ -39,6 +40,7 @@ def run(arguments: argparse.Namespace) -> int:
     print("\n".join([exercise.title, "", exercise.text.strip(), ""]))
     for number, hint in enumerate(exercise.hints, 1):
         print(f"after {number} {'try' if number == 1 else 'tries'}: {hint}")
+    _warn_of_free_cases(program, exercise)
     is_fit = True
     for path, should_pass in _answers(exercise):
         if path.suffix == C_SUFFIX and not find_compilers():
@@ -65,6 +67,14 @@ def _answers(exercise: Exercise) -> Iterator[tuple[pathlib.Path, bool]]:
             yield exercise.files[key], should_pass
     for path in sorted((exercise.folder / "wrong").glob("*")):
         yield path, False
+
+
+def _warn_of_free_cases(program: pathlib.Path, exercise: Exercise) -> None:
+    """Print the cases that an answer passes which only returns: graders give a point for each case."""
+    answer = source_answer("ret\n", pathlib.Path("ret.s"))
+    free = [case.name for case in exercise.cases if not outcome(program, answer, exercise, case).reason]
+    if free:
+        print(f"warning: an answer that only returns passes: {', '.join(free)}")
 
 
 def _name(exercise: Exercise, path: pathlib.Path) -> str:

@@ -1,4 +1,4 @@
-"""The script of a session: its lines, a digest of the answers, and the part that a new process executes."""
+"""The script of a session: its lines, digests of them and of the answers, and the part that a new process executes."""
 
 import hashlib
 import time
@@ -27,22 +27,23 @@ class ScriptStart:
     """The first lines of a script, with what a session knows of them, so that a new process needn't execute them.
 
     number, size: of the lines, and of their bytes
-    answers: a digest of their answers
+    sent, answers: digests of the lines and of their answers
     policy: of agnostic elements, of each user who is there after them
     lines: makes the lines that replace them; None if there are none that leave the machine as they do
     """
 
     number: int
     size: int
+    sent: "hashlib._Hash"
     answers: "hashlib._Hash"
     policy: Mapping[int, str]
     lines: Callable[[], bytes | None]
 
 
 class Script:
-    """Lines, each with its newline, and a digest of their answers and a mark of each.
+    """Lines, each with its newline, digests of them and of their answers, and a mark of each answer.
 
-    `answers` is the digest, and `marks` has the CRC-32 of each answer, by which a replay is compared. `base` has the last
+    `sent` and `answers` are the digests, and `marks` has the CRC-32 of each answer, by which a replay is compared. `base` has the last
     checkpoint, and how many bytes of the script it replaces. `policy` has the policy for agnostic elements of each user who is there. `total` is how many
     seconds the lines have taken, and `spent` those that a new process would take.
     """
@@ -53,7 +54,7 @@ class Script:
         self.base = Checkpoint(0, b""), 0
         self.policy: dict[int, str] = {}
         self.spent = self.total = 0.0
-        self.answers = hashlib.sha256()
+        self.sent, self.answers = hashlib.sha256(), hashlib.sha256()
 
     def shorten(self, checkpoint: Checkpoint, spent: float) -> None:
         """Adds a checkpoint, of the script as it was when `spent` seconds were spent: a new process starts with it."""
@@ -66,12 +67,14 @@ class Script:
 
     def start(self, lines: Callable[[], bytes | None]) -> ScriptStart:
         """Return the whole script as the start of a longer one. lines: makes the lines that replace it."""
-        return ScriptStart(len(self.marks), len(self.text), self.answers.copy(), dict(self.policy), lines)
+        return ScriptStart(
+            len(self.marks), len(self.text), self.sent.copy(), self.answers.copy(), dict(self.policy), lines
+        )
 
     def begin(self, start: ScriptStart, lines: bytes, whole: "Script") -> None:
         """Take over the start of another script, which these lines replace in a new process."""
         self.text, self.marks = whole.text[: start.size], whole.marks[: start.number]
-        self.answers = start.answers.copy()
+        self.sent, self.answers = start.sent.copy(), start.answers.copy()
         self.policy.update(start.policy)
         self.base = Checkpoint(start.number, lines), start.size
 
@@ -82,7 +85,8 @@ class Script:
         self.text += "\n".join([*lines, ""]).encode("ascii")
 
     def add_replayed(self, lines: Sequence[str], answers: Sequence[str]) -> None:
-        """Adds answers to the digest and the marks, and follows the policies that their lines set."""
+        """Adds lines and answers to the digests, and the marks, and follows the policies that their lines set."""
+        self.sent.update("\n".join([*lines, ""]).encode("latin-1"))
         self.answers.update("\n".join([*answers, ""]).encode("latin-1"))
         self.marks.extend(marks(answers))
         for line, answer in zip(lines, answers):

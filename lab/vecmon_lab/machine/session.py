@@ -128,6 +128,11 @@ class Session(contextlib.AbstractContextManager["Session"]):
         return self.recorded.answers.hexdigest()
 
     @property
+    def script_digest(self) -> str:
+        """The SHA-256 of the script's lines, in hexadecimal digits."""
+        return self.recorded.sent.hexdigest()
+
+    @property
     def process(self) -> int | None:
         """The system's number of the process, if there is one now."""
         return self._process.number if self._process else None

@@ -32,6 +32,7 @@ from .desk import Desk
 from .kept_texts import KeptTexts
 from .page_source import PageSource
 
+MOST_LINES = 250_000  # of the machine that are executed again: a page's own are fewer, since checkpoints shorten them
 SCRIPT, SET_UP = "A.script", "A.set_up"  # the machine's lines, and how many of the first ones set it up
 STOP = "A.stop"  # the last stop when those were made, unless something had changed since
 QUANTUM = "A.quantum"  # ticks of a slice, where a class had another number than this page
@@ -229,6 +230,10 @@ class PageDesk(Desk):
             count = script.count(b"\n")
             _set_aside(self.texts, SCRIPT)
             self.lost.append(f"the machine's lines are damaged behind line {count}")
+        elif (count := script.count(b"\n")) > MOST_LINES:
+            _set_aside(self.texts, SCRIPT)
+            self.lost.append(f"the machine has {count:,} lines, and only the first {MOST_LINES:,} are executed again")
+            script = b"".join(script.splitlines(keepends=True)[:MOST_LINES])
         kept_count = self.texts.read_text(SET_UP)
         self._set_up = int(kept_count) if re.fullmatch("[0-9]{1,9}", kept_count) else 0
         kept_stop, digit = self.texts.read_text(STOP), self.seat.digit
