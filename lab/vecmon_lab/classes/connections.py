@@ -4,12 +4,57 @@ A client may send nothing, take no answer, or send requests without end before i
 """
 
 import asyncio
-from collections.abc import Mapping, Sequence
+import ipaddress
+from collections import deque
+from collections.abc import Callable, Iterable, Mapping, Sequence
+from typing import TypeVar
 
 from aiohttp import web
 
 SWEEP_SECONDS = 0.5
+OF_ADDRESS = (
+    128  # connections of one address that are in an early state, such as without a code; a school may share one
+)
+V6_PREFIX = 64  # bits of an address by IPv6 that a client can't choose
 AHEAD = 16  # requests of a connection that wait for the answer to an earlier one; browsers send none ahead
+
+
+Connection = TypeVar("Connection")
+
+
+def address_of(transport: asyncio.BaseTransport | None) -> str:
+    """The address at the other end of a connection, for limits; of IPv6 its network; "" if the connection has ended."""
+    peer = transport.get_extra_info("peername") if transport else None
+    return network_of(peer[0]) if peer else ""
+
+
+def network_of(address: str) -> str:
+    """An address as limits count it: of IPv6 the network, since a client has all addresses of one."""
+    host = ipaddress.ip_address(address.partition("%")[0])
+    if host.version == 4 or host.ipv4_mapped:
+        return str(host)
+    return str(ipaddress.ip_network((int(host), V6_PREFIX), strict=False))
+
+
+def excess(connections: Iterable[Connection], address: Callable[[Connection], str], limit: int) -> set[Connection]:
+    """The connections to end, of those given, the oldest first, so that there are `limit`, and OF_ADDRESS of each address.
+
+    The oldest of the address that has the most ends, so that other addresses keep theirs.
+    """
+    by_address, ended = _by_address(connections, address), set[Connection]()
+    count = sum(map(len, by_address))
+    while by_address and (count > limit or max(map(len, by_address)) > OF_ADDRESS):
+        ended.add(max(by_address, key=len).popleft())
+        count -= 1
+    return ended
+
+
+def _by_address(connections: Iterable[Connection], address: Callable[[Connection], str]) -> list[deque[Connection]]:
+    """Connections by their addresses, in the order of the first one of each."""
+    found: dict[str, deque[Connection]] = {}
+    for each in connections:
+        found.setdefault(address(each), deque()).append(each)
+    return list(found.values())
 
 
 class Connections:
@@ -19,7 +64,8 @@ class Connections:
     """
 
     def __init__(self, limit: int, silent_seconds: float, unread_seconds: float) -> None:
-        """limit: number of connections without a whole request, and number of others that leave answers unread
+        """limit: number of connections without a whole request, and number of others that leave answers unread; OF_ADDRESS limits
+        those of an address
 
         silent_seconds, unread_seconds: how long a connection may send nothing, and how long it may take nothing
         """
@@ -68,5 +114,5 @@ def _before(since: Mapping[web.RequestHandler, float], time: float) -> set[web.R
 
 
 def _excess(since: Mapping[web.RequestHandler, float], limit: int) -> set[web.RequestHandler]:
-    """The oldest ones, so that a number of them is left; of those since the same time the first ones."""
-    return set(sorted(since, key=since.__getitem__)[: max(0, len(since) - limit)])
+    """The oldest ones of the addresses that have too many, by their times; of those since the same time the first ones."""
+    return excess(sorted(since, key=since.__getitem__), lambda it: address_of(it.transport), limit)

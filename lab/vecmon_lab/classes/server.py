@@ -15,11 +15,12 @@ import ssl
 import subprocess
 import sys
 import weakref
+from collections import defaultdict
 from collections.abc import AsyncIterator, Awaitable, Callable, Iterable
 from functools import partial
 from typing import Any
 
-from aiohttp import web
+from aiohttp import web, web_response
 from aiohttp.http import HttpProcessingError
 
 from .. import LabError
@@ -28,9 +29,11 @@ from ..page.pages import Page
 from ..page.texts import page_text
 from ..page.reference import reference_text
 from .codes import TEACHER
-from .connections import Connections
+from .connections import Connections, address_of, excess
+from .frame_limits import LimitedSocket
 from .resumed_pages import OpenPages
 from .room import Room
+from .seat_budget import SeatBudget
 from .store import BadFolder, script_name
 from .tab_requests import TabRequests
 from .tab_socket import CLOSED, READ_SECONDS, TabSocket
@@ -40,6 +43,7 @@ from .view import Class, Tab
 MESSAGE_BYTES = 400_000
 PATIENCE = 10.0  # seconds for a first request, and for a tab's code
 UNKNOWN = 500  # connections without a whole request, and sockets without a code
+TEACHERS_SHARE = 1.0  # of a core; a seat's is smaller
 SOCKETS = 8  # of a seat; of the teacher twice as many
 WRONG_CODE_SECONDS = 0.5
 KEEP_SECONDS = 0.3  # between saves; the disk has the data that long afterwards, so within a second
@@ -50,6 +54,7 @@ HEADERS = {
     "Cross-Origin-Opener-Policy": "same-origin",
 }
 HOST = re.compile(r"(?:\[([0-9a-fA-F:.]+)\]|([A-Za-z0-9.-]+))(?::[0-9]+)?")
+vars(web_response)["SERVER_SOFTWARE"] = "vecmon-lab"  # the header `Server` without versions, also where no hook is called
 CROWDED = 4429  # why a socket is closed: the seat has too many
 
 
@@ -62,6 +67,8 @@ class Server:
         self._requests, self._pages = TabRequests(members), OpenPages()
         self._page, self._lesson, self._listings = Page("class"), Page("lesson"), Page("listings")
         self.connections = Connections(UNKNOWN, PATIENCE, READ_SECONDS)
+        self._budgets = defaultdict[str, SeatBudget](SeatBudget)
+        self._budgets[TEACHER] = SeatBudget(TEACHERS_SHARE)
         self._is_ending = False
         self._nameless: dict[web.WebSocketResponse, web.Request] = {}  # sockets without a code, the oldest first
         self._sockets: weakref.WeakSet[web.WebSocketResponse] = weakref.WeakSet()
@@ -77,7 +84,7 @@ class Server:
         application.router.add_get("/{table:seats|exercises}.csv", self._get_table)
         application.router.add_get(r"/lesson/{ticket:[\w-]+}", partial(self._get_ticket, self._lesson))
         application.router.add_get(r"/listings/{ticket:[\w-]+}", partial(self._get_ticket, self._listings))
-        application.router.add_get("/{machine:[A-L]}.{number:[1-9][0-9]*}/{what:script|transcript}", self._get_file)
+        application.router.add_get("/{machine:[A-L]}.{number:[1-9][0-9]{0,5}}/{what:script|transcript}", self._get_file)
         return application
 
     def is_ours(self, host: str, origin: str | None) -> bool:
@@ -171,7 +178,7 @@ class Server:
             raise web.HTTPServiceUnavailable(text=str(error)) from error
 
     async def _socket(self, request: web.Request) -> web.WebSocketResponse:
-        own = web.WebSocketResponse(heartbeat=READ_SECONDS, max_msg_size=MESSAGE_BYTES, compress=False, timeout=2)
+        own = LimitedSocket(heartbeat=READ_SECONDS, max_msg_size=MESSAGE_BYTES, compress=False, timeout=2)
         await own.prepare(request)
         self._sockets.add(own)
         role, name = await self._who(request, own)
@@ -181,19 +188,20 @@ class Server:
         elif others >= (2 * SOCKETS if role == TEACHER else SOCKETS):
             await own.close(code=CROWDED, message=b"too many tabs")
         else:
+            own.limits.has_code = True
             self.connections.tabs.add(request.protocol)
-            page, abort = self._pages.open(role, name), partial(_abort, request)
-            await TabSocket(self._requests, own, Tab(role), page, abort).serve(lambda: self._is_ending)
+            page, abort, budget = self._pages.open(role, name), partial(_abort, request), self._budgets[role]
+            await TabSocket(self._requests, own, Tab(role), page, abort, budget).serve(lambda: self._is_ending)
         return own
 
     async def _who(self, request: web.Request, own: web.WebSocketResponse) -> tuple[str | None, object]:
         """The owner of the code in the first message, and the page's name there; a wrong code is refused after a while.
 
-        The oldest of too many sockets without a code is closed, so that new ones are served.
+        Of too many sockets without a code the oldest of the address that has the most is closed, so that new ones are served.
         """
         self._nameless[own] = request
-        if len(self._nameless) > UNKNOWN:
-            _abort(self._nameless.pop(next(iter(self._nameless))))
+        for each in excess(self._nameless, lambda it: address_of(self._nameless[it].transport), UNKNOWN):
+            _abort(self._nameless.pop(each))
         try:
             async with asyncio.timeout(PATIENCE):  # pings would prolong the time limit of `receive_str`
                 message = json.loads(await own.receive_str())

@@ -12,6 +12,7 @@ from aiohttp import WSMsgType, web
 from .codes import TEACHER
 from .messages import Beat, Message, News, with_changes
 from .resumed_pages import OpenPage
+from .seat_budget import SeatBudget
 from .tab_requests import TabRequests
 from .view import Tab
 
@@ -36,9 +37,11 @@ class TabSocket:
         tab: Tab,
         page: tuple[OpenPage, bool],
         abort: Callable[[], object],
+        budget: SeatBudget,
     ) -> None:
-        """page: with whether it was open before; abort: ends the connection without a word."""
+        """page: with whether it was open before; abort: ends the connection without a word; budget: of all tabs of the seat"""
         self._tabs, self._socket, self._tab, self._abort = tabs, socket, tab, abort
+        self._budget = budget
         self._page, self._is_resumed = page
         self._waiting: deque[str] = deque()
         self._has_come = asyncio.Event()  # set where there is one, or no more will come
@@ -70,23 +73,33 @@ class TabSocket:
         async for message in self._socket:
             if message.type is not WSMsgType.TEXT or not self._tab.is_open:
                 return
+            await self._budget.ready()
             if message.data == BEAT:
                 await self._send(Beat(kind="beat"))
             elif len(self._waiting) < MAX_WAITING and sum(map(len, self._waiting)) + len(message.data) <= WAITING_BYTES:
                 self._waiting.append(message.data)
                 self._has_come.set()
             else:
-                await self._send(await self._tabs.answer(self._tab, message.data, TOO_MANY_WAIT))
+                await self._budget.metered(self._refuse(message.data))
 
     async def _answer(self) -> None:
         """Carries out what waits, in turn."""
         while self._waiting or not self._is_read:
             await self._has_come.wait()
             while self._waiting:
+                await self._budget.ready()
                 text = self._waiting.popleft()
                 if self._tab.is_open:
-                    await self._send(await self._page.answer(text, partial(self._tabs.answer, self._tab, text)))
+                    await self._budget.metered(self._execute(text))
             self._has_come.clear()
+
+    async def _execute(self, text: str) -> None:
+        """Execute a request, and send its answer."""
+        await self._send(await self._page.answer(text, partial(self._tabs.answer, self._tab, text)))
+
+    async def _refuse(self, text: str) -> None:
+        """Refuse a request, since too many wait."""
+        await self._send(await self._tabs.answer(self._tab, text, TOO_MANY_WAIT))
 
     async def _push(self) -> None:
         """Send news as they come; changes meanwhile go together."""

@@ -7,13 +7,13 @@ import pathlib
 import socket
 import ssl
 import stat
-from collections import deque
 from collections.abc import Callable
 from typing import cast
 
 from aiohttp import web
 
 from .. import LabError
+from .connections import excess, network_of
 
 LAST_SECONDS = 2.0  # of connections once the server ends
 FLIGHTS = 20  # more than a handshake has, of both sides
@@ -105,7 +105,7 @@ class HandshakeServer:
         """make: returns the protocol of a connection; limit: number of handshakes at once; seconds: time limit of each"""
         self.sockets = (listener,)
         self._make, self._context, self._limit, self._seconds = make, context, limit, seconds
-        self._handshakes: deque[asyncio.Task[None]] = deque()  # the oldest first; some have ended
+        self._handshakes: dict[asyncio.Task[None], str] = {}  # with addresses, the oldest first; some have ended
         self._accepting = asyncio.create_task(self._accept(listener))
 
     def close(self) -> None:
@@ -119,18 +119,18 @@ class HandshakeServer:
         self.sockets[0].close()
 
     async def _accept(self, listener: socket.socket) -> None:
-        """Accepts connections for ever. Of too many handshakes the oldest is given up."""
+        """Accepts connections for ever. Of too many handshakes the oldest of the address that has the most is given up."""
         listener.setblocking(False)
         while True:
             try:
-                connection, _ = await asyncio.get_running_loop().sock_accept(listener)
+                connection, peer = await asyncio.get_running_loop().sock_accept(listener)
             except OSError:
                 await asyncio.sleep(ACCEPT_PAUSE)
                 continue
-            self._handshakes = deque(task for task in self._handshakes if not task.done())
-            self._handshakes.append(asyncio.create_task(self._shake(connection)))
-            if len(self._handshakes) > self._limit:
-                self._handshakes.popleft().cancel()
+            self._handshakes = {task: its for task, its in self._handshakes.items() if not task.done()}
+            self._handshakes[asyncio.create_task(self._shake(connection))] = network_of(peer[0])
+            for task in excess(self._handshakes, self._handshakes.__getitem__, self._limit):
+                task.cancel()
 
     async def _shake(self, connection: socket.socket) -> None:
         """Has a connection served after its handshake, for which memory is allocated once the client has sent something."""
