@@ -3,6 +3,7 @@ script."""
 
 import os
 import pathlib
+import resource
 import subprocess
 from collections.abc import Sequence
 from dataclasses import dataclass
@@ -10,6 +11,7 @@ from dataclasses import dataclass
 TOP = pathlib.Path(__file__).resolve().parent.parent
 CONTEXT = 3  # lines before a difference
 SHOWN = 12  # lines from it on
+STACK = 1 << 20  # bytes of stack that the programs need at most (docs/GUARANTEES.md, "Trusted")
 
 
 @dataclass(frozen=True)
@@ -26,10 +28,20 @@ def built() -> pathlib.Path:
     return pathlib.Path(os.environ.get("VECMON") or TOP / "crates/vecmon/out/vecmon").absolute()
 
 
+def limit_stack() -> None:
+    """Limits this process's stack, and that of the program that it then executes, to `STACK`."""
+    resource.setrlimit(resource.RLIMIT_STACK, (STACK, resource.getrlimit(resource.RLIMIT_STACK)[1]))
+
+
 def run(program: pathlib.Path, arguments: Sequence[str], script: str, folder: pathlib.Path) -> Run:
-    """Runs the program on words in a folder, with a script on standard input."""
+    """Runs the program on words in a folder, with a script on standard input and a stack of `STACK` bytes."""
     completed = subprocess.run(
-        [program, *arguments], input=script.encode("latin-1"), cwd=folder, capture_output=True, check=False
+        [program, *arguments],
+        input=script.encode("latin-1"),
+        cwd=folder,
+        capture_output=True,
+        check=False,
+        preexec_fn=limit_stack,
     )
     return Run(completed.stdout.decode("latin-1"), completed.stderr.decode("latin-1"), completed.returncode)
 

@@ -1,11 +1,11 @@
 -- The result of the program's run: the files that it reads, and the machine that it creates
-use Rattle.std.proofs.Common.{◌≡◌, ◌≢◌, ◌∙◌, ℕ, List, [], ◌∷◌, ◌++◌, append-nil, Bool, true, false, Option, Some, None, Result, Ok, Err, ◌⊎◌, inl, inr, ap, subst, sym, refl, length, map, not, ◌&&◌, ◌||◌, nat_le, nat_lt, if◌then◌else◌, is_some, true≢false, leb-true}
+use Rattle.std.proofs.Common.{◌≡◌, ◌≢◌, ◌∙◌, ℕ, List, [], ◌∷◌, ◌++◌, append-nil, Bool, true, false, Option, Some, None, Result, Ok, Err, ◌⊎◌, inl, inr, ap, subst, sym, refl, length, map, not, ◌&&◌, ◌||◌, nat_le, nat_lt, if◌then◌else◌, is_some, true≢false, leb-true, arith}
 use Rattle.std.specs.Borrow.{Bor}
 use Rattle.std.specs.Io.{StartsWith}
 use Rattle.std.specs.Io.KnownBytes.{Consumes, IsAtEnd}
 use Rattle.std.specs.List.{AllZip, list_all}
 use Rattle.std.specs.Option.{option_map_or}
-use Rattle.std.specs.Prelude.{IfErr, IsErrAnd}
+use Rattle.std.specs.Prelude.{IfErr, IfOk, IsErrAnd, IsOk}
 use Rattle.std.proofs.KnownBytes.{Consumes-whole}
 use Rattle.std.proofs.lemmas.Bool.{and_parts}
 use Rattle.clap.specs.Walk.{Text, texts}
@@ -13,6 +13,7 @@ use Rattle.monitor_machine.specs.Images.{named_images, setup_of}
 use Rattle.monitor_machine.specs.MachineState.{MachineState}
 use Rattle.monitor_machine.specs.NewFaults.{are_distinct, is_name, new_fault}
 use Rattle.monitor_machine.specs.declared.image.Image.{Image}
+use Rattle.monitor_machine.specs.declared.new_fault.NewFault.{NewFault}
 use Rattle.monitor_machine.specs.declared.new_fault.NewFault.TheVariants as new_faults
 use Rattle.monitor_script.specs.declared.script.RunFault.{RunFault}
 use Rattle.monitor_script.specs.declared.script.RunFault.TheVariants.{Read, TooLong, Write}
@@ -23,7 +24,7 @@ use Rattle.vec_monitor.specs.ImageFiles.{named_file, IsFileOf}
 use Rattle.vec_monitor.specs.ImageArguments.{IsNameAndPath, IsPathOf}
 use Rattle.devices.specs.KnownBytes.{AreKnownAs}
 use Rattle.vec_monitor.specs.ProgramRuns.{IsImageOf, OutputPrefix, RanOptions, RanScript, RanArguments}
-use Rattle.vec_monitor.specs.Statuses.{program_status}
+use Rattle.vec_monitor.specs.Statuses.{IsRunFault, machine_fault, program_status}
 use Rattle.vec_monitor.specs.declared.image_files.ImageFile.{ImageFile}
 use Rattle.vec_monitor.specs.declared.image_arguments.ImagePath.{ImagePath}
 use Rattle.vec_monitor.specs.declared.program_fault.ProgramFault.{ProgramFault}
@@ -77,6 +78,70 @@ other_status G (Err fault) stopped Q is three five = λ q. absurd (elim (run_sta
   | inl e ↦ three (subst Q (ap program_status is ∙ e) q)
   | inr e ↦ five (subst Q (ap program_status is ∙ e) q)
 ])
+
+-- ---- a run of a machine that was just created
+
+-- a statement about a created machine
+pub of_created : {T E : Type 0} (P : T → Type 0) (r : Result T E) (x : T) → r ≡ Ok x → IfOk r P → P x
+of_created P r x is holds = subst (λ it. IfOk it P) is holds
+
+pub was_created : {T E : Type 0} (r : Result T E) (x : T) → r ≡ Ok x → IsOk r
+was_created r x is = subst IsOk (sym is) refl
+
+-- a machine that isn't created has exit status 4 or 6
+machine_statuses : (refused : NewFault) → (program_status (machine_fault refused) ≡ 4) ⊎ (program_status (machine_fault refused) ≡ 6)
+machine_statuses new_faults.Quantum = inl refl
+machine_statuses new_faults.ImageCount = inl refl
+machine_statuses new_faults.ImageName = inl refl
+machine_statuses new_faults.ImageSize = inl refl
+machine_statuses new_faults.NoMemory = inr refl
+
+-- the output is as before, unless the script failed
+pub unused_unless : {T : Type 0} (Unused Failed : Type 0) (r : Result T ProgramFault) (created : Result MachineState NewFault) → IfErr r (IsRunFault created Unused Failed)
+    → IfErr r (λ fault. (program_status fault ≡ 2) ⊎ ((program_status fault ≡ 4) ⊎ (program_status fault ≡ 6)) → Unused)
+unused_unless Unused Failed (Ok x) created is = tt
+unused_unless Unused Failed (Err fault) created (inl refused) = λ _. refused.2.1
+unused_unless {T = T} Unused Failed (Err fault) created (inr stopped) =
+    other_status {T = T} Unused (Err fault) stopped.0 (λ status. (status ≡ 2) ⊎ ((status ≡ 4) ⊎ (status ≡ 6))) stopped.1
+    (λ q. elim q [ inl e ↦ omega (arith, e) | inr q ↦ elim q [ inl e ↦ omega (arith, e) | inr e ↦ omega (arith, e) ] ])
+    (λ q. elim q [ inl e ↦ omega (arith, e) | inr q ↦ elim q [ inl e ↦ omega (arith, e) | inr e ↦ omega (arith, e) ] ])
+
+-- no such fault is one of the arguments
+pub no_usage : {T : Type 0} (G Unused Failed : Type 0) (r : Result T ProgramFault) (created : Result MachineState NewFault) → IfErr r (IsRunFault created Unused Failed)
+    → IfErr r (λ fault. program_status fault ≡ 2 → G)
+no_usage G Unused Failed (Ok x) created is = tt
+no_usage G Unused Failed (Err fault) created (inl refused) = λ two. absurd (elim (machine_statuses refused.0) [
+  | inl e ↦ omega (arith, sym e ∙ (sym (ap program_status refused.2.0) ∙ two))
+  | inr e ↦ omega (arith, sym e ∙ (sym (ap program_status refused.2.0) ∙ two))
+])
+no_usage {T = T} G Unused Failed (Err fault) created (inr stopped) =
+    other_status {T = T} G (Err fault) stopped.0 (λ status. status ≡ 2) stopped.1 (λ e. omega (arith, e)) (λ e. omega (arith, e))
+
+-- no such fault is one of the images, if only memory can be lacking
+pub no_image_fault : {T : Type 0} (Unused Failed : Type 0) (r : Result T ProgramFault) (created : Result MachineState NewFault)
+    → IfErr created (λ refused. refused ≡ new_faults.NoMemory) → IfErr r (IsRunFault created Unused Failed) → IfErr r (λ fault. program_status fault ≢ 4)
+no_image_fault Unused Failed (Ok x) created only is = tt
+no_image_fault Unused Failed (Err fault) created only (inl refused) = λ four.
+    let memory : refused.0 ≡ new_faults.NoMemory = subst (λ it. IfErr it (λ refused. refused ≡ new_faults.NoMemory)) refused.1 only in
+    omega (arith, sym (ap (λ it. program_status (machine_fault it)) memory) ∙ (sym (ap program_status refused.2.0) ∙ four))
+no_image_fault {T = T} Unused Failed (Err fault) created only (inr stopped) =
+    other_status {T = T} ⊥ (Err fault) stopped.0 (λ status. status ≡ 4) stopped.1 (λ e. omega (arith, e)) (λ e. omega (arith, e))
+
+-- the only fault of a script with exit status 5
+write_of : (stopped : RunFault) → program_status (Run stopped) ≡ 5 → stopped ≡ Write
+write_of Read e = absurd (omega (arith, e))
+write_of TooLong e = absurd (omega (arith, e))
+write_of Write e = refl
+
+-- such a fault has exit status 5 only after a failed write
+pub write_failed : {T : Type 0} (Unused Failed : Type 0) (r : Result T ProgramFault) (created : Result MachineState NewFault) → IfErr r (IsRunFault created Unused Failed)
+    → IfErr r (λ fault. program_status fault ≡ 5 → Failed)
+write_failed Unused Failed (Ok x) created is = tt
+write_failed Unused Failed (Err fault) created (inl refused) = λ five. absurd (elim (machine_statuses refused.0) [
+  | inl e ↦ omega (arith, sym e ∙ (sym (ap program_status refused.2.0) ∙ five))
+  | inr e ↦ omega (arith, sym e ∙ (sym (ap program_status refused.2.0) ∙ five))
+])
+write_failed Unused Failed (Err fault) created (inr stopped) = λ five. stopped.2 (write_of stopped.0 (sym (ap program_status stopped.1) ∙ five))
 
 -- ---- images
 

@@ -1,12 +1,14 @@
 -- The effect of the program with its arguments: the machine that it creates, the script that it reads, and its output.
 -- The bytes of files and of standard input may be unspecified.
-use Rattle.std.specs.Prelude.{◌≡◌, ◌≤◌, ℕ, List, [], Option, None, length}
+use Rattle.std.specs.Prelude.{◌≡◌, ◌≤◌, ℕ, List, [], Option, None, Result, Ok, length}
 use Rattle.std.specs.Io.{StartsWith}
 use Rattle.std.specs.List.{AllZip}
 use Rattle.std.specs.Option.{option_map_or}
 use Rattle.clap.specs.Words.{IsAmong, Text}
 use Rattle.clap.specs.declared.error.kind.ErrorKind.TheVariants.{DisplayHelp}
+use Rattle.monitor_machine.specs.MachineState.{MachineState}
 use Rattle.monitor_machine.specs.NewFaults.{new_fault}
+use Rattle.monitor_machine.specs.declared.new_fault.NewFault.{NewFault}
 use Rattle.rv_model.specs.machine.World.{solo}
 use Rattle.rv_model.specs.machine.Script.{lines, own, whole}
 use Rattle.rv_model.specs.machine.Setup.{Image, Setup, user_count}
@@ -34,6 +36,10 @@ OutputPrefix took setup known =
 abbrev pub IsImageOf : (Text → Option (List ℕ)) → Text → Image → Type 0
 IsImageOf file_bytes word image =
     (path : Text) × IsNameAndPath word image.name path × AreKnownAs (file_bytes path) image.bytes
+
+-- a machine was created, and `Ran` holds for its setup
+abbrev pub HasRun : Result MachineState NewFault → (Setup → Type 0) → Type 0
+HasRun created Ran = (machine : MachineState) × (created ≡ Ok machine) × Ran machine.setup
 
 -- A machine with this quantum and the images of these arguments executed the script, and `Ran` describes the run. The
 -- machine refuses no image. The script's bytes are those of the file at its path, or those of standard input without a

@@ -1,9 +1,10 @@
 -- The exit statuses of the program (docs/PROGRAM.md)
-use Rattle.std.specs.Prelude.{◌≡◌, ◌≢◌, ◌⊎◌, ℕ, List, []}
+use Rattle.std.specs.Prelude.{◌≡◌, ◌≢◌, ◌⊎◌, ℕ, List, [], Result, Err}
 use Rattle.std.specs.List.{Any}
 use Rattle.clap.specs.Words.{IsAmong, Text}
 use Rattle.clap.specs.declared.error.kind.ErrorKind.{ErrorKind}
 use Rattle.clap.specs.declared.error.kind.ErrorKind.TheVariants.{DisplayHelp}
+use Rattle.monitor_machine.specs.MachineState.{MachineState}
 use Rattle.monitor_machine.specs.declared.new_fault.NewFault.{NewFault}
 use Rattle.monitor_machine.specs.declared.new_fault.NewFault.TheVariants as new_fault
 use Rattle.monitor_script.specs.declared.script.RunFault.{RunFault}
@@ -31,6 +32,13 @@ program_status _ = 2
 abbrev pub machine_fault : NewFault → ProgramFault
 machine_fault new_fault.NoMemory = NoMemory
 machine_fault _ = ImageList
+
+-- the program's fault if a machine wasn't created, and then the output is as before, or if its script failed, and then by
+-- a failed write if the fault says so
+abbrev pub IsRunFault : Result MachineState NewFault → Type 0 → Type 0 → ProgramFault → Type 0
+IsRunFault created Unused Failed fault =
+    ((refused : NewFault) × (created ≡ Err refused) × ((fault ≡ machine_fault refused) × Unused))
+    ⊎ ((stopped : RunFault) × (fault ≡ Run stopped) × (stopped ≡ Write → Failed))
 
 -- clap may return an error other than help for the arguments, or clap accepts them and an image argument has no equals
 -- sign

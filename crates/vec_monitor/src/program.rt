@@ -1,15 +1,16 @@
 //! The program: it executes a script from a file or standard input, and writes the replies to an output.
-ghost use Rattle.std.specs.Prelude.{◌≡◌, ◌≢◌, ◌≤◌, ◌⊎◌, [], IfErr, IsErrAnd, OnOk, option_map, ⊤};
+ghost use Rattle.std.specs.Prelude.{◌≡◌, ◌≢◌, ◌≤◌, ◌⊎◌, [], Err, IfErr, IfOk, IsErrAnd, OnOk, option_map, ⊤};
 ghost use Rattle.std.specs.List.{Any};
 ghost use Rattle.std.specs.Option.{option_map_or};
 ghost use Rattle.clap.specs.Walk.{texts};
 ghost use Rattle.clap.specs.Words.{IsAmong};
 ghost use Rattle.clap.specs.declared.error.kind.ErrorKind.TheVariants.{DisplayHelp};
+ghost use Rattle.devices.specs.Device.{Rose};
 ghost use Rattle.rv_model.specs.machine.Script.{new_world};
 ghost use Rattle.vec_monitor.specs.CommandLine.{image_arguments, arguments_fault};
 ghost use Rattle.vec_monitor.specs.ImageArguments.{LacksEqualsSign};
-ghost use Rattle.vec_monitor.specs.ProgramRuns.{IsHelped, OutputPrefix, RanOptions, RanScript, RanArguments};
-ghost use Rattle.vec_monitor.specs.Statuses.{program_status, AreRefused, MayBeRefused};
+ghost use Rattle.vec_monitor.specs.ProgramRuns.{HasRun, IsHelped, OutputPrefix, RanOptions, RanScript, RanArguments};
+ghost use Rattle.vec_monitor.specs.Statuses.{program_status, AreRefused, IsRunFault, MayBeRefused};
 ghost use Rattle.vec_monitor.specs.declared.program_fault.ProgramFault.TheVariants.{ImageArgument, NoMemory};
 
 use crate::arguments::options;
@@ -18,7 +19,7 @@ use crate::image_arguments::image_paths;
 use crate::image_files::{borrowed_images, read_images};
 use crate::program_fault::{ProgramFault, STATUS_DONE};
 use devices::{Inputs, TextFault, write_text};
-use monitor_machine::Machine;
+use monitor_machine::{Machine, NewFault};
 use monitor_script::{ReaderSource, RunFault, Sink, WriterSink, run};
 use std::alloc::{Allocator, Global};
 use std::io::{self, Read};
@@ -34,6 +35,7 @@ fn run_reader<F: Read + Drop, K: Sink, A: Allocator>(
         RanScript (λ printed. K.took output.old printed output.new) machine.old.setup (F.remaining reader)) }
     ensures printed { machine.old.world ≡ new_world →
         OutputPrefix (λ printed. K.took output.old printed output.new) machine.old.setup (F.remaining reader) }
+    ensures failed { result ≡ Err RunFault.Write → Rose (K.failures output.old) (K.failures output.new) }
 {
     run(machine, &mut ReaderSource::new(reader), output)
 }
@@ -53,6 +55,7 @@ fn run_script<I: Inputs, K: Sink, A: Allocator>(
         OutputPrefix (λ printed. K.took output.old printed output.new) machine.old.setup
         (option_map_or (I.file_bytes inputs.now) (option_map (λ path. path.now) script.entry)
         (I.input_bytes inputs.now)) }
+    ensures failed { result ≡ Err RunFault.Write → Rose (K.failures output.old) (K.failures output.new) }
 {
     match script {
         Some(path) => {
@@ -63,6 +66,32 @@ fn run_script<I: Inputs, K: Sink, A: Allocator>(
         }
         None => run_reader(machine, inputs.standard_input(), output),
     }
+}
+
+/// Execute a script as `run_script` does, with a machine that was just created, or return the fault of its creation.
+// Out of line, and with the machine by value: the caller's frame has one copy of the machine while `Machine::new` runs.
+#[inline(never)]
+fn run_machine<'a, I: Inputs, K: Sink, A: Allocator>(
+    inputs: &I,
+    created: Result<Machine<'_, A>, NewFault>,
+    script: Option<&str>,
+    output: &mut K,
+) -> Result<(), ProgramFault<'a>>
+    requires { IfOk created (λ machine. machine.world ≡ new_world) }
+    ensures ran { OnOk result (HasRun created.entry (λ setup.
+        RanScript (λ printed. K.took output.old printed output.new) setup
+        (option_map_or (I.file_bytes inputs.now) (option_map (λ path. path.now) script.entry)
+        (I.input_bytes inputs.now)))) }
+    ensures printed { K.took output.old [] output.new ⊎ HasRun created.entry (λ setup.
+        OutputPrefix (λ printed. K.took output.old printed output.new) setup
+        (option_map_or (I.file_bytes inputs.now) (option_map (λ path. path.now) script.entry)
+        (I.input_bytes inputs.now))) }
+    ensures fault { IfErr result (IsRunFault created.entry (K.took output.old [] output.new)
+        (Rose (K.failures output.old) (K.failures output.new))) }
+{
+    let mut machine = created?;
+    run_script(inputs, &mut machine, script, output)?;
+    Ok(())
 }
 
 /// Run the program with parsed options. All images are read before the script is opened.
@@ -87,13 +116,18 @@ fn run_options<'a, I: Inputs, K: Sink, A: Allocator + Clone>(
         IsErrAnd result (λ fault. (fault ≡ NoMemory) ⊎ (fault ≡ ImageArgument)) }
     ensures images { 1 ≤ options.now.quantum → options.now.quantum ≤ 1000 →
         options.now.images.items ≡ [] → IfErr result (λ fault. program_status fault ≢ 4) }
+    ensures failed { IfErr result (λ fault.
+        program_status fault ≡ 5 → Rose (K.failures output.old) (K.failures output.new)) }
 {
     let paths = image_paths(alloc.clone()?, options.images.as_slice())?;
     let files = read_images(inputs, alloc.clone()?, paths.as_slice())?;
     let images = borrowed_images(alloc.clone()?, files.as_slice())?;
-    let mut machine = Machine::new(alloc, options.quantum, images.as_slice())?;
-    run_script(inputs, &mut machine, options.script, output)?;
-    Ok(())
+    run_machine(
+        inputs,
+        Machine::new(alloc, options.quantum, images.as_slice()),
+        options.script,
+        output,
+    )
 }
 
 /// Run the program with its arguments: write help, or execute a script.
@@ -119,6 +153,8 @@ fn run_arguments<'a, R: Inputs, K: Sink>(
         IsErrAnd result (λ fault. (program_status fault ≡ 2) ⊎ (fault ≡ NoMemory)) }
     ensures images { image_arguments (texts arguments.now) ≡ [] →
         IfErr result (λ fault. program_status fault ≢ 4) }
+    ensures failed { IfErr result (λ fault.
+        program_status fault ≡ 5 → Rose (K.failures output.old) (K.failures output.new)) }
 {
     match options(alloc, arguments) {
         Ok(options) => run_options(rt, alloc, &options, output),
@@ -167,6 +203,8 @@ pub fn vecmon_into<R: Inputs + Eprint, K: Sink>(
     ensures usage { result ≡ 2 → MayBeRefused (texts arguments.now) }
     ensures refused { AreRefused (texts arguments.now) → (result ≡ 2) ⊎ (result ≡ 6) }
     ensures images { image_arguments (texts arguments.now) ≡ [] → result ≢ 4 }
+    // The exit status is 5 only if a write to the output failed.
+    ensures failed { result ≡ 5 → Rose (K.failures output.old) (K.failures output.new) }
 {
     match run_arguments(rt, alloc, arguments, output) {
         Ok(()) => STATUS_DONE,
