@@ -7,7 +7,7 @@ from collections.abc import Mapping, Sequence
 from dataclasses import dataclass
 from typing import TypeVar
 
-from tests.program import TOP, lines_of
+from tests.program import TOP, limit_stack, lines_of
 
 Value = TypeVar("Value")
 BUILT = TOP / "crates/vecmon_record/out/vecmon_record"
@@ -58,14 +58,16 @@ def built_recorder() -> pathlib.Path:
 
 
 def record(folder: pathlib.Path, *arguments: object, more: Sequence[int] = (), counts: bool = True) -> Recorded:
-    """Runs the recorder in a folder with `--counts counts` before other words, or without.
+    """Runs the recorder in a folder with `--counts counts` before other words, or without, and with the stack of `STACK`.
 
     more: descriptors that it is given
     """
     file = folder / "counts"
     file.unlink(missing_ok=True)
     command = [str(built_recorder()), *(["--counts", "counts"] if counts else []), *map(str, arguments)]
-    completed = subprocess.run(command, cwd=folder, capture_output=True, check=False, pass_fds=more)
+    completed = subprocess.run(
+        command, cwd=folder, capture_output=True, check=False, pass_fds=more, preexec_fn=limit_stack
+    )
     reply = file.read_text("ascii") if file.exists() else ""
     return Recorded(completed.stdout, completed.stderr.decode(), completed.returncode, reply)
 
@@ -75,7 +77,7 @@ def record_log(folder: pathlib.Path, *arguments: object) -> RecordedLog:
     log = folder / "log"
     log.unlink(missing_ok=True)
     command = [str(built_recorder()), "--log", "log", *map(str, arguments)]
-    completed = subprocess.run(command, cwd=folder, capture_output=True, check=False)
+    completed = subprocess.run(command, cwd=folder, capture_output=True, check=False, preexec_fn=limit_stack)
     return RecordedLog(
         completed.stdout,
         completed.stderr.decode(),

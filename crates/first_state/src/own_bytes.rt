@@ -4,10 +4,10 @@ ghost use Rattle.rv_model.specs.machine.Setup.{user_count};
 
 use rv_model::{Access, Fault, User};
 use std::alloc::{Allocator, Global};
-use user_mem::{NoMemory, Pool};
+use user_mem::Pool;
 use vector_memory::UserBytes;
 
-/// Memory of a machine's only user, the first of a pool. Only `new` allocates.
+/// Memory of a machine's only user, the first of a pool. Only `enter` allocates.
 #[derive(Drop)]
 pub struct OwnBytes<A: Allocator = Global> {
     pub(crate) pool: Pool<A>,
@@ -25,20 +25,6 @@ pub(crate) fn own_memory_law<A: Allocator>(memory: &OwnBytes<A>)
     ensures { length memory.now.pool ≡ user_count }
 {
     let _ = memory.pool.pages(own_user());
-}
-
-impl<A: Allocator> OwnBytes<A> {
-    ghost use Rattle.std.specs.Prelude.{IfOk};
-    ghost use Rattle.std.specs.FinMap.{empty};
-    ghost use Rattle.first_state.specs.OwnMemory.{own_memory};
-
-    /// Create a memory without pages. Return `NoMemory` if the allocation fails.
-    pub(crate) fn new(alloc: A) -> Result<Self, NoMemory>
-        ensures { IfOk result (λ bytes. own_memory bytes ≡ empty) }
-    {
-        let pool = Pool::new(alloc)?;
-        Ok(OwnBytes { pool })
-    }
 }
 
 impl<A: Allocator> UserBytes for OwnBytes<A> {

@@ -13,7 +13,7 @@ use elf_load::{check, place};
 use recording::{SingleSlot, SingleUserMachine};
 use rv_model::{Policy, Reg, Scalar, Seat, VState};
 use std::alloc::Allocator;
-use user_mem::NoMemory;
+use user_mem::{NoMemory, Pool};
 
 /// Number of the register that holds the stack pointer.
 const STACK_POINTER: u32 = 2;
@@ -34,16 +34,18 @@ fn new_seat() -> SingleSlot
 }
 
 /// Create the machine of a user who has just entered: no memory, and all registers 0. Return `NoMemory` if the allocation fails.
+// Out of line: inlined, it adds copies of the machine, of 199 KB each, to the caller's stack frame.
+#[inline(never)]
 pub fn enter<A: Allocator>(
     alloc: A,
     policy: Policy,
 ) -> Result<SingleUserMachine<OwnBytes<A>>, NoMemory>
     ensures { IfOk result (λ machine. state_of own_memory machine ≡ entered policy) }
 {
-    let memory = OwnBytes::new(alloc)?;
+    let pool = Pool::new(alloc)?;
     Ok(SingleUserMachine {
         scalar: Scalar::new(),
-        memory,
+        memory: OwnBytes { pool },
         vectors: new_seat(),
         output: ArrayVec::new(),
         policy,

@@ -1,6 +1,6 @@
 -- The counts of a run that starts with empty rows, its records, and the files of its initial machine
-use Rattle.std.proofs.Common.{◌≡◌, ◌∙◌, ◌<◌, ◌+◌, ◌++◌, [], ◌∷◌, ℕ, Bool, true, false, List, ap, ap₂, arith, drop, length, refl, subst, sym, take, Option, flat_map}
-use Rattle.std.specs.Prelude.{IsPermutation, ◌%◌, ◌^◌, ⊤, if◌then◌else◌}
+use Rattle.std.proofs.Common.{◌≡◌, ◌∙◌, ◌<◌, ◌+◌, ◌++◌, [], ◌∷◌, ℕ, Bool, true, false, List, ap, ap₂, arith, drop, length, refl, subst, sym, take, Option, Result, Ok, Err, flat_map}
+use Rattle.std.specs.Prelude.{IfOk, IsPermutation, ◌%◌, ◌^◌, ⊤, if◌then◌else◌}
 use Rattle.std.specs.List.{slice_index_or, sum_by}
 use Rattle.std.proofs.lemmas.List.Sums.{sum_by-cons}
 use Rattle.std.proofs.lemmas.List.{drop_all, drop_more}
@@ -9,30 +9,58 @@ use Rattle.clap.specs.Walk.{Text}
 use Rattle.commit_log.specs.Logged.{IsLogged, logged_from}
 use Rattle.commit_log.specs.declared.log.Log.{Log}
 use Rattle.commit_log.specs.declared.log.Window.{Window}
+use Rattle.first_state.specs.Loaded.{entered}
+use Rattle.first_state.specs.OwnMemory.{own_memory}
+use Rattle.first_state.specs.declared.own_bytes.OwnBytes.{OwnBytes}
 use Rattle.memory_changes.specs.Changes.{changes_from}
 use Rattle.memory_changes.specs.declared.place.Place.{Place}
 use Rattle.memory_changes.specs.Recorded.{IsRecorded}
 use Rattle.memory_changes.specs.declared.changes.Changes.{Changes}
 use Rattle.memory_changes.proofs.Lists.{first_more}
 use Rattle.recording.specs.Classes.{class_of}
+use Rattle.recording.specs.Machines.{state_of}
 use Rattle.recording.specs.Runs.{is_counted, second_key, once_more, ran, share, shares, word_of as found_word}
 use Rattle.recording.specs.Sums.{HasMore, is_word, part_of, total}
 use Rattle.recording.specs.Totals.{AddsUp, counted_ticks, times_of}
 use Rattle.recording.specs.declared.class.Class.{Class}
 use Rattle.recording.specs.declared.class.Class.TheVariants as class
 use Rattle.recording.specs.declared.key.Key.{Key}
+use Rattle.recording.specs.declared.machine.SingleUserMachine.{SingleUserMachine}
 use Rattle.recording.specs.declared.row.Row.{Row}
 use Rattle.recording.specs.declared.sums.Sums.{Sums}
 use Rattle.rv_model.specs.declared.step.step_end.StepEnd.{StepEnd}
+use Rattle.rv_model.specs.declared.vector.policy.Policy.{Policy}
 use Rattle.rv_model.specs.instructions.Table.{scan, table}
 use Rattle.rv_model.specs.memory.Memory.{Memory}
 use Rattle.rv_model.specs.step.Hart.{HartState}
 use Rattle.rv_model.specs.step.Step.{step}
 use Rattle.rv_model.specs.vector.Groups.{Configuration}
-use Rattle.vec_recorder.specs.InitialMachine.{ArePlaced}
+use Rattle.vec_recorder.specs.InitialMachine.{ArePlaced, StartsFrom}
 use Rattle.vec_recorder.specs.RecordLines.{last_line, row_line}
 use Rattle.vec_recorder.specs.Recorded.{AreCountsOf, Recorded, end_of}
 use Rattle.vec_recorder.specs.declared.memory_arguments.MemoryPath.{MemoryPath}
+
+-- ---- the initial machine
+
+-- a statement about a machine that was created
+pub when_created : {T E : Type 0} (P : T → Type 0) (r : Result T E) (x : T) → r ≡ Ok x → IfOk r P → P x
+when_created P r x is holds = subst (λ it. IfOk it P) is holds
+
+-- a machine of a user who has just entered with a policy has this policy
+pub entered_with : {A E : Type 0} (r : Result (SingleUserMachine (OwnBytes A)) E) (policy : Policy) → IfOk r (λ machine. state_of own_memory machine ≡ entered policy)
+    → IfOk r (λ machine. (state_of own_memory machine ≡ entered machine.policy) × (machine.policy ≡ policy))
+entered_with (Err e) policy is = tt
+entered_with (Ok machine) policy is =
+    let same : machine.policy ≡ policy = ap (λ (s : HartState). s.policy) is in
+    (is ∙ ap entered (sym same), same)
+
+-- the initial state with another name of the policy and of the memory files
+pub starts_as : (file_bytes : Text → Option (List ℕ)) (policy policy' : Policy) (image : Option Text) (memories memories' : List MemoryPath) (registers : Option Text)
+    (state : HartState) → policy ≡ policy' → memories ≡ memories' → StartsFrom file_bytes policy image memories registers state
+    → StartsFrom file_bytes policy' image memories' registers state
+starts_as file_bytes policy policy' image memories memories' registers state same them begins =
+    subst (λ it. StartsFrom file_bytes it image memories' registers state) same
+    (subst (λ it. StartsFrom file_bytes policy image it registers state) them begins)
 
 -- ---- lines
 

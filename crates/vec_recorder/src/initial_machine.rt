@@ -2,6 +2,7 @@
 ghost use Rattle.std.specs.Prelude.{◌≡◌, ◌≤◌, ◌∷◌, [], IfErr, IfOk, OnOk, option_map};
 ghost use Rattle.devices.specs.KnownBytes.{AreKnownAs};
 ghost use Rattle.recording.specs.Machines.{state_of};
+ghost use Rattle.first_state.specs.Loaded.{entered};
 ghost use Rattle.first_state.specs.OwnMemory.{own_memory};
 ghost use Rattle.first_state.specs.Placed.{in_memory};
 ghost use Rattle.vec_recorder.specs.InitialMachine.{AreSet, ArePlaced, StartsFrom, IsLoaded};
@@ -10,9 +11,8 @@ ghost use Rattle.vec_recorder.specs.Statuses.{IsInitialFault};
 use crate::memory_arguments::MemoryPath;
 use crate::program_fault::ProgramFault;
 use devices::{Inputs, ReadFault, read_file};
-use first_state::{OwnBytes, enter, load, place_bytes, set_registers};
+use first_state::{OwnBytes, load, place_bytes, set_registers};
 use recording::SingleUserMachine;
-use rv_model::Policy;
 use std::alloc::Global;
 
 /// The maximum size of an image in bytes, as in the monitor.
@@ -47,26 +47,24 @@ fn read_whole<'a, I: Inputs>(
     Ok(bytes)
 }
 
-/// Return a machine with this policy, either empty or with the image at a path.
-fn loaded_machine<'a, I: Inputs>(
+/// Load the image at a path into a new machine, if a path is given.
+fn load_image<'a, I: Inputs>(
     inputs: &I,
     alloc: Global,
-    policy: Policy,
+    machine: &mut SingleUserMachine<OwnBytes>,
     image: Option<&'a str>,
-) -> Result<SingleUserMachine<OwnBytes>, ProgramFault<'a>>
-    ensures state { IfOk result (λ machine. IsLoaded (I.file_bytes inputs.now) policy
-        (option_map (λ path. path.now) image.entry) (state_of own_memory machine)) }
+) -> Result<(), ProgramFault<'a>>
+    requires { state_of own_memory machine.old ≡ entered machine.old.policy }
+    ensures state { OnOk result (IsLoaded (I.file_bytes inputs.now) machine.old.policy
+        (option_map (λ path. path.now) image.entry) (state_of own_memory machine.new)) }
     ensures refused { IfErr result IsInitialFault }
 {
-    let Ok(mut machine) = enter(alloc, policy) else {
-        return Err(ProgramFault::NoMemory);
-    };
     let Some(path) = image else {
-        return Ok(machine);
+        return Ok(());
     };
     let bytes = read_whole(inputs, alloc, path, MAX_IMAGE)?;
-    match load(&mut machine, bytes.as_slice()) {
-        Ok(()) => Ok(machine),
+    match load(machine, bytes.as_slice()) {
+        Ok(()) => Ok(()),
         Err(fault) => Err(ProgramFault::Image(path, fault)),
     }
 }
@@ -131,23 +129,24 @@ fn set_registers_from_file<'a, I: Inputs>(
     }
 }
 
-/// Return the initial machine of a run, with this policy, an image, memory files and registers. The files are read in
+/// Bring a new machine to the initial state of a run, with an image, memory files and registers. The files are read in
 /// this order.
-pub(crate) fn first_machine<'a, I: Inputs>(
+pub(crate) fn prepare<'a, I: Inputs>(
     inputs: &I,
     alloc: Global,
-    policy: Policy,
+    machine: &mut SingleUserMachine<OwnBytes>,
     image: Option<&'a str>,
     memories: &[MemoryPath<'a>],
     registers: Option<&'a str>,
-) -> Result<SingleUserMachine<OwnBytes>, ProgramFault<'a>>
-    ensures begins { IfOk result (λ machine. StartsFrom (I.file_bytes inputs.now) policy
+) -> Result<(), ProgramFault<'a>>
+    requires { state_of own_memory machine.old ≡ entered machine.old.policy }
+    ensures begins { OnOk result (StartsFrom (I.file_bytes inputs.now) machine.old.policy
         (option_map (λ path. path.now) image.entry) memories.now
-        (option_map (λ path. path.now) registers.entry) (state_of own_memory machine)) }
+        (option_map (λ path. path.now) registers.entry) (state_of own_memory machine.new)) }
     ensures refused { IfErr result IsInitialFault }
 {
-    let mut machine = loaded_machine(inputs, alloc, policy, image)?;
-    place_files(inputs, alloc, &mut machine, memories)?;
-    set_registers_from_file(inputs, alloc, &mut machine, registers)?;
-    Ok(machine)
+    load_image(inputs, alloc, machine, image)?;
+    place_files(inputs, alloc, machine, memories)?;
+    set_registers_from_file(inputs, alloc, machine, registers)?;
+    Ok(())
 }

@@ -1,16 +1,19 @@
 //! The program: it runs one user's program, and writes the output to a sink and the records to files.
-ghost use Rattle.std.specs.Prelude.{◌≡◌, ◌⊎◌, [], IfErr, IsSome, OnOk, flat_map, ⊤};
+ghost use Rattle.std.specs.Prelude.{◌≡◌, ◌⊎◌, [], IfErr, IfOk, IsSome, OnOk, flat_map, ⊤};
 ghost use Rattle.clap.specs.Walk.{texts};
 ghost use Rattle.clap.specs.Words.{IsAmong};
 ghost use Rattle.clap.specs.declared.error.kind.ErrorKind.TheVariants.{DisplayHelp};
+ghost use Rattle.recording.specs.Machines.{state_of};
 ghost use Rattle.recording.specs.Runs.{TakesFirst, output_of, ran};
+ghost use Rattle.first_state.specs.Loaded.{entered};
+ghost use Rattle.first_state.specs.OwnMemory.{own_memory};
 ghost use Rattle.vec_recorder.specs.CommandLine.{option_arguments, arguments_fault, run_arguments};
 ghost use Rattle.vec_recorder.specs.Recorded.{IsComplete, IsHelped, Recorded, RecordedBy, RunBy};
 ghost use Rattle.vec_recorder.specs.Statuses.{HasCause, program_status};
 
 use crate::arguments::options;
 use crate::command_line::{Options, UsageFault};
-use crate::initial_machine::first_machine;
+use crate::initial_machine::prepare;
 use crate::log_arguments::check_log;
 use crate::memory_arguments::{MemoryPath, memory_paths};
 use crate::numbers::{policy, ticks, window};
@@ -21,13 +24,14 @@ use crate::runs::{RecordedRun, run_machine};
 use crate::watch_arguments::watched_places;
 use commit_log::Window;
 use devices::{Inputs, Sink, TextFault, WriterSink, write_text};
-use first_state::OwnBytes;
+use first_state::{OwnBytes, enter};
 use memory_changes::{Place, has_memory};
 use recording::SingleUserMachine;
 use rv_model::Policy;
 use std::alloc::Global;
 use std::io;
 use std::rt::Files;
+use user_mem::NoMemory;
 
 /// Check that each watched range is mapped. Return `NoPlace` otherwise.
 fn check_places<'a>(
@@ -54,16 +58,21 @@ struct CheckedOptions<'a> {
     window: Window,
 }
 
-/// Run a machine with these values. The record files are created once the machine exists and all memory is allocated. Return the number of the
-/// program's write calls that wrote fewer bytes than requested.
+/// Run a machine that was just created with these values. The record files are created once all memory is allocated.
+/// Return the number of the program's write calls that wrote fewer bytes than requested.
+// Out of line, and with the machine by value: the caller's frame has one copy of the machine while `enter` runs.
+#[inline(never)]
 fn run_options<'a, I: Inputs, F: Outputs, K: Sink>(
     inputs: &I,
     alloc: Global,
+    created: Result<SingleUserMachine<OwnBytes>, NoMemory>,
     options: &Options<'a>,
     values: CheckedOptions<'a>,
     output: &mut K,
     files: &mut F,
 ) -> Result<u64, ProgramFault<'a>>
+    requires { IfOk created (λ machine. (state_of own_memory machine ≡ entered machine.policy)
+        × (machine.policy ≡ values.policy)) }
     ensures ran { OnOk result (RunBy (I.file_bytes inputs.now) (option_arguments options.now) values.entry.policy
         values.entry.memories.items (IsComplete F.is_created F.Created.took F.is_closed
         (λ printed. K.took output.old printed output.new) (option_arguments options.now) files.old files.new
@@ -80,16 +89,19 @@ fn run_options<'a, I: Inputs, F: Outputs, K: Sink>(
         (K.failures output.old) (K.failures output.new) (F.failures files.old) (F.failures files.new)) }
 {
     let CheckedOptions {
-        policy,
         ticks,
         memories,
         places,
         window,
+        ..
     } = values;
-    let mut machine = first_machine(
+    let Ok(mut machine) = created else {
+        return Err(ProgramFault::NoMemory);
+    };
+    prepare(
         inputs,
         alloc,
-        policy,
+        &mut machine,
         options.image,
         memories.as_slice(),
         options.registers,
@@ -147,7 +159,15 @@ fn record_options<'a, I: Inputs, F: Outputs, K: Sink>(
         places,
         window,
     };
-    run_options(inputs, alloc, options, values, output, files)
+    run_options(
+        inputs,
+        alloc,
+        enter(alloc, policy),
+        options,
+        values,
+        output,
+        files,
+    )
 }
 
 /// Run the recorder with its arguments: write help, or record a run. Return the number of the program's write calls

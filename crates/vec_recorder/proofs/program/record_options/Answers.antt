@@ -8,8 +8,12 @@ use Rattle.vec_recorder.specs.Recorded.{AreValuesOf}
 use Rattle.vec_recorder.specs.Statuses.{program_status}
 use Rattle.vec_recorder.specs.WatchArguments.{IsPlaceAt, IsPlaceOf}
 use Rattle.vec_recorder.proofs.MemoryArgumentLaws.{zip_texts}
+use Rattle.vec_recorder.proofs.RunLaws.{entered_with}
 use Rattle.vec_recorder.proofs.StopLaws.{not_five}
 use Rattle.vec_recorder.proofs.program.record_options.Goals as goal
+
+pub run_options-requires : goal.run_options-requires
+run_options-requires g c = entered_with _ _ c.enter.ensures
 
 pub returns : goal.returns
 returns g c =

@@ -3,16 +3,19 @@ use Rattle.std.specs.Prelude.{option_map}
 use Rattle.recording.specs.Machines.{state_of}
 use Rattle.first_state.specs.OwnMemory.{own_memory}
 use Rattle.vec_recorder.specs.InitialMachine.{StartsFrom}
+use Rattle.vec_recorder.proofs.RunLaws.{starts_as, when_created}
 use Rattle.vec_recorder.proofs.StopLaws.{caused_by, not_five, nothing_by, unused_by}
 use Rattle.vec_recorder.proofs.program.run_options.Goals as goal
 
+pub prepare-requires : goal.prepare-requires
+prepare-requires g c = (when_created _ _ _ c.in-Ok.is c.requires).0
+
 pub returns : goal.returns
 returns g c =
-    let s = state_of own_memory c.in_ok-machine.machine in
+    let s = state_of own_memory c.prepare.new.machine in
     let begins : StartsFrom (g.I.Inputs.file_bytes c.args.inputs.now) c.args.values.policy (option_map (λ path. path.now) c.args.options.now.image) c.args.values.memories.items
     (option_map (λ path. path.now) c.args.options.now.registers) s =
-    subst (λ them. StartsFrom (g.I.Inputs.file_bytes c.args.inputs.now) c.args.values.policy (option_map (λ path. path.now) c.args.options.now.image) them
-    (option_map (λ path. path.now) c.args.options.now.registers) s) c.as_slice.ensures.value c.in_ok-machine.ensures.begins in
+    starts_as _ _ _ _ _ _ _ s (when_created _ _ _ c.in-Ok.is c.requires).1 c.as_slice.ensures.value c.in_ok-prepare.ensures.begins in
     record {
       ran = record {
         state = s;
@@ -27,13 +30,12 @@ returns g c =
 
 pub returns-in_err-short-clause-printed : goal.returns-in_err-short-clause-printed
 returns-in_err-short-clause-printed g c =
-    let s = state_of own_memory c.in_ok-machine.machine in
+    let s = state_of own_memory c.prepare.new.machine in
     elim c.in_err-short.ensures.stopped [
       | inl unstarted ↦ inl unstarted.nothing
       | inr stopped ↦ inr (record {
         state = s;
-        begins = subst (λ them. StartsFrom (g.I.Inputs.file_bytes c.args.inputs.now) c.args.values.policy (option_map (λ path. path.now) c.args.options.now.image) them
-            (option_map (λ path. path.now) c.args.options.now.registers) s) c.as_slice.ensures.value c.in_ok-machine.ensures.begins;
+        begins = starts_as _ _ _ _ _ _ _ s (when_created _ _ _ c.in-Ok.is c.requires).1 c.as_slice.ensures.value c.in_ok-prepare.ensures.begins;
         run = stopped.first;
       })
     ]
@@ -47,8 +49,8 @@ returns-in_err-short-clause-unused g c = unused_by g.K.Sink.took _ _ _ _ _ _ _ c
 pub returns-in_err-short-clause-failed : goal.returns-in_err-short-clause-failed
 returns-in_err-short-clause-failed g c = caused_by g.K.Sink.took _ _ _ _ _ _ _ c.from_residual-in_err-short.result c.in_err-short.ensures.stopped c.from_residual-in_err-short.ensures.1
 
-pub returns-in_err-machine-clause-failed : goal.returns-in_err-machine-clause-failed
-returns-in_err-machine-clause-failed g c = not_five _ c.from_residual.result c.in_err-machine.field-0.0 (inr c.in_err-machine.ensures.refused) c.from_residual.ensures.1
+pub returns-in_err-prepare-clause-failed : goal.returns-in_err-prepare-clause-failed
+returns-in_err-prepare-clause-failed g c = not_five _ c.from_residual.result c.in_err-prepare.field-0.0 (inr c.in_err-prepare.ensures.refused) c.from_residual.ensures.1
 
 pub returns-in_err-check_places-clause-failed : goal.returns-in_err-check_places-clause-failed
 returns-in_err-check_places-clause-failed g c = not_five _ c.from_residual-in_err-check_places.result c.in_err-check_places.field-0.0 (inr (inl c.in_err-check_places.ensures)) c.from_residual-in_err-check_places.ensures.1
