@@ -43,7 +43,11 @@ def lab_command(takes_c: bool, before: str = "") -> list[str]:
     )
     limits = "from support.busy_host import raise_limits; raise_limits(); "
     checks = "from support.checked_requests import check_requests; check_requests(); "
-    return [sys.executable, "-c", f"{compiles}{limits}{checks}{before}import vecmon_lab.__main__ as lab; lab.main()"]
+    return [
+        sys.executable,
+        "-c",
+        f"{compiles}{limits}{checks}{before}import vecmon_lab.__main__ as lab; raise SystemExit(lab.main())",
+    ]
 
 
 class Served:

@@ -197,7 +197,7 @@ def command(folder: pathlib.Path, *words: str, makes_checkpoints: bool = True) -
     """The command that serves a class."""
     limits = "from support.busy_host import raise_limits; raise_limits(); "
     spares = "" if makes_checkpoints else "from vecmon_lab.classes import scripts; scripts.SHORTEN_SECONDS = 1e9; "
-    start = f"{limits}{spares}import vecmon_lab.__main__ as lab; lab.main()"
+    start = f"{limits}{spares}import vecmon_lab.__main__ as lab; raise SystemExit(lab.main())"
     return [sys.executable, "-c", start, "class", str(folder), *words, "--port", "0", "--no-clock"]
 
 

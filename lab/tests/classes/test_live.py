@@ -54,7 +54,8 @@ async def written(room: Served, source: str) -> Tab:
     return tab
 
 
-async def test_output_is_sent_at_stops(tmp_path: pathlib.Path) -> None:
+async def test_output_is_sent_at_stops(tmp_path: pathlib.Path, monkeypatch: pytest.MonkeyPatch) -> None:
+    monkeypatch.setattr(class_room, "WATCH_SECONDS", 1e9)  # so that the script has no looks of the server's
     async with served(tmp_path / "class") as room:
         tab, teacher = await written(room, HELLO), await room.sit("teacher")
         used = tab.view["share"]["used"]

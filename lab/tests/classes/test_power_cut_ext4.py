@@ -35,7 +35,7 @@ pytestmark = pytest.mark.skipif(not CUTS or os.geteuid() != 0, reason="POWER_CUT
 def mounted(image: pathlib.Path) -> Iterator[pathlib.Path]:
     """The folder where an image is mounted."""
     folder = image.with_suffix(".mounted")
-    folder.mkdir()
+    folder.mkdir(exist_ok=True)
     subprocess.run(["mount", "-o", "loop", image, folder], check=True)
     try:
         yield folder

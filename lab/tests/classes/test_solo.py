@@ -9,6 +9,7 @@ import pytest
 
 from support.class_tabs import LOOP, SECONDS, served
 from support.places import SUM, TOP, TOURS
+from vecmon_lab.classes import room as class_room
 from vecmon_lab.classes.solo import OwnScript, own_lines
 from vecmon_lab.machine.lines import is_look
 from vecmon_lab.machine.session import Session
@@ -81,7 +82,8 @@ def test_solo_script_repeats_tour_class(program: pathlib.Path, digit: str) -> No
 
 @pytest.mark.asyncio
 @pytest.mark.by_command("solo")
-async def test_solo_command_writes_script(tmp_path: pathlib.Path) -> None:
+async def test_solo_command_writes_script(tmp_path: pathlib.Path, monkeypatch: pytest.MonkeyPatch) -> None:
+    monkeypatch.setattr(class_room, "WATCH_SECONDS", 1e9)  # so that the script has no looks of the server's
     folder = tmp_path / "class"
     async with served(folder, {"sum": SUM}, machines=2) as room:
         tab, other, teacher = await room.sit("B3"), await room.sit("B5"), await room.sit("teacher")

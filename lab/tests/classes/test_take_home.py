@@ -12,6 +12,7 @@ import pytest
 
 from support.class_tabs import served
 from support.places import SUM
+from vecmon_lab.classes import room as class_room
 from vecmon_lab.classes.take_home import MAX_FRAMES, steps_of
 from vecmon_lab.machine.program import find_program
 
@@ -21,7 +22,8 @@ SOURCE = (
 
 
 @pytest.mark.asyncio
-async def test_archive_contains_seat_files(tmp_path: pathlib.Path) -> None:
+async def test_archive_contains_seat_files(tmp_path: pathlib.Path, monkeypatch: pytest.MonkeyPatch) -> None:
+    monkeypatch.setattr(class_room, "WATCH_SECONDS", 1e9)  # so that the script has no looks of the server's
     folder = tmp_path / "class"
     async with served(folder, {"sum": SUM}) as room:
         tab, other, _ = await room.sit("A3"), await room.sit("A4"), await room.sit("teacher")
