@@ -15,9 +15,11 @@ import aiohttp
 import pytest
 import pytest_asyncio
 
+from support import class_tabs
 from support.class_tabs import LOOP, SECONDS, Served, Tab, process, served
 from support.places import SUM
 from vecmon_lab.classes import server as class_server
+from vecmon_lab.classes.tab_socket import BEAT
 
 pytestmark = pytest.mark.asyncio
 
@@ -527,7 +529,8 @@ async def test_unread_connections_are_closed(room: Served) -> None:
 
 async def test_waiting_tab_stays_connected(tmp_path: pathlib.Path, monkeypatch: pytest.MonkeyPatch) -> None:
     """The server asks each tab for a sign of life, and closes one that gives none in half of that time."""
-    monkeypatch.setattr(class_server, "READ_SECONDS", 60.0)  # between pings
+    monkeypatch.setattr(class_server, "READ_SECONDS", 90.0)  # between pings
+    monkeypatch.setattr(class_tabs, "SECONDS", 1000.0)  # since the clock is put forward
     loop, passed_seconds, pongs = asyncio.get_running_loop(), [0.0], asyncio.Queue[bytes]()
     clock = loop.time
     monkeypatch.setattr(loop, "time", lambda: clock() + passed_seconds[0])
@@ -535,6 +538,12 @@ async def test_waiting_tab_stays_connected(tmp_path: pathlib.Path, monkeypatch: 
         tab, other = await room.sit("A1"), await room.sit("A2")
         await tab.do("enter")
         pong = tab.socket.pong
+
+        async def take_turns() -> None:
+            """Lets the server read what the tabs have sent, and do what is due."""
+            await other.socket.send_str(BEAT)
+            while (await other.receive())["kind"] != "beat":
+                pass
 
         async def counted_pong(message: bytes = b"") -> None:
             await pong(message)
@@ -545,11 +554,11 @@ async def test_waiting_tab_stays_connected(tmp_path: pathlib.Path, monkeypatch: 
         os.kill(machine, signal.SIGSTOP)
         waits = asyncio.create_task(tab.do(*LOOP[1:]))  # whose socket answers pings meanwhile
         for _ in range(2):
-            passed_seconds[0] += 61  # and half of that would be too long without the answer to the ping before
+            passed_seconds[0] += 91
             await pongs.get()
-            await other.socket.send_json({"ask": "beat"})  # whose answer comes after the server has read the pong
-            while (await other.receive())["kind"] != "beat":
-                pass
+            await take_turns()
+        passed_seconds[0] += 46  # which would be too long without an answer to the last ping
+        await take_turns()
         os.kill(machine, signal.SIGCONT)
         assert len(await waits) == 4 and not room.members.rooms["A"].session.losses
 
