@@ -6,6 +6,7 @@ all steps before the last cut; by hand, POWER_CUTS=30 python -m pytest FILE also
 
 import asyncio
 import contextlib
+import filecmp
 import math
 import os
 import pathlib
@@ -66,11 +67,13 @@ def check(image: pathlib.Path, program: pathlib.Path, known: list[int]) -> list[
 
 
 def cut(room: Served, image: pathlib.Path, copy: pathlib.Path) -> float:
-    """Copies the disk of a class at one moment; returns when that was."""
+    """Copies the disk of a class at one moment, when the system writes nothing to it either; returns when the class was stopped."""
     assert room.server
     room.server.send_signal(signal.SIGSTOP)
     now = time.monotonic()
     shutil.copyfile(image, copy)
+    while not filecmp.cmp(image, copy, shallow=False):
+        shutil.copyfile(image, copy)
     room.server.send_signal(signal.SIGCONT)
     return now
 
