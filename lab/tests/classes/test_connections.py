@@ -108,6 +108,9 @@ class SilentConnection:
     def get_write_buffer_size(self) -> int:
         return 0
 
+    def get_extra_info(self, name: str) -> tuple[str, int]:
+        return ("127.0.0.1", 1024 + self.number)
+
     def abort(self) -> None:
         self.is_aborted = True
 
@@ -118,7 +121,7 @@ async def test_oldest_of_one_sweep_make_room(monkeypatch: pytest.MonkeyPatch) ->
     there = [SilentConnection(number) for number in range(8)]
     runner: Any = SimpleNamespace(server=SimpleNamespace(connections=there))
     sweep = asyncio.create_task(connections.Connections(3, SECONDS, SECONDS).sweep(runner))
-    while not any(each.is_aborted for each in there):
+    while not any(each.is_aborted for each in there) and not sweep.done():
         await asyncio.sleep(0)
     sweep.cancel()
     assert [each.number for each in there if each.is_aborted] == [0, 1, 2, 3, 4]
