@@ -5,7 +5,7 @@ import re
 
 LINK = re.compile(r'<a href="(\w+)\.html">(.*?)</a>')
 STRIP = re.compile(r'<span class="strip"[^>]*>(.*?</span>)</span>')
-CELL = re.compile(r'<span(?: class="(\w+)")?>(\w+)</span>')
+CELL = re.compile(r'<span(?: class="(\w+)")?>(-?\w+)</span>')
 
 
 def links_in(page: str) -> list[tuple[str, str]]:

@@ -21,8 +21,16 @@ def made() -> tuple[str, str]:
     """The script, and the data of the source next to it."""
     text = (TOURS / f"{KERNEL}.c").read_text("ascii")
     program = compile_c(text, COMPILER, choice_of(OPTIONS), TOURS)
-    lines = ["enter", *short_lines(program), f"setpc {program.entry:x}", "step 256", "out"]
-    return "".join(f"1 {line}\n" for line in lines), kernel_json(program, text)
+    first = first_vector_instruction(program, text)
+    lines = ["1 enter", *(f"1 {line}" for line in short_lines(program)), f"1 setpc {program.entry:x}"]
+    lines += [f"1 break {first:x}", "1 go", "* run 1", "1 step 256", "1 out"]
+    return "".join(f"{line}\n" for line in lines), kernel_json(program, text)
+
+
+def first_vector_instruction(program: CompiledProgram, text: str) -> int:
+    """The address of the first instruction of the line that sets the vector length."""
+    number = next(number for number, line in enumerate(text.splitlines(), 1) if "__riscv_vsetvl" in line)
+    return min(int(address, 16) for address, line in program.line_starts().items() if line == number)
 
 
 def short_lines(program: CompiledProgram) -> Iterator[str]:

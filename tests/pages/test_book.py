@@ -8,9 +8,11 @@ import pytest
 
 pytest.importorskip("pygments")
 
+from book_html.build import run_sphinx
 from book_html.lexers import RattleLexer, TranscriptLexer
 from book_html.navigation import NavigationError, first_sentence, index_page, read_groups
 from book_html.sources import linked_paths, stage_sources
+from book_html.theme import finished_styles, join_scripts
 
 TOP = Path(__file__).resolve().parents[2]
 
@@ -99,6 +101,39 @@ def test_contract_is_highlighted() -> None:
     found = kinds(RattleLexer(), "fn f() requires { 1 ≤ 2 } ensures headline { result ≡ x }")
     assert ("Keyword.Declaration", "requires") in found and ("Name.Label", "headline") in found
     assert ("Operator", "≤") in found and ("Operator", "≡") in found and not [it for it in found if it[0] == "Error"]
+
+
+def test_theme_has_one_script_and_no_imported_styles(tmp_path: Path) -> None:
+    """The module is a classic script with the one that it imports; dark colours are those of a dark system, too."""
+    (tmp_path / "furo.js").write_text('import Gumshoe from "./gumshoe-patched.js";\n\nnew Gumshoe();\n')
+    (tmp_path / "gumshoe-patched.js").write_text("window.Gumshoe = class {};\n")
+    join_scripts(tmp_path)
+    assert [it.name for it in tmp_path.iterdir()] == ["furo.js"]
+    assert (tmp_path / "furo.js").read_text() == "window.Gumshoe = class {};\n\n\nnew Gumshoe();\n"
+    (tmp_path / "x.css").write_text("body { margin: 0 }")
+    styles = (
+        '@import url(/javascript/x.css);body { --a: white }@media not print { body[data-theme="dark"] { --a: black } }'
+    )
+    finished = finished_styles(styles, tmp_path)
+    assert finished.startswith("body { margin: 0 }body { --a: white }") and "@import" not in finished
+    rule = '@media screen and (prefers-color-scheme: dark) {\nbody:not([data-theme="light"]) { --a: black }\n}\n'
+    assert finished.endswith(rule)
+
+
+def test_search_has_texts_of_pages_and_each_title_once(small: Path, tmp_path_factory: pytest.TempPathFactory) -> None:
+    pytest.importorskip("furo")
+    stage, html = tmp_path_factory.mktemp("stage"), tmp_path_factory.mktemp("html")
+    (small / "docs" / "A.md").write_text("# Second\n\nA *part*, <b>of</b> it.\n\n## Below\n\nMore.\n")
+    (small / "README.md").write_text("# First\n\nIt is [so](docs/A.md).\n")
+    stage_sources(small, read_groups(small), stage)
+    assert run_sphinx(stage, html, tmp_path_factory.mktemp("scratch")) == 0
+    text = (html / "_static/excerpts/docs-A.js").read_text("utf-8")
+    assert text == 'bookText("docs/A", "A part, of it. More.");\n'
+    index = (html / "searchindex.js").read_text("utf-8")
+    assert index.count("Below") == 1 and index.count("Second") == 1, index  # a title in a page; a page's title
+    assert "book_search.js" in (html / "search.html").read_text("utf-8")
+    page = (html / "docs/A.html").read_text("utf-8")
+    assert "book_search.js" not in page and '<link rel="icon" href="data:,"/>' in page
 
 
 def test_folder_without_book_is_refused(tmp_path: Path) -> None:

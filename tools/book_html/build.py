@@ -12,6 +12,7 @@ from book_html.definition_pages import write_definition_pages
 from book_html.instruction_pages import write_instruction_pages
 from book_html.navigation import NavigationError, read_groups
 from book_html.sources import stage_sources
+from book_html.theme import finish_theme
 
 TOP = Path(__file__).resolve().parents[2]
 # Files that depend on the build's folder, or that no page of the book reads.
@@ -63,6 +64,7 @@ def build(out: Path, room: Path, top: Path = TOP) -> int:
         return 1
     for name in UNUSED:
         (html / name).unlink(missing_ok=True)
+    finish_theme(html / "_static")
     if out.exists():
         shutil.rmtree(out)
     shutil.copytree(html, out)

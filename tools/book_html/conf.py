@@ -12,6 +12,7 @@ from sphinx.environment import BuildEnvironment
 TOP = Path(__file__).resolve().parents[2]
 sys.path.insert(0, str(TOP / "tools"))
 
+from book_html.excerpts import drop_page_titles, write_text  # noqa: E402
 from book_html.lexers import RattleLexer, TranscriptLexer  # noqa: E402
 
 found = re.search(r'^__version__ = "(.*)"', (TOP / "lab/vecmon_lab/__init__.py").read_text("utf-8"), re.MULTILINE)
@@ -26,27 +27,30 @@ root_doc = "index"
 
 html_theme = "furo"
 html_title = f"vecmon {release}"
-html_static_path = ["book.css"]
+html_static_path = ["book.css", "book_search.js"]
 html_css_files = ["book.css"]
 html_copy_source = False
 html_show_sourcelink = False
 html_show_copyright = False
 html_show_sphinx = False
 html_use_index = False
-html_show_search_summary = False  # a page from a disk can't fetch another one
+html_show_search_summary = (
+    False  # a page from a disk can't fetch another one; book_search.js loads their texts as scripts
+)
 pygments_style = "default"
 
 # Scripts that nothing of the theme or the search calls: 300 KB.
 UNUSED_SCRIPTS = ("jquery.js", "underscore.js", "_sphinx_javascript_frameworks_compat.js")
 
 
-def drop_unused_scripts(
-    _app: Sphinx, _page: str, _template: str, context: dict[str, Any], _tree: nodes.Node | None
-) -> None:
-    """Removes the unused scripts from a page's head."""
+def complete_head(_app: Sphinx, page: str, _template: str, context: dict[str, Any], _tree: nodes.Node | None) -> None:
+    """Removes the unused scripts from a page's head, adds its own to the search, and says that there is no icon to load."""
+    context["metatags"] = context.get("metatags", "") + '<link rel="icon" href="data:,"/>'
     context["script_files"] = [
         it for it in context["script_files"] if not str(getattr(it, "filename", it)).endswith(UNUSED_SCRIPTS)
     ]
+    if page == "search":
+        context["script_files"].append("_static/book_search.js")
 
 
 def show_path(
@@ -64,4 +68,6 @@ def setup(app: Sphinx) -> None:
     app.add_lexer("text", TranscriptLexer)
     app.add_lexer("rust", RattleLexer)
     app.connect("missing-reference", show_path)
-    app.connect("html-page-context", drop_unused_scripts, priority=900)
+    app.connect("html-page-context", complete_head, priority=900)
+    app.connect("doctree-resolved", write_text)
+    app.connect("html-collect-pages", drop_page_titles)

@@ -136,7 +136,10 @@ def test_tour_kernel_equals_compiler_output(clang: Compiler) -> None:
         assert (TOURS / KERNEL).read_text("ascii") == script and (TOURS / f"{KERNEL}.json").read_text("ascii") == reply
 
 
-def test_tour_ends_with_kernel() -> None:
+def test_kernel_of_tour_has_its_source_and_starts_at_vectors(program: pathlib.Path) -> None:
     script = tours()[KERNEL]
-    assert list(tours())[-1] == KERNEL and script.labels["112ec"] == ["_start"]
+    assert script.labels["112ec"] == ["_start"] and script.text == (TOURS / f"{KERNEL}.c").read_text("ascii")
+    frames = make_frames(script, program)
+    assert [frame.states["1"]["pc"] for frame in frames[:2]] == ["112ec", "111e8"]
+    assert frames[2].states["1"]["code"]["111e8"][9:].startswith("vsetvli") and frames[2].states["1"]["vl"] == 8
     assert script.said["111e8"].endswith("length = __riscv_vsetvl_e32m1(count);  (saxpy, inlined)")

@@ -53,10 +53,20 @@ def check_first_frame(frame: Frame, has_program: bool = True) -> None:
     assert any(not line.startswith("00000000") for line in frame.states["1"]["code"].values()) == has_program
 
 
+SOURCES = ["first_program", "vector_lengths", "masked_instructions"]  # of the tour
+
+
+def script_of(name: str) -> str:
+    """The lines of a lesson of the tour: of a script its file, of a source what its lesson sends."""
+    if name in SOURCES:
+        return "".join(f"{line}\n" for step in tours()[name].steps for line in step.lines)
+    return (TOURS / name).read_text("ascii")
+
+
 @pytest.mark.parametrize("name", list(tours()))
 @pytest.mark.by_command("tour")
 def test_tour_log_equals_transcript(program: pathlib.Path, name: str) -> None:
-    script = (TOURS / name).read_text("ascii")
+    script = script_of(name)
     made = make_frames(tours()[name], program)
     assert logged(made, ">") == script.splitlines()
     assert logged(made, "<") == transcript(program, script)
@@ -71,7 +81,7 @@ def test_course_lesson_has_expected_first_frame(program: pathlib.Path, name: str
 
 @pytest.mark.parametrize("name", list(tours()))
 def test_last_frame_equals_machine_state(session: Session, program: pathlib.Path, name: str) -> None:
-    for line in (TOURS / name).read_text("ascii").splitlines():
+    for line in script_of(name).splitlines():
         session.do(line)
     for user, state in make_frames(tours()[name], program)[-1].states.items():
         if state["run"] != "stopped":
@@ -349,19 +359,34 @@ def test_lesson_page_is_written(tmp_path: pathlib.Path) -> None:
     )
     masked = strips[[*tours()].index("masks_and_tails")]
     assert "<code>v1</code> after <code>vadd.vi v1, v2, 10, v0.t</code>" in index  # as docs/TOUR.md prints v1 last
-    elements = [
-        ("ee", "masked"),
-        ("0b", "active"),
-        ("ee", "masked"),
-        ("0d", "active"),
-        ("ee", "masked"),
-        ("0f", "active"),
+    unchanged = ("-18", "masked")  # ee
+    assert masked == [unchanged, ("11", "active"), unchanged, ("13", "active"), unchanged, ("15", "active")] + 10 * [
+        ("-18", "tail")
     ]
-    assert masked == elements + 10 * [("ee", "tail")]
+    prices = [("111", "active"), ("80", "masked"), ("241", "active"), ("40", "masked"), ("99", "masked")]
+    prices += [("301", "active"), ("0", "tail"), ("0", "tail")]
+    assert strips[[*tours()].index("masked_instructions")] == prices
+
     for place, name in enumerate(tours(), 1):
         lesson = (tmp_path / "new" / "tour" / f"{name}.html").read_text("utf-8")
         assert data_of(lesson)["name"] == f"tour/{name}" and f">lesson {place} of {len(titles)}</small>" in lesson
     assert "name" not in data_of(page)
+
+
+def test_tour_starts_with_sources_and_ends_with_lines(program: pathlib.Path) -> None:
+    """The first lessons show no lines of the machine; the values are worked out by hand."""
+    names = [*tours()]
+    assert names[:3] == SOURCES and names[-1] == "class_of_three"
+    last = {name: make_frames(tours()[name], program)[-1].states["1"] for name in SOURCES}
+    numbers = [
+        int.from_bytes(bytes.fromhex(last[SOURCES[0]]["v"]["2"])[at : at + 4], "little") for at in range(0, 32, 4)
+    ]
+    assert numbers == [13, 11, 14, 11, 15, 19, 12, 16]
+    lengths = [int(last[SOURCES[1]]["x"][number], 16) for number in ("5", "6", "7", "28", "29")]  # t0, t1, t2, t3, t4
+    assert lengths == [8, 20, 4, 16, 0]
+    left = [int.from_bytes(bytes.fromhex(last[SOURCES[2]]["v"]["8"])[at : at + 4], "little") for at in range(0, 32, 4)]
+    ones = (1 << 32) - 1
+    assert left == [112, ones, 242, ones, ones, 302, ones, ones]
 
 
 def test_tour_is_complete_without_reader(tmp_path: pathlib.Path) -> None:

@@ -18,4 +18,5 @@ def test_frames_start_at_first_vector_instruction(program: pathlib.Path) -> None
     assert len(texts) == len(example["notes"]) == 22 and texts[-1].startswith("bne") and example["used"] == [0, 8, 9]
     results = [int.from_bytes(bytes.fromhex(states[4]["v"]["9"])[at : at + 4], "little") for at in range(0, 32, 4)]
     assert texts[4].startswith("vmacc.vx") and results == [127, 100, 121, 100, 124, 100, 118, 100]
+    assert example["first"] == 4  # the page opens at the masked multiply-add
     assert example["notes"][4] == "Elements that are masked off keep their values, since the type has `mu`."

@@ -61,7 +61,7 @@ def lesson_page(
     }
     if frames:
         data["used"] = frames[-1].used
-    if script.program and script.text:
+    if script.text:
         data["text"] = script.text
     if script.program and not isinstance(script.program, CompiledProgram):
         data["line_numbers"] = script.program.line_numbers()

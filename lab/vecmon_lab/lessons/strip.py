@@ -76,8 +76,13 @@ def _strip(state: State, number: int) -> Strip:
     cells = []
     for place in range(min(MAX_CELLS, VLEN // width)):
         element = register >> place * width & (1 << width) - 1
-        cells.append((f"{element:0{-(-width // 4)}x}", _kind(state, place, is_masked) if is_set else ""))
+        cells.append((f"{_signed(element, width)}", _kind(state, place, is_masked) if is_set else ""))
     return {"name": f"v{number}", "text": state["code"].get(address, "")[9:] if writes else "", "cells": cells}
+
+
+def _signed(element: int, width: int) -> int:
+    """The number of an element, as the pages show it first; a bit of a mask is 0 or 1."""
+    return element - (1 << width) if width > 1 and element >> (width - 1) else element
 
 
 def _kind(state: State, element: int, is_masked: bool) -> str:

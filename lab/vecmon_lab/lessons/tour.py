@@ -1,9 +1,10 @@
-"""Makes write the eleven lessons of the tour (docs/TOUR.md), and a page with links to them."""
+"""Makes write the fourteen lessons of the tour (docs/TOUR.md), and a page with links to them."""
 
 import argparse
 import json
 import pathlib
 from collections.abc import Sequence
+from dataclasses import replace
 from itertools import islice
 
 from ..compilers.variables import read_variables
@@ -13,7 +14,7 @@ from ..page.html_elements import Html, element, joined, prose
 from ..page.pages import filled_page, write_pages
 from ..page.texts import page_text
 from ..tables.table import read_table
-from .script import Script, Step, add_line
+from .script import Script, Step, add_line, read_assembled
 from .series import Entry, make_series
 from .series_links import lesson_link, read_mark
 from .strip import strip_picture
@@ -57,10 +58,13 @@ def _item(entry: Entry) -> Html:
 
 
 def _script(name: str, title: str) -> Script:
-    """A tour's script. A separate file has its sentences, each after the number of lines that it is about.
+    """A tour's script, or the lesson of its source. A script's sentences are in a file, each after the number of lines that it is about.
 
     In a kernel, which comes compiled, those are one frame.
     """
+    source = TOURS / f"{name}.s"
+    if source.exists():
+        return replace(read_assembled(source.read_text("ascii"), source.name), title=title)
     lines, data_path = iter((TOURS / name).read_text("ascii").splitlines()), TOURS / f"{name}.json"
     steps: list[Step] = []
     for step_line in (TOURS / f"{name}.steps").read_text("utf-8").splitlines():
@@ -73,8 +77,9 @@ def _script(name: str, title: str) -> Script:
     if not data_path.exists():
         return Script(title, steps)
     names = json.loads(data_path.read_text("ascii"))
-    variables = read_variables(names["variables"])
-    return Script(title, steps, labels=names["labels"], said=names["said"], starts=names["starts"], variables=variables)
+    variables, text = read_variables(names["variables"]), (TOURS / f"{name}.c").read_text("ascii")
+    own = {key: names[key] for key in ("labels", "said", "starts")}
+    return Script(title, steps, text=text, variables=variables, **own)
 
 
 def _add_line(steps: list[Step], line: str, note: str) -> None:

@@ -24,6 +24,7 @@ from ..machine.program import find_program
 from ..page.modules import join_modules
 from ..page.pages import Page, merge_patch, page_file
 from ..page.reference import reference_text
+from ..page.state import State
 from ..page.texts import page_text
 
 WEB = pathlib.Path(__file__).with_name("web")
@@ -82,8 +83,9 @@ def examples() -> list[ExampleSource]:
 
 
 def stepped_example(program: Vecmon) -> dict[str, object]:
-    """The frames of a loop from its first vector instruction on, for the start page: comments, states as merge patches, and the numbers
-    of the vector registers that it uses. Raises LabError."""
+    """The frames of a loop from its first vector instruction on, for the start page: comments, states as merge patches, the numbers of
+    the vector registers that it uses, and the place of the first masked result, which the page shows first. Raises LabError.
+    """
     script = read_assembled((EXAMPLES / STEPPED).read_text("utf-8"), STEPPED)
     frames = make_frames(script, program)
     executed = [frame for frame in frames if "instruction" in frame.states["1"]]
@@ -93,7 +95,14 @@ def stepped_example(program: Vecmon) -> dict[str, object]:
     used = {number for state in states for number, data in state["v"].items() if data.strip("0")}
     all_states: list[Mapping[str, object]] = [{}, *states]
     patches = [merge_patch(before, after) for before, after in pairwise(all_states)]
-    return {"notes": [frame.note for frame in shown], "states": patches, "used": sorted(map(int, used))}
+    first = next(place for place, state in enumerate(states) if _writes_masked(state))
+    return {"notes": [frame.note for frame in shown], "states": patches, "used": sorted(map(int, used)), "first": first}
+
+
+def _writes_masked(state: State) -> bool:
+    """Whether the executed instruction is masked, and writes elements of a register."""
+    operands = state["operands"].get(state.get("instruction", ""), ())
+    return any(it["written"] and it["masked"] and it["bits"] != 1 for it in operands)
 
 
 def playground(page: Page, entries: Mapping[str, object], words: str, connect: str) -> str:

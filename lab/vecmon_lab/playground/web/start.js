@@ -9,7 +9,10 @@ import { withNames } from "./words.js";
 
 /** @typedef {import("./types").MachineState} MachineState */
 
-/** @type {{ about: string, notes: string[], states: object[], used: number[] }} states: each a merge patch of the one before */
+/**
+ * states: each a merge patch of the one before; first: the place of the one that is shown first
+ * @type {{ about: string, notes: string[], states: object[], used: number[], first: number }}
+ */
 const { about, notes, ...data } = JSON.parse(byId("data").text);
 /** @type {MachineState[]} */
 const states = afterEach(data.states);
@@ -34,4 +37,4 @@ byId("listing").append(make("ol", "", ...lines));
 byId("about").textContent = about;
 byId("back").addEventListener("click", () => show(place - 1));
 byId("next").addEventListener("click", () => show(place + 1));
-show(0);
+show(data.first);
