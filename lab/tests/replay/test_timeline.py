@@ -86,6 +86,18 @@ def state(guest: Guest) -> tuple[int, int, int, int]:
     return guest.pc, registers.x[5], registers.x[6], int.from_bytes(guest.peek(0x11008, 4), "little")
 
 
+def test_changes_at_the_start_stay(start: Callable[[str], tuple[Timeline, Guest]]) -> None:
+    """Nothing is before the start to go back to, whether the program is there at first, or came back there."""
+    timeline, guest = start(COUNTDOWN)
+    for number in (7, 8):
+        guest.ask(f"set x5 {number}", f"poke 11008 0{number}000000")
+        assert timeline.back() is False and state(guest) == (0x10000, number, 0, number)
+        assert timeline.back_to_halt((), never) is False and state(guest) == (0x10000, number, 0, number)
+        for _ in range(3):
+            timeline.step()
+        assert timeline.back_to_halt((), never) is False and state(guest) == (0x10000, number, 0, number)
+
+
 def test_back_returns_by_instructions(start: Callable[[str], tuple[Timeline, Guest]]) -> None:
     timeline, guest = start(COUNTDOWN)
     assert timeline.go(never) == Stop("ebreak", 0x10018) and state(guest) == (0x10018, 0, 3, 1)

@@ -255,9 +255,9 @@ class Timeline:
         self._new.clear()
 
     def _begin(self, control: Control) -> None:
-        """Goes back to the first instant."""
+        """Goes back to the first instant. If the program is there, what was changed stays."""
         self.hit = None
-        if self._intervals.intervals:
+        if self._intervals.work:
             self._rewind(0, 0, control)
 
     def _rewind(self, place: int, count: int, control: Control) -> None:
