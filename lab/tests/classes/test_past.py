@@ -73,6 +73,19 @@ def test_back_after_a_run_is_one_instruction_back(program: pathlib.Path, exercis
     page.close()
 
 
+def test_history_of_a_case_begins_at_the_answer(program: pathlib.Path, exercises: dict[str, Exercise]) -> None:
+    """The one instruction that sets vxrm for a case is none of the answer's, which has two: its first one is at 10000."""
+    page = DeskPage(program, exercises)
+    page.ask(ask="case", exercise=EXERCISE, text="addi a3, x0, 5\nret\n", case=0)
+    assert page.view["condition"] == "Ready" and page.view["history"]["end"] == 0
+    inputs = page.view["state"]["x"]
+    page.ask(ask="step")
+    start = found(page, 0)["moment"]
+    assert (start["at"], start["end"], start["condition"]) == (0, 1, "Ready")
+    assert start["state"]["pc"] == "10000" and start["state"]["x"] == inputs
+    page.close()
+
+
 def test_budget_is_used_up_and_fills_up_again() -> None:
     seconds = [0.0]
     budget = Budget(share=100, refill=10, now=lambda: seconds[0])

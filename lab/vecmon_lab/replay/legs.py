@@ -3,6 +3,7 @@
 from collections.abc import Sequence
 from dataclasses import dataclass, field
 
+from ..guest.guest import SET_UP_ADDRESS
 from ..machine.answers import Output, Position, Refused, Stop, read
 from ..machine.lines import words_of
 
@@ -63,6 +64,9 @@ class Legs:
         self.digit, self._quantum = digit, quantum
         self._breaks = frozenset[int]()
         self._has_set_up = False  # whether lines are those of a checkpoint, whose instructions aren't the program's
+        self._is_preparing = (
+            False  # whether the program counter is at the instruction that prepares a case of an exercise
+        )
 
     def set_up(self, is_on: bool) -> None:
         """The lines that follow are those of a checkpoint, which belong to step 0, or no longer."""
@@ -90,6 +94,11 @@ class Legs:
                 self.is_running = False
             case _ if self._has_set_up and words[0] in (*_WRITES, "step", "out"):
                 self.legs[-1].lines.append(line + TRYING if words[0] == "step" else line)
+            case ["setpc", address]:
+                self._is_preparing = int(address, 16) == SET_UP_ADDRESS
+                self._add_line(line)
+            case ["step", "1"] if self._is_preparing and isinstance(reply, Position):
+                self._add_line(line)
             case ["step", number]:
                 self._step(int(number), reply)
             case ["out"] if isinstance(reply, Output) and reply.data:
@@ -113,6 +122,7 @@ class Legs:
         self.legs = [Leg(lines)] if lines else []
         self.number += 1
         self._breaks, self.is_running, self.written = frozenset(), False, 0
+        self._is_preparing = False
 
     def _last(self) -> Leg:
         """The leg that takes instructions: a new one, if the last one's count is unknown, or its end a stop."""
