@@ -429,6 +429,24 @@ def test_list_shows_source_around_line(tmp_path: pathlib.Path) -> None:
     assert output[4] == "=>   30  {" and [int(row[2:7]) for row in output] == [*range(26, 36)]
 
 
+def test_list_shows_the_assembled_text(tmp_path: pathlib.Path) -> None:
+    """A file that is edited meanwhile has another program, until `restart` assembles it."""
+    source = tmp_path / "edited.s"
+    source.write_text("nop\naddi x5, x0, 1\nebreak\n")
+    with subprocess.Popen([*CONSOLE, str(source)], stdin=subprocess.PIPE, stdout=subprocess.PIPE, text=True) as console:
+        assert console.stdin and console.stdout
+        console.stdin.write("step\n")
+        console.stdin.flush()
+        while "10004" not in console.stdout.readline():
+            pass
+        source.write_text("nop\n\nvid.v v8\nebreak\n")
+        console.stdin.write("list\nrestart\nlist\n")
+        console.stdin.close()
+        rows = [row for row in console.stdout.read().splitlines() if re.match(r"(=>|  ) [ \d]{3}\d(  |$)", row)]
+    assert rows[:3] == ["      1  nop", "=>    2  addi x5, x0, 1", "      3  ebreak"]
+    assert rows[3:] == ["=>    1  nop", "      2", "      3  vid.v v8", "      4  ebreak"]
+
+
 def test_run_changes_take_six_rows(tmp_path: pathlib.Path) -> None:
     """Of e8, m8: 256 elements in eight registers, of 32 numbers with a comma each, in two rows a register."""
     source = "vsetvli t0, x0, e8, m8, ta, ma\nvid.v v8\nebreak\n"

@@ -34,7 +34,7 @@ from .breakpoints import Breakpoints
 from .conditions import REGISTERS, Conditions
 from .execution import Execution
 from .help import help_on_console
-from .listing import SourceListing
+from .listing import OwnSource, SourceListing
 from .names import DIGITS, VECTORS, Names, remedy_of, state_of
 from .places import Places
 from .show import Screen, control_row, memory_rows, register_rows
@@ -74,14 +74,15 @@ class Console:
         content = path.read_bytes()
         if path.suffix == ".c" or content.startswith(b"\x7fELF"):
             raise LabError(f"{path} isn't an assembler source; vecmon-lab console {path} starts with it")
-        script = read_assembled(content.decode("utf-8", "replace"), str(path), files_beside(path))
+        text = content.decode("utf-8", "replace")
+        script = read_assembled(text, str(path), files_beside(path))
         commands = [line[2:] for line in script.steps[0].lines]
         with Session(find_program()) as trial:
             send(Guest(trial), commands, script)
         saved, is_same, self._program = self._breakpoints.all(), commands == self._program, commands
         self._guest.ask("stop", "leave", *commands)
         self.names.symbols = Symbols.of_labels(script.labels)
-        self._source.own = path, {each.address: each.line for each in script.statements.values()}
+        self._source.own = OwnSource(path, text, {each.address: each.line for each in script.statements.values()})
         self._conditions.by_address.clear()
         self._breakpoints.restart(saved, is_same)
         self.execution.look()
@@ -216,7 +217,7 @@ class Console:
         if self._source.own is None:
             self._monitor(self.names.words("load"))
         else:
-            self.source(self._source.own[0])
+            self.source(self._source.own.path)
             self.execution.show_place()
 
     def _until(self, word: str) -> None:

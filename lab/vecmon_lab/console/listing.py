@@ -2,7 +2,8 @@
 
 import contextlib
 import pathlib
-from collections.abc import Iterator
+from collections.abc import Iterator, Mapping
+from dataclasses import dataclass
 
 from .. import LabError
 from ..compilers.compiler import RUNTIME
@@ -11,14 +12,20 @@ from .names import Names
 LINES_BEFORE, LINES = 4, 10  # of a source, before the one that is asked for, and of all
 
 
-class SourceListing:
-    """The source of the program: one that the console has assembled, `own`, or those that the image's symbols name.
+@dataclass(frozen=True)
+class OwnSource:
+    """A source that the console has assembled: its file, the text that it had, and the lines of its instructions by address."""
 
-    own: its path, and the lines of its instructions by address
-    """
+    path: pathlib.Path
+    text: str
+    lines: Mapping[int, int]
+
+
+class SourceListing:
+    """The source of the program: one that the console has assembled, `own`, or those that the image's symbols name."""
 
     def __init__(self, names: Names) -> None:
-        self.own: tuple[pathlib.Path, dict[int, int]] | None = None
+        self.own: OwnSource | None = None
         self._names = names
 
     def rows(self, address: int, pc: int) -> Iterator[str]:
@@ -27,17 +34,18 @@ class SourceListing:
         here = None
         with contextlib.suppress(LabError):
             here = self._line(pc)
-        lines = path.read_text("utf-8", "replace").removesuffix("\n").split("\n")
+        text = self.own.text if self.own and self.own.path == path else path.read_text("utf-8", "replace")
+        lines = text.removesuffix("\n").split("\n")
         first = max(0, number - 1 - LINES_BEFORE)
         for at, line in enumerate(lines[first : first + LINES], first + 1):
             yield f"{'=>' if here == (path, at) else '  '} {at:4}  {line.expandtabs()}".rstrip()
 
     def _line(self, address: int) -> tuple[pathlib.Path, int]:
         """The source of an instruction, and the number of its line. Raises LabError where one isn't known."""
-        path, lines = self.own or (self._names.symbols.path, {})
+        if self.own and address in self.own.lines:
+            return self.own.path, self.own.lines[address]
+        path = self.own.path if self.own else self._names.symbols.path
         name, _, number = self._names.symbols.line(address).rpartition(":")
-        if self.own and address in lines:
-            return self.own[0], lines[address]
         if not path or not name:
             raise LabError(f"no source line is known of {self._names.place(address)}")
         for folder in (path.parent, pathlib.Path(), RUNTIME):

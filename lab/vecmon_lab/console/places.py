@@ -47,8 +47,8 @@ class Places:
         """The addresses of breakpoints by line, as `sum.c:12`."""
         if self._listing.own is None:
             return self._names.symbols.source.stops
-        path, lines = self._listing.own
-        return {f"{path.name}:{line}": [address] for address, line in sorted(lines.items(), reverse=True)}
+        own = self._listing.own
+        return {f"{own.path.name}:{line}": [address] for address, line in sorted(own.lines.items(), reverse=True)}
 
     def _of_line(self, file: str, number: str) -> list[str]:
         """The addresses of a line. Raises LabError if it has none."""
