@@ -138,3 +138,10 @@ def test_crates_are_tested_with_those_above(tested: Tools, names: list[str], pro
 def test_wrong_arguments_of_test(tested: Tools, words: list[str], refusal: str) -> None:
     ran = tested.run("tools/test", *words)
     assert (ran.returncode, ran.stdout, ran.stderr) == (2, "", f"{refusal}\n") and tested.calls() == []
+
+
+def test_help_of_test_explains_its_stages(tested: Tools) -> None:
+    ran = tested.run("tools/test", "--help")
+    assert (ran.returncode, ran.stderr) == (0, "") and tested.calls() == []
+    assert ran.stdout.startswith("All tests, with their set-up, in three stages") and "`quick` does" in ran.stdout
+    assert ran.stdout.endswith("A wrong argument: one line, and status 2.\n")

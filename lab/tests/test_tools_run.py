@@ -637,6 +637,12 @@ def test_changed_sources_during_background_build_are_detected(clone: Clone) -> N
     assert (again.returncode, clone.programs()) == (0, OPTIMIZED) and "background failed" not in again.stderr
 
 
+def test_missing_script_is_refused_before_a_build(clone: Clone) -> None:
+    completed = clone.run("nothing")
+    assert completed.returncode == 2 and "cannot read the script nothing" in completed.stderr
+    assert clone.builds() == []
+
+
 def test_help_shows_usage(clone: Clone) -> None:
     completed = clone.run("--help", path="/usr/bin:/bin")
     assert (completed.returncode, completed.stderr) == (0, "") and completed.stdout.startswith(
