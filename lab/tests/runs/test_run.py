@@ -164,6 +164,26 @@ def test_bad_input_is_refused(lab: Lab, arguments: list[object], expected: str) 
     assert errors.startswith(expected)
 
 
+@pytest.mark.parametrize(
+    "more, expected",
+    [
+        (["--in", "/dev/null"], "symbol input not found"),
+        (["--from", "500000"], "and none from 500,000 on"),
+        (["--log", "nofolder/log", "--to", "5"], "vecmon-lab: nofolder/log: No such file or directory"),
+    ],
+)
+def test_trace_of_a_refused_run_stays(lab: Lab, tmp_path: pathlib.Path, more: list[str], expected: str) -> None:
+    kept = tmp_path / "trace"
+    kept.write_text("precious\n")
+    status, _, errors = lab("run", "--trace", kept, *more, SUM)
+    assert status == 2 and expected in errors and kept.read_text() == "precious\n"
+
+
+def test_full_trace_is_named(lab: Lab) -> None:
+    status, _, errors = lab("run", "--trace", "/dev/full", SUM)
+    assert (status, errors) == (2, "vecmon-lab: /dev/full: No space left on device\n")
+
+
 def test_closed_output_is_refused() -> None:
     command = ["sh", "-c", 'exec "$0" -m vecmon_lab run "$1" >&-', sys.executable, str(SUM)]
     run = subprocess.run(command, cwd=TOP, stderr=subprocess.PIPE, text=True, check=False)

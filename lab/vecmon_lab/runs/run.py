@@ -3,7 +3,11 @@
 import argparse
 import contextlib
 import functools
+import io
+import itertools
+import os
 import pathlib
+import stat
 import sys
 from collections import Counter
 from collections.abc import Callable, Iterator, Sequence
@@ -26,6 +30,7 @@ from .recorder import Record, record
 from .trace import trace
 from .writes import short_write
 
+LINES_AT_ONCE = 1000  # of a trace
 TICKS_RAN_OUT, BREAKPOINT, FAULT = 124, 133, 139  # as timeout says, and a shell of SIGTRAP and SIGSEGV
 
 
@@ -55,7 +60,7 @@ def run(arguments: argparse.Namespace) -> int:
     named, symbols = arguments.named, Symbols.read(arguments.image)
     _check_window(arguments)
     check_outputs([arguments.trace, arguments.log], named, *filter(None, [arguments.input]))
-    with arguments.trace.open("w", encoding="utf-8") if arguments.trace else contextlib.nullcontext() as file:
+    with arguments.trace.open("ab", buffering=0) if arguments.trace else contextlib.nullcontext() as file:
         counts = counted(arguments, write_out, [*_logs(arguments)])
         report_calls(arguments, counts, symbols)
         lines = [*stats(counts)] if arguments.stats else [total(counts)] if arguments.count else []
@@ -70,7 +75,7 @@ def run(arguments: argparse.Namespace) -> int:
         window = _window(arguments, counts)
         if file:
             start = functools.partial(_begun, arguments)
-            file.writelines(f"{line}\n" for line in trace(start, symbols, window))
+            _write_trace(file, trace(start, symbols, window))
     return counts.stop.number if counts.stop and is_exit else status_of(counts.stop)
 
 
@@ -159,6 +164,18 @@ def _logs(arguments: argparse.Namespace) -> Iterator[Record]:
         window = {"--from": arguments.first, "--to": arguments.last}
         words = [word for option, number in window.items() if number for word in (option, f"{number}")]
         yield Record([*words, "--log"], arguments.log.open("ab", buffering=0))  # emptied by the recorder
+
+
+def _write_trace(file: io.FileIO, lines: Iterator[str]) -> None:
+    """Empty a file, and write lines to it. Raises LabError if they can't be written."""
+    try:
+        if stat.S_ISREG(os.fstat(file.fileno()).st_mode):
+            file.truncate(0)
+        while block := "".join(f"{line}\n" for line in itertools.islice(lines, LINES_AT_ONCE)).encode():
+            while block:
+                block = block[file.write(block) :]
+    except OSError as error:
+        raise LabError(f"{file.name}: {error.strerror}") from error
 
 
 def _window(arguments: argparse.Namespace, counts: Counts) -> range:
