@@ -184,6 +184,18 @@ def test_full_trace_is_named(lab: Lab) -> None:
     assert (status, errors) == (2, "vecmon-lab: /dev/full: No space left on device\n")
 
 
+@pytest.mark.parametrize("command", ["run", "profile", "lesson"])
+def test_mistakes_of_a_source_are_listed(lab: Lab, tmp_path: pathlib.Path, command: str) -> None:
+    """The first ones: the others are counted."""
+    source = tmp_path / "two.s"
+    source.write_text("foo\n nop\n addi a0, zz, 9\n")
+    status, _, errors = lab(command, source)
+    assert status == 2 and [line.partition("two.s:")[2][:4] for line in errors.splitlines()] == ["1:1:", "3:11"]
+    source.write_text("foo\n" * 25)
+    lines = lab(command, source)[2].splitlines()
+    assert len(lines) == 21 and lines[-1].endswith("two.s: and 5 more")
+
+
 def test_closed_output_is_refused() -> None:
     command = ["sh", "-c", 'exec "$0" -m vecmon_lab run "$1" >&-', sys.executable, str(SUM)]
     run = subprocess.run(command, cwd=TOP, stderr=subprocess.PIPE, text=True, check=False)

@@ -2,20 +2,21 @@
 
 import re
 import sys
-from collections.abc import Sequence
+from collections.abc import Iterator, Sequence
 from dataclasses import dataclass, field, replace
 
 from .. import LabError, SourceMistakes
 from ..assembler.assembly import FileReader
 from ..assembler.commands import explain_refusal
 from ..assembler.line import refuse_preprocessor_lines
-from ..assembler.source import Program, SourceError, Statement, assemble, refusal
+from ..assembler.source import Program, SourceError, Statement, read_source, refusal
 from ..compilers.compiled import CompiledProgram
 from ..compilers.variables import Variable
 from ..guest.guest import Guest
 from ..machine.answers import Refused
 from ..machine.lines import is_look, words_of
 
+MAX_LISTED = 20  # mistakes of a source
 RUN_LINES = ["1 step 256", "1 out"]
 """The lines of a source's lesson after its set-up, if that executes nothing."""
 
@@ -79,7 +80,7 @@ def add_line(steps: list[Step], line: str, note: str = "") -> None:
 
 
 def read_assembled(text: str, name: str, files: FileReader | None = None) -> Script:
-    """The lesson of an assembler source, for user 1. Raises LabError where it doesn't assemble.
+    """The lesson of an assembler source, for user 1. Raises SourceMistakes, with a line for each of the first MAX_LISTED ones.
 
     name: of its file; a source of the suffix .S has no line for the preprocessor
     files: reads what it includes; without it that is refused
@@ -87,10 +88,19 @@ def read_assembled(text: str, name: str, files: FileReader | None = None) -> Scr
     try:
         if name.endswith(".S"):
             refuse_preprocessor_lines(text)
-        program = assemble(text, files=files)
+        program = read_source(text, files=files)
     except SourceError as error:
         raise SourceMistakes(error.diagnostic(name)) from error
+    if program.mistakes:
+        raise SourceMistakes("\n".join(_listed(program.mistakes, name)))
     return replace(_script_of(program, [line.strip() for line in text.split("\n")], name), text=text)
+
+
+def _listed(mistakes: Sequence[SourceError], name: str) -> Iterator[str]:
+    """A line for each of the first mistakes of a source, and one for the others."""
+    yield from (mistake.diagnostic(name) for mistake in mistakes[:MAX_LISTED])
+    if len(mistakes) > MAX_LISTED:
+        yield f"{name}: and {len(mistakes) - MAX_LISTED:,} more"
 
 
 def print_warnings(script: Script) -> None:
