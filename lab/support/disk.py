@@ -36,6 +36,13 @@ class Inode:
                 data[place : place + left] = written[:left]
         return bytes(data)
 
+    def zeroed(self) -> bytes:
+        """The contents after a cut that leaves the new size, and zeros in place of data that wasn't flushed."""
+        data = bytearray(self.contents(every))
+        for place, written in self.changes:
+            data[place : place + len(written or b"")] = bytes(len(data[place : place + len(written or b"")]))
+        return bytes(data)
+
 
 def every(size: int) -> int:
     """Chooses that each change is left as a whole."""
@@ -146,6 +153,32 @@ class Disk:
         chosen = [none, every, *(any_of(drawn) for _ in range(draws))]
         return [self._state(choose) for choose in chosen]
 
+    WAYS = ("none", "all", "any", "torn prefix", "names without data", "data without names", "zeros")
+
+    def states_by_way(self, seed: int) -> list[Contents]:
+        """States that a cut now may leave, one for each of WAYS.
+
+        none, all: of the changes since the flush; any: a drawn number of them, some torn; torn prefix: the first ones of the
+        changes of names, and torn data; names without data and data without names: all changes of one kind alone; zeros: sizes
+        without data, as a file system may leave that allocates late
+        """
+        drawn = random.Random(seed)
+        prefix, count = drawn.randint(0, len(self._changes)), 0
+
+        def first_names(_: int) -> int:
+            nonlocal count
+            count += 1
+            return int(count <= prefix)
+
+        states = [self._state(choose) for choose in (none, every, any_of(drawn))]
+        pairs = [(first_names, any_of(drawn)), (every, none), (none, every)]
+        states += [self._state(data, names) for names, data in pairs]
+        return [*states, self._state(every, every, has_zeros=True)]
+
+    def begin_with(self, contents: Contents) -> None:
+        """Start with files that are on the disk."""
+        self._names = {name: Inode(number, data) for number, (name, data) in enumerate(contents.items())}
+
     def check(self) -> None:
         """Raises AssertionError where the folder has something else than what was recorded: a write went past this disk."""
         there = {path.relative_to(self._folder).as_posix() for path in self._folder.rglob("*") if path.is_file()}
@@ -154,13 +187,19 @@ class Disk:
             name: (self._folder / name).read_bytes() for name in there
         }
 
-    def _state(self, choose: Callable[[int], int]) -> Contents:
+    def _state(
+        self, choose: Callable[[int], int], choose_names: Callable[[int], int] | None = None, has_zeros: bool = False
+    ) -> Contents:
+        """A state after a cut. choose, choose_names: choose changes of data and of names, the same by default
+
+        has_zeros: whether files have the sizes of data that wasn't flushed, and zeros in its place
+        """
         names = dict(self._names)
         for _folder, name, inode in self._changes:
-            if choose(1):
+            if (choose_names or choose)(1):
                 _rename(names, name, inode)
         ordered = sorted(names.items(), key=lambda item: item[1].number)
-        return {name: inode.contents(choose) for name, inode in ordered}
+        return {name: inode.zeroed() if has_zeros else inode.contents(choose) for name, inode in ordered}
 
     def _now(self) -> dict[str, Inode]:
         names = dict(self._names)

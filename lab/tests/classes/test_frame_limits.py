@@ -5,7 +5,8 @@ import base64
 import os
 import pathlib
 import struct
-from collections.abc import AsyncIterator
+from collections.abc import AsyncIterator, Coroutine
+from typing import Any
 
 import pytest
 import pytest_asyncio
@@ -111,13 +112,13 @@ async def test_seat_pays_for_its_requests() -> None:
     clock.now += 8
     assert budget.delay == 0
     with pytest.raises(asyncio.CancelledError):
-        cancelled = asyncio.create_task(_waited(budget, asyncio.sleep(SECONDS)))
+        cancelled = asyncio.create_task(_waited(budget, asyncio.sleep(SECONDS, "")))
         await asyncio.sleep(0)
         cancelled.cancel()
         await cancelled
 
 
-async def _waited(budget: SeatBudget, work: "asyncio._CoroutineLike[str]") -> str:
+async def _waited(budget: SeatBudget, work: Coroutine[Any, Any, str]) -> str:
     """The result of metered work."""
     return await budget.metered(work)
 

@@ -12,7 +12,7 @@ import pytest
 
 from support.class_tabs import LOOP, SECONDS
 from support.disk import Contents, Disk
-from vecmon_lab.classes import checks, durable, store, view
+from vecmon_lab.classes import checks, disk_files, durable, journal, store, view
 from vecmon_lab.classes.languages import SourceText
 from vecmon_lab.classes.live import is_servers
 from vecmon_lab.classes.requests import Lines
@@ -24,6 +24,7 @@ from vecmon_lab.exercises.exercise import read_exercise
 TICK, TICKS = 0.05, 96  # seconds, and their number
 EVERY = round(KEEP_SECONDS / TICK)  # ticks between looks at unsaved data; the batch has it that many ticks later
 RENEWED = 40  # ticks between new codes; each waits for the disk
+SHORTENED = 30  # ticks between journals
 DRAWS = 2  # states with some of the writes, at each moment
 EXERCISE = pathlib.Path("doubles")
 
@@ -74,6 +75,8 @@ class Lesson:
                 self.members.store.flush()
                 self.members.save(with_counts=False)
                 self.disk.check()
+            if tick % SHORTENED == 0:
+                self.members.store.shorten()
             await acts[tick % len(acts)]()
             if tick % RENEWED == 0:
                 await self._renew()
@@ -127,14 +130,15 @@ async def cuts_of(
     folder: pathlib.Path, program: pathlib.Path, monkeypatch: pytest.MonkeyPatch, flushes: bool
 ) -> list[Cut]:
     """The different states that cuts of a lesson leave; flushes: whether the disk does what `fsync` asks for."""
-    monkeypatch.setattr(durable, "FLUSH_SECONDS", 1e6)
+    for name in ("FLUSH_SECONDS", "JOURNAL_SECONDS"):
+        monkeypatch.setattr(durable, name, 1e6)
     monkeypatch.setattr(view, "COUNTS_SECONDS", 0.0)
     monkeypatch.setattr(checks.Checks, "_run", passing_check)
     monkeypatch.setattr(checks, "settled", lambda program, exercise: exercise)
     monkeypatch.setattr(checks, "read_exercise", functools.cache(read_exercise))  # a thousand classes open
     with monkeypatch.context() as recorded:
         disk = Disk(folder, flushes=flushes)
-        for module in (durable, store):
+        for module in (disk_files, durable, journal, store):
             recorded.setattr(module, "os", disk)
         lesson = Lesson(folder, program, disk)
         await lesson.work()
@@ -193,7 +197,8 @@ async def test_class_opens_after_every_power_cut(
 ) -> None:
     cuts = await cuts_of(tmp_path / "class", program, monkeypatch, flushes=True)
     assert len(cuts) >= 500
-    monkeypatch.setattr(durable, "os", SimpleNamespace(**vars(os) | {"fsync": lambda file: None}))
+    for module in (disk_files, journal):
+        monkeypatch.setattr(module, "os", SimpleNamespace(**vars(os) | {"fsync": lambda file: None}))
     for cut in cuts:
         check(cut, tmp_path / "cut", program)
 

@@ -172,7 +172,7 @@ async def test_teacher_request_from_seat_is_refused(room: Served, ask: str) -> N
 
 async def test_wrong_code_is_refused(room: Served) -> None:
     right = room.codes["A1"]
-    codes = ["", "A1", "1", right[:-1], right + "x", right.upper(), "é", "\ud800", "x" * 10_000, 5, None, [right]]
+    codes = ["", "A1", "1", right[:-1], right + "x", right.upper(), "é", "\ud800", "x" * 1000, 5, None, [right]]
     tabs = await asyncio.gather(*(room.open(code) for code in codes))
     for tab in tabs:
         with pytest.raises(EOFError, match="4403"):
@@ -276,8 +276,8 @@ async def test_responses_name_no_version(room: Served) -> None:
             assert answer.headers["Server"] == "vecmon-lab"
     reader, writer = await asyncio.open_connection("127.0.0.1", room.port)
     writer.write(b"\x16\x03\x01 no request\r\n\r\n")
-    answer = await asyncio.wait_for(reader.read(), SECONDS)
-    assert answer.startswith(b"HTTP/1.0 400 ") and b"Python" not in answer and b"aiohttp" not in answer
+    page = await asyncio.wait_for(reader.read(), SECONDS)
+    assert page.startswith(b"HTTP/1.0 400 ") and b"Python" not in page and b"aiohttp" not in page
     writer.close()
 
 

@@ -190,11 +190,12 @@ async def test_full_disk_keeps_source_in_memory(room: Served, monkeypatch: pytes
     tab, teacher, members = await room.sit("A1"), await room.sit("teacher"), room.members
     assert members
 
-    def refuse(path: pathlib.Path, data: bytes) -> None:
+    def refuse(*_: object) -> None:
         raise OSError(28, "No space left on device")
 
     with monkeypatch.context() as full:
         full.setattr("vecmon_lab.classes.durable.replace_file", refuse)
+        full.setattr("vecmon_lab.classes.journal.Journal.append", refuse)
         await tab.ask("source", text="nop")
         keep(members)
         members.save()

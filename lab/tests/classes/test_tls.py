@@ -57,7 +57,7 @@ async def served(folder: pathlib.Path, pair: Pair) -> AsyncIterator[tuple[int, a
 
 
 async def test_seat_connects_over_https(tmp_path: pathlib.Path, pair: Pair) -> None:
-    """Page and socket; a client that doesn't trust the certificate has neither, and one without TLS is told to use https."""
+    """Page and socket; a client that doesn't trust the certificate has neither, and one without TLS gets an answer that names https."""
     async with served(tmp_path / "class", pair) as (port, session):
         async with session.get(f"https://127.0.0.1:{port}/") as page:
             assert page.status == 200 and f"wss://127.0.0.1:{port}" in page.headers["Content-Security-Policy"]

@@ -1,15 +1,21 @@
 """Files that survive a power cut: a thread replaces them as a whole, and flushes what was appended, in batches.
 
-Callers never wait for the disk. A batch first flushes appended files, then it replaces files, and then it removes some, so
-that notes never count lines that aren't on the disk, and an old file is there until the new one is.
+Callers never wait for the disk. A batch first flushes appended files, and then one record of a journal, which has the new
+contents of all files (`journal.py`): so a batch takes a few syncs, however many files change, and notes never count lines that
+aren't on the disk. After that it replaces and removes files. Another thread flushes these, and removes the journal.
 """
 
+import contextlib
 import os
 import pathlib
 import threading
 from typing import Protocol
 
+from .disk_files import replace_file, sync_folder
+from .journal import Changes, Journal, put_file
+
 FLUSH_SECONDS = 0.3  # between a change and the batch that has it
+JOURNAL_SECONDS, JOURNAL_BYTES = 30.0, 8 << 20  # after which a journal's files are flushed, and it is removed
 RETRY_SECONDS = 1.0  # after a batch that failed in part
 
 
@@ -31,10 +37,12 @@ class Flusher:
         self._folder = folder
         self._waiting: dict[str, bytes | None] = {}  # None for a file that will be removed
         self._appended: set[Appended] = set()
+        self._journal = Journal(folder)
         self._lock, self._turn = threading.Lock(), threading.Lock()  # of what waits, and of a batch
-        self._has_work, self._is_ending = threading.Event(), threading.Event()
-        self._thread = threading.Thread(target=self._run, daemon=True)
-        self._thread.start()
+        self._has_work, self._is_ending, self._is_long = threading.Event(), threading.Event(), threading.Event()
+        self._threads = [threading.Thread(target=run, daemon=True) for run in (self._run, self._shorten)]
+        for thread in self._threads:
+            thread.start()
 
     def replace(self, name: str, data: bytes) -> None:
         """Replaces a file soon."""
@@ -81,25 +89,69 @@ class Flusher:
                 with self._lock:
                     self._appended |= appended
                 return
-            self._replace({name: data for name, data in waiting.items() if data is not None})
-            self._remove([name for name, data in waiting.items() if data is None])
+            if waiting:
+                self._save(waiting)
             with self._lock:
                 for name, data in waiting.items():
                     if name not in self.failures and self._waiting.get(name, b"") is data:
                         del self._waiting[name]
 
+    def shorten(self) -> None:
+        """Flush the files that journals have, and remove these journals; batches go on meanwhile. Raises OSError."""
+        with self._turn:
+            self._journal.switch()
+            generations = list(self._journal.generations)
+        for generation in generations:
+            self._journal.flush_files(generation)
+            with self._turn:
+                self._journal.drop(generation)
+
     def end(self) -> None:
-        """Flushes, and ends the thread."""
+        """Flushes, and ends the threads. A journal is left where the disk takes no more."""
         self._is_ending.set()
         self._has_work.set()
-        self._thread.join()
+        self._is_long.set()
+        for thread in self._threads:
+            thread.join()
         self.flush()
+        with contextlib.suppress(OSError):
+            self.shorten()
 
     def _put(self, name: str, data: bytes | None) -> None:
         with self._lock:
             self._waiting.pop(name, None)
             self._waiting[name] = data
         self._has_work.set()
+
+    def _save(self, changes: Changes) -> None:
+        """Bring changes to the disk by a record of the journal, or each by itself if there is no room for the record."""
+        try:
+            self._journal.append(changes)
+        except OSError:
+            self._save_each(changes)
+            return
+        for name, data in changes.items():
+            try:
+                if data is not None:
+                    put_file(self._folder / name, data)
+                self.failures.pop(name, None)
+            except OSError as error:
+                self.failures[name] = f"{name} isn't saved: {error.strerror}"
+        self._remove([name for name, data in changes.items() if data is None])
+        if self._journal.size > JOURNAL_BYTES:
+            self._is_long.set()
+
+    def _save_each(self, changes: Changes) -> None:
+        """Replace and remove files, flushing each: after their journals, which would replace them by older ones at a start."""
+        try:
+            for generation in list(self._journal.generations):
+                self._journal.flush_files(generation)
+                self._journal.drop(generation)
+        except OSError as error:
+            self.failures |= {name: f"{name} isn't saved: {error.strerror}" for name in changes}
+            return
+        self._replace({name: data for name, data in changes.items() if data is not None})
+        self._remove([name for name, data in changes.items() if data is None])
 
     def _replace(self, files: dict[str, bytes]) -> None:
         """Replaces files, and then flushes their folders."""
@@ -133,6 +185,15 @@ class Flusher:
         for name in names:
             self.failures.pop(name, None)
 
+    def _shorten(self) -> None:
+        """Removes journals that are old or long, until the end."""
+        while not self._is_ending.is_set():
+            self._is_long.wait(JOURNAL_SECONDS)
+            self._is_long.clear()
+            if self._journal.generations and not self._is_ending.is_set():
+                with contextlib.suppress(OSError):  # the journal stays, and the next look tries again
+                    self.shorten()
+
     def _run(self) -> None:
         """Flushes in batches until the end."""
         while not self._is_ending.is_set():
@@ -143,34 +204,3 @@ class Flusher:
             with self._lock:
                 if self._waiting or self._appended:
                     self._has_work.set()
-
-
-def replace_file(path: pathlib.Path, data: bytes) -> None:
-    """Replaces a file, whose data is on the disk before it has its name; flush the folder behind. Raises OSError."""
-    make_folder(path.parent)
-    new = path.with_name(f"{path.name}.new")
-    file = os.open(new, os.O_WRONLY | os.O_CREAT | os.O_TRUNC, 0o600)
-    try:
-        place = 0
-        while place < len(data):
-            place += os.pwrite(file, data[place:], place)
-        os.fsync(file)
-    finally:
-        os.close(file)
-    os.replace(new, path)
-
-
-def make_folder(folder: pathlib.Path) -> None:
-    """Makes a folder on the disk, unless it is there. Raises OSError."""
-    if not folder.is_dir():
-        os.mkdir(folder, 0o700)
-        sync_folder(folder.parent)
-
-
-def sync_folder(folder: pathlib.Path) -> None:
-    """Flushes the names in a folder to the disk. Raises OSError."""
-    file = os.open(folder, os.O_RDONLY | os.O_DIRECTORY)
-    try:
-        os.fsync(file)
-    finally:
-        os.close(file)

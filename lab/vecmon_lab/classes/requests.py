@@ -448,7 +448,7 @@ def _lines(message: JsonObject, is_teacher: bool) -> Lines:
 
 def _settings(message: JsonObject) -> Mapping[str, int]:
     """The settings of a clock in a message."""
-    settings = {}
+    settings = dict[str, int]()
     for name in _LIMITS.keys() & message.keys():
         (minimum, maximum), value = _LIMITS[name], message[name]
         if name == "on":

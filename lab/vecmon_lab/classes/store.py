@@ -8,6 +8,7 @@ A.script, A.2.script ..: a machine's scripts; each begins where the one before e
 A.json: which lines of them set the machine up; how many of the last one's were answered by a digest, and what the
     teacher has set
 images/NAME.elf: the images, as they were when the class began
+journal.1, journal.2 ..: new contents of files above, until these are flushed to the disk
 A.json.damaged: a file that was damaged, under another name
 lock: held by the server that serves the class
 """
@@ -29,7 +30,9 @@ from .. import LabError
 from ..machine.program import digest_of
 from ..machine.session import BadLine, Block, OutOfStep, Session, recorded_lines
 from .codes import LETTERS, TEACHER, Codes, new_code
-from .durable import Flusher, replace_file, sync_folder
+from .disk_files import replace_file, sync_folder
+from .durable import Flusher
+from .journal import JOURNAL, journaled, journals, recover
 from .stored_files import SCRIPT_NAME, Facts, Notes, codes
 
 
@@ -202,18 +205,23 @@ class Store:
         self._damaged = set[str]()  # names of files that `read` found damaged
         self._is_reading = is_reading
         self._flusher: Flusher | None = None
+        self._journaled: dict[
+            str, bytes | None
+        ] = {}  # contents by name that a class that is only read has in its journal
         if is_reading:
+            self._journaled = {} if _is_served(folder) else journaled(folder)[0]
             self._open(images, quantum, machines)
             return
         folder.mkdir(mode=0o700, parents=True, exist_ok=True)
         if strangers := {path.name for path in folder.iterdir() if path.suffix != ".new"} - {"lock", "images"}:
-            if not any(name in ("class.json", "codes.json") or SCRIPT_NAME.fullmatch(name) for name in strangers):
+            if not any(map(_is_of_class, strangers)):
                 named = f"{min(strangers)} among them: name an empty folder, or one that isn't there"
                 raise BadFolder(f"{folder} has no class, but other files, {named}")
         folder.chmod(0o700)
         with contextlib.suppress(OSError):  # a folder above that may not be read
             sync_folder(folder.parent)
         self._lock = _locked(folder)
+        self.lost += recover(folder)
         self._flusher = Flusher(folder)
         try:
             self._open(images, quantum, machines)
@@ -259,6 +267,11 @@ class Store:
         """Brings to the disk now what waits, as far as the disk takes it; the caller waits for the disk."""
         if self._flusher:
             self._flusher.flush()
+
+    def shorten(self) -> None:
+        """Flush the files that journals have, and remove these journals. Raises OSError."""
+        if self._flusher:
+            self._flusher.shorten()
 
     def script_file(self, machine: str, number: int) -> ScriptFile:
         """A machine's script of this number, to append to; of a damaged one the lines before the damage."""
@@ -406,7 +419,7 @@ class Store:
 
     def _data(self, name: str) -> bytes:
         """The data of a file as it was kept last, also where that waits for the disk. Raises FileNotFoundError."""
-        waiting = self._flusher.waiting(name) if self._flusher else None
+        waiting = self._flusher.waiting(name) if self._flusher else self._journaled.get(name)
         return (self.folder / name).read_bytes() if waiting is None else waiting
 
     def _read(self, name: str, kind: Callable[..., Kept]) -> Kept:
@@ -521,9 +534,10 @@ def _continued(
 
 def forget(folder: pathlib.Path, name: str) -> None:
     """Deletes what a class that isn't served has kept by a name. Raises BadFolder."""
-    if not (folder / "class.json").exists():
+    if not (folder / "class.json").exists() and not journals(folder):
         raise BadFolder(f"{folder} has no class")
     lock = _locked(folder)
+    recover(folder)
     for each in (name, f"{name}.new"):
         (folder / each).unlink(missing_ok=True)
     sync_folder(folder)
@@ -532,9 +546,10 @@ def forget(folder: pathlib.Path, name: str) -> None:
 
 def renew_teacher(folder: pathlib.Path) -> None:
     """Gives the teacher of a class that isn't served a new code; all others keep theirs. Raises BadFolder."""
-    if not (folder / "class.json").exists():
+    if not (folder / "class.json").exists() and not journals(folder):
         raise BadFolder(f"{folder} has no class")
     lock = _locked(folder)
+    recover(folder)
     try:
         stored = codes(**json.loads((folder / "codes.json").read_bytes()))
         if TEACHER not in stored:
@@ -556,6 +571,26 @@ def _locked(folder: pathlib.Path) -> int:
         os.close(lock)
         raise BadFolder(f"{folder} is served by another server") from None
     return lock
+
+
+def _is_of_class(name: str) -> bool:
+    """Whether a file of this name is one by which the folder of a class is recognized."""
+    return name in ("class.json", "codes.json") or bool(SCRIPT_NAME.fullmatch(name) or JOURNAL.fullmatch(name))
+
+
+def _is_served(folder: pathlib.Path) -> bool:
+    """Whether a server has a folder."""
+    try:
+        lock = os.open(folder / "lock", os.O_RDONLY)
+    except OSError:
+        return False
+    try:
+        fcntl.flock(lock, fcntl.LOCK_SH | fcntl.LOCK_NB)
+        return False
+    except BlockingIOError:
+        return True
+    finally:
+        os.close(lock)
 
 
 def script_name(machine: str, number: int) -> str:

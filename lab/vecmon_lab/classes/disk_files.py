@@ -1,0 +1,40 @@
+"""Files and folders that are on the disk once a function returns."""
+
+import os
+import pathlib
+
+
+def replace_file(path: pathlib.Path, data: bytes) -> None:
+    """Replaces a file, whose data is on the disk before it has its name; flush the folder behind. Raises OSError."""
+    make_folder(path.parent)
+    new = path.with_name(f"{path.name}.new")
+    file = os.open(new, os.O_WRONLY | os.O_CREAT | os.O_TRUNC, 0o600)
+    try:
+        write_all(file, data, 0)
+        os.fsync(file)
+    finally:
+        os.close(file)
+    os.replace(new, path)
+
+
+def write_all(file: int, data: bytes, place: int) -> None:
+    """Write all bytes at a place of a file. Raises OSError."""
+    written = 0
+    while written < len(data):
+        written += os.pwrite(file, data[written:], place + written)
+
+
+def make_folder(folder: pathlib.Path) -> None:
+    """Makes a folder on the disk, unless it is there. Raises OSError."""
+    if not folder.is_dir():
+        os.mkdir(folder, 0o700)
+        sync_folder(folder.parent)
+
+
+def sync_folder(folder: pathlib.Path) -> None:
+    """Flushes the names in a folder to the disk. Raises OSError."""
+    file = os.open(folder, os.O_RDONLY | os.O_DIRECTORY)
+    try:
+        os.fsync(file)
+    finally:
+        os.close(file)

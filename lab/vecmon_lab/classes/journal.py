@@ -1,0 +1,192 @@
+"""The journal of a class's folder: new contents of small files, on the disk after one sync for a whole batch.
+
+journal.1, journal.2 ..: records, each with changes of files by name; a file is replaced after its record is on the disk, without a sync.
+    So after a power cut any of these files may be missing or torn, and `recover` writes them again, from the records in their
+    order. A journal is removed once all files that it names are flushed to the disk; before the next one is.
+
+A record is a line with the length and the CRC-32 of its text, the text, which is JSON, and a newline. Only the last record
+can be torn, since each is flushed before the next one.
+"""
+
+import contextlib
+import json
+import os
+import pathlib
+import re
+from binascii import crc32
+from collections.abc import Iterator, Mapping
+from dataclasses import dataclass, field
+
+from .disk_files import make_folder, replace_file, sync_folder, write_all
+
+JOURNAL = re.compile(r"journal\.([1-9][0-9]{0,8})")
+HEADER_BYTES = 18
+
+Changes = Mapping[str, bytes | None]
+"""New contents of files by name relative to the folder; None for a file that is removed."""
+
+
+@dataclass
+class Generation:
+    """A journal, the names of the files in its records, and its bytes."""
+
+    path: pathlib.Path
+    names: set[str] = field(default_factory=set)
+    size: int = 0
+
+
+class Journal:
+    """The journals of a folder that is served. For one thread at a time, except `flush_files`."""
+
+    def __init__(self, folder: pathlib.Path) -> None:
+        self.generations: list[Generation] = []  # the oldest first
+        self._folder = folder
+        self._file: int | None = None  # of the last generation, while records are appended to it
+        self._number = 0
+
+    @property
+    def size(self) -> int:
+        """The bytes of all journals."""
+        return sum(each.size for each in self.generations)
+
+    def append(self, changes: Changes) -> None:
+        """Write a record, which is on the disk on return. Raises OSError; then the journal is as before."""
+        if self._file is None:
+            self._begin()
+        assert self._file is not None
+        last, record = self.generations[-1], record_of(changes)
+        try:
+            write_all(self._file, record, last.size)
+            os.fsync(self._file)
+            if not last.size:
+                sync_folder(self._folder)
+        except OSError:
+            self.switch()  # a torn record would hide later ones
+            raise
+        last.size += len(record)
+        last.names |= changes.keys()
+
+    def switch(self) -> None:
+        """Let the next record start another journal."""
+        if self._file is not None:
+            with contextlib.suppress(OSError):
+                os.ftruncate(self._file, self.generations[-1].size)
+            os.close(self._file)
+            self._file = None
+
+    def flush_files(self, generation: Generation) -> None:
+        """Flush the files of a journal to which no record is appended any more. Raises OSError."""
+        folders = set[pathlib.Path]()
+        for path in (self._folder / name for name in sorted(generation.names)):
+            with contextlib.suppress(FileNotFoundError):  # it was removed since
+                _flush_file(path)
+            if path.parent.is_dir():
+                folders.add(path.parent)
+        for folder in sorted(folders):
+            sync_folder(folder)
+
+    def drop(self, generation: Generation) -> None:
+        """Remove a journal whose files are flushed, as is the removal of earlier ones. Raises OSError."""
+        sync_folder(self._folder)
+        with contextlib.suppress(FileNotFoundError):
+            os.unlink(generation.path)
+        sync_folder(self._folder)
+        if generation in self.generations:
+            self.generations.remove(generation)
+
+    def _begin(self) -> None:
+        """Start another journal. Raises OSError."""
+        self._number += 1
+        path = self._folder / f"journal.{self._number}"
+        self._file = os.open(path, os.O_WRONLY | os.O_CREAT | os.O_TRUNC, 0o600)
+        self.generations.append(Generation(path))
+
+
+def record_of(changes: Changes) -> bytes:
+    """A record."""
+    texts = {name: None if data is None else data.decode("utf-8", "surrogateescape") for name, data in changes.items()}
+    text = json.dumps(texts).encode("ascii")
+    return b"%08x %08x\n%s\n" % (len(text), crc32(text), text)
+
+
+def records(data: bytes) -> Iterator[tuple[int, Changes]]:
+    """The records of a journal, each with the number of bytes up to its end; up to one that is torn or damaged."""
+    place = 0
+    while header := re.match(rb"([0-9a-f]{8}) ([0-9a-f]{8})\n", data[place : place + HEADER_BYTES]):
+        start, size = place + HEADER_BYTES, int(header[1], 16)
+        text, place = data[start : start + size], start + size + 1
+        if len(text) < size or data[place - 1 : place] != b"\n" or crc32(text) != int(header[2], 16):
+            return
+        yield place, {
+            name: None if content is None else content.encode("utf-8", "surrogateescape")
+            for name, content in json.loads(text).items()
+        }
+
+
+def journals(folder: pathlib.Path) -> list[pathlib.Path]:
+    """The journals of a folder, the oldest first."""
+    found = [path for path in folder.glob("journal.*") if JOURNAL.fullmatch(path.name)]
+    return sorted(found, key=lambda path: int(path.name.partition(".")[2]))
+
+
+def journaled(folder: pathlib.Path) -> tuple[dict[str, bytes | None], list[str]]:
+    """The last contents by name that the journals of a folder have, and sentences on what is lost of them. Raises OSError."""
+    changes, lost = dict[str, bytes | None](), list[str]()
+    for path in journals(folder):
+        data, end = path.read_bytes(), 0
+        for end, record in records(data):
+            changes |= {name: content for name, content in record.items() if _is_inside(name)}
+        if _has_later_record(data[end:]):
+            lost.append(f"{path.name} is damaged behind byte {end:,}: changes of the last minute may be lost")
+    return changes, lost
+
+
+def recover(folder: pathlib.Path) -> list[str]:
+    """Bring files to the state of the journals, which end then; return sentences on what is lost. Raises OSError."""
+    changes, lost = journaled(folder)
+    for name, data in changes.items():
+        if data is not None:
+            replace_file(folder / name, data)
+        elif (folder / name).exists():
+            os.unlink(folder / name)
+    for parent in sorted({(folder / name).parent for name in changes}):
+        if parent.is_dir():
+            sync_folder(parent)
+    for path in journals(folder):
+        os.unlink(path)
+        sync_folder(folder)
+    return lost
+
+
+def put_file(path: pathlib.Path, data: bytes) -> None:
+    """Replace a file that a journal has, without a sync. Raises OSError."""
+    make_folder(path.parent)
+    new = path.with_name(f"{path.name}.new")
+    file = os.open(new, os.O_WRONLY | os.O_CREAT | os.O_TRUNC, 0o600)
+    try:
+        write_all(file, data, 0)
+    finally:
+        os.close(file)
+    os.replace(new, path)
+
+
+def _flush_file(path: pathlib.Path) -> None:
+    """Flush a file. Raises OSError."""
+    file = os.open(path, os.O_RDONLY)
+    try:
+        os.fsync(file)
+    finally:
+        os.close(file)
+
+
+def _is_inside(name: str) -> bool:
+    """Whether a name is one of the folder."""
+    return not pathlib.PurePath(name).is_absolute() and ".." not in pathlib.PurePath(name).parts
+
+
+def _has_later_record(rest: bytes) -> bool:
+    """Whether bytes behind the last good record have more than one torn record."""
+    header = re.match(rb"([0-9a-f]{8}) [0-9a-f]{8}\n", rest)
+    return len(rest) > HEADER_BYTES + (int(header[1], 16) + 1 if header else 0) and bool(
+        re.search(rb"\n[0-9a-f]{8} [0-9a-f]{8}\n", rest)
+    )
