@@ -259,6 +259,11 @@ def test_hand_reaches_the_class(sit: Sit) -> None:
     for page in (tab, other):
         page.wait("id('hand').textContent === 'Hand raised' && id('hand').ariaPressed === 'true'")
     teacher.wait("one('#seats .hand[data-seat=A4] .condition')?.textContent === '☝hand raised'")
+    question = "hand raised: “Why is vl 4 after I have asked for 8 elements of 64 bits?”"
+    teacher.run(f"one('#seats .hand .condition span:last-child').textContent = '{question}'")
+    teacher.run("id('roster').style.width = '24rem'")  # as next to the columns of a course, at 1280 pixels
+    cell = "one('#seats .hand .condition')"
+    assert teacher.run(f"{cell}.scrollWidth <= {cell}.clientWidth")  # all of it is in sight
     press_key(other, "Alt+Shift+H")
     teacher.wait("!one('#seats [data-seat=A4].hand')")
     tab.wait("id('hand').textContent === 'Raise hand' && id('hand').ariaPressed === 'false'")

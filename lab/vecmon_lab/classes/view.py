@@ -4,6 +4,7 @@ import asyncio
 import math
 import pathlib
 import time
+from collections import defaultdict
 from collections.abc import Callable, Iterable, Sequence
 from dataclasses import asdict, replace
 from functools import partial
@@ -19,6 +20,7 @@ from .comparisons import Comparisons
 from .example_sources import ExampleSource
 from .messages import Updates
 from .hands import Hands
+from .headway import Headway
 from .names import NAMES, as_csv, local_time
 from .notices import Notices
 from .requests import BadRequest
@@ -84,6 +86,7 @@ class Class:
         self.tabs: set[Tab] = set()
         self.rooms: dict[str, Room] = {}
         self.students: dict[str, Student] = {}
+        self._headway = defaultdict[str, Headway](Headway)
         self._kept: dict[str, tuple[Notes, float]] = {}  # and when they were kept
         self._stuck: Sequence[str] = ()  # seats whose students were stuck at the last save
         self.warning = ""  # why something isn't saved, as pages have it
@@ -143,6 +146,7 @@ class Class:
                 self.store.write(f"{room.letter}.json", asdict(notes))
                 self._kept[room.letter] = notes, time.monotonic()
         self.checks.save()
+        self._follow_headway()
         if self._stuck != (stuck := [seat.name for seat in self.seats() if self.stuck_since(seat)]):
             self._stuck = stuck
             self.tell([])
@@ -185,8 +189,26 @@ class Class:
         """Since when a seat's student may need somebody, in seconds since 1970; None if that isn't so."""
         source = self.students[seat.name].source
         by_exercise = self.checks.exercises.stuck_since(seat.name, source.exercise, source.opened)
-        times = [since for since in (seat.since if seat.has_failed else None, by_exercise) if since is not None]
-        return min(times, default=None)
+        by_headway = self._headway[seat.name].stuck_since() if self._is_at_work(seat.name) else None
+        times = (seat.since if seat.has_failed else None, by_exercise, by_headway)
+        return min((since for since in times if since is not None), default=None)
+
+    def _is_at_work(self, seat: str) -> bool:
+        """Whether a seat has a tab, and its open exercise isn't solved."""
+        exercise, exercises = self.students[seat].source.exercise, self.checks.exercises
+        is_open = exercise in exercises.by_name and not exercises.progress(seat, exercise).first
+        return is_open and any(tab.who == seat for tab in self.tabs)
+
+    def _follow_headway(self) -> None:
+        """Take up the headway of students at their exercises."""
+        for name, student in self.students.items():
+            if not self._is_at_work(name):
+                self._headway[name].restart()
+                continue
+            source = student.source
+            best = self.checks.exercises.progress(name, source.exercise).best
+            pc = student.seat.state.get("pc", "")
+            self._headway[name].follow(source.exercise, source.own.text, pc, best)
 
     def student_view(self, student: Student) -> StudentView:
         """The student's view."""
