@@ -26,6 +26,7 @@ EVERY = round(KEEP_SECONDS / TICK)  # ticks between looks at unsaved data; the b
 RENEWED = 40  # ticks between new codes; each waits for the disk
 SHORTENED = 30  # ticks between journals
 DRAWS = 2  # states with some of the writes, at each moment
+OPENED = 3  # one state in this number is opened
 EXERCISE = pathlib.Path("doubles")
 
 
@@ -196,10 +197,10 @@ async def test_class_opens_after_every_power_cut(
     tmp_path: pathlib.Path, program: pathlib.Path, monkeypatch: pytest.MonkeyPatch
 ) -> None:
     cuts = await cuts_of(tmp_path / "class", program, monkeypatch, flushes=True)
-    assert len(cuts) >= 500
+    assert len(cuts) // OPENED >= 800
     for module in (disk_files, journal):
         monkeypatch.setattr(module, "os", SimpleNamespace(**vars(os) | {"fsync": lambda file: None}))
-    for cut in cuts:
+    for cut in cuts[::OPENED]:
         check(cut, tmp_path / "cut", program)
 
 
