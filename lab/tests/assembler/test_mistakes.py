@@ -20,6 +20,8 @@ from vecmon_lab.assembler.trial import read_tried_source
         ('.asciz "no end', '"no end', None),
         (r'.asciz "a\qb"', r"\q", None),
         ("li a0, 09", "09", None),
+        (r"li a0, '\0'", r"'\0'", "0"),
+        (r".byte '\12', 1", r"'\12'", "10"),
         ("addi a0, a1, 0x10000000000000000", "0x10000000000000000", None),
     ],
 )

@@ -98,6 +98,8 @@ class Expression:
         left = self._term()
         while (operator := self._peek()) and operator.kind is Kind.MARK and _RANKS.get(operator.text, 0) >= rank:
             self._take()
+            if operator.text == "!" and (following := self._peek()) and following.text == "!":
+                raise operator.error("!! between numbers is ^ to GNU as, and ! twice to clang: write ^, or parentheses")
             right = self._operation(_RANKS[operator.text] + 1)
             left = _applied(operator, left, right)
         return left

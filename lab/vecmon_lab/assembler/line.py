@@ -113,7 +113,9 @@ class Token:
         text = self.text[1:].removesuffix("'") or "'"
         escape = re.fullmatch(r"\\(?:([0-7]{1,3})|(.))", text)
         if escape and escape[1]:
-            return int(escape[1], 8) & 0xFF
+            value = int(escape[1], 8) & 0xFF
+            reason = "stock assemblers have no octal escapes in a character, and make 48 of '\\0'"
+            raise self.error(f"{self.text} is {value} in C, but {reason}: write {value}", [f"{value}"])
         data = ((_LETTERS | {"'": "'"}).get(escape[2], "") if escape else text).encode("utf-8", "surrogateescape")
         if len(data) != 1:
             raise self.error(f"{self.text} isn't one byte: a character is one of ASCII, or an escape as '\\n'")

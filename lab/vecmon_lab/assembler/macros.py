@@ -37,21 +37,19 @@ class Macro:
         """The texts of the parameters in a call, whose name is between these indices. Raises SourceError."""
         given: dict[str, Line] = {}
         positions = iter(self.parameters)
-        at, by_name = end, {each.name: each for each in self.parameters}
-        for _ in range(len(line.text)):
-            at = _skip_separator(line.text, at)
-            if at >= len(line.text):
-                break
-            keyword = _KEYWORD.match(line.text, at)
+        text, by_name = line.text.rstrip(), {each.name: each for each in self.parameters}
+        at = len(text) - len(text[end:].lstrip())
+        while at < len(text):
+            keyword = _KEYWORD.match(text, at)
             if keyword and keyword[1] in by_name:
                 parameter, at = by_name[keyword[1]], keyword.end()
             elif (next_one := next(positions, None)) is None:
                 raise line.error(at, f"{self.name} takes {len(self.parameters)} arguments, and this is one more")
             else:
                 parameter = next_one
-            stop = len(line.text.rstrip()) if parameter.takes_rest else _argument_end(line.text, at)
+            stop = len(text) if parameter.takes_rest else _argument_end(text, at)
             given[parameter.name] = unquoted(line.part(at, stop))
-            at = stop
+            at = _skip_separator(text, stop)
         for parameter in self.parameters:
             if parameter.is_required and not given.get(parameter.name, line.part(end, end)).text:
                 raise line.error(start, f"{self.name} needs a value for its argument {parameter.name}")
