@@ -12,9 +12,7 @@ from typing import TypeVar
 from aiohttp import web
 
 SWEEP_SECONDS = 0.5
-OF_ADDRESS = (
-    128  # connections of one address that are in an early state, such as without a code; a school may share one
-)
+OF_ADDRESS = 128  # connections of one address, which a school may share, that are in an early state, as without a code
 V6_PREFIX = 64  # bits of an address by IPv6 that a client can't choose
 AHEAD = 16  # requests of a connection that wait for the answer to an earlier one; browsers send none ahead
 

@@ -54,9 +54,8 @@ HEADERS = {
     "Cross-Origin-Opener-Policy": "same-origin",
 }
 HOST = re.compile(r"(?:\[([0-9a-fA-F:.]+)\]|([A-Za-z0-9.-]+))(?::[0-9]+)?")
-vars(web_response)[
-    "SERVER_SOFTWARE"
-] = "vecmon-lab"  # the header `Server` without versions, also where no hook is called
+# the header `Server` without versions, also in answers of which no hook is told
+vars(web_response)["SERVER_SOFTWARE"] = "vecmon-lab"
 CROWDED = 4429  # why a socket is closed: the seat has too many
 
 

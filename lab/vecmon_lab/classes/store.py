@@ -205,9 +205,7 @@ class Store:
         self._damaged = set[str]()  # names of files that `read` found damaged
         self._is_reading = is_reading
         self._flusher: Flusher | None = None
-        self._journaled: dict[
-            str, bytes | None
-        ] = {}  # contents by name that a class that is only read has in its journal
+        self._journaled: dict[str, bytes | None] = {}  # by name, of a class that is only read: what its journal has
         if is_reading:
             self._journaled = {} if _is_served(folder) else journaled(folder)[0]
             self._open(images, quantum, machines)
