@@ -94,9 +94,15 @@ async def test_seat_retries_until_answer_passes(room: Served) -> None:
     assert (own["hints"], own["tries"], own["told"], own["lesson"]) == ([], 0, {}, "")
     reply = await check(tab, "square", "addi a0, a1, 1\nret")
     assert (reply["cases"], reply["number"], reply["reason"]) == (cases(False, False), 0, "a0: expected 36, found 7")
-    assert reply["given"] == [{"where": "a1 (x11)", "first": 0, "numbers": ["6"], "more": 0, "wrong": []}]
-    assert reply["expected"] == [{"where": "a0 (x10)", "first": 0, "numbers": ["36"], "more": 0, "wrong": []}]
-    assert reply["found"] == [{"where": "a0 (x10)", "first": 0, "numbers": ["7"], "more": 0, "wrong": [0]}]
+    assert reply["given"] == [
+        {"where": "a1 (x11)", "register": "a1", "first": 0, "numbers": ["6"], "more": 0, "wrong": []}
+    ]
+    assert reply["expected"] == [
+        {"where": "a0 (x10)", "register": "a0", "first": 0, "numbers": ["36"], "more": 0, "wrong": []}
+    ]
+    assert reply["found"] == [
+        {"where": "a0 (x10)", "register": "a0", "first": 0, "numbers": ["7"], "more": 0, "wrong": [0]}
+    ]
     assert tab.view["exercises"]["square"]["hints"] == ["multiply"]
     assert await check(tab, "square", RIGHT) == {"cases": cases(True, True)}
     assert tab.view["exercises"]["square"]["passed"] and not tab.view["exercises"]["square"]["checking"]

@@ -27,6 +27,9 @@ def test_why_explains_element(program: pathlib.Path) -> None:
         asked(desk, ask="lines", do=[], look=["vreg v8 32"])["look"]
         and asked(desk, ask="why", name="v8 3")["why"] == sentence
     )
+    named = asked(desk, ask="why", name="v8[3]", form="hexadecimal", abi=True)["why"]
+    assert named == "v8[3] = v8[3] * a1 + v8[3] = 0x3 * 0x3 + 0x3 = 0xc"
+    assert "signed, unsigned or hexadecimal" in asked(desk, ask="why", name="v8[3]", form="octal")["error"]
     assert asked(desk, ask="why", name="v8[9]")["error"] == "v8 has the elements 0 to 7 of 32 bits, and 9 isn't one"
     assert "names no element" in asked(desk, ask="why", name="")["error"]
     asked(desk, ask="lines", do=["step 1"])

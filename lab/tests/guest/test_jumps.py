@@ -6,7 +6,7 @@ import pytest
 from elftools.elf.elffile import ELFFile
 
 from support.places import PREFIX_SUMS, TOTAL
-from vecmon_lab.guest.jumps import Code
+from vecmon_lab.guest.jumps import Code, jump_target
 
 
 def code_of(path: pathlib.Path) -> Code:
@@ -40,3 +40,18 @@ def test_branch_targets_are_entries(version: int) -> None:
     assert code.entries([(0x11364, 0x11368)], main) == [0x11364] and code.entries([(0x11378, 0x1137C)], main) == [
         0x11378
     ]
+
+
+@pytest.mark.parametrize(
+    "word, target",
+    [
+        (0xFE0318E3, 0x0FFF0),  # bnez t1, -16
+        (0x0080006F, 0x10008),  # j 8
+        (0xFFDFF0EF, 0x0FFFC),  # jal -4
+        (0x00008067, None),  # ret
+        (0x00128293, None),  # addi t0, t0, 1
+    ],
+)
+def test_target_of_branch_and_jump(word: int, target: int | None) -> None:
+    """The distances are those of `objdump`."""
+    assert jump_target(0x10000, word) == target

@@ -2,7 +2,6 @@
 
 import ast
 import random
-from collections.abc import Iterator
 
 import pytest
 
@@ -11,7 +10,7 @@ from support.golden_equations import Tally, check_vectors, clean_vectors, state_
 from support.shown_equations import Equation, LeftOut, Unreadable, evaluate, read_causes, read_equation
 from vecmon_lab.meanings import equation, why
 from vecmon_lab.meanings.calculation import Notation, Sign, Term
-from vecmon_lab.meanings.formula import Names, sext
+from vecmon_lab.meanings.formula import sext
 from vecmon_lab.meanings.record import record_of
 
 SEED, VECTORS, ELEMENTS = 137, 1000, 4
@@ -61,15 +60,15 @@ def test_element_equals_negative_immediate() -> None:
     assert tally_of_equalities().wrong == []
 
 
-def compare_unlike(node: ast.expr, _: Names) -> Iterator[ast.expr]:
-    """As `_compared`, but only the immediate is shown as the reader wants."""
-    if isinstance(node, ast.Compare):
-        yield node.comparators[0]
+def compare_unlike(value: ast.expr, *_: object) -> frozenset[int]:
+    """As `_free_terms` for a comparison, but only the immediate is shown as the reader wants."""
+    assert isinstance(value, ast.Compare)
+    return frozenset([id(value.comparators[0])])
 
 
 def test_unlike_signs_of_an_equality_are_found(monkeypatch: pytest.MonkeyPatch) -> None:
     """`v30[3] != (-1) = 255 != (-1)` isn't how the instruction compares."""
-    monkeypatch.setattr(equation, "_compared", compare_unlike)
+    monkeypatch.setattr(equation, "_free_terms", compare_unlike)
     assert any("= 255 != (−1) =" in problem for problem in tally_of_equalities().wrong)
 
 

@@ -181,6 +181,16 @@ def test_sources_after_several_steps(tmp_path: pathlib.Path) -> None:
     assert [cells_of(each["rows"][2])[1] for each in shown[1:]] == ["0", "1"]
 
 
+def test_card_has_another_name_of_the_source_only(tmp_path: pathlib.Path) -> None:
+    """Another spelling of an operand isn't another name: the names of scalar registers are those that the page's setting says."""
+    state = stored()["multiply and add, masked"]["state"]
+    lines = ["vmacc.vx v8, x11, v4, v0.t", "vmacc.vx v8,a1,v4,v0.t # a1", "vother.vx v8, v4, x11, v0.t"]
+    views = [{"state": state | {"lines": {state["instruction"]: line}}} for line in lines]
+    cards = [each["card"] for each in shown_columns(views, tmp_path)]
+    assert {card["text"] for card in cards} == {"vmacc.vx v8, a1, v4, v0.t"}
+    assert [card["alias"] for card in cards] == ["", "", "vother.vx v8, v4, x11, v0.t"]
+
+
 def test_card_of_a_load_that_was_cut_has_its_start(tmp_path: pathlib.Path) -> None:
     """The end of a slice had cut it before element 5 of 8."""
     pair = stored()["load"]

@@ -2,6 +2,8 @@
 
 from typing import Literal, NotRequired, TypedDict
 
+from ..meanings.calculation import NumberForm
+
 
 class NumberedRequest(TypedDict):
     """A request; its answer has the same number."""
@@ -150,10 +152,15 @@ class LastInstructionRequest(NumberedRequest):
 
 
 class WhyRequest(NumberedRequest):
-    """The reason for the value of a register or an element, such as `v8[5]`."""
+    """The reason for the value of a register or an element, such as `v8[5]`.
+
+    form: of numbers, signed by default; abi: whether scalar registers are a0 in place of x10
+    """
 
     ask: Literal["why"]
     name: str
+    form: NotRequired[NumberForm]
+    abi: NotRequired[bool]
 
 
 class ListingsRequest(NumberedRequest, SourceFields):

@@ -2,10 +2,11 @@
 
 from collections.abc import Callable, Mapping, Sequence
 from dataclasses import dataclass
-from typing import Literal
+from typing import Literal, get_args
 
 from .. import LabError
 from ..machine.lines import check_text, is_look
+from ..meanings.calculation import Notation, NumberForm
 from .languages import LANGUAGES, SourceText
 from .live import is_servers
 
@@ -142,9 +143,13 @@ class FindLastRead:
 
 @dataclass(frozen=True)
 class Why:
-    """A register or an element, such as `v8[5]`, whose value after the last single step the student asks about."""
+    """A register or an element, such as `v8[5]`, whose value after the last single step the student asks about.
+
+    notation: of the answer
+    """
 
     name: str
+    notation: Notation = Notation()
 
 
 @dataclass(frozen=True)
@@ -393,7 +398,7 @@ _OF_STUDENTS: Mapping[str, Reader] = {
     "edit": lambda it: Edit(_text(it, "edit"), _text(it, "text"), _flag(it, "decimal")),
     "breakpoint": lambda it: ToggleBreakpoints(_line(it), _flag(it, "set")),
     "last-instruction": lambda it: FindLastRead(),
-    "why": lambda it: Why(_name(it, "name")),
+    "why": lambda it: Why(_name(it, "name"), _notation(it)),
     "draft": lambda it: Draft(_source(it), _number(it), _name(it, "exercise"), _flag(it, "keep"), _line(it)),
     "open": lambda it: OpenOffer(_number(it)) if "number" in it else OpenExercise(_name(it, "exercise")),
     "read": lambda it: ReadNotice(_number(it)),
@@ -492,6 +497,14 @@ def _text(message: JsonObject, name: str) -> str:
         raise BadRequest(f"{name} is a text")
     check_text(text)
     return text
+
+
+def _notation(message: JsonObject) -> Notation:
+    """The notation of equations that a message has."""
+    form = next((each for each in get_args(NumberForm) if each == message.get("form", "signed")), None)
+    if form is None:
+        raise BadRequest(f"the form of numbers is {', '.join(get_args(NumberForm)[:-1])} or {get_args(NumberForm)[-1]}")
+    return Notation(form, _flag(message, "abi"))
 
 
 def _step(message: JsonObject) -> StepProgram:

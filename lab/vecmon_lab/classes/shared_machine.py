@@ -17,6 +17,7 @@ from ..guest.guest import Guest
 from ..machine.answers import Granted, Position, Refused, Stop, is_refusal, is_stop, read
 from ..machine.lines import is_look, words_of
 from ..machine.session import TOGETHER, ScriptFull, Session
+from ..meanings.calculation import Notation
 from ..meanings.stepped import explanation_of
 from ..meanings.why import NO_STEP, read_name
 from ..page.state import State, registers_of
@@ -184,15 +185,15 @@ class SharedMachine:
             seat.add_log_entry("-")
         return in_order(mistakes)
 
-    def why(self, seat: Seat, name: str) -> Steps[str]:
+    def why(self, seat: Seat, name: str, notation: Notation) -> Steps[str]:
         """Why a register or an element has its value after a seat's last single step. Raises BadRequest."""
         if seat.stepped is None:
             raise BadRequest(NO_STEP)
         found = list[str]()
-        yield Turn(lambda turn: found.append(self._why(seat, seat.stepped or seat.state, name)))
+        yield Turn(lambda turn: found.append(self._why(seat, seat.stepped or seat.state, name, notation)))
         return found[0]
 
-    def _why(self, seat: Seat, before: State, name: str) -> str:
+    def _why(self, seat: Seat, before: State, name: str, notation: Notation) -> str:
         line, stop = before["code"].get(before["pc"], "00000000 "), seat.stop and read([f"{seat.digit} {seat.stop}"])
         is_own = isinstance(stop, Stop) and f"{stop.pc:x}" == before["pc"]
         retired = Retired(
@@ -202,7 +203,7 @@ class SharedMachine:
             explanation = explanation_of(
                 Guest(self.session, int(seat.digit)), registers_of(before), registers_of(seat.state).control, retired
             )
-            return explanation.why(*read_name(name)).text
+            return explanation.why(*read_name(name)).of.text(notation)
         except LabError as error:
             raise BadRequest(str(error)) from error
 

@@ -183,8 +183,8 @@ class Student:
                 yield from self.machine.find_last_read(self.seat)
             case ReadPast(at, to_break):
                 return (yield from self._read_past(at, to_break))
-            case Why(name):
-                return {"why": (yield from self.machine.why(self.seat, name))}
+            case Why(name, notation):
+                return {"why": (yield from self.machine.why(self.seat, name, notation))}
             case Draft():
                 self._draft(request)
             case OpenExercise(name):

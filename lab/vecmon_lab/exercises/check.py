@@ -13,7 +13,7 @@ import pickle
 import sys
 from collections.abc import Sequence
 from dataclasses import replace
-from typing import NotRequired, TypedDict
+from typing import NamedTuple, NotRequired, TypedDict
 
 from .. import LabError
 from ..instructions.table import ABI_NAMES
@@ -34,9 +34,21 @@ NAME = pathlib.Path("answer")
 MAX_SHOWN, BEFORE = 48, 4  # numbers of a row; and of them before the first wrong one
 CPU_SECONDS = 10
 UNCHECKED = "The answer couldn't be checked, which isn't your fault. Nothing was counted."
-NumberRow = TypedDict("NumberRow", {"where": str, "first": int, "numbers": list[str], "more": int, "wrong": list[int]})
-"""Numbers in a row: the place, the index of the first one shown, the number of those that follow
-behind those that are shown, and places of wrong ones."""
+
+
+class NumberRow(TypedDict):
+    """Numbers in a row.
+
+    where: the place; register: the name of a scalar register, which has one number
+    first: the index of the first number that is shown; more: how many follow those that are shown; wrong: places of wrong ones
+    """
+
+    where: str
+    register: NotRequired[str]
+    first: int
+    numbers: list[str]
+    more: int
+    wrong: list[int]
 
 
 class CaseRows(TypedDict):
@@ -181,7 +193,7 @@ def _page(title: str, script: Script, program: Vecmon, is_introduced: bool = Tru
 
 def case_rows(exercise: Exercise, case: Case) -> CaseRows:
     """The given and the expected numbers of a case. Only for a case that isn't hidden."""
-    expected = [_row(where, texts) for where, texts in _strips(case.expected)]
+    expected = [_row(strip) for strip in _strips(case.expected)]
     return {"given": _given(case, None), "expected": expected, "notes": _notes(exercise, case)}
 
 
@@ -196,38 +208,48 @@ def _given(case: Case, cut: NumberRow | None) -> list[NumberRow]:
     """The rows of what is given, each from the number on that belongs to the first one of a row that is shown of results."""
     first, of = (cut["first"], cut["first"] + len(cut["numbers"]) + cut["more"]) if cut else (0, 1)
     strips = _strips(Results(case.registers, case.memory, None), True)
-    return [_row(where, texts, first * max(1, len(texts) // of)) for where, texts in strips]
+    return [_row(strip, first * max(1, len(strip.texts) // of)) for strip in strips]
 
 
 def _compared(expected: Results, found: Results) -> tuple[list[NumberRow], list[NumberRow]]:
     """The rows of what is expected and of what is found, from the same number on, with the wrong ones marked."""
     pairs = []
-    for (where, texts), (_, others) in zip(_strips(expected), _strips(found)):
-        wrong = [place for place, pair in enumerate(zip(texts, others)) if pair[0] != pair[1]]
+    for own, other in zip(_strips(expected), _strips(found)):
+        wrong = [place for place, pair in enumerate(zip(own.texts, other.texts)) if pair[0] != pair[1]]
         first = max(0, wrong[0] - BEFORE) if wrong and wrong[0] >= MAX_SHOWN - BEFORE else 0
         marks = [place - first for place in wrong if place < first + MAX_SHOWN]
-        pairs.append((_row(where, texts, first, []), _row(where, others, first, marks)))
+        pairs.append((_row(own, first, []), _row(other, first, marks)))
     return [own for own, _ in pairs], [other for _, other in pairs]
 
 
-def _row(where: str, texts: Sequence[str], first: int = 0, wrong: Sequence[int] = ()) -> NumberRow:
-    first = first if first < len(texts) else 0
-    shown = list(texts[first : first + MAX_SHOWN])
-    more = len(texts) - first - len(shown)
-    return {"where": where, "first": first, "numbers": shown, "more": more, "wrong": list(wrong)}
+class _Strip(NamedTuple):
+    """A place of numbers, the numbers as texts, and the name of the register that it is, or ""."""
+
+    where: str
+    texts: Sequence[str]
+    register: str = ""
 
 
-def _strips(results: Results, with_addresses: bool = False) -> list[tuple[str, list[str]]]:
+def _row(strip: _Strip, first: int = 0, wrong: Sequence[int] = ()) -> NumberRow:
+    first = first if first < len(strip.texts) else 0
+    shown = list(strip.texts[first : first + MAX_SHOWN])
+    more = len(strip.texts) - first - len(shown)
+    row = NumberRow(where=strip.where, first=first, numbers=shown, more=more, wrong=list(wrong))
+    if strip.register:
+        row["register"] = strip.register
+    return row
+
+
+def _strips(results: Results, with_addresses: bool = False) -> list[_Strip]:
     """The places of numbers, and the numbers as texts; those of registers may include addresses."""
-    strips = []
+    strips = list[_Strip]()
     for name, value in results.registers.items():
         is_address = with_addresses and ADDRESSES <= value < 1 << 48
-        strips.append(
-            (f"{ABI_NAMES[name]} ({name})", [f"{value:#x}" if is_address else f"{value - (value >> 63 << 64)}"])
-        )
-    strips += [(f"{place.type} at {place.address:#x}", [*map(str, place.numbers)]) for place in results.memory]
+        text = f"{value:#x}" if is_address else f"{value - (value >> 63 << 64)}"
+        strips.append(_Strip(f"{ABI_NAMES[name]} ({name})", [text], ABI_NAMES[name]))
+    strips += [_Strip(f"{place.type} at {place.address:#x}", [*map(str, place.numbers)]) for place in results.memory]
     if results.output is not None:
-        strips.append(("output", [repr(results.output.decode("utf-8", "replace"))[:200]]))
+        strips.append(_Strip("output", [repr(results.output.decode("utf-8", "replace"))[:200]]))
     return strips
 
 

@@ -9,6 +9,7 @@ from ..instructions.accesses import PAGE_BYTES
 from ..instructions.calls import A0, A7, ECALL, EXITS, WRITE, is_supported, unsupported_call
 from ..machine.program import segments_of
 from ..machine.session import Session
+from .jumps import jump_target
 
 if TYPE_CHECKING:
     from .guest import Guest
@@ -144,13 +145,5 @@ def _value(words: Mapping[int, int], targets: set[int], place: int, register: in
 
 def _targets(words: Mapping[int, int]) -> set[int]:
     """Where branches and `jal` among words may go."""
-    return {target for address, word in words.items() for target in _target(address, word)}
-
-
-def _target(address: int, word: int) -> Iterator[int]:
-    """Where a branch or `jal` at an address may go."""
-    sign = -(word >> 31)
-    if word & 0x7F == BRANCH:
-        yield address + ((sign << 12) | (word >> 7 & 1) << 11 | (word >> 25 & 0x3F) << 5 | (word >> 8 & 15) << 1)
-    if word & 0x7F == JAL:
-        yield address + ((sign << 20) | (word & 0xFF000) | (word >> 20 & 1) << 11 | (word >> 21 & 0x3FF) << 1)
+    targets = (jump_target(address, word) for address, word in words.items())
+    return {target for target in targets if target is not None}

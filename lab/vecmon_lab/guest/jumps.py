@@ -13,6 +13,7 @@ Ranges = Sequence[tuple[int, int]]
 """Addresses, each range from the first one to the one behind the last."""
 
 _CODE = 4  # SHF_EXECINSTR: the section has instructions
+_ADDRESSES = (1 << 64) - 1
 _BRANCH, _JUMP, _JUMP_TO_REGISTER = 0x63, 0x6F, 0x67  # opcodes
 
 
@@ -54,14 +55,22 @@ def _is_in(ranges: Ranges, address: int) -> bool:
     return any(first <= address < end for first, end in ranges)
 
 
-def _targets(address: int, word: int) -> Iterator[int]:
-    """The addresses of the instructions that may follow one in its function; behind a call, the next one."""
-    opcode, rd, sign = word & 0x7F, word >> 7 & 31, -(word >> 31)
+def jump_target(address: int, word: int) -> int | None:
+    """Return the address to which a branch or `jal` at an address may go; None for another instruction."""
+    opcode, sign = word & 0x7F, -(word >> 31)
     if opcode == _BRANCH:
         offset = sign << 12 | (word >> 7 & 1) << 11 | (word >> 25 & 0x3F) << 5 | (word >> 8 & 15) << 1
-        yield address + offset
-    if opcode == _JUMP:
+    elif opcode == _JUMP:
         offset = sign << 20 | (word >> 12 & 0xFF) << 12 | (word >> 20 & 1) << 11 | (word >> 21 & 0x3FF) << 1
-        yield address + offset
+    else:
+        return None
+    return address + offset & _ADDRESSES
+
+
+def _targets(address: int, word: int) -> Iterator[int]:
+    """The addresses of the instructions that may follow one in its function; behind a call, the next one."""
+    opcode, rd, target = word & 0x7F, word >> 7 & 31, jump_target(address, word)
+    if target is not None:
+        yield target
     if opcode not in (_JUMP, _JUMP_TO_REGISTER) or rd:
         yield address + 4

@@ -7,11 +7,11 @@ from collections.abc import Iterable, Iterator, Sequence
 
 from ..machine.answers import ControlRegisters
 from .table import row_of
-from .words import LOAD, STORE, STORE_FP, VECTOR_ACCESSES, NoInstruction, Operand, VectorInstruction, decode
+from .words import LOAD, LOAD_FP, STORE, STORE_FP, VECTOR_ACCESSES, NoInstruction, Operand, VectorInstruction, decode
 
 ACCESSES = (LOAD, STORE, *VECTOR_ACCESSES)  # opcodes of loads and stores
 UNIT_STRIDE, STRIDED = 0, 2  # mop; 1 and 3 are indexed
-WHOLE_REGISTERS, MASK = 0b01000, 0b01011  # sumop
+WHOLE_REGISTERS, MASK, FAULT_ONLY_FIRST = 0b01000, 0b01011, 0b10000  # lumop and sumop
 REGISTER_BYTES, ROW_BYTES, LINE_BYTES, PAGE_BYTES = 32, 16, 256, 4096  # a line shows or writes LINE_BYTES of memory
 REGISTER_BITS = 8 * REGISTER_BYTES
 MULTIPLY_ADDS = ("vmacc", "vnmsac", "vmadd", "vnmsub", "vwmacc")  # whose destination is an operand as well
@@ -69,6 +69,11 @@ def active_spans(word: int, x: Sequence[int], control: ControlRegisters, v: byte
         active = {*active_of(instruction, body, v)}
         spans = zip(body, vector_spans(word, x, control, v, instruction))
         yield from ((element, span) for element, span in spans if element in active)
+
+
+def is_fault_only_first(word: int) -> bool:
+    """Whether it is a load that becomes shorter if an element after the first can't be read (section 7.7)."""
+    return word & 0x7F == LOAD_FP and word >> 26 & 3 == UNIT_STRIDE and word >> 20 & 31 == FAULT_ONLY_FIRST
 
 
 def scalar_span(word: int, x: Sequence[int]) -> Span:

@@ -265,10 +265,17 @@ def read(answer: Sequence[str]) -> Answer:
         vl, vtype, vstart, vxrm, vxsat = (word.partition("=")[2] for word in words)
         return ControlRegisters(int(vl), int(vtype, 16), int(vstart), int(vxrm), int(vxsat))
     if first[:1] == "v":
-        data = bytes.fromhex("".join(reversed(others)))[::-1]  # elements, and bytes of each, from the last to the first
-        return VectorRegister(int(first[1:]), 256 // len(others), data)
+        return _vector_register(last[2:])
     listed = [Word(int(line[2:18], 16), int(line[19:27], 16), line[28:]) for line in answer]
     return Listing(listed) if listed[0].text else listed[0]
+
+
+@functools.lru_cache(maxsize=4096)
+def _vector_register(line: str) -> VectorRegister:
+    """The vector register that a line shows. Most registers are read again as they were."""
+    name, *elements = line.split(" ")
+    data = bytes.fromhex("".join(reversed(elements)))[::-1]  # elements, and bytes of each, from the last to the first
+    return VectorRegister(int(name[1:]), 256 // len(elements), data)
 
 
 def answers_by_user(answer: Sequence[str]) -> list[tuple[str, Answer]]:
@@ -310,14 +317,21 @@ def is_whole(line: str, answer: Sequence[str]) -> bool:
 
     To be called with each line that comes; raises OutOfStep where the latest one can't be a part of the answer.
     """
-    latest, (form, count) = answer[-1], _shape(line)
+    latest, count = answer[-1], _shape(line)[1]
     if latest[2:3] == "E" and latest[:2] == line[:2] and is_refusal(answer):
         return True
     if not count and is_stop(latest):
         return False
-    if latest[:2] != line[:2] or form is None or not form.fullmatch(latest):
+    if not _fits(line, latest):
         raise OutOfStep(f"the answer to {line[:60]!r} can't have the line {latest[:60]!a}")
     return not count or len(answer) == count
+
+
+@functools.lru_cache(maxsize=4096)
+def _fits(line: str, latest: str) -> bool:
+    """Whether a line can be a part of the answer to an accepted line."""
+    form = _shape(line)[0]
+    return latest[:2] == line[:2] and form is not None and form.fullmatch(latest) is not None
 
 
 @functools.lru_cache(maxsize=1024)

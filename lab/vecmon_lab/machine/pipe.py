@@ -4,6 +4,7 @@ import contextlib
 import os
 import select
 import signal
+from collections import deque
 from collections.abc import Iterator, Sequence
 from subprocess import PIPE, Popen
 
@@ -32,6 +33,7 @@ class PipedProcess:
         self.fed = 0
         self._patience = patience
         self._unread = b""
+        self._lines = deque[str]()  # whole ones that were received before they are read
         try:  # in a session of its own, so that Ctrl-C in a terminal doesn't end it, nor while it starts
             with _blocked_interrupts():
                 self._child = Popen(command, stdin=PIPE, stdout=PIPE, stderr=PIPE, bufsize=0, start_new_session=True)
@@ -47,14 +49,14 @@ class PipedProcess:
 
     def ask(self, lines: Sequence[str]) -> list[list[str]]:
         """The answers to lines that go in together. Raises ProgramGone and OutOfStep; then it is of no use any more."""
-        if self._unread or self._receive(0):
-            raise OutOfStep(f"before {lines[0][:60]!r} was sent there came {self._unread[:60]!r}")
+        if self._rest() or self._receive(0):
+            raise OutOfStep(f"before {lines[0][:60]!r} was sent there came {self._rest()[:60]!r}")
         data = "".join(f"{line}\n" for line in lines).encode("ascii")
         self._put(memoryview(data))
         self.fed += len(data)
         answers = [self._answer(line) for line in lines]
-        if self._unread:
-            raise OutOfStep(f"after the answer to {lines[-1][:60]!r} there came {self._unread[:60]!r}")
+        if self._rest():
+            raise OutOfStep(f"after the answer to {lines[-1][:60]!r} there came {self._rest()[:60]!r}")
         return answers
 
     def stream(self, script: bytes) -> Iterator[bytes]:
@@ -101,11 +103,16 @@ class PipedProcess:
 
     def _line(self) -> str:
         """The next line that the process has said, without its newline."""
-        while b"\n" not in self._unread:
+        while not self._lines:
             if not self._receive(self._patience):
                 raise ProgramGone(f"the program says nothing for {self._patience:g} s")
-        line, self._unread = self._unread.split(b"\n", 1)
-        return line.decode("latin-1")
+            whole, newline, self._unread = self._unread.rpartition(b"\n")
+            self._lines += whole.decode("latin-1").split("\n") if newline else []
+        return self._lines.popleft()
+
+    def _rest(self) -> bytes:
+        """What the process has said, and isn't read."""
+        return "".join(f"{line}\n" for line in self._lines).encode("latin-1") + self._unread
 
     def _receive(self, seconds: float) -> bool:
         """Waits at most so long for what the process says, and takes it; whether it said anything."""

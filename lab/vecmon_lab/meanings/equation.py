@@ -3,11 +3,12 @@
 import ast
 import functools
 import re
-from collections.abc import Callable, Iterator, Mapping, Sequence
+from collections.abc import Callable, Iterable, Iterator, Mapping, Sequence
+from dataclasses import dataclass
 
 from .calculation import Calculation, Condition, Part, Sign, Term
-from .executed import Execution, Numbers, Shared
-from .formula import Assignment, Names, elements_in, evaluate, evaluate_each
+from .executed import Execution, Numbers, Shared, execution_of
+from .formula import Assignment, Formula, Names, elements_in, evaluate, evaluate_each
 
 MAX_TERMS = 8  # of a list of elements that is shown whole
 _PLACE = re.compile(r"\b_(\d+)\b")  # of a term in the text of a formula: no name of the language starts so
@@ -22,10 +23,32 @@ _RING = (ast.Add, ast.Sub, ast.Mult, ast.BitAnd, ast.BitOr, ast.BitXor)  # opera
 
 def calculation_of(execution: Execution, target: Term, assignment: Assignment) -> Calculation:
     """Return the calculation of an assignment with the present values of its names. target: with its bits afterwards"""
+    return calculation_of_each(execution, target, assignment, [execution.element])[0]
+
+
+def calculation_of_each(
+    execution: Execution, target: Term, assignment: Assignment, elements: Sequence[int]
+) -> tuple[Calculation, list[tuple[int, int]]]:
+    """Return the calculation of the first of elements that have one form, and the exact results of all of them.
+
+    The first element is the present one. target: with its bits afterwards
+    """
     reader = Reader(execution, assignment.value, target.width)
     node, causes = reader.chosen(assignment.value)
-    (results,) = reader.results(node, [execution.element])
-    return Calculation(target, reader.parts(node), results, tuple(causes))
+    results = reader.results(node, elements)
+    return Calculation(target, reader.parts(node), results[0], tuple(causes)), results
+
+
+def branches_of(node: ast.expr, names: Names, elements: Sequence[int]) -> Iterator[tuple[ast.expr, Sequence[int]]]:
+    """Return the branches of a choice that count for elements, each with its elements, one at least."""
+    if not isinstance(node, ast.IfExp):
+        yield node, elements
+        return
+    holds = evaluate_each(node.test, names, elements)
+    for branch, verdict in ((node.body, True), (node.orelse, False)):
+        chosen = [element for element, each in zip(elements, holds, strict=True) if bool(each) == verdict]
+        if chosen:
+            yield from branches_of(branch, names, chosen)
 
 
 def formula_parts(execution: Execution) -> tuple[Part, ...]:
@@ -124,8 +147,9 @@ class Reader:
 
     def __init__(self, execution: Execution, value: ast.expr, width: int) -> None:
         """value: all of the formula; width: of its target in bits, 0 without one"""
-        self._execution, self._names, self._terms = execution, dict(execution.names), list[Term]()
-        self._free = frozenset(id(node) for node in _free(value, width if width > 1 else _NO_WIDTH, execution.names))
+        self._execution, self._names = execution, execution.names.copy()
+        word, vtype = execution.before.word, execution.before.control.vtype
+        self._free = _free_terms(value, width if width > 1 else _NO_WIDTH, execution.formula, word, vtype)
         self._mixed = _mixed(value)
 
     def chosen(self, node: ast.expr) -> tuple[ast.expr, list[Condition]]:
@@ -147,66 +171,145 @@ class Reader:
 
     def parts(self, node: ast.expr) -> tuple[Part, ...]:
         """Return the parts of an expression."""
-        self._terms = []
-        return _parts_of(ast.unparse(self._shown(node)), self._terms)
+        return _joined(self._filled(_slots_of(node, self._free, self._mixed)))
 
-    def _shown(self, node: ast.expr) -> ast.expr:
-        """An expression with the places of terms."""
+    def _filled(self, slots: "Slots") -> Iterator[Part]:
+        """The parts of an expression, by the present values of names."""
+        for slot in slots:
+            if isinstance(slot, _Slot):
+                yield self._term(slot)
+            elif isinstance(slot, _ListSlot):
+                yield from self._list(slot)
+            else:
+                yield slot
+
+    def _term(self, slot: "_Slot") -> Part:
+        """The term at a slot; a counter is text."""
+        node, names = slot.node, self._names
+        if isinstance(node, ast.Subscript):
+            return self._element(slot, node)
+        value = evaluate(node, names)
         match node:
-            case ast.Call(ast.Name(name), [ast.Subscript() as term]) if name in _CONVERSIONS:
-                return self._add(term, Sign.UNSIGNED if name == "zext" else Sign.SIGNED, name)
-            case ast.Call(ast.Name(name), arguments):
-                terms = [text for each in arguments for text in self._arguments(each)]
-                if name == "sum":
-                    return ast.Name(" + ".join(terms) or "0")
-                return ast.Name(f"{name}({', '.join(terms)})")
-            case ast.Subscript():
-                sign = Sign.EITHER if id(node) in self._free else Sign.UNSIGNED
-                return self._add(node, sign, "unsigned" if id(node) in self._mixed else "")
             case ast.Name("i"):
-                number = evaluate(node, self._names)
-                return self._place(Term(f"{number}", number, index=number, step=1))
-            case ast.Name(name) if name in _COUNTERS:
-                return ast.Name(f"{evaluate(node, self._names)}")
-            case ast.Name(name):
-                return self._place(self._number(name, evaluate(node, self._names)))
-        return _changed(node, self._shown)
+                return Term(f"{value}", value, index=value, step=1)
+            case ast.Name("offset") if (scalar := self._execution.scalar) is not None:
+                return Term(f"x{scalar}", value, 64, Sign.UNSIGNED, scalar)
+            case ast.Name(name) if name not in _COUNTERS:
+                return Term(f"{value}" if name in _IMMEDIATES else name, value)
+        return f"{value}"
 
-    def _arguments(self, node: ast.expr) -> list[str]:
-        """The texts of an argument; of a list those of each of its elements, without some of many."""
-        if not isinstance(node, ast.GeneratorExp):
-            return [ast.unparse(self._shown(node))]
-        (loop,) = node.generators
+    def _element(self, slot: "_Slot", node: ast.Subscript) -> Term:
+        """The term that an element, a scalar register or memory is."""
+        numbers, index = numbers_of(node, self._names), evaluate(node.slice, self._names)
+        sign = Sign.UNSIGNED if numbers.width == 1 else slot.sign
+        name, scalar, value = numbers.name_of(index), numbers.scalar_of(index), int(numbers[index])
+        place, step = (None, 0) if numbers.register is None else (index, _step(node.slice))
+        has_digits = isinstance(numbers, Shared) and scalar is None  # which have their sign
+        function = "" if has_digits else slot.function
+        return Term(name, value, numbers.width, sign, scalar, function, numbers.register, place, step)
+
+    def _list(self, slot: "_ListSlot") -> Iterator[Part]:
+        """The parts of a function of a list; of a sum its numbers."""
+        separator = " + " if slot.name == "sum" else ", "
+        arguments = [part for each in slot.arguments for part in self._arguments(*each, separator)]
+        if slot.name == "sum":
+            return iter(arguments[1:] or ["0"])
+        return iter([f"{slot.name}(", *arguments[1:], ")"])
+
+    def _arguments(self, slots: "Slots", loop: ast.comprehension | None, separator: str) -> Iterator[Part]:
+        """The parts of an argument, each after a separator; of a list those of each of its elements, without some of many."""
+        if loop is None:
+            yield from (separator, *self._filled(slots))
+            return
         numbers = elements_in(loop, self._names)
         left_out = range(MAX_TERMS - 1, len(numbers) - 1) if len(numbers) > MAX_TERMS else range(0)
-        texts = list[str]()
         for place, number in enumerate(numbers):
             if place not in left_out:
                 self._names["j"] = number
-                texts.append(ast.unparse(self._shown(node.elt)))
+                yield from (separator, *self._filled(slots))
             elif place == left_out.start:
-                texts.append("...")
-        return texts
+                yield from (separator, "...")
 
-    def _add(self, node: ast.Subscript, sign: Sign, function: str) -> ast.expr:
-        """The place of the term that an element, a scalar register or memory is."""
-        numbers, index = numbers_of(node, self._names), evaluate(node.slice, self._names)
-        sign = Sign.UNSIGNED if numbers.width == 1 else sign
-        name, scalar, value = numbers.name_of(index), numbers.scalar_of(index), evaluate(node, self._names)
-        place, step = (None, 0) if numbers.register is None else (index, _step(node.slice))
-        if isinstance(numbers, Shared) and scalar is None:
-            function = ""  # digits have their sign
-        return self._place(Term(name, value, numbers.width, sign, scalar, function, numbers.register, place, step))
 
-    def _number(self, name: str, value: int) -> Term:
-        """The term of a number that has a name."""
-        if name == "offset" and (scalar := self._execution.scalar) is not None:
-            return Term(f"x{scalar}", value, 64, Sign.UNSIGNED, scalar)
-        return Term(f"{value}" if name in _IMMEDIATES else name, value)
+@dataclass(frozen=True)
+class _Slot:
+    """The place of a term in an expression.
 
-    def _place(self, term: Term) -> ast.expr:
-        self._terms.append(term)
-        return ast.Name(f"_{len(self._terms) - 1}")
+    node: an element, a scalar register or memory, or the name of a number
+    sign, function: as those of the term
+    """
+
+    node: ast.expr
+    sign: Sign = Sign.UNSIGNED
+    function: str = ""
+
+
+@dataclass(frozen=True)
+class _ListSlot:
+    """The place of a function that has a list among its arguments. arguments: each with the list that it goes through, or None"""
+
+    name: str
+    arguments: tuple[tuple["Slots", ast.comprehension | None], ...]
+
+
+Slots = tuple[str | _Slot | _ListSlot, ...]
+"""An expression as text, and the places of its terms, which have no values yet."""
+
+
+@functools.lru_cache(maxsize=4096)
+def _slots_of(node: ast.expr, free: frozenset[int], mixed: frozenset[int]) -> Slots:
+    """The slots of an expression. free, mixed: the identities of terms: of `_free_terms` and `_mixed`"""
+    writer = _SlotWriter(free, mixed)
+    texts = _PLACE.split(ast.unparse(writer.shown(node)))
+    return tuple(writer.slots[int(text)] if place % 2 else text for place, text in enumerate(texts) if text)
+
+
+class _SlotWriter:
+    """Puts slots in place of the terms of an expression."""
+
+    def __init__(self, free: frozenset[int], mixed: frozenset[int]) -> None:
+        self.slots = list[_Slot | _ListSlot]()
+        self._free, self._mixed = free, mixed
+
+    def shown(self, node: ast.expr) -> ast.expr:
+        """Return an expression with the places of slots."""
+        match node:
+            case ast.Call(ast.Name(name), [ast.Subscript() as term]) if name in _CONVERSIONS:
+                return self._place(_Slot(term, Sign.UNSIGNED if name == "zext" else Sign.SIGNED, name))
+            case ast.Call(ast.Name(name), arguments):
+                return self._place(_ListSlot(name, tuple(map(self._argument, arguments))))
+            case ast.Subscript():
+                sign = Sign.EITHER if id(node) in self._free else Sign.UNSIGNED
+                return self._place(_Slot(node, sign, "unsigned" if id(node) in self._mixed else ""))
+            case ast.Name():
+                return self._place(_Slot(node))
+        return _changed(node, self.shown)
+
+    def _argument(self, node: ast.expr) -> tuple[Slots, ast.comprehension | None]:
+        """An argument of a function; of a list its element, and the list."""
+        element, loop = (node.elt, node.generators[0]) if isinstance(node, ast.GeneratorExp) else (node, None)
+        return _slots_of(element, self._free, self._mixed), loop
+
+    def _place(self, slot: _Slot | _ListSlot) -> ast.expr:
+        self.slots.append(slot)
+        return ast.Name(f"_{len(self.slots) - 1}")
+
+
+def _joined(parts: Iterable[Part]) -> tuple[Part, ...]:
+    """Parts with texts next to each other as one."""
+    joined = list[Part]()
+    for part in parts:
+        if isinstance(part, str) and joined and isinstance(joined[-1], str):
+            joined[-1] += part
+        else:
+            joined.append(part)
+    return tuple(joined)
+
+
+@functools.lru_cache(maxsize=4096)
+def _free_terms(value: ast.expr, width: int, formula: Formula, word: int, vtype: int) -> frozenset[int]:
+    """The identities of the terms whose sign doesn't count: the widths of numbers depend on a word and the vector type only."""
+    return frozenset(id(node) for node in _free(value, width, execution_of(word, vtype, formula).names))
 
 
 @functools.lru_cache(maxsize=1024)
@@ -233,7 +336,8 @@ def numbers_of(node: ast.Subscript, names: Names) -> Numbers:
     assert isinstance(base, ast.Name)
     numbers = names[base.id]
     assert isinstance(numbers, Numbers)
-    return numbers.mask if is_mask and numbers.mask else numbers
+    mask = numbers.mask if is_mask else None
+    return mask or numbers
 
 
 def _changed(node: ast.expr, change: Callable[[ast.expr], ast.expr]) -> ast.expr:

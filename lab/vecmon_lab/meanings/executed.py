@@ -3,15 +3,23 @@
 import ast
 import enum
 import functools
+import struct
 from collections.abc import Callable, Sequence
 from dataclasses import dataclass, field, replace
 
 from .. import LabError
-from ..instructions.accesses import REGISTER_BITS, REGISTER_BYTES, active_of, body_of, vector_instruction
+from ..instructions.accesses import (
+    REGISTER_BITS,
+    REGISTER_BYTES,
+    active_of,
+    body_of,
+    is_fault_only_first,
+    vector_instruction,
+)
 from ..instructions.table import Row, row_of
 from ..instructions.words import OP_V, STORE, SUPPORTED, SYSTEM, Operand, VectorInstruction
 from ..machine.answers import VILL, ControlRegisters
-from .formula import Assignment, Bits, Formula, evaluate, sext, zext
+from .formula import Assignment, Bits, Formula, Names, bits_type, evaluate, scope, sext, zext
 from .record import Record, record_of
 
 WORD = (1 << 64) - 1
@@ -20,6 +28,9 @@ ElementOutcome = enum.Enum("ElementOutcome", "RESULT KEPT MASKED TAIL BEFORE_STA
 
 # The bit of vtype that makes elements with this outcome agnostic.
 _AGNOSTIC = {ElementOutcome.MASKED: 0x80, ElementOutcome.TAIL: 0x40}
+REGISTERS = 32
+_FORMS = {8: "B", 16: "H", 32: "I", 64: "Q"}  # of `struct`, by the width in bits
+_SCALAR_BITS = bits_type(64)
 _CONTROL_FIELDS = {  # of control registers that can be written, by number: the lowest bit and the largest value
     0x008: {"vstart": (0, 0xFF)},
     0x009: {"vxsat": (0, 1)},
@@ -76,14 +87,16 @@ class Numbers:
 
     name: `v4`, `x`, `memory`
     width: of each number in bits
-    mask: a register's bits by their index; None of other numbers
     register: the number of the group's first vector register; None of other numbers
     """
 
-    register: int | None = None
+    def __init__(self, name: str, width: int, at: Callable[[int], Bits], register: int | None = None) -> None:
+        self.name, self.width, self._at, self.register = name, width, at, register
 
-    def __init__(self, name: str, width: int, at: Callable[[int], Bits], mask: "Numbers | None" = None) -> None:
-        self.name, self.width, self.mask, self._at = name, width, mask, at
+    @property
+    def mask(self) -> "Numbers | None":
+        """A vector register's bits by their index; None of other numbers."""
+        return None
 
     def __getitem__(self, number: int) -> Bits:
         return self._at(number)
@@ -95,6 +108,31 @@ class Numbers:
     def scalar_of(self, index: int) -> int | None:
         """The number of the scalar register that is read; None if it is something else."""
         return index if self.name == "x" else None
+
+
+class Elements(Numbers):
+    """The elements of a vector register group, and of registers after it."""
+
+    def __init__(self, v: bytes, register: int, width: int, count: int = 1) -> None:
+        """register: the number of the first register; width: of an element in bits; count: of the group's registers"""
+        super().__init__(f"v{register}", width, functools.partial(element_of, v, register, width), register)
+        self._v, self._first, self._bits = v, register, bits_type(width)
+        self._count = min(count, REGISTERS - register) * REGISTER_BITS // width
+
+    def __getitem__(self, number: int) -> Bits:
+        values = self._values
+        return self._bits(values[number]) if 0 <= number < len(values) else self._at(number)
+
+    @functools.cached_property
+    def _values(self) -> tuple[int, ...]:
+        """The elements of the group; none of a width that no vector type has, as reserved words have it."""
+        form = f"<{self._count}{_FORMS[self.width]}" if self.width in _FORMS else ""
+        return struct.unpack_from(form, self._v, self._first * REGISTER_BYTES)
+
+    @property
+    def mask(self) -> Numbers:
+        """The bits of the first register by their index."""
+        return Numbers(f"{self.name}.mask", 1, functools.partial(element_of, self._v, self._first, 1), self._first)
 
 
 class Memory(Numbers):
@@ -126,14 +164,8 @@ def element_of(v: bytes | bytearray, register: int, width: int, number: int) -> 
     at = register * REGISTER_BITS + number * width
     if number < 0 or at + width > 8 * len(v):
         raise LabError(f"there is no element {number}")
-    return Bits(int.from_bytes(v[at // 8 : (at + width + 7) // 8], "little") >> at % 8 & (1 << width) - 1, width)
-
-
-def _elements(v: bytes, register: int, width: int) -> Numbers:
-    mask = Numbers(f"v{register}.mask", 1, functools.partial(element_of, v, register, 1))
-    numbers = Numbers(f"v{register}", width, functools.partial(element_of, v, register, width), mask)
-    numbers.register = mask.register = register
-    return numbers
+    bits = int.from_bytes(v[at // 8 : (at + width + 7) // 8], "little") >> at % 8 & (1 << width) - 1
+    return bits_type(width)(bits)
 
 
 def _memory(before: Before, width: int) -> Numbers:
@@ -141,7 +173,7 @@ def _memory(before: Before, width: int) -> Numbers:
         data = before.read(address & WORD, width // 8)
         if data is None:
             raise NoAccess(address & WORD)
-        return Bits(int.from_bytes(data, "little"), width)
+        return bits_type(width)(int.from_bytes(data, "little"))
 
     return Memory("memory", width, value)
 
@@ -156,6 +188,7 @@ class Execution:
     fields: how many fields a segment has; 1 if there is no segment
     width: of an element that is written, loaded or stored, in bits
     scalar: the number of the scalar register in place of vs1; None if the form has another operand there
+    is_fault_only_first: whether it is a load that becomes shorter if an element after the first can't be read
     """
 
     def __init__(self, before: Before, formula: Formula | None = None) -> None:
@@ -183,13 +216,9 @@ class Execution:
         self.width = max(8, (self.operand or operands[0]).eew) if operands else 64
         has_scalar = before.word & 0x7F == OP_V and before.word >> 12 & 7 in (4, 6)
         self.scalar = before.word >> 15 & 31 if has_scalar else None
+        self.is_fault_only_first = is_fault_only_first(before.word)
         self.is_saturated = False
         self.names = self._names()
-
-    @property
-    def is_fault_only_first(self) -> bool:
-        """Whether it is a load that becomes shorter if an element after the first can't be read."""
-        return self.row.name.endswith("ff.v")
 
     def place(self, assignment: Assignment) -> int:
         """The index or the address that an assignment writes, with the present values of its names."""
@@ -204,7 +233,7 @@ class Execution:
         self.names["i"], self.names["f"] = element, number
         if self.operand and self.fields > 1:
             register = self.operand.registers.start + number * self.operand.group
-            self.names["vd"] = self.names["vs3"] = _elements(self.before.v, register, self.operand.eew)
+            self.names["vd"] = self.names["vs3"] = Elements(self.before.v, register, self.operand.eew)
 
     @property
     def element(self) -> int:
@@ -233,24 +262,22 @@ class Execution:
             return ElementOutcome.KEPT
         return ElementOutcome.RESULT if self.is_single or element in self.active else ElementOutcome.MASKED
 
-    def _names(self) -> dict[str, object]:
+    def _names(self) -> Names:
         before, control, word = self.before, self.before.control, self.before.word
-        names: dict[str, object] = {
-            "x": Numbers("x", 64, lambda number: Bits(before.x[number], 64)),
-            "rd": word >> 7 & 31,
-            "rs1": word >> 15 & 31,
-            "rs2": word >> 20 & 31,
+        names: Names = {
+            **_names_of_word(word),
+            "x": Numbers("x", 64, lambda number: _SCALAR_BITS(before.x[number])),
             "pc": before.pc,
             "vxrm": control.vxrm,
             "vl": control.vl,
             "vlmax": control.vlmax,
             "sew": control.sew,
-            "v0": _elements(before.v, 0, 8),
+            "v0": Elements(before.v, 0, 8),
             "clip": functools.partial(self._clipped, True),
             "clipu": functools.partial(self._clipped, False),
-            **{name: immediate_of(word) for name in ("imm", "uimm", "shamt", "offset")},
-            **{f"memory{width}": _memory(before, width) for width in (8, 16, 32, 64)},
         }
+        if not self.instruction:
+            names |= {f"memory{width}": _memory(before, width) for width in (8, 16, 32, 64)}
         if word & 0x7F == SYSTEM:
             names["csr"] = _control_value(control, word >> 20)
         if word & 0x7F == OP_V and word >> 12 & 7 == 7:
@@ -259,10 +286,10 @@ class Execution:
             names |= self._operand_names(self.instruction)
         return names
 
-    def _operand_names(self, instruction: VectorInstruction) -> dict[str, object]:
+    def _operand_names(self, instruction: VectorInstruction) -> Names:
         before, word = self.before, self.before.word
-        names: dict[str, object] = {
-            it.place: _elements(before.v, it.registers.start, max(8, it.eew)) for it in instruction.operands
+        names: Names = {
+            it.place: Elements(before.v, it.registers.start, max(8, it.eew), it.group) for it in instruction.operands
         }
         names |= {"vs3": names.get("vd"), "memory": _memory(before, self.width), "bytes": self.width // 8}
         if word & 0x7F == OP_V:
@@ -272,7 +299,7 @@ class Execution:
             names |= {"imm": imm, "uimm": imm, "offset": scalar}
             if form not in (0, 2):  # the forms of vector registers
                 name = f"x{self.scalar}" if form & 4 else f"{imm}"
-                names["vs1"] = Shared(name, Bits(zext(scalar, sew), sew), self.scalar)
+                names["vs1"] = Shared(name, bits_type(sew)(zext(scalar, sew)), self.scalar)
         return names | {"nf": self.fields, "f": 0, "active": self.active}
 
     def _clipped(self, has_sign: bool, value: int) -> int:
@@ -281,6 +308,15 @@ class Execution:
         maximum = minimum + (1 << self.width) - 1
         self.is_saturated = self.is_saturated or not minimum <= value <= maximum
         return min(max(value, minimum), maximum)
+
+
+def execution_of(word: int, vtype: int, formula: Formula | None = None) -> Execution:
+    """Return an instruction in a state whose registers are 0: for what a word and the vector type decide.
+
+    formula: another one than that of the record. Raises LabError as `Execution`.
+    """
+    v, control = bytes(REGISTERS * REGISTER_BYTES), ControlRegisters(vtype=vtype)
+    return Execution(Before(0, word, [0] * 32, control, v, False), formula)
 
 
 def execute(before: Before, formula: Formula | None = None) -> After:
@@ -406,6 +442,14 @@ def immediate_of(word: int) -> int:
     if opcode in (0x13, 0x1B) and funct3 in (1, 5):
         return word >> 20 & (63 if opcode == 0x13 else 31)
     return word >> 15 & 31 if opcode in (SYSTEM, OP_V) else sext(word >> 20, 12)
+
+
+@functools.lru_cache(maxsize=4096)
+def _names_of_word(word: int) -> Names:
+    """The names whose values a word has by itself, and the functions of formulas."""
+    immediate = immediate_of(word)
+    fields = {"rd": word >> 7 & 31, "rs1": word >> 15 & 31, "rs2": word >> 20 & 31}
+    return scope(fields | {name: immediate for name in ("imm", "uimm", "shamt", "offset")})
 
 
 def _control_value(control: ControlRegisters, number: int) -> int:

@@ -8,7 +8,7 @@ with its own width), `pc`, `vl`, `vtype` or `csr`. Numbers have no limit; the ta
 import ast
 import functools
 import operator
-from collections.abc import Callable, Iterable, Mapping
+from collections.abc import Callable, Iterable, Mapping, Sequence
 from dataclasses import dataclass
 from types import CodeType
 from typing import Any
@@ -58,14 +58,21 @@ _NODES = (
 
 
 class Bits(int):
-    """An unsigned number that a register or memory holds, with its width in bits."""
+    """An unsigned number that a register or memory holds, with its width in bits: a number of `bits_type(width)`."""
 
     width: int
 
-    def __new__(cls, value: int, width: int) -> "Bits":
-        made = super().__new__(cls, value)
-        made.width = width
-        return made
+
+@functools.cache
+def bits_type(bits: int) -> type[Bits]:
+    """Return the type of numbers with a width in bits."""
+
+    class Sized(Bits):
+        """Numbers of one width."""
+
+        width = bits
+
+    return Sized
 
 
 def zext(value: int, bits: int = 0) -> int:
@@ -124,6 +131,7 @@ FUNCTIONS: Mapping[str, Callable[..., int]] = {
 CLIPS = ("clip", "clipu")
 """The nearest number that the target, signed or unsigned, holds; where that is another one, vxsat becomes 1."""
 
+_EACH = "_numbers"  # the name of the numbers of `evaluate_each`: no name of the language starts so
 _CALLABLE, _INDEXED = (*FUNCTIONS, *CLIPS, "range"), (*OPERANDS, *MEMORIES, "x")
 _NUMBER_TARGETS = ("pc", "vl", "vtype", "csr")
 _TARGETS = {"vd": ("element", 0), "vd.mask": ("mask", 1), "x": ("x", 64)}  # kind and width, by what has an index
@@ -152,8 +160,10 @@ class Assignment:
         return ast.unparse(self.value)
 
 
-Names = Mapping[str, object]
-"""The values of names in a formula."""
+Names = dict[str, object]
+"""The values of names in a formula, and the functions of the language: see `scope`."""
+
+_LANGUAGE: Mapping[str, object] = {"__builtins__": {}, "range": range, **FUNCTIONS}
 
 
 class Formula:
@@ -170,19 +180,19 @@ def read_formula(text: str) -> Formula:
     return Formula(text)
 
 
-def _result(node: ast.expr, names: Names) -> Any:
-    return eval(_code(node), {"__builtins__": {}, "range": range, **FUNCTIONS, **names})
+def scope(names: Mapping[str, object]) -> Names:
+    """Return names with the functions of the language."""
+    return {**_LANGUAGE, **names}
 
 
 def evaluate(node: ast.expr, names: Names) -> int:
     """The number that a part of a formula is, by the values of names."""
-    return int(_result(node, names))
+    return int(eval(_code(node), names))
 
 
-def evaluate_each(node: ast.expr, names: Names, elements: Iterable[int]) -> list[int]:
-    """The numbers that a part of a formula is for each of several elements."""
-    values, code = {"__builtins__": {}, "range": range, **FUNCTIONS, **names}, _code(node)
-    return [int(eval(code, values | {"i": element})) for element in elements]
+def evaluate_each(node: ast.expr, names: Names, numbers: Sequence[int], name: str = "i") -> list[int]:
+    """The numbers that a part of a formula is for each number of a name: of elements, or of those in a list."""
+    return [int(each) for each in eval(_code_of_each(node, name), {**names, _EACH: numbers})]
 
 
 def condition(text: str) -> ast.expr:
@@ -194,6 +204,13 @@ def condition(text: str) -> ast.expr:
 def _code(node: ast.expr) -> CodeType:
     code: CodeType = compile(ast.fix_missing_locations(ast.Expression(node)), "a formula", "eval")
     return code
+
+
+@functools.lru_cache(maxsize=4096)
+def _code_of_each(node: ast.expr, name: str) -> CodeType:
+    """The code of a list: of what a part of a formula is for each of the numbers."""
+    loop = ast.comprehension(ast.Name(name, ast.Store()), ast.Name(_EACH, ast.Load()), [], 0)
+    return _code(ast.ListComp(node, [loop]))
 
 
 def _assignment(text: str, whole: str) -> Assignment:
@@ -240,5 +257,8 @@ def _is_known(node: ast.AST) -> bool:
 
 def elements_in(node: ast.comprehension, names: Names) -> list[int]:
     """The numbers that a list of elements goes through, by the values of names."""
-    every = _result(node.iter, names)
-    return [number for number in every if all(evaluate(each, {**names, "j": number}) for each in node.ifs)]
+    numbers = [*eval(_code(node.iter), names)]
+    for condition in node.ifs:
+        holds = evaluate_each(condition, names, numbers, "j")
+        numbers = [number for number, each in zip(numbers, holds, strict=True) if each]
+    return numbers

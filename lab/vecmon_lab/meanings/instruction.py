@@ -2,17 +2,17 @@
 
 import ast
 import functools
-from collections.abc import Iterator, Sequence
+from collections.abc import Collection, Iterator, Sequence
 from dataclasses import dataclass, replace
 from typing import Literal
 
 from ..instructions.accesses import REGISTER_BITS, REGISTER_BYTES, vector_instruction, vector_spans
-from ..instructions.words import STORE_FP, VECTOR_ACCESSES, Operand, Trait, VectorInstruction
+from ..instructions.words import STORE_FP, VECTOR_ACCESSES, Operand, Trait
 from ..machine.answers import ControlRegisters
 from .calculation import Calculation, Part, Sign, Term
-from .equation import Reader, calculation_of, formula_parts, numbers_of, sentence_parts
-from .executed import Before, Execution, element_of
-from .formula import Assignment, evaluate
+from .equation import branches_of, calculation_of_each, formula_parts, numbers_of, sentence_parts
+from .executed import Before, Elements, Execution, element_of, execution_of
+from .formula import Assignment, evaluate_each
 
 Outcome = Literal["active", "masked", "tail", "prestart", "fault", "pending", "kept", "idle"]
 """How an element takes part. kept: the formula doesn't count for it, as below a slide's offset; pending: not reached, since the access of an
@@ -24,6 +24,9 @@ places; index: numbers of elements, or offsets of addresses."""
 
 End = Literal["ran", "fault", "illegal"]
 """How an instruction ended."""
+
+Mask = Literal["", "mask", "bits"]
+"""Whether v0 masks elements off, or is a source with a bit for each element."""
 
 _MOVES = ("gather", "slide", "compress")  # layouts whose elements go to other places
 
@@ -83,7 +86,6 @@ class ExecutedInstruction:
 
     name: the mnemonic
     layout: how sources lie to results (`Record.layout`)
-    mask: whether v0 masks elements off, or is a source with a bit for each element (`bits`); "" if neither
     groups: the operands: the destination or what a store writes, then vs2 and vs1
     elements: how many it has at most under the vector type
     vl, vstart: before it
@@ -98,7 +100,7 @@ class ExecutedInstruction:
 
     name: str
     layout: str
-    mask: Literal["", "mask", "bits"]
+    mask: Mask
     end: End
     groups: tuple[Group, ...]
     access: Access | None
@@ -124,62 +126,39 @@ def executed_instruction(
     is_known: whether the registers before it are known; else those of `before` are as they are after it, and there are no equations
     """
     instruction = vector_instruction(before.word, before.control.vtype)
-    return _Instruction(before, after, v, end, instruction).data(is_known) if instruction else None
+    return _Instruction(before, after, v, end).data(is_known) if instruction else None
 
 
-@functools.lru_cache(maxsize=4096)
-def _texts(word: int, vtype: int) -> tuple[tuple[Part, ...], tuple[Part, ...]]:
-    """The sentence and the formula of an instruction under a vector type, whose terms have no values."""
-    execution = Execution(Before(0, word, [0] * 32, ControlRegisters(vtype=vtype), bytes(32 * REGISTER_BYTES), False))
-    instruction = execution.instruction
-    is_masked = instruction is not None and instruction.leaves_out and execution.record.layout != "reduce"
-    guard: tuple[Part, ...] = ("if v0.mask[i]: ",) if is_masked else ()
-    return sentence_parts(execution), (*guard, *formula_parts(execution))
+class _Form:
+    """What a word has in each state with a vector type.
 
+    does, formula: its sentence and its formula, whose terms have no values
+    is_whole: whether its operands are whole registers, whatever the vector type is
+    elements: how many it has at most
+    The others are those of `ExecutedInstruction`.
+    """
 
-class _Instruction:
-    """Collects the data of an instruction."""
-
-    def __init__(
-        self, before: Before, after: ControlRegisters, v: bytes, end: End, instruction: VectorInstruction
-    ) -> None:
-        self.before, self.after, self.v, self.end, self.instruction = before, after, v, end, instruction
-        self.execution = Execution(before)
-        self.layout = self.execution.record.layout
-        self.is_access = before.word & 0x7F in VECTOR_ACCESSES
-        self.is_store = before.word & 0x7F == STORE_FP
+    def __init__(self, word: int, vtype: int) -> None:
+        execution = execution_of(word, vtype)
+        assert execution.instruction
+        self.instruction = instruction = execution.instruction
+        self.name, self.layout = execution.row.name, execution.record.layout
+        self.is_access, self.is_store = word & 0x7F in VECTOR_ACCESSES, word & 0x7F == STORE_FP
         operands = instruction.operands
         self.is_whole = all(it.is_whole and it.eew > 1 for it in operands) and (
             Trait.UNTYPED in instruction.traits or len(operands) == 2
         )
         self.destination = operands[0] if operands[0].noun == "destination" else None
-        self.elements = max(1, before.control.vlmax)
+        self.elements = max(1, execution.before.control.vlmax)
         if self.is_whole:
             self.elements = len(operands[0].registers) * REGISTER_BITS // operands[0].eew
-
-    def data(self, is_known: bool) -> ExecutedInstruction:
-        """Return the data."""
-        instruction, control, outcomes = self.instruction, self.before.control, self._outcomes()
-        pairs = self._pairs(outcomes) if self.destination and not self.is_access else ()
-        results = self._results(outcomes, len(pairs))
-        return ExecutedInstruction(
-            self.execution.row.name,
-            self.layout,
-            "mask" if instruction.leaves_out else "bits" if instruction.is_masked else "",
-            self.end,
-            tuple(self._group(place, operand) for place, operand in enumerate(instruction.operands)),
-            self._access() if self.is_access else None,
-            self.elements,
-            control.vl,
-            control.vstart,
-            outcomes,
-            results,
-            pairs,
-            *_texts(self.before.word, control.vtype),
-            self._scalars(),
-            tuple(self._equations(results)) if is_known and self.end == "ran" else (),
-            self.execution.is_fault_only_first and self.end == "ran" and self.after.vl < control.vl,
-        )
+        self.mask: Mask = "mask" if instruction.leaves_out else "bits" if instruction.is_masked else ""
+        self.groups = tuple(self._group(place, operand) for place, operand in enumerate(operands))
+        guard = ("if v0.mask[i]: ",) if instruction.leaves_out and self.layout != "reduce" else ()
+        self.does, self.formula = sentence_parts(execution), (*guard, *formula_parts(execution))
+        places = {"rd": 7, "rs1": 15, "rs2": 20}
+        numbers = [word >> places[field] & 31 for field in execution.row.fields() if field in places]
+        self.scalars = tuple(dict.fromkeys(number for number in numbers if number))
 
     def _group(self, place: int, operand: Operand) -> Group:
         groups = len(operand.registers) // operand.group
@@ -197,13 +176,84 @@ class _Instruction:
         is_scalar = self.destination is None and operand.is_whole and operand.eew > 1
         return "single" if is_scalar or self.layout == "reduce" and is_second else "element"
 
+
+@functools.lru_cache(maxsize=4096)
+def _form_of(word: int, vtype: int) -> _Form:
+    """Return the form of a vector instruction under a vector type."""
+    return _Form(word, vtype)
+
+
+@functools.lru_cache(maxsize=4096)
+def _outcomes_of(elements: int, start: int, end: int, stop: int, how: End, mask: bytes) -> tuple[Outcome, ...]:
+    """How each element took part.
+
+    start, end: the first element that isn't done before, or that faults, and the first one that isn't reached
+    stop: the end of the body; how: the instruction ended; mask: the bytes of v0, or none if it masks nothing off
+    """
+
+    def outcome(element: int) -> Outcome:
+        if element >= stop:
+            return "tail"
+        if how == "illegal":
+            return "pending"
+        if element < start:
+            return "prestart"
+        if how == "fault":
+            return "fault" if element == start else "pending"
+        if mask and not mask[element // 8] >> element % 8 & 1:
+            return "masked"
+        return "active" if element < end else "pending"
+
+    return tuple(outcome(element) for element in range(elements))
+
+
+def _active(outcomes: Sequence[Outcome]) -> list[int]:
+    """The elements with the outcome `active`."""
+    return [element for element, outcome in enumerate(outcomes) if outcome == "active"]
+
+
+class _Instruction:
+    """Collects the data of an instruction."""
+
+    def __init__(self, before: Before, after: ControlRegisters, v: bytes, end: End) -> None:
+        self.before, self.after, self.v, self.end = before, after, v, end
+        self.form = form = _form_of(before.word, before.control.vtype)
+        self.execution, self.instruction = Execution(before), form.instruction
+        self.layout, self.destination, self.elements = form.layout, form.destination, form.elements
+        self.is_access, self.is_whole = form.is_access, form.is_whole
+
+    def data(self, is_known: bool) -> ExecutedInstruction:
+        """Return the data."""
+        form, control, outcomes = self.form, self.before.control, self._outcomes()
+        pairs = self._pairs(outcomes) if self.destination and not self.is_access else ()
+        results = self._results(outcomes, len(pairs))
+        return ExecutedInstruction(
+            form.name,
+            form.layout,
+            form.mask,
+            self.end,
+            form.groups,
+            self._access() if self.is_access else None,
+            self.elements,
+            control.vl,
+            control.vstart,
+            outcomes,
+            results,
+            pairs,
+            form.does,
+            form.formula,
+            form.scalars,
+            tuple(self._equations(results)) if is_known and self.end == "ran" else (),
+            self.execution.is_fault_only_first and self.end == "ran" and self.after.vl < control.vl,
+        )
+
     def _access(self) -> Access:
         before, (data, *_) = self.before, self.instruction.operands
         whole = replace(before.control, vstart=0)
         spans = vector_spans(before.word, before.x, whole, before.v, self.instruction)
         fields = 1 if data.is_whole else len(data.registers) // data.group
         addresses = tuple(address for address, _ in spans)
-        return Access(before.word >> 15 & 31, self.is_store, fields, addresses, max(8, data.eew) // 8)
+        return Access(before.word >> 15 & 31, self.form.is_store, fields, addresses, max(8, data.eew) // 8)
 
     def _stop(self) -> int:
         """The end of the body, in elements."""
@@ -217,48 +267,35 @@ class _Instruction:
 
     def _outcomes(self) -> tuple[Outcome, ...]:
         """How each element took part."""
-        stop, start, control = self._stop(), self.before.control.vstart, self.after
-        if self.end == "fault":
-            start = control.vstart
-        end = control.vl if self.execution.is_fault_only_first else stop
-        mask = self.before.v if self.instruction.leaves_out else b""
+        stop = self._stop()
+        start = (self.after if self.end == "fault" else self.before.control).vstart
+        end = self.after.vl if self.execution.is_fault_only_first else stop
+        mask = self.before.v[:REGISTER_BYTES] if self.instruction.leaves_out else b""
+        return _outcomes_of(self.elements, start, end, stop, self.end, mask)
 
-        def outcome(element: int) -> Outcome:
-            if element >= stop:
-                return "tail"
-            if self.end == "illegal":
-                return "pending"
-            if element < start:
-                return "prestart"
-            if self.end == "fault":
-                return "fault" if element == start else "pending"
-            if mask and not mask[element // 8] >> element % 8 & 1:
-                return "masked"
-            return "active" if element < end else "pending"
-
-        return tuple(outcome(element) for element in range(self.elements))
-
-    def _results(self, outcomes: Sequence[Outcome], count: int) -> tuple[Outcome, ...]:
+    def _results(self, outcomes: tuple[Outcome, ...], count: int) -> tuple[Outcome, ...]:
         """How each element of the destination was written. count: of pairs"""
         if not self.destination or self.is_access:
-            return tuple(outcomes)
+            return outcomes
         if self.layout == "reduce":
             first: Outcome = "active" if self.before.control.vl else "tail"
             others: list[Outcome] = ["tail"] * (len(outcomes) - 1)
             return (first, *others)
         if self.layout == "compress":
             return tuple("tail" if each == "active" and at >= count else each for at, each in enumerate(outcomes))
-        if self.execution.record.kept is None:
-            return tuple(outcomes)
-        return tuple("kept" if self._is_kept(at) and each == "active" else each for at, each in enumerate(outcomes))
+        if not (kept := self._kept(outcomes)):
+            return outcomes
+        return tuple("kept" if at in kept else each for at, each in enumerate(outcomes))
 
-    def _is_kept(self, element: int) -> bool:
-        self.execution.at(element)
-        return self.execution.is_kept()
+    def _kept(self, outcomes: Sequence[Outcome]) -> Collection[int]:
+        """The active elements that the record says aren't written."""
+        condition, active = self.execution.record.kept, _active(outcomes)
+        holds = evaluate_each(condition, self.execution.names, active) if condition else []
+        return {element for element, is_kept in zip(active, holds) if is_kept}
 
     def _pairs(self, outcomes: Sequence[Outcome]) -> tuple[tuple[int, int], ...]:
         """Elements of the source, with those of the result that they go to."""
-        active = [element for element, outcome in enumerate(outcomes) if outcome == "active"]
+        active = _active(outcomes)
         if self.layout == "reduce":
             return tuple((element, 0) for element in active)
         if self.layout == "compress":
@@ -267,35 +304,28 @@ class _Instruction:
             return tuple((element, place) for place, element in enumerate(chosen))
         if self.layout not in _MOVES:
             return ()
-        pairs = [(self._source(element), element) for element in active if not self._is_kept(element)]
-        return tuple((source, element) for source, element in pairs if 0 <= source < self.elements)
+        kept = self._kept(outcomes)
+        written = [element for element in active if element not in kept]
+        pairs = [pair for branch in self._branches(written) for pair in self._sources(*branch)]
+        return tuple(sorted(pairs, key=lambda pair: pair[1]))
 
-    def _source(self, element: int) -> int:
-        """The element of the source that a gather or a slide reads for an element; -1 if it reads none."""
-        self.execution.at(element)
-        names, (node, _) = self.execution.names, self._branch()
+    def _sources(self, node: ast.expr, elements: Sequence[int]) -> Iterator[tuple[int, int]]:
+        """The elements of the source that a gather or a slide reads, each with its element. node: the branch of the formula"""
+        names = self.execution.names
         if isinstance(node, ast.Subscript) and numbers_of(node, names) is names["vs2"]:
-            return evaluate(node.slice, names)
-        return -1
+            sources = evaluate_each(node.slice, names, elements)
+            yield from (pair for pair in zip(sources, elements) if 0 <= pair[0] < self.elements)
 
-    def _branch(self) -> tuple[ast.expr, tuple[bool, ...]]:
-        """The branch of the formula that counts for the present element, and which conditions have selected it."""
-        node, holds = self._assignment.value, list[bool]()
-        while isinstance(node, ast.IfExp):
-            holds.append(bool(evaluate(node.test, self.execution.names)))
-            node = node.body if holds[-1] else node.orelse
-        return node, tuple(holds)
+    def _branches(self, elements: Sequence[int]) -> Sequence[tuple[ast.expr, Sequence[int]]]:
+        """The branches of the formula that count for elements, each with its elements, in the order of their first ones."""
+        if not elements:
+            return []
+        found = branches_of(self._assignment.value, self.execution.names, elements)
+        return sorted(found, key=lambda branch: branch[1][0])
 
     @property
     def _assignment(self) -> Assignment:
         return self.execution.formula.assignments[0]
-
-    def _scalars(self) -> tuple[int, ...]:
-        """The scalar registers that the instruction names, in the order of its text."""
-        word = self.before.word
-        places = {"rd": 7, "rs1": 15, "rs2": 20}
-        numbers = [word >> places[field] & 31 for field in self.execution.row.fields() if field in places]
-        return tuple(dict.fromkeys(number for number in numbers if number))
 
     def _equations(self, results: Sequence[Outcome]) -> Iterator[Equation]:
         """The calculations of active elements, those of one form together."""
@@ -306,12 +336,10 @@ class _Instruction:
             if number:
                 yield self._equation([0], Term(f"x{number}", 0, 64, Sign.EITHER, number))
             return
-        groups = dict[tuple[object, ...], list[int]]()
-        for element in (element for element, outcome in enumerate(results) if outcome == "active"):
-            self.execution.at(element)
-            form = self._branch()[1] if self.layout != "scan" else (element,)
-            groups.setdefault(form, []).append(element)
-        for elements in groups.values():
+        active = _active(results)
+        branches = self._branches(active)
+        groups = [elements for _, elements in branches] if self.layout != "scan" else [[element] for element in active]
+        for elements in groups:
             yield self._equation(elements, self._target(elements[0]))
 
     def _target(self, element: int) -> Term:
@@ -325,30 +353,30 @@ class _Instruction:
     def _equation(self, elements: Sequence[int], target: Term) -> Equation:
         """The calculation of elements. target: the first of them, or a scalar register"""
         self.execution.at(elements[0])
-        calculation = calculation_of(self.execution, target, self._assignment)
+        is_single = self.destination is None or self.destination.eew == 1
+        shown = elements[:1] if is_single else elements
+        calculation, results = calculation_of_each(self.execution, target, self._assignment, shown)
         if target.scalar is not None:
             bits = calculation.results[1] & (1 << target.width) - 1
             calculation = replace(calculation, target=replace(target, bits=bits))
             return Equation(calculation, tuple(elements), Sign.SIGNED, {})
-        if self.destination and self.destination.eew == 1:
+        if is_single:
             return Equation(calculation, tuple(elements), Sign.EITHER, {})
-        return Equation(calculation, tuple(elements), *self._exact(elements, target))
+        return Equation(calculation, tuple(elements), *self._exact(elements, results))
 
-    def _exact(self, elements: Sequence[int], target: Term) -> tuple[Sign, dict[int, tuple[int, int]]]:
+    def _exact(
+        self, elements: Sequence[int], results: Sequence[tuple[int, int]]
+    ) -> tuple[Sign, dict[int, tuple[int, int]]]:
         """The sign that most exact results of elements of one form have, and the other results."""
-        reader, width = Reader(self.execution, self._assignment.value, target.width), target.width
-        results = reader.results(self._branch()[0], elements)
-        register = self.instruction.operands[0].registers.start
-        unsigned = [int(element_of(self.v, register, width, element)) for element in elements]
+        operand = self.instruction.operands[0]
+        width, values = operand.eew, Elements(self.v, operand.registers.start, operand.eew, operand.group)
+        unsigned = [int(values[element]) for element in elements]
         signed = [bits - (bits >> width - 1 << width) for bits in unsigned]
-        expected = {
-            Sign.EITHER: zip(signed, unsigned),
-            Sign.SIGNED: zip(signed, signed),
-            Sign.UNSIGNED: zip(unsigned, unsigned),
-        }
-        others = {
-            sign: {element: found for element, found, own in zip(elements, results, pairs) if found != own}
-            for sign, pairs in expected.items()
-        }
-        best = min(others, key=lambda sign: len(others[sign]))
-        return best, others[best]
+        if results == [*zip(signed, unsigned)]:
+            return Sign.EITHER, {}
+        pairs = [(Sign.EITHER, signed, unsigned), (Sign.SIGNED, signed, signed), (Sign.UNSIGNED, unsigned, unsigned)]
+        others = [
+            (sign, {each: found for each, found, *own in zip(elements, results, one, other) if found != tuple(own)})
+            for sign, one, other in pairs
+        ]
+        return min(others, key=lambda each: len(each[1]))

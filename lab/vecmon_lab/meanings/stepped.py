@@ -6,7 +6,7 @@ from collections.abc import Callable, Sequence
 from .. import LabError
 from ..guest.changes import Retired, Change, Registers, Stepper
 from ..guest.guest import Guest
-from ..instructions.accesses import LINE_BYTES, vector_instruction
+from ..instructions.accesses import LINE_BYTES, is_fault_only_first, vector_instruction
 from ..instructions.words import LOAD, LOAD_FP
 from ..machine.answers import ControlRegisters, Memory
 from .executed import Before
@@ -51,7 +51,7 @@ def explanation_of(guest: Guest, before: Registers, after: ControlRegisters, ret
     fault = stop.value if stop and stop.kind == "fault" else -1
     instruction = vector_instruction(word, before.control.vtype)
     end = 1 << 64  # of what a load that only faults first has read
-    if instruction and retired.text.partition(" ")[0].endswith("ff.v") and after.vl < before.control.vl:
+    if instruction and is_fault_only_first(word) and after.vl < before.control.vl:
         end = before.x[word >> 15 & 31] + after.vl * ((word >> 29) + 1) * instruction.operands[0].eew // 8
 
     @functools.cache

@@ -15,6 +15,8 @@ import { ROUNDING, scalarName, typeText, typeWords, vectorType, withNames } from
  * @typedef {{ text: string, alias: string, meaning: string, formula: string, scalars: string[], counts: [string, string][] }} Card
  */
 
+/** @type {Partial<import("./instruction.js").State>} */
+const INITIAL = { vl: 0, vstart: 0, vxrm: 0, vxsat: 0, policy: "keep" };
 const COUNTS = ["active", "masked", "prestart", "fault", "pending", "tail"];
 
 /**
@@ -47,7 +49,8 @@ export function cardOf(view, columns) {
 function aliasOf(state, text) {
   const line = state.lines?.[state.instruction ?? ""] ?? "";
   const own = line.replace(/#.*/, "").replace(/^\s*\w+:/, "").trim().replace(/\s+/g, " ").replace(/ ?, ?/g, ", ");
-  return { text, alias: /^v\w+(\.\w+)* /.test(own) && own !== text && !own.includes("(") ? own : "" };
+  const isOther = own.split(" ")[0] !== text.split(" ")[0]; // operands may be written in several ways
+  return { text, alias: isOther && /^v\w+(\.\w+)* /.test(own) ? own : "" };
 }
 
 /**
@@ -136,7 +139,7 @@ export function paintFacts(root, state, before) {
   const pairs = Object.entries(texts).map(([key, text]) => {
     const name = /** @type {keyof typeof texts} */ (key);
     const kind = before[name] === state[name] ? "" : "changed";
-    const isInitial = !kind && /^(0|keep)\b/.test(`${text}`) && (name !== "vl" || type.vill);
+    const isInitial = !kind && state[name] === INITIAL[name] && (name !== "vl" || type.vill);
     return make("div", isInitial ? "initial" : "", make("dt", "", name), make("dd", kind, `${text}`));
   });
   root.title = typeWords(type);

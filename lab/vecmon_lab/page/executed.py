@@ -1,7 +1,8 @@
 """The vector instruction that a state executed last, as data for pages: `meanings/instruction.py` as JSON, with runs of equal outcomes."""
 
+import functools
 import itertools
-from collections.abc import Iterable, Iterator, Sequence
+from collections.abc import Iterator, Sequence
 from typing import Literal, NotRequired, TypedDict
 
 from ..guest.changes import Registers
@@ -223,7 +224,8 @@ def _access(access: Access) -> ShownAccess:
     return shown
 
 
-def _runs(outcomes: Iterable[Outcome]) -> list[OutcomeRun]:
+@functools.lru_cache(maxsize=4096)
+def _runs(outcomes: Sequence[Outcome]) -> Sequence[OutcomeRun]:
     """Outcomes as runs of equal ones."""
     return [{"outcome": outcome, "count": len([*run])} for outcome, run in itertools.groupby(outcomes)]
 
@@ -280,7 +282,8 @@ def _element_runs(elements: Sequence[int]) -> list[list[int]]:
     return runs
 
 
-def _named(parts: Sequence[Part]) -> list[str | ShownTerm]:
+@functools.lru_cache(maxsize=4096)
+def _named(parts: Sequence[Part]) -> Sequence[str | ShownTerm]:
     """Parts of a sentence or a formula for all elements, whose terms are scalar registers; texts next to each other are one."""
     shown = list[str | ShownTerm]()
     for part in parts:

@@ -8,14 +8,13 @@ from collections.abc import Collection, Iterable, Mapping, Sequence
 from typing import Literal, NotRequired, TypedDict
 
 from ..guest.changes import CONTROLLING, Registers
-from ..instructions.accesses import Span, active_spans, vector_instruction
+from ..instructions.accesses import Span, active_spans, is_fault_only_first, vector_instruction
 from ..instructions.calls import ECALL
 from ..instructions.scalar_registers import scalar_written, scalars_read
 from ..instructions.words import LOAD, LOAD_FP, OP_V, STORE, STORE_FP, VECTOR_ACCESSES
 from ..machine.answers import ControlRegisters
 
 _OP_VSET = 7  # funct3
-_FAULT_ONLY_FIRST = 0b10000  # lumop
 
 
 class ReadRegisters(TypedDict):
@@ -69,7 +68,7 @@ def registers_kept(word: int, x: Digits, v: Digits, control: ControlRegisters) -
         kept["v0"] = v["0"]
     if not is_vset:
         kept["vtype"] = f"{control.vtype:x}"
-    if not is_vset and not _may_shorten(word):
+    if not is_vset and not is_fault_only_first(word):
         kept["vl"] = control.vl
     if word & 0x7F not in CONTROLLING:
         kept["vstart"] = control.vstart
@@ -90,7 +89,7 @@ def accesses(word: int, before: Registers, after: ControlRegisters, is_faulting:
     end = 1 << 64
     if is_faulting:
         end = after.vstart if word & 0x7F in VECTOR_ACCESSES else 0
-    elif _may_shorten(word):
+    elif is_fault_only_first(word):
         end = after.vl
     found = active_spans(word, before.x, before.control, bytes(before.v))
     kind: Literal["read", "write"] = "write" if word & 0x7F in (STORE, STORE_FP) else "read"
@@ -104,11 +103,6 @@ def scalar_accesses(word: int, after: Registers) -> list[Access] | None:
     if opcode in (LOAD_FP, STORE_FP) or opcode == LOAD and scalar_written(word) == word >> 15 & 31 != 0:
         return None
     return accesses(word, after, after.control, is_faulting=False)
-
-
-def _may_shorten(word: int) -> bool:
-    """Whether an instruction is a load that only faults first, which may change vl."""
-    return word & 0x7F == LOAD_FP and word >> 26 & 3 == 0 and word >> 20 & 31 == _FAULT_ONLY_FIRST
 
 
 def _call(word: int, x: Digits) -> int:

@@ -4,7 +4,7 @@ import { header, make, part, unseen } from "./elements.js";
 import { RowTable, placesOf } from "./rows.js";
 import { TINTS, lineOf, startOf } from "./source_lines.js";
 import { textOf } from "./texts.js";
-import { saysMore, target, withNames } from "./words.js";
+import { saysMore, withNames } from "./words.js";
 
 /** @typedef {import("./types").MachineState} MachineState */
 
@@ -48,7 +48,7 @@ function listingRow(state, before, address, abi) {
   if (kinds[0]) marks.append(make("span", "arrow", "▶"), unseen(textOf("listing.next")));
   if (kinds[1]) marks.append(unseen(state.faulted ? textOf("listing.stopped") : textOf("listing.executed")));
   const text = make("td", "text", withNames(line.slice(9), abi));
-  const goal = target(address, line.slice(9));
+  const goal = state.targets?.[address];
   if (goal) text.append(make("span", "goal", ` → ${state.labels?.[goal]?.[0] ?? goal}`));
   const word = make("td", "word", line.slice(0, 8));
   if (before.code[address] !== line && (before.code[address] || !state.instruction)) word.classList.add("changed");

@@ -483,8 +483,15 @@ export interface Notice {
   read: boolean;
 }
 
+/**
+ * Numbers in a row.
+ *
+ * where: the place; register: the name of a scalar register, which has one number
+ * first: the index of the first number that is shown; more: how many follow those that are shown; wrong: places of wrong ones
+ */
 export interface NumberRow {
   where: string;
+  register?: string;
   first: number;
   numbers: string[];
   more: number;
@@ -977,6 +984,7 @@ export interface Start {
  * pc, and all up to `memory`: where the program was stopped at least once; a program that runs has them as they were before, but pc
  * x: 32 values by number; v: 32 times 32 bytes by number; policy: `keep` or `ones`
  * code, operands: the program's words with their texts, and their vector operands, by address
+ * targets: the address to which a branch or `jal` of the code may go, by its own
  * memory: rows of 16 bytes by address
  * instruction: the address of the instruction that the last lines executed last, or that faulted
  * executed: that instruction's elements, if it has vector operands
@@ -1003,6 +1011,7 @@ export interface State {
   v?: { [name: string]: string };
   code?: { [name: string]: string };
   operands?: { [name: string]: ShownOperand[] };
+  targets?: { [name: string]: string };
   memory?: { [name: string]: string };
   instruction?: string;
   executed?: ShownExecuted;
@@ -1206,11 +1215,17 @@ export interface WhyAnswer {
   why: string;
 }
 
-/** The reason for the value of a register or an element, such as `v8[5]`. */
+/**
+ * The reason for the value of a register or an element, such as `v8[5]`.
+ *
+ * form: of numbers, signed by default; abi: whether scalar registers are a0 in place of x10
+ */
 export interface WhyRequest {
   id: number;
   ask: "why";
   name: string;
+  form?: "signed" | "unsigned" | "hexadecimal";
+  abi?: boolean;
 }
 
 /** A message to seats. */

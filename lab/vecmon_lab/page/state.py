@@ -8,6 +8,7 @@ from ..assembler.data_runs import DataType
 from ..guest.calls import shown_calls
 from ..guest.changes import Registers
 from ..guest.guest import SET_UP_ADDRESS, VECTOR_LOOKS, Guest
+from ..guest.jumps import jump_target
 from ..instructions.accesses import PAGE_BYTES, ROW_BYTES, base_address, vector_instruction
 from ..instructions.calls import ECALL, unsupported_call
 from ..instructions.reasons import describe_stop
@@ -73,6 +74,7 @@ class State(TypedDict):
     pc, and all up to `memory`: where the program was stopped at least once; a program that runs has them as they were before, but pc
     x: 32 values by number; v: 32 times 32 bytes by number; policy: `keep` or `ones`
     code, operands: the program's words with their texts, and their vector operands, by address
+    targets: the address to which a branch or `jal` of the code may go, by its own
     memory: rows of 16 bytes by address
     instruction: the address of the instruction that the last lines executed last, or that faulted
     executed: that instruction's elements, if it has vector operands
@@ -99,6 +101,7 @@ class State(TypedDict):
     v: NotRequired[dict[str, str]]
     code: NotRequired[dict[str, str]]
     operands: NotRequired[dict[str, Sequence[ShownOperand]]]
+    targets: NotRequired[Mapping[str, str]]
     memory: NotRequired[dict[str, str]]
     instruction: NotRequired[str]
     executed: NotRequired[ShownExecuted]
@@ -125,6 +128,7 @@ MAPPED_PAGES, MAX_PAGES = 8, 32  # how many pages are looked at since they were 
 MAX_WORDS = 512
 ILLEGAL = 2  # cause of a fault
 WORDS_AHEAD = 8
+_NUMBERS = [f"{number}" for number in range(32)]  # of registers
 _ECALL_DIGITS = f"{ECALL:08x}"
 _LOOKS = ("state", "regs", "vcsr", "breaks", "trace")
 
@@ -261,11 +265,13 @@ def _set_memory(
 
 
 def _set_code(state: State, code: dict[str, str]) -> None:
-    """Set the listing of a state, and the operands of its lines, if it has changed."""
+    """Set the listing of a state, and the operands and targets of its lines, if it has changed."""
     if code != state.get("code"):
         state["code"] = code
-        operands = {address: shown_operands(int(line[:8], 16)) for address, line in code.items()}
-        state["operands"] = operands
+        words = {address: int(line[:8], 16) for address, line in code.items()}
+        state["operands"] = {address: shown_operands(word) for address, word in words.items()}
+        targets = {address: jump_target(int(address, 16), word) for address, word in words.items()}
+        state["targets"] = {address: f"{target:x}" for address, target in targets.items() if target is not None}
 
 
 def _set_stop(state: State, answers: Sequence[Answer], text: str, control: ControlRegisters) -> None:
@@ -287,16 +293,17 @@ def add_executed(state: State, before: State | None) -> None:
     line = state["code"].get(state.get("instruction", ""), "")
     if not line or not state["operands"][state["instruction"]]:
         return
-    word, after = int(line[:8], 16), registers_of(state)
+    word, control = int(line[:8], 16), control_of(state)
     end: End = "ran"
     if state.get("faulted"):
         end = "illegal" if state.get("illegal") else "fault"
     if before is not None and before.get("pc") == state["instruction"]:
         known, earlier = (True, True, True), registers_of(before)
     else:
-        kept = registers_kept(word, state["x"], state["v"], after.control)
-        known, earlier = (*_known(word, after.control.vtype, kept), False), after
-    executed = shown_executed(word, earlier, after.control, bytes(after.v), end, known)
+        kept = registers_kept(word, state["x"], state["v"], control)
+        known, earlier = (*_known(word, control.vtype, kept), False), registers_of(state)
+    v = bytes.fromhex("".join(state["v"][number] for number in _NUMBERS))
+    executed = shown_executed(word, earlier, control, v, end, known)
     if executed:
         state["executed"] = executed
 
@@ -340,7 +347,7 @@ def control_of(state: State) -> ControlRegisters:
 
 def registers_of(state: State) -> Registers:
     """The registers of a state that has them."""
-    x, v = ([given[f"{number}"] for number in range(32)] for given in (state["x"], state["v"]))
+    x, v = ([given[number] for number in _NUMBERS] for given in (state["x"], state["v"]))
     return Registers([int(digits, 16) for digits in x], control_of(state), bytearray.fromhex("".join(v)))
 
 
@@ -353,21 +360,24 @@ class VisibleRows:
 
     def __init__(self) -> None:
         self._weights: Counter[str] = Counter()  # of each row that was there: 2 once it has changed, 0 while it is zero
+        self._relevant: dict[str, int] = {}  # the weights that aren't 0, in the same order
         self._last: dict[str, str] = {}
 
     def add(self, state: State) -> None:
         """Takes up the next one of the user's states."""
         if "memory" not in state or state["memory"] is self._last:
             return
+        last = self._last
         for row, digits in state["memory"].items():
-            has_changed = digits != self._last.get(row, digits)
-            self._weights[row] = max(self._weights[row], 2 if has_changed else int(digits.strip("0") != ""))
+            if (before := last.get(row)) != digits:
+                self._weights[row] = max(self._weights[row], 2 if before is not None else int(digits.strip("0") != ""))
         self._last = state["memory"]
+        self._relevant = {row: weight for row, weight in self._weights.items() if weight}
 
     def rows(self, watch_set: WatchSet, minimum: int = 1) -> set[str]:
         """The addresses of the most relevant rows; 2 is the least for rows that have changed."""
-        listing = {f"{address // ROW_BYTES * ROW_BYTES:x}" for address in watch_set.code}
-        weights = Counter({row: it for row, it in self._weights.items() if it >= minimum and row not in listing})
+        listing = {f"{row * ROW_BYTES:x}" for row in {address // ROW_BYTES for address in watch_set.code}}
+        weights = Counter({row: it for row, it in self._relevant.items() if it >= minimum and row not in listing})
         weights.update({f"{row:x}": 3 for row in watch_set.named if f"{row:x}" in self._weights})
         shown = {row for row, _ in weights.most_common(MAX_ROWS)}
         pages = {int(row, 16) // PAGE_BYTES for row in shown}
@@ -379,8 +389,8 @@ def with_rows(state: State, rows: set[str]) -> State:
     """The state with these rows of memory alone."""
     if "memory" not in state:
         return state
-    shown = state.copy()
-    shown["memory"] = {row: digits for row, digits in state["memory"].items() if row in rows}
+    shown, memory = state.copy(), state["memory"]
+    shown["memory"] = {row: memory[row] for row in sorted(rows & memory.keys(), key=lambda row: int(row, 16))}
     return shown
 
 

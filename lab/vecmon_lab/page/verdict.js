@@ -31,9 +31,8 @@ function strip({ where, first, numbers, wrong, more }, name = "", most = Infinit
 /** A case's inputs or expected results: registers in one line, and at most some numbers of each row of memory. */
 /** @type {(rows?: NumberRow[], most?: number) => HTMLElement[]} */
 function rowsOf(rows = [], most = Infinity) {
-  const isRegister = (/** @type {NumberRow} */ { where }) => /\(x\d+\)$/.test(where);
-  const registers = rows.filter(isRegister).map(({ where, numbers }) => `${where.split(" ")[0]} = ${numbers[0]}`);
-  const strips = rows.filter((row) => !isRegister(row)).map((row) => strip(row, "", most));
+  const registers = rows.filter(({ register }) => register).map(({ register, numbers }) => `${register} = ${numbers[0]}`);
+  const strips = rows.filter(({ register }) => !register).map((row) => strip(row, "", most));
   return registers.length ? [make("p", "", registers.join(", ")), ...strips] : strips;
 }
 

@@ -54,9 +54,3 @@ export function saysMore(/** @type {string} */ line, /** @type {string} */ text)
   if (numbered.replace(/\s+/g, " ").replace(/ ?, ?/g, ", ") === text) return line.slice(own.length).trim();
   return line.replace(/\s{4,}(?=(?:#|\/\/)[^"]*$)/, "   "); // a comment may be far to the right
 }
-
-/** Where a branch or a jump goes to: an address in hexadecimal, or "" for any other instruction. */
-export function target(/** @type {string} */ address, /** @type {string} */ text) {
-  const distance = /^(?:b\w+ x\d+, x\d+|jal x\d+), (-?\d+)$/.exec(text);
-  return distance ? (BigInt("0x" + address) + BigInt(distance[1])).toString(16) : "";
-}

@@ -5,7 +5,7 @@ from collections.abc import Callable, Iterable, Iterator
 from fractions import Fraction
 
 from ..guest.changes import Registers
-from ..instructions.accesses import REGISTER_BYTES, active_spans, vector_instruction
+from ..instructions.accesses import REGISTER_BYTES, active_spans, is_fault_only_first, vector_instruction
 from ..instructions.words import STORE, STORE_FP
 from ..machine.answers import CONTROL, elements_in
 from ..runs.dataflow import Cell, bits_of_registers
@@ -114,7 +114,7 @@ def _elements(step: LoggedStep, after: Registers) -> Iterator[Element]:
     """The elements that an instruction accessed here, the fields of a segment one after another."""
     word, before = step.retired.word, step.before
     instruction = vector_instruction(word, before.control.vtype)
-    is_shortened = "ff.v" in step.retired.text
+    is_shortened = is_fault_only_first(step.retired.word)
     for element, (address, length) in active_spans(word, before.x, before.control, bytes(before.v)):
         width = max(1, instruction.operands[0].eew // 8) if instruction else length
         if not (is_shortened and element >= after.control.vl):
