@@ -4,7 +4,7 @@ import ast
 import enum
 import functools
 import struct
-from collections.abc import Callable, Sequence
+from collections.abc import Callable, Mapping, Sequence
 from dataclasses import dataclass, field, replace
 
 from .. import LabError
@@ -30,6 +30,7 @@ ElementOutcome = enum.Enum("ElementOutcome", "RESULT KEPT MASKED TAIL BEFORE_STA
 _AGNOSTIC = {ElementOutcome.MASKED: 0x80, ElementOutcome.TAIL: 0x40}
 REGISTERS = 32
 _FORMS = {8: "B", 16: "H", 32: "I", 64: "Q"}  # of `struct`, by the width in bits
+_SIGNED_FORMS = {8: "b", 16: "h", 32: "i", 64: "q"}
 _SCALAR_BITS = bits_type(64)
 _CONTROL_FIELDS = {  # of control registers that can be written, by number: the lowest bit and the largest value
     0x008: {"vstart": (0, 0xFF)},
@@ -101,6 +102,10 @@ class Numbers:
     def __getitem__(self, number: int) -> Bits:
         return self._at(number)
 
+    def each(self, indices: Sequence[int], is_signed: bool) -> Sequence[int]:
+        """Return the numbers at indices, as signed or unsigned ones."""
+        return [sext(self[index]) if is_signed else self[index] for index in indices]
+
     def name_of(self, index: int) -> str:
         """The name of a number: `v4[5]`, `x10`, `memory[0x11004]`."""
         return f"x{index}" if self.name == "x" else f"{self.name}[{index}]"
@@ -123,10 +128,20 @@ class Elements(Numbers):
         values = self._values
         return self._bits(values[number]) if 0 <= number < len(values) else self._at(number)
 
+    def each(self, indices: Sequence[int], is_signed: bool) -> Sequence[int]:
+        """Return the elements with these numbers, as signed or unsigned ones."""
+        if indices and not 0 <= min(indices) <= max(indices) < len(self._values):
+            return super().each(indices, is_signed)
+        values = self._unpacked(_SIGNED_FORMS) if is_signed else self._values
+        return [values[index] for index in indices]
+
     @functools.cached_property
     def _values(self) -> tuple[int, ...]:
         """The elements of the group; none of a width that no vector type has, as reserved words have it."""
-        form = f"<{self._count}{_FORMS[self.width]}" if self.width in _FORMS else ""
+        return self._unpacked(_FORMS)
+
+    def _unpacked(self, forms: Mapping[int, str]) -> tuple[int, ...]:
+        form = f"<{self._count}{forms[self.width]}" if self.width in forms else ""
         return struct.unpack_from(form, self._v, self._first * REGISTER_BYTES)
 
     @property

@@ -6,12 +6,13 @@ with its own width), `pc`, `vl`, `vtype` or `csr`. Numbers have no limit; the ta
 """
 
 import ast
+import copy
 import functools
 import operator
 from collections.abc import Callable, Iterable, Mapping, Sequence
 from dataclasses import dataclass
 from types import CodeType
-from typing import Any
+from typing import Any, Protocol, cast
 
 from .. import LabError
 
@@ -190,9 +191,21 @@ def evaluate(node: ast.expr, names: Names) -> int:
     return int(eval(_code(node), names))
 
 
+class Indexed(Protocol):
+    """Numbers by their index in a formula, such as the elements of a register group."""
+
+    def each(self, indices: Sequence[int], is_signed: bool) -> Sequence[int]:
+        """Return the numbers at indices, as signed or unsigned ones."""
+
+
 def evaluate_each(node: ast.expr, names: Names, numbers: Sequence[int], name: str = "i") -> list[int]:
     """The numbers that a part of a formula is for each number of a name: of elements, or of those in a list."""
-    return [int(each) for each in eval(_code_of_each(node, name), {**names, _EACH: numbers})]
+    code, columns = _code_of_each(node, name)
+    values = {**names, _EACH: numbers, "zip": zip}
+    for column, (operand, is_signed) in columns.items():
+        indexed = cast(Indexed, names[operand])
+        values[f"{_EACH}{column}"] = indexed.each(numbers, is_signed)
+    return [int(each) for each in eval(code, values)]
 
 
 def condition(text: str) -> ast.expr:
@@ -207,10 +220,45 @@ def _code(node: ast.expr) -> CodeType:
 
 
 @functools.lru_cache(maxsize=4096)
-def _code_of_each(node: ast.expr, name: str) -> CodeType:
-    """The code of a list: of what a part of a formula is for each of the numbers."""
-    loop = ast.comprehension(ast.Name(name, ast.Store()), ast.Name(_EACH, ast.Load()), [], 0)
-    return _code(ast.ListComp(node, [loop]))
+def _code_of_each(node: ast.expr, name: str) -> tuple[CodeType, Mapping[str, tuple[str, bool]]]:
+    """The code of a list: of what a part of a formula is for each of the numbers.
+
+    Operands with the name as their index are columns that the list goes through. Returns their operands, and whether they are signed.
+    """
+    columns = _Columns(name)
+    element = columns.visit(copy.deepcopy(node))
+    targets = ast.Tuple([ast.Name(each, ast.Store()) for each in (name, *columns.found)], ast.Store())
+    lists = [ast.Name(f"{_EACH}{each}", ast.Load()) for each in ("", *columns.found)]
+    loop = ast.comprehension(targets, ast.Call(ast.Name("zip", ast.Load()), lists, []), [], 0)
+    return _code(ast.ListComp(element, [loop])), columns.found
+
+
+class _Columns(ast.NodeTransformer):
+    """Puts the names of columns in place of operands with an index, as signed or unsigned numbers."""
+
+    def __init__(self, index: str) -> None:
+        self.found: dict[str, tuple[str, bool]] = {}
+        self._index = index
+
+    def visit_Call(self, node: ast.Call) -> ast.expr:
+        """Return a signed column in place of a conversion of an operand."""
+        match node:
+            case ast.Call(ast.Name("signed" | "sext"), [ast.Subscript(ast.Name(name), ast.Name(index))]):
+                if name in OPERANDS and index == self._index:
+                    return self._column(name, True)
+        return cast(ast.expr, self.generic_visit(node))
+
+    def visit_Subscript(self, node: ast.Subscript) -> ast.expr:
+        """Return an unsigned column in place of an operand."""
+        match node:
+            case ast.Subscript(ast.Name(name), ast.Name(index)) if name in OPERANDS and index == self._index:
+                return self._column(name, False)
+        return cast(ast.expr, self.generic_visit(node))
+
+    def _column(self, operand: str, is_signed: bool) -> ast.expr:
+        name = f"_{'s' if is_signed else 'u'}{operand}"
+        self.found[name] = operand, is_signed
+        return ast.Name(name, ast.Load())
 
 
 def _assignment(text: str, whole: str) -> Assignment:

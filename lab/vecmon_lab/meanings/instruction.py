@@ -369,9 +369,8 @@ class _Instruction:
     ) -> tuple[Sign, dict[int, tuple[int, int]]]:
         """The sign that most exact results of elements of one form have, and the other results."""
         operand = self.instruction.operands[0]
-        width, values = operand.eew, Elements(self.v, operand.registers.start, operand.eew, operand.group)
-        unsigned = [int(values[element]) for element in elements]
-        signed = [bits - (bits >> width - 1 << width) for bits in unsigned]
+        values = Elements(self.v, operand.registers.start, operand.eew, operand.group)
+        unsigned, signed = values.each(elements, False), values.each(elements, True)
         if results == [*zip(signed, unsigned)]:
             return Sign.EITHER, {}
         pairs = [(Sign.EITHER, signed, unsigned), (Sign.SIGNED, signed, signed), (Sign.UNSIGNED, unsigned, unsigned)]
