@@ -713,7 +713,8 @@ export interface SeatStatus {
  * status, since: of its program, and since when it is so
  * exercise, exercise_since: the first one or the one that the student opened, or "", and since when it is open; 0 if it isn't yet
  * stuck, stuck_since: whether its student may need somebody, and since when, which is missing otherwise: the program has problems, a
- *     fault, or ran too long, or the exercise has been open for 10 minutes, with 3 tries that failed
+ *     fault, or ran too long, the exercise has been open for 10 minutes, with 3 tries that failed, or there was no headway at it for 10
+ *     minutes
  * changed: whether its source differs from the newest version
  * used: bytes of the script; hand: while it is up. Times are in seconds since 1970.
  */
