@@ -33,15 +33,21 @@ def limit_stack() -> None:
     resource.setrlimit(resource.RLIMIT_STACK, (STACK, resource.getrlimit(resource.RLIMIT_STACK)[1]))
 
 
+def is_native(program: pathlib.Path) -> bool:
+    """Whether a file is an ELF program, and not a script, such as one that runs a program under node."""
+    with program.open("rb") as file:
+        return file.read(4) == b"\x7fELF"
+
+
 def run(program: pathlib.Path, arguments: Sequence[str], script: str, folder: pathlib.Path) -> Run:
-    """Runs the program on words in a folder, with a script on standard input and a stack of `STACK` bytes."""
+    """Runs the program on words in a folder, with a script on standard input, and a stack of `STACK` bytes if it is native."""
     completed = subprocess.run(
         [program, *arguments],
         input=script.encode("latin-1"),
         cwd=folder,
         capture_output=True,
         check=False,
-        preexec_fn=limit_stack,
+        preexec_fn=limit_stack if is_native(program) else None,
     )
     return Run(completed.stdout.decode("latin-1"), completed.stderr.decode("latin-1"), completed.returncode)
 
