@@ -48,7 +48,7 @@ class BusyLesson:
 
     async def work(self, ticks: int, states: int, calls: int) -> None:
         """Works for some ticks; about `calls` calls are expected, from which moments for this number of states are drawn."""
-        moments = 1 + -(-states // len(self.disk.WAYS))
+        moments = 3 * states // len(self.disk.WAYS)  # since some of the states are equal
         self._chosen = {self.disk.operations + it for it in self._drawn.sample(range(calls), min(calls, moments))}
         self.disk.before_each = self._cut
         for tick in range(ticks):
@@ -138,8 +138,8 @@ async def test_busy_class_opens_after_cuts_in_seven_ways(
             await lesson.work(ticks=30, states=-(-STATES // 2), calls=800)
         cuts += lesson.cuts
     different = {json.dumps(sorted((name, data.hex()) for name, data in cut[0].items())): cut for cut in cuts}
-    assert len(different) >= 0.8 * STATES
+    assert len(different) >= STATES
     for module in (disk_files, journal):
         monkeypatch.setattr(module, "os", SimpleNamespace(**vars(os) | {"fsync": lambda file: None}))
-    for contents, known in different.values():
+    for contents, known in random.Random(STATES).sample(list(different.values()), STATES):
         check(contents, known, tmp_path / "cut", program)

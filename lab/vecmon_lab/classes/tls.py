@@ -137,7 +137,7 @@ class HandshakeServer:
         with contextlib.suppress(OSError):  # of a client that sends nothing, speaks no TLS, or goes away
             async with asyncio.timeout(self._seconds):
                 await _readable(connection)
-                if connection.recv(1, socket.MSG_PEEK) in METHOD_STARTS:
+                if _is_plain(connection):
                     await _refuse_plain(connection)
                     return
                 await asyncio.get_running_loop().connect_accepted_socket(self._make, connection, ssl=self._context)
@@ -154,6 +154,14 @@ async def _readable(connection: socket.socket) -> None:
         connection.close()
         raise
     loop.remove_reader(connection)
+
+
+def _is_plain(connection: socket.socket) -> bool:
+    """Whether a client has begun a request without TLS."""
+    try:
+        return connection.recv(1, socket.MSG_PEEK) in METHOD_STARTS
+    except OSError:  # which the handshake meets as well
+        return False
 
 
 async def _refuse_plain(connection: socket.socket) -> None:
