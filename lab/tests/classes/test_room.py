@@ -28,7 +28,8 @@ class StandIn:
         self.order: list[str] = []
         self.quantum = 100
         self.go = threading.Semaphore(0)
-        self.size, self.lines, self.digest, self.weight, self.losses = 0, 0, "", 0.0, list[str]()
+        self.size, self.lines, self.weight, self.losses = 0, 0, 0.0, list[str]()
+        self.digest = self.script_digest = ""
 
     def do_all(self, lines: Sequence[str]) -> list[list[str]]:
         if all(map(is_look, lines)):
