@@ -6,9 +6,7 @@ and the median of `state` is below 50 ms: limits for four idle cores.
 """
 
 import asyncio
-import os
 import pathlib
-import signal
 import statistics
 import sys
 import tempfile
@@ -92,7 +90,7 @@ async def main(seconds: float) -> int:
             try:
                 times.append(await measure(room, seconds))
             finally:
-                os.kill(flooder.pid or 0, signal.SIGKILL)
+                flooder.kill()
                 flooder.join()
             await room.end()
     for name, (sits, states) in zip(("idle", "flooded"), times):
