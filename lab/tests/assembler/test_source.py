@@ -77,6 +77,21 @@ def test_sections_have_separate_pages_and_permissions() -> None:
     assert assemble("").lines == []
 
 
+def test_byte_order_mark_is_a_space() -> None:
+    """The columns of the first line count it."""
+    program = assemble("\ufeff_start: nop\n")
+    assert program.labels == {"_start": 0x10000} and program.statements[0].column == 10
+    assert read_source("\ufefffoo1").mistakes[0].column == 2
+
+
+@pytest.mark.parametrize("codec", ["utf-16", "utf-16-le", "utf-16-be"])
+@pytest.mark.parametrize("errors", ["surrogateescape", "replace"])
+def test_utf_16_is_one_mistake(codec: str, errors: str) -> None:
+    text = "_start: nop\n ebreak\n".encode(codec).decode("utf-8", errors)
+    (mistake,) = read_source(text).mistakes
+    assert (mistake.line, mistake.column, mistake.message) == (1, 1, "this file is in UTF-16: save it as UTF-8")
+
+
 def test_long_data_is_split() -> None:
     lines = assemble(".data\n" + ".dword -1\n" * 65 + '.zero 300\n.string "' + "." * 400 + '"').lines
     assert lines[:2] == ["map 10000 1 rw", f"poke 10000 {'ff' * 256}"]
@@ -155,13 +170,13 @@ ERRORS = [
     ("a: addi a0, a0, a", 1, 17, "a number is needed here, and this is an address"),
     ("a: li a0, a", 1, 11, "a number is needed here, and this is an address"),
     (" li a0, 0x10000000000000000", 1, 9, "has more than 64 bits"),
-    (" li a0, -0x8000000000000001", 1, 9, "has more than 64 bits"),
+    (" li a0, -0x10000000000000001", 1, 10, "has more than 64 bits"),
     (" li a0, 18446744073709551616 - 1", 1, 9, "has more than 64 bits"),
     (" li a0, " + "9" * 5000, 1, 9, "has more than 64 bits"),
     (" .byte 255, 256", 1, 13, "256 is out of range: -128 to 255 fit"),
     (" .byte -129", 1, 8, "-129 is out of range"),
     (".data\na: .half a", 2, 10, "65536 is out of range"),
-    (" .dword -0x8000000000000001", 1, 9, "is out of range"),
+    (" .word -0x8000000000000001", 1, 8, "9223372036854775807 is out of range"),
     (" .word", 1, 2, ".word takes one operand or more"),
     (' .string "never ends', 1, 10, "this string doesn't end on its line"),
     (' .string "ends\\"', 1, 10, "this string doesn't end on its line"),
@@ -319,11 +334,13 @@ def test_li_loads_constant(value: int) -> None:
 @PURE
 @given(st.sampled_from([1, 2, 4, 8]), st.integers(-(1 << 64), 1 << 65), st.booleans(), st.integers(0, 99))
 def test_data_directive_accepts_numbers(width: int, value: int, hexadecimal: bool, more: int) -> None:
+    """Numbers have 64 bits: -0xffffffffffffffff is 1, as in GNU as and clang."""
     directive = {1: ".byte", 2: ".half", 4: ".word", 8: ".dword"}[width]
     digits = hex(abs(value)) if hexadecimal else str(abs(value))
     text = f".data\n{directive} {'-' if value < 0 else ''}{digits}, {more} - {more} + 7\n"
-    if abs(value) < 1 << 64 and -(1 << 8 * width - 1) <= value < 1 << 8 * width:
-        expected = (value % (1 << 8 * width)).to_bytes(width, "little") + (7).to_bytes(width, "little")
+    wrapped = value if value >= -(1 << 63) else value + (1 << 64)
+    if abs(value) < 1 << 64 and -(1 << 8 * width - 1) <= wrapped < 1 << 8 * width:
+        expected = (wrapped % (1 << 8 * width)).to_bytes(width, "little") + (7).to_bytes(width, "little")
         assert assemble(text).lines[1:] == [f"poke 10000 {expected.hex()}"]
     else:
         with pytest.raises(SourceError):

@@ -13,7 +13,7 @@ from .statements import statements, without_comments
 MAX_DEPTH = 50  # of calls and repetitions inside each other
 MAX_STATEMENTS = 20_000  # of all calls and repetitions
 _HEAD = re.compile(r"\s*((?:[\w.$]+\s*:\s*)*)([A-Za-z_.$][\w.$]*)?", re.ASCII)
-_REPETITIONS = (".rept", ".irp", ".irpc")
+_REPETITIONS = (".rept", ".rep", ".irp", ".irpc")
 _ENDS = {".macro": (".endm", ".endmacro"), **dict.fromkeys(_REPETITIONS, (".endr", ".endm"))}
 _OPENINGS: dict[str, tuple[str, ...]] = {".macro": (".macro",), **dict.fromkeys(_REPETITIONS, _REPETITIONS)}
 _NUMBER_TESTS: Mapping[str, Callable[[int], bool]] = {
@@ -54,9 +54,7 @@ class Blocks:
         self._is_leaving = False
         self._handlers: dict[str, Callable[[str, Line, Iterator[Line]], Iterable[Line]]] = {
             ".macro": self._define,
-            ".rept": self._repeat,
-            ".irp": self._repeat,
-            ".irpc": self._repeat,
+            **dict.fromkeys(_REPETITIONS, self._repeat),
             ".include": self._include,
             ".exitm": self._leave,
             ".purgem": self._purge,
@@ -157,12 +155,20 @@ class Blocks:
         return ()
 
     def _body(self, name: str, line: Line, lines: Iterator[Line]) -> list[Line]:
-        """The statements up to the end of a block, which is left out. Raises SourceError if it doesn't end."""
-        body, depth = list[Line](), 1
+        """The statements up to the end of a block, which is left out. Raises SourceError if it doesn't end.
+
+        In a repetition, .endm ends a macro that the repetition defines.
+        """
+        body, depth, macros = list[Line](), 1, 0
         for each in lines:
             head = _HEAD.match(each.text)
             word = head[2].lower() if head and head[2] else ""
-            depth += (word in _OPENINGS[name]) - (word in _ENDS[name])
+            if name != ".macro" and word == ".macro":
+                macros += 1
+            elif macros and word in _ENDS[".macro"]:
+                macros -= 1
+            else:
+                depth += (word in _OPENINGS[name]) - (word in _ENDS[name])
             if depth == 0:
                 return body
             body.append(each)
@@ -185,10 +191,10 @@ class Blocks:
     def _rounds(self, name: str, line: Line) -> Iterable[Mapping[str, Line]]:
         """The arguments of each repetition. Raises SourceError."""
         start = len(name)
-        if name == ".rept":
+        if name in (".rept", ".rep"):
             number = self._number(line)
             if number < 0:
-                raise line.error(start, ".rept takes how often its lines are repeated")
+                raise line.error(start, f"{name} takes how often its lines are repeated")
             return ({} for _ in range(number))
         symbol, *values = separate_arguments(line, start) or [line.part(start)]
         if not re.fullmatch(r"[A-Za-z_.$][\w.$]*", symbol.text, re.ASCII):

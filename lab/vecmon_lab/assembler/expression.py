@@ -1,7 +1,7 @@
 """Expressions of a source, with the operators and precedences of GNU as."""
 
 from collections.abc import Callable
-from dataclasses import dataclass, field
+from dataclasses import dataclass, field, replace
 
 from .line import Kind, Operand, Token
 from .value import Value
@@ -124,9 +124,9 @@ class Expression:
             self._close(token)
             return value
         if token.text in "+-":
-            return Value(0).plus(self._term(), -1 if token.text == "-" else 1)
+            return _sum(Value(0), self._term(), -1 if token.text == "-" else 1)
         if token.text in _PREFIXES:
-            return Value(_PREFIXES[token.text](_number(token, self._term())))
+            return Value(_wrapped(_PREFIXES[token.text](_number(token, self._term()))))
         name = self._peek()
         if token.text == "%" and name and name.kind is Kind.NAME:
             return self._function(self._take())
@@ -169,11 +169,17 @@ def _number(token: Token, value: Value) -> int:
     return value.number
 
 
+def _sum(left: Value, right: Value, sign: int) -> Value:
+    """The sum of two values, or with sign -1 their difference, in 64 bits."""
+    total = left.plus(right, sign)
+    return replace(total, number=_wrapped(total.number))
+
+
 def _applied(operator: Token, left: Value, right: Value) -> Value:
     """The value of two terms and an operator between them. Raises SourceError."""
     name = operator.text
     if name in "+-":
-        return left.plus(right, 1 if name == "+" else -1)
+        return _sum(left, right, 1 if name == "+" else -1)
     if name in _COMPARISONS:
         if left.is_number and right.is_number:
             left, right = Value(signed(left.number)), Value(signed(right.number))

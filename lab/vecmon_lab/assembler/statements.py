@@ -10,9 +10,21 @@ _COMMENT = re.compile(rf"(?:{_TEXT})|(?P<LINE>(?:#|//)[^\n]*)|(?P<BLOCK>/\*.*?(?
 _END = re.compile(rf"(?:{_TEXT})|(?P<END>;)")
 
 
+_BYTE_ORDER_MARK = "\ufeff"
+_UTF_16 = re.compile(r"(?:\udcff\udcfe|\udcfe\udcff|\ufffd\ufffd)?(?:(?:\0[^\0]){2}|(?:[^\0]\0){2})")
+"""The start of ASCII in UTF-16 that was read as UTF-8: maybe a byte order mark, whose bytes are escaped or replaced, and zeros."""
+
+
 def without_comments(text: str) -> tuple[str, SourceError | None]:
-    """A source with spaces in place of its comments, so that columns stay, and the error of a comment that doesn't end."""
+    """A source with spaces in place of its comments, so that columns stay, and the error of a comment that doesn't end.
+
+    A byte order mark at its start is a space, too. A source in UTF-16 is empty, and has an error.
+    """
     error: SourceError | None = None
+    if _UTF_16.match(text):
+        return "", SourceError(1, 1, "this file is in UTF-16: save it as UTF-8")
+    if text.startswith(_BYTE_ORDER_MARK):
+        text = f" {text[1:]}"
 
     def blank(match: re.Match[str]) -> str:
         nonlocal error
