@@ -6,7 +6,7 @@ from collections.abc import AsyncIterator
 import pytest
 import pytest_asyncio
 
-from support.class_tabs import Served, served
+from support.class_tabs import Served, Tab, served
 from vecmon_lab.classes.view import Class
 
 pytestmark = pytest.mark.asyncio
@@ -77,6 +77,54 @@ async def test_draft_is_stored_for_seat(room: Served) -> None:
     assert "no such request" in (await teacher.ask("draft", text="x", number=0))["error"]
     await tab.ask("draft", text="\ud800", number=1)
     assert tab.view["source"]["text"] == "?"
+
+
+async def test_both_windows_of_a_seat_are_counted(room: Served) -> None:
+    """A connection of the same page, which has just reconnected, isn't another window; nor is another seat's or the teacher's."""
+    tab, other = await room.sit("A1"), await room.sit("A1")
+    await room.sit("A2")
+    await room.sit("teacher")
+    for each in (tab, other):
+        await each.until(lambda view: view.get("windows") == 2)
+    await other.socket.close()
+    await tab.until(lambda view: "windows" not in view)
+    for _ in range(2):
+        socket = await room.session.ws_connect(room.url + "socket", max_msg_size=0)
+        await socket.send_json({"code": room.codes["A3"], "page": "b" * 32})
+        page = Tab(socket)
+        await page.receive()
+        assert page.who == "A3" and "windows" not in page.view
+
+
+async def test_window_with_another_text_has_one_version(room: Served) -> None:
+    """Its drafts leave the seat's text, and become one version, until it is made the seat's: then the other text is a version."""
+    tab, other = await room.sit("A1"), await room.sit("A1")
+    await tab.ask("draft", text="first", number=0)
+    for text in ("s", "se", "sec"):
+        await other.ask("draft", text=text, number=-1, window="w")
+    await other.ask("draft", text="third", number=-1, window="v")
+    source = other.view["source"]
+    assert (source["text"], source["number"], [each["number"] for each in source["versions"]]) == ("first", 1, [1, 2])
+    assert [(await tab.ask("version", number=number))["text"] for number in (1, 2)] == ["sec", "third"]
+    await other.ask("draft", text="second", number=1, window="w")
+    source = other.view["source"]
+    assert (source["text"], source["number"], len(source["versions"])) == ("second", 2, 3)
+    assert (await tab.ask("version", number=3))["text"] == "first"
+    assert room.members
+    keep(room.members)
+    kept = {path.name: path.read_text() for path in (room.folder / "sources").iterdir()}
+    assert kept == {"A1.1.typed.s": "sec", "A1.2.typed.s": "third", "A1.3.typed.s": "first"}
+
+
+async def test_teachers_source_is_marked_until_it_changes(room: Served) -> None:
+    tab, teacher = await room.sit("A1"), await room.sit("teacher")
+    await tab.ask("draft", text="mine", number=0)
+    assert "given" not in tab.view["source"]
+    assert "error" not in await teacher.ask("give", seats=["A1"], text="theirs")
+    await tab.until(lambda view: view["source"]["text"] == "theirs")
+    assert tab.view["source"]["given"]
+    await tab.ask("draft", text="mine again", number=tab.view["source"]["number"])
+    assert "given" not in tab.view["source"]
 
 
 async def test_late_draft_is_version(room: Served) -> None:

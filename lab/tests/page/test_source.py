@@ -15,6 +15,8 @@ ABOVE = """((menu, button) => Math.abs(button.top - menu.bottom) < 8 && menu.lef
     ...["file", "show-file"].map((name) => id(name).getBoundingClientRect()))"""
 PASTE = """((data) => (data.setData("text/plain", arguments[0]), code().getInputField().dispatchEvent(
     new ClipboardEvent("paste", { clipboardData: data, bubbles: true, cancelable: true }))))(new DataTransfer())"""
+TYPE_ON = """(window.later = setTimeout, window.setTimeout = (call, pause) => pause === 700 ? 0 : later(call, pause),
+    code().replaceRange(' behind', { line: 1e9, ch: 0 }))"""  # which isn't sent before `later` is there again
 TYPED = "loop: vadd.vx v1, v2, x5\n        j loop\n        nop     # it's an add\n        fro"
 
 
@@ -138,6 +140,50 @@ def test_source_is_shared_by_tabs_of_seat(sit: Sit) -> None:
     assert "mine" not in outsider.run(TEXT)
     teacher.type("x")
     assert teacher.run(f"{TEXT}.endsWith('# mine')")
+
+
+def test_two_windows_of_a_seat_type_at_once(sit: Sit) -> None:
+    """Each keeps its text, both say that there are two, and the text of each is the seat's or a version."""
+    from selenium.webdriver.common.keys import Keys
+
+    ahead, behind = sit("A6"), sit("A6")
+    ahead.type(Keys.CONTROL, Keys.END, Keys.NULL, "# both")
+    behind.wait(f"{TEXT}.endsWith('# both')")
+    behind.run(TYPE_ON)
+    ahead.type(" ahead")
+    behind.wait("[...id('versions').options].length > 1 || text().includes('ahead') || id('use-own')?.hidden === false")
+    assert behind.run(TEXT).endswith("# both behind")
+    behind.wait("id('windows-say').textContent.includes('kept as a version') && !id('use-own').hidden")
+    ahead.wait("id('windows-say').textContent === 'This seat is open in 2 windows.' && id('use-own').hidden")
+    behind.run("(window.setTimeout = later, 0)")
+    behind.type(" of it")
+    kept = behind.run(TEXT)
+    assert kept.endswith(" of it") and ahead.run(TEXT).endswith("# both ahead")
+    behind.click("#show-other")
+    behind.wait(f"{TEXT}.endsWith('# both ahead') && id('use-own').hidden")
+    behind.type(Keys.CONTROL, "z", Keys.NULL)  # which nobody else changes
+    ahead.wait(f"{TEXT} === arguments[0]", kept)
+    behind.click("#show-file")
+    assert behind.run("[...id('versions').options].length") > 1
+    ahead.activate().close()
+    ahead.browser.switch_to.window(behind.handle)
+    behind.wait("id('windows').hidden")
+
+
+def test_window_makes_its_text_the_seats(sit: Sit) -> None:
+    """The other window, where nothing was typed since, shows it then; its text is a version."""
+    from selenium.webdriver.common.keys import Keys
+
+    ahead, behind = sit("A7"), sit("A7")
+    behind.wait("!id('windows').hidden")
+    behind.run(TYPE_ON)
+    ahead.type(Keys.CONTROL, Keys.END, Keys.NULL, " ahead")
+    behind.wait("!id('use-own').hidden")
+    behind.run("(window.setTimeout = later, 0)")
+    behind.click("#use-own")
+    for each in (ahead, behind):
+        each.wait(f"{TEXT}.endsWith(' behind') && id('use-own').hidden")
+    behind.wait("[...id('versions').options].length === 2")
 
 
 def test_given_source_is_offered(sit: Sit, tmp_path: pathlib.Path) -> None:

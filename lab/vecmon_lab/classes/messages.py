@@ -30,6 +30,7 @@ class SourceView(TypedDict):
     language: the number of its language; number: of changes since the server started
     exercise: the open one, or ""; `stands`: whether the machine has this source; versions: the last 50, in order
     own_program: in the playground, whether there is a program that belongs to no exercise
+    given: whether the teacher has put the text there
     """
 
     text: str
@@ -39,6 +40,7 @@ class SourceView(TypedDict):
     stands: bool
     versions: list[VersionView]
     own_program: NotRequired[bool]
+    given: NotRequired[bool]
 
 
 class Offer(TypedDict):
@@ -334,6 +336,8 @@ def source_view(source: SeatSource, seat: Seat, titles: Mapping[str, str]) -> So
         "stands": source.own == seat.written,
         "versions": cast(list[VersionView], versions),
     }
+    if source.is_given:
+        view["given"] = True
     if source.has_free_program:
         view["own_program"] = bool(source.free_program.text)
     return view

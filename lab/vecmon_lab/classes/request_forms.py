@@ -175,6 +175,8 @@ class DraftRequest(NumberedRequest, SourceFields):
 
     number: that the seat's source had; exercise: for which it was typed, by default the open one
     keep: whether it becomes a version; line: the number of the caret's line, by default unknown
+    window: a name of the window, if another one has changed the source: with another number than the source has, the text becomes one
+        version, which later drafts by this name replace; with that number, the source, and the one there becomes a version
     """
 
     ask: Literal["draft"]
@@ -182,6 +184,7 @@ class DraftRequest(NumberedRequest, SourceFields):
     exercise: NotRequired[str]
     keep: NotRequired[bool]
     line: NotRequired[int]
+    window: NotRequired[str]
 
 
 class OpenRequest(NumberedRequest):

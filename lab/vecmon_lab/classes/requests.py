@@ -206,6 +206,7 @@ class Draft:
 
     exercise: the one that it was typed for; "" for the open one; is_kept: whether it becomes a version
     line: the number of the caret's line, 0 if it is unknown
+    window: a name of the window, if another one has changed the seat's source; "" else
     """
 
     source: SourceText
@@ -213,6 +214,7 @@ class Draft:
     exercise: str
     is_kept: bool
     line: int
+    window: str
 
 
 @dataclass(frozen=True)
@@ -399,7 +401,9 @@ _OF_STUDENTS: Mapping[str, Reader] = {
     "breakpoint": lambda it: ToggleBreakpoints(_line(it), _flag(it, "set")),
     "last-instruction": lambda it: FindLastRead(),
     "why": lambda it: Why(_name(it, "name"), _notation(it)),
-    "draft": lambda it: Draft(_source(it), _number(it), _name(it, "exercise"), _flag(it, "keep"), _line(it)),
+    "draft": lambda it: Draft(
+        _source(it), _number(it), _name(it, "exercise"), _flag(it, "keep"), _line(it), _name(it, "window")[:40]
+    ),
     "open": lambda it: OpenOffer(_number(it)) if "number" in it else OpenExercise(_name(it, "exercise")),
     "read": lambda it: ReadNotice(_number(it)),
     "hand": lambda it: _hand(it),

@@ -192,7 +192,9 @@ class Server:
             own.limits.has_code = True
             self.connections.tabs.add(request.protocol)
             page, abort, budget = self._pages.open(role, name), partial(_abort, request), self._budgets[role]
-            await TabSocket(self._requests, own, Tab(role), page, abort, budget).serve(lambda: self._is_ending)
+            tab = Tab(role)
+            tab.page = page[0]
+            await TabSocket(self._requests, own, tab, page, abort, budget).serve(lambda: self._is_ending)
         return own
 
     async def _who(self, request: web.Request, own: web.WebSocketResponse) -> tuple[str | None, object]:

@@ -23,7 +23,7 @@ from .requests import BadRequest
 from .text_store import TextStore
 
 MADE, CASE, OPEN, DRAFTS = "written.json", "case", "exercise", "drafts"
-MAX_VERSIONS = 50
+MAX_VERSIONS, MAX_WINDOWS = 50, 8
 TYPING_SECONDS = 30.0  # after which what is typed becomes a version
 
 Version = TypedDict("Version", {"number": int, "time": int, "why": str, "language": int, "exercise": str})
@@ -39,6 +39,7 @@ class SeatSource:
     case: the exercise and the number of the case that is tried with the source in the machine; None without one
     opened: when its student opened it, in seconds since 1970; 0 before, and where it is unknown
     caret: the number of the line in which the student typed last; 0 if it is unknown
+    is_given: whether the teacher has put the source there
     has_free_program: whether a program without an exercise can be opened next to the exercises
     """
 
@@ -47,6 +48,8 @@ class SeatSource:
     def __init__(self, name: str, store: TextStore) -> None:
         self._name, self._store, self.number = name, store, 0
         self.caret = 0
+        self.is_given = False
+        self._windows: dict[str, int] = {}  # versions by names of windows whose text isn't the source
         self._unsaved: dict[int, SourceText] = {}  # versions by number
         self._left: dict[str, SourceText] = {}  # sources of exercises that aren't open, unless they are saved
         self.versions = self._found()
@@ -94,20 +97,45 @@ class SeatSource:
         left = self._left.pop(exercise, None) or kept_source(self._store, self._place(exercise))
         self.own = left if left.text else SourceText("", self.own.language)
         self.exercise, self.caret, self.number, self._gift = exercise, 0, self.number + 1, None
+        self.is_given = False
         self._newest, self._since = self._newest_of(exercise), time.time()
 
-    def draft(self, source: SourceText, number: int, exercise: str = "", is_kept: bool = False) -> None:
+    def draft(
+        self, source: SourceText, number: int, exercise: str = "", is_kept: bool = False, window: str = ""
+    ) -> None:
         """Takes up one that was typed where the source had this number; it is a version alone where it has another.
 
         exercise: the one that it was typed for, "" for the open one; is_kept: whether it becomes a version, since the page
-        replaces it next
+        replaces it next; window: a name of one that shows another text than the source, which has one version; "" of others
         """
         exercise = exercise or self.exercise
         is_current = number == self.number and exercise == self.exercise
+        if window and not is_current:
+            self._keep_apart(source, exercise, window)
+            return
+        if window and self.own.text:
+            self._add_version(self.own, "typed")
         if is_current:
             self._change(source)
         if source.text and (is_kept or not is_current):
             self._add_version(source, "typed", exercise)
+
+    def _keep_apart(self, source: SourceText, exercise: str, window: str) -> None:
+        """Make a version of a window's text, in place of the one that it had before."""
+        number = self._windows.get(window)
+        for place, version in enumerate(self.versions):
+            if (version["number"], version["exercise"], version["language"]) == (number, exercise, source.language):
+                self.versions = [*self.versions]
+                self.versions[place] = {**version, "time": int(time.time())}
+                self._unsaved[version["number"]] = source
+                self._newest = self._newest_of(self.exercise)
+                return
+        before = self.versions
+        self._add_version(source, "typed", exercise)
+        if self.versions is not before:
+            self._windows[window] = self.versions[-1]["number"]
+        while len(self._windows) > MAX_WINDOWS:
+            del self._windows[next(iter(self._windows))]
 
     def write(self, source: SourceText, number: int = -1) -> None:
         """Takes up one that is written into memory. What is there becomes a version where it has another number than this."""
@@ -120,7 +148,7 @@ class SeatSource:
         """Take up the teacher's; the student's own becomes a version. Return whether it replaces another text."""
         before = self.own
         self.take_up(source)
-        self._gift = (source, before)
+        self._gift, self.is_given = (source, before), True
         return before.text not in ("", source.text)
 
     def take_up(self, source: SourceText) -> None:
@@ -136,6 +164,7 @@ class SeatSource:
         if gift is None or self.own != gift[0] or gift[0] == gift[1]:
             return False
         self._change(gift[1])
+        self.is_given = True
         if gift[1].text:
             self._add_version(gift[1], "typed")
         return True
@@ -201,6 +230,7 @@ class SeatSource:
         return is_written
 
     def _change(self, source: SourceText) -> None:
+        self.is_given = False
         if source != self.own:
             self._since = time.time() if self.own == self._newest else self._since
             self.own, self.number = source, self.number + 1

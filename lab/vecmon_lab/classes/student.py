@@ -85,6 +85,7 @@ class ClassView(TypedDict):
     class_title: the class's; "" without one
     name: the student's, or ""; messages: the teacher's last ones by number, oldest first; images: names for `load`
     clock: whether it is on; own_slices: whether the student may grant slices
+    windows: how many windows the seat is open in, if there are two or more
     hand: the student's, while it is up
     examples: of a page that starts without a source
     no_c: why C is missing, or ""; against: compilers with options for side-by-side listings, numbered alike; none in a class
@@ -99,6 +100,7 @@ class ClassView(TypedDict):
     images: list[str]
     clock: bool
     own_slices: bool
+    windows: NotRequired[int]
     no_c: str
     against: list[str]
     ready: bool
@@ -253,7 +255,7 @@ class Student:
         """Keeps the text in the editor, and its caret's line. Raises BadRequest for an unknown exercise."""
         if draft.exercise and draft.exercise not in self.exercises.known:
             raise BadRequest("there is no such exercise")
-        self.source.draft(draft.source, draft.number, draft.exercise, draft.is_kept)
+        self.source.draft(draft.source, draft.number, draft.exercise, draft.is_kept, draft.window)
         self.source.caret = draft.line
 
     def _try(self, tried: TryCase) -> Steps[SourceResult]:

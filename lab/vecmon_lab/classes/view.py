@@ -41,7 +41,10 @@ class Given(TypedDict):
 
 
 class Tab:
-    """A tab and what it was sent. `changed` is set when there may be more; `is_open` falls with its code."""
+    """A tab and what it was sent. `changed` is set when there may be more; `is_open` falls with its code.
+
+    page: the open page; one that has just reconnected may have two tabs
+    """
 
     def __init__(self, role: str) -> None:
         self.who = role
@@ -49,6 +52,7 @@ class Tab:
         self.sent = Updates()
         self.changed = asyncio.Event()
         self.is_open = True
+        self.page: object = self
 
 
 class Class:
@@ -229,6 +233,9 @@ class Class:
         }
         if hand := self.hands.of(student.seat.name):
             others["hand"] = hand
+        windows = len({id(tab.page) for tab in self.tabs if tab.who == student.seat.name})
+        if windows > 1:
+            others["windows"] = windows
         if self.examples:
             others["examples"] = self.examples
         return student.view(others)

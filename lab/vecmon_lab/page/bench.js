@@ -190,7 +190,7 @@ export class Bench {
   /** Runs or steps the program; a source that has changed is built first. With problems it leads to the first one. */
   async execute(/** @type {import("./types").RunAction} */ request) {
     if (!this.hasChanged) return this.request(request);
-    const answer = await this.build({ ...request, number: this.source.told?.number });
+    const answer = await this.build({ ...request, number: this.source.number });
     if (answer?.mistakes?.length && this.problems.all.length) this.problems.goOn(1);
     return answer;
   }
@@ -313,10 +313,11 @@ export class Bench {
   }
 
   /** Shows the seat's source; one that the teacher has just given is opened. */
-  showSource(/** @type {View} */ { seat, state, source, share }) {
+  showSource(/** @type {View} */ { seat, state, source, share, windows = 1 }) {
     const { told } = this.source;
     const isGiven = told && told.versions !== source.versions && source.versions.at(-1)?.why === "given";
     this.source.show(seat, source);
+    this.source.showWindows(windows);
     if (!told) takeKeptLines(this.waiting, this.source.loaded); // as before a reload
     const { moment } = this.desk.past;
     if (moment && !moment.source && !source.stands) this.desk.past.showNow();
@@ -378,7 +379,7 @@ export class Bench {
   }
 
   /** Loads the source into a new machine, whose text becomes a version if it is another one; or does what another request says. */
-  async write(/** @type {import("./types").SourceAction} */ request = { ask: "source", number: this.source.told?.number }) {
+  async write(/** @type {import("./types").SourceAction} */ request = { ask: "source", number: this.source.number }) {
     const answer = await this.build(request);
     if (answer?.listings) open(`listings/${answer.listings}`);
     if (answer?.mistakes) this.panes.show(answer.mistakes.length || request.ask === "case" ? "editor" : "listing");

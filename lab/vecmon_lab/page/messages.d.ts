@@ -165,6 +165,8 @@ export interface CodesRequest {
  *
  * number: that the seat's source had; exercise: for which it was typed, by default the open one
  * keep: whether it becomes a version; line: the number of the caret's line, by default unknown
+ * window: a name of the window, if another one has changed the source: with another number than the source has, the text becomes one
+ *     version, which later drafts by this name replace; with that number, the source, and the one there becomes a version
  */
 export interface DraftRequest {
   id: number;
@@ -175,6 +177,7 @@ export interface DraftRequest {
   exercise?: string;
   keep?: boolean;
   line?: number;
+  window?: string;
 }
 
 /**
@@ -962,6 +965,7 @@ export interface SourceResult {
  * language: the number of its language; number: of changes since the server started
  * exercise: the open one, or ""; `stands`: whether the machine has this source; versions: the last 50, in order
  * own_program: in the playground, whether there is a program that belongs to no exercise
+ * given: whether the teacher has put the text there
  */
 export interface SourceView {
   text: string;
@@ -971,6 +975,7 @@ export interface SourceView {
   stands: boolean;
   versions: VersionView[];
   own_program?: boolean;
+  given?: boolean;
 }
 
 export interface Start {
@@ -1080,6 +1085,7 @@ export interface StudentView {
   images: string[];
   clock: boolean;
   own_slices: boolean;
+  windows?: number;
   no_c: string;
   against: string[];
   ready: boolean;

@@ -14,7 +14,7 @@ export type Parts =
     | "show-listing" | "show-memory" | "show-message" | "show-output" | "show-problems" | "show-reference" | "show-registers"
     | "show-source" | "show-variables" | "show-welcome" | "slice" | "start-over" | "step-once" | "step-out" | "step-over" | "tab-answers"
     | "tab-dock" | "tab-exercise" | "tab-program" | "tab-state" | "tab-vectors" | "take" | "to-exercises" | "to-start" | "unfold-exercise"
-    | "until-go" | "yes"
+    | "until-go" | "show-other" | "use-own" | "yes"
   > &
   Ids<HTMLDListElement, "facts" | "keys" | "teacher-keys"> &
   Ids<HTMLDialogElement, "ask" | "copy" | "edit" | "exercises" | "join-class" | "key-list" | "settings"> &
@@ -54,5 +54,5 @@ export type Parts =
     | "split-dock" | "split-exercise" | "split-left" | "split-middle" | "split-state" | "start" | "start-page" | "start-title" | "state"
     | "step" | "stepped" | "stepped-title" | "stop" | "summary" | "summary-says" | "tables" | "teacher" | "trouble" | "try-count"
     | "unencrypted" | "unused-registers" | "users" | "variables" | "vectors" | "vectors-title" | "verdict" | "welcome" | "welcome-title"
-    | "who" | "why-no-c" | "written"
+    | "who" | "why-no-c" | "windows" | "windows-say" | "written"
   >;

@@ -32,6 +32,9 @@ export class Source {
   /** @type {Map<number, number>} */ held = new Map(); // lines with breakpoints of the loaded program, by their numbers in the changed text
   isTyped = false;
   timer = 0;
+  apart = ""; // a name of this window, while its text isn't the seat's since another window has changed that; or ""
+  keptApart = ""; // the key of its last version
+  windows = 1; // that the seat is open in
   /** @type {() => Promise<unknown>} */ openFree = async () => undefined; // opens the program without an exercise, where there is one
   /** @type {{ of: number, used: number } | undefined} */ share; // the seat's, of the script
 
@@ -45,8 +48,10 @@ export class Source {
     this.connection = connection;
     this.loaded = new LoadedLines(editor.code);
     this.file = part(root, "open");
-    this.parts = parts(root, "versions", "assemble", "left");
-    const { versions } = this.parts;
+    this.parts = parts(root, "versions", "assemble", "left", "windows", "windows-say", "use-own", "show-other");
+    const { versions, "use-own": useOwn, "show-other": showOther } = this.parts;
+    useOwn.addEventListener("click", () => this.useOwn());
+    showOther.addEventListener("click", () => this.showOther());
     document.addEventListener("visibilitychange", () => (this.keepUnsaved(), this.send()));
     addEventListener("pagehide", () => this.keepUnsaved());
     versions.addEventListener("change", () => this.showVersion(versions.selectedIndex));
@@ -81,6 +86,7 @@ export class Source {
     this.timer = 0;
     const { source } = this.editor;
     if (!this.told || !this.isTyped || this.isTooLong || !this.connection.isReady || keyOf(source) === keyOf(this.told)) return;
+    if (this.apart && keyOf(source) === this.keptApart) return;
     if (this.sent.size) this.timer = setTimeout(() => this.send(), PAUSE);
     else await this.bringOwn({ line: this.editor.caretLine });
   }
@@ -98,11 +104,40 @@ export class Source {
     return carryOut().finally(() => this.sent.delete(keyOf(source)));
   }
 
+  /** The number of the seat's source that the editor's text comes from; -1 if another window has changed that since. */
+  get number() { return this.apart ? -1 : this.told?.number; }
+
   /** Sends the editor's text to the server, with its exercise; a text to keep becomes a version. line: the caret's */
-  bringOwn(/** @type {{ keep?: boolean, line?: number }} */ more) {
+  bringOwn(/** @type {{ keep?: boolean, line?: number, number?: number }} */ more) {
     const { source } = this.editor;
-    const { number = 0, exercise } = this.told ?? {};
-    return this.bring(source, () => this.connection.ask({ ask: "draft", ...source, number, exercise, ...more }));
+    const { number = 0, exercise = "" } = { ...this.told, number: this.number };
+    const window = this.apart ? { window: this.apart } : {};
+    if (this.apart) this.keptApart = keyOf(source);
+    return this.bring(source, () => this.connection.ask({ ask: "draft", ...source, number, exercise, ...window, ...more }));
+  }
+
+  /** Makes this window's text the seat's; that of the other window becomes a version. */
+  async useOwn() {
+    if (this.apart && this.told && !this.isTooLong) await this.bringOwn({ number: this.told.number, line: this.editor.caretLine });
+  }
+
+  /** Shows the seat's text in place of this window's, which becomes a version first. */
+  async showOther() {
+    const answer = this.apart && !this.isTooLong ? await this.bringOwn({}) : null;
+    if (!answer || answer.error || !this.told) return;
+    this.apart = "";
+    this.editor.put(this.told);
+    this.showWindows();
+  }
+
+  /** Shows in how many windows the seat is open, and whether this one has a text of its own. */
+  showWindows(windows = this.windows) {
+    this.windows = windows;
+    const { windows: line, "windows-say": says, "use-own": useOwn, "show-other": showOther } = this.parts;
+    const several = windows > 1 ? textOf("windows.open", { number: `${windows}` }) : "";
+    put(says, this.apart ? textOf("windows.apart") : several);
+    line.hidden = !this.apart && windows < 2;
+    useOwn.hidden = showOther.hidden = !this.apart;
   }
 
   /** Whether the text is too long to become a version. */
@@ -146,7 +181,15 @@ export class Source {
     const versions = source.versions.map(versionText).reverse();
     if (told?.versions !== source.versions) offer(this.parts.versions, textOf("source.versions"), versions);
     if (isOther && this.isTooLong) return;
+    const isSeatsWindow = !isNew && !source.given && source.exercise === told.exercise && !editor.isReadOnly;
+    const isTheirs = isOther && isSeatsWindow && this.isTyped && keyOf(editor.source) !== keyOf(told);
     Object.assign(this, { seat, told: source });
+    if (!isSeatsWindow || keyOf(source) === keyOf(editor.source)) this.apart = "";
+    else if (isTheirs) this.apart ||= Math.random().toString(36).slice(2, 12);
+    if (this.apart) {
+      this.timer ||= setTimeout(() => this.send(), PAUSE);
+      return;
+    }
     if (isNew || editor.isReadOnly) {
       if (isNew ? source.text || editor.isReadOnly : keyOf(source) !== keyOf(told)) editor.put(source);
     } else if (isOther) {

@@ -225,6 +225,12 @@ export interface Places {
   "source.assemble": never;
   "source.too-long": "most";
   "source.typed": never;
+  "windows.open": "number";
+  "windows.apart": never;
+  "windows.use-own": never;
+  "windows.use-own.title": never;
+  "windows.show-other": never;
+  "windows.show-other.title": never;
   "source.assembled": never;
   "source.given": never;
   "source.room": "bytes";
