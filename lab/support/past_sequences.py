@@ -1,5 +1,6 @@
 """Drawn sequences of actions at a seat. A reference machine executes each instruction singly, and knows each state."""
 
+import asyncio
 import json
 import pathlib
 import random
@@ -16,6 +17,9 @@ from support.desk import Desk
 from vecmon_lab.assembler.source import Program
 from vecmon_lab.assembler.trial import read_whole_source
 from vecmon_lab.classes.progress import starts_of
+from vecmon_lab.classes.store import Store
+from vecmon_lab.classes.tab_requests import TabRequests
+from vecmon_lab.classes.view import Class, Tab
 from vecmon_lab.exercises.answer import settled
 from vecmon_lab.exercises.exercise import Exercise, read_exercise
 from vecmon_lab.guest.guest import VECTOR_LOOKS
@@ -54,6 +58,8 @@ ACTIONS = [
     "edit",
 ]
 EXERCISE = "doubles"
+SEAT, OTHER_SEAT, PATIENCE = "A1", "A2", 30.0  # of a class; and seconds that its machine has for an answer
+ENDLESS = "loop: addi t0, t0, 1\nj loop\n"
 Answer = Mapping[str, Any]
 
 
@@ -388,6 +394,54 @@ class PlaygroundPage:
         self._desk.machine.session.close()
 
 
+class ClassPage:
+    """A page of a seat, by the objects of a class's server, while a program of another seat runs on the same machine."""
+
+    def __init__(self, vecmon: pathlib.Path, folder: pathlib.Path) -> None:
+        """folder: the class's, which is new"""
+        self._loop = asyncio.new_event_loop()
+        self._members = Class(Store(folder, vecmon), PATIENCE, exercises=[pathlib.Path(EXERCISE)])
+        self._tabs, self._tab, self._number = TabRequests(self._members), Tab(SEAT), 0
+        self.view: dict[str, Any] = {}
+        room = self._members.rooms[SEAT[0]]
+        room.set_clock({"on": True, "ms": 1, "limit": 1_000_000_000})
+        self._clock = self._loop.create_task(room.clock.run())
+        other = Tab(OTHER_SEAT)
+        self._tabs.hello(other)
+        request = {"id": 1, "ask": "run", "text": ENDLESS, "language": 0, "number": 0}
+        self._loop.run_until_complete(self._tabs.answer(other, json.dumps(request)))
+        assert self._members.seat(OTHER_SEAT).state["run"] == "running"
+        self.reload()
+
+    def ask(self, **fields: object) -> Answer:
+        """The answer to a request."""
+        return self._loop.run_until_complete(self._ask(fields))
+
+    async def _ask(self, fields: Mapping[str, object]) -> Answer:
+        self._number += 1
+        answer: dict[str, Any] = {**await self._tabs.answer(self._tab, json.dumps({"id": self._number, **fields}))}
+        if "error" in answer:
+            raise AssertionError(f"{fields} is refused: {answer['error']}")
+        self.view = patched(self.view, answer.get("patch", {}))
+        while self._members.seat(SEAT).state["run"] == "running":
+            await asyncio.sleep(0.001)
+        self.view = patched(self.view, self._tabs.news(self._tab).get("patch", {}))
+        return answer
+
+    def reload(self) -> None:
+        """The page is opened again."""
+        self._tabs.leave(self._tab)
+        self._tab = Tab(SEAT)
+        self.view = patched({}, self._tabs.hello(self._tab).get("patch", {}))
+
+    def close(self) -> None:
+        """End the class."""
+        self._clock.cancel()
+        self._loop.run_until_complete(asyncio.gather(self._clock, return_exceptions=True))
+        self._members.end()
+        self._loop.close()
+
+
 @contextmanager
 def dense_states() -> Iterator[None]:
     """Let replays save states after a few instructions, so that short programs have them, too."""
@@ -399,17 +453,20 @@ def dense_states() -> Iterator[None]:
         yield
 
 
+def opened(vecmon: pathlib.Path, exercises: Mapping[str, Exercise], folder: pathlib.Path, seed: int) -> Page:
+    """A page of the kind that belongs to a seed: of a desk, a playground or a class. folder: an empty one"""
+    if seed % 3 == 0:
+        return DeskPage(vecmon, exercises)
+    return PlaygroundPage(vecmon, exercises, folder) if seed % 3 == 1 else ClassPage(vecmon, folder / "class")
+
+
 def main() -> None:
     """Check sequences of all seeds below a number: `python -m support.past_sequences 2000`. Half of them save many states."""
     vecmon = find_program()
     exercises = {EXERCISE: settled(vecmon, read_exercise(pathlib.Path(EXERCISE)))}
     for seed in range(int(sys.argv[1])):
-        with tempfile.TemporaryDirectory() as folder, dense_states() if seed % 4 > 1 else nullcontext():
-            is_desk = seed % 2 == 0
-            page: Page = DeskPage(vecmon, exercises)
-            if not is_desk:
-                page.close()
-                page = PlaygroundPage(vecmon, exercises, pathlib.Path(folder))
+        with tempfile.TemporaryDirectory() as folder, dense_states() if seed % 2 else nullcontext():
+            page = opened(vecmon, exercises, pathlib.Path(folder), seed)
             check(page, vecmon, seed, 30)
             page.close()
     print(f"{sys.argv[1]} sequences are right")

@@ -5,7 +5,7 @@ from contextlib import nullcontext
 
 import pytest
 
-from support.past_sequences import EXERCISE, DeskPage, PlaygroundPage, check, dense_states, found
+from support.past_sequences import EXERCISE, ClassPage, DeskPage, PlaygroundPage, check, dense_states, found
 from vecmon_lab.classes.moments import Budget
 from vecmon_lab.classes.requests import BadRequest
 from vecmon_lab.exercises.answer import settled
@@ -41,8 +41,21 @@ def test_drawn_actions_in_the_playground(
         page.close()
 
 
+@pytest.mark.parametrize("seed", range(6))
+def test_drawn_actions_in_a_class(program: pathlib.Path, tmp_path: pathlib.Path, seed: int) -> None:
+    with dense_states() if seed % 2 else nullcontext():
+        page = ClassPage(program, tmp_path / "class")
+        check(page, program, seed, ACTIONS)
+        page.close()
+
+
+@pytest.mark.parametrize("is_class", [False, True])
 def test_history_that_goes_on_through_a_load_is_found(
-    program: pathlib.Path, exercises: dict[str, Exercise], monkeypatch: pytest.MonkeyPatch
+    program: pathlib.Path,
+    exercises: dict[str, Exercise],
+    tmp_path: pathlib.Path,
+    monkeypatch: pytest.MonkeyPatch,
+    is_class: bool,
 ) -> None:
     """A planted error: the instructions of the program before count as those of the new one."""
 
@@ -51,7 +64,7 @@ def test_history_that_goes_on_through_a_load_is_found(
         self._breaks, self.is_running, self.written = frozenset(), False, 0
 
     monkeypatch.setattr(Legs, "_restart", restart)
-    page = DeskPage(program, exercises)
+    page = ClassPage(program, tmp_path / "class") if is_class else DeskPage(program, exercises)
     with pytest.raises(AssertionError, match="seed 4, after"):
         check(page, program, 4, 30)
     page.close()
