@@ -2,7 +2,7 @@
 
 `VECMON=PATH .venv/bin/python lab/tools/back_times.py [INSTRUCTIONS]`, by default 150,000,000. The recorder is next to
 `vecmon`. The run changes 36 bytes in each round of ten instructions, and four others only at its end. Status 1 if a state
-differs.
+differs. The last rows are those of a page's history, which has no recorder.
 """
 
 import os
@@ -17,6 +17,8 @@ from resource import RUSAGE_CHILDREN, RUSAGE_SELF, getrusage
 from support.long_runs import LAST_PLACE, fresh_states, make_long_run, shown
 from vecmon_lab.guest.guest import Guest, started
 from vecmon_lab.machine.program import find_program, find_recorder
+from vecmon_lab.machine.session import Session
+from vecmon_lab.replay.histories import Histories
 from vecmon_lab.replay.timeline import Timeline, never
 from vecmon_lab.replay.watches import Watch
 
@@ -26,9 +28,6 @@ LAST = Watch("watch", LAST_PLACE, 4)
 
 class Times:
     """Prints the seconds that actions take: of the lab's processor, of its programs' processor, and by the clock."""
-
-    def __init__(self, guest: Guest | None = None) -> None:
-        self._guest = guest
 
     def take(self, name: str, action: Callable[[], object]) -> None:
         """Do an action, and print its times."""
@@ -40,9 +39,10 @@ class Times:
     def _now(self) -> tuple[float, float, float]:
         own, others = getrusage(RUSAGE_SELF), getrusage(RUSAGE_CHILDREN)
         programs = others.ru_utime + others.ru_stime
-        if self._guest and self._guest.session.process:
-            words = pathlib.Path(f"/proc/{self._guest.session.process}/stat").read_text("ascii").rpartition(") ")[2]
-            programs += sum(map(int, words.split()[11:13])) / os.sysconf("SC_CLK_TCK")
+        for children in pathlib.Path("/proc/self/task").glob("*/children"):
+            for process in children.read_text("ascii").split():
+                words = pathlib.Path(f"/proc/{process}/stat").read_text("ascii").rpartition(") ")[2]
+                programs += sum(map(int, words.split()[11:13])) / os.sysconf("SC_CLK_TCK")
         return own.ru_utime + own.ru_stime, programs, time.monotonic()
 
 
@@ -58,13 +58,14 @@ def main(instructions: int) -> int:
         states = dict(zip(counts, fresh_states(image, counts)))
         with started(image, write=lambda data: None) as guest:
             is_right = go_back(guest, length, {count: states[count] for count in reversed(counts)})
+        is_right = go_back_on_a_page(image, {count: states[count] for count in reversed(counts)}) and is_right
     print("all states are those of a new machine" if is_right else "a state differs")
     return 0 if is_right else 1
 
 
 def go_back(guest: Guest, length: int, states: dict[int, object]) -> bool:
     """Run a guest to its end, and go back to states by their counts, the largest first; whether each is as given."""
-    timeline, times = Timeline(guest), Times(guest)
+    timeline, times = Timeline(guest), Times()
     times.take("go to the end", lambda: timeline.go(never))
     print(
         f"{len(timeline.saved.states)} states are saved, of {len(timeline.saved.states[-1].snapshot.user.pages)} pages each"
@@ -85,6 +86,30 @@ def go_back(guest: Guest, length: int, states: dict[int, object]) -> bool:
     timeline.back()
     timeline.watches = [LAST]
     times.take("back to a change before, which isn't there", lambda: timeline.back_to_halt((), never))
+    return is_right
+
+
+def go_back_on_a_page(image: pathlib.Path, states: dict[int, object]) -> bool:
+    """Run an image to its end as a page does, and go back to states by their counts; whether each is as given."""
+    times, is_right = Times(), True
+    with Session(find_program(), {"image": image}, quantum=100) as session:
+        histories = Histories(session.quantum, lambda: session.rewound(b""))
+        history = histories.users["1"]
+        for line in ("1 enter", "1 load image", "1 go"):
+            histories.follow(line, session.do(line))
+
+        def run() -> None:
+            while history.legs.is_running:
+                histories.follow("* slices 1000", session.do("* slices 1000"))
+
+        times.take("a page: go to the end", run)
+        times.take("a page: count the instructions", lambda: history.count(never))
+        for count, state in states.items():
+            times.take(f"a page: back to {count:,}", lambda: history.at(count, never))
+            instant = history.at(count, never)
+            is_right = is_right and instant is not None and shown(instant.guest) == state
+        print(f"{len(history.saved.states)} states are saved")
+        histories.close()
     return is_right
 
 

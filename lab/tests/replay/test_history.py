@@ -30,6 +30,17 @@ PRINTS = [
     "ebreak",
 ]
 
+ADDS = [*LOADS[:2], "vadd.vx v1, v1, x5", "vse32.v v1, (x7)", LOADS[2], "jal x0, -20"]
+WRITES_CODE = [
+    "lw x6, 0(x8)",
+    "add x6, x6, x9",
+    "sw x6, 0(x8)",
+    "addi x10, x10, 1",
+    "addi x5, x5, 0",  # at x8: its immediate is 1 more in each round
+    "addi x0, x0, 0",
+    "jal x0, -24",
+]
+
 
 class Played:
     """A machine whose lines a history of each user follows."""
@@ -163,8 +174,9 @@ def test_new_machine_begins_anew(played: Played) -> None:
 
 
 def looks(session: Session) -> list[list[str]]:
-    """All registers, and the data."""
-    return session.do_all([f"1 {look}" for look in ("regs", "vcsr", "peek 20000 64", *VECTOR_LOOKS)])
+    """All registers, the data, the code, and what may be mapped later."""
+    places = ("peek 20000 64", "peek 10000 64", "peek 30ff0 32")
+    return session.do_all([f"1 {look}" for look in ("regs", "vcsr", *places, *VECTOR_LOOKS)])
 
 
 def test_long_way_starts_at_a_saved_state(played: Played) -> None:
@@ -179,17 +191,27 @@ def test_long_way_starts_at_a_saved_state(played: Played) -> None:
     assert history.executed - executed < 5_000_000
 
 
-def test_states_from_saved_ones_are_those_of_stepped_machines(program: pathlib.Path, played: Played) -> None:
-    """Values are written after 60 instructions, when states are saved already, and after 260."""
-    code = [*LOADS[:2], "vadd.vx v1, v1, x5", "vse32.v v1, (x7)", LOADS[2], "jal x0, -20"]
-    edits = {60: ["1 set x5 1000", "1 vset v7 " + "12" * 32], 260: ["1 poke 20000 ff"]}
+@pytest.mark.parametrize(
+    "code,edits",
+    [
+        (ADDS, {60: ["1 set x5 1000", "1 vset v7 " + "12" * 32], 260: ["1 poke 20000 ff"]}),
+        (
+            WRITES_CODE,
+            {60: ["1 map 30000 2 rw", "1 poke 30ff8 1234"], 260: ["1 asm 10014 addi x5, x5, 7", "1 policy ones"]},
+        ),
+    ],
+)
+def test_states_from_saved_ones_are_those_of_stepped_machines(
+    program: pathlib.Path, played: Played, code: list[str], edits: dict[int, list[str]]
+) -> None:
+    """Lines write after 60 instructions, when states are saved already, and after 260."""
     with dense_states():
-        history = played.load("1", code, x7=0x20000)
+        history = played.load("1", code, x7=0x20000, x8=0x10010, x9=0x100000)
         history.saved = SavedStates(lambda: Session(program), 6)
         loaded = played.session.script.decode("ascii").splitlines()
         played.do("1 step 60")
         history.at(50, never)
-        played.do(*edits[60], "1 step 200", *edits[260], "1 step 90")
+        played.do(*edits[60], "1 step 200", *edits[260], "1 step 90", "1 break 10010")
         for count in (349, 348, 263, 200, 59, 349, 301, 260, 60, 120, 5):
             instant = history.at(count, never)
             with Session(program) as session:
@@ -200,6 +222,21 @@ def test_states_from_saved_ones_are_those_of_stepped_machines(program: pathlib.P
                     session.do_all(["1 step 1"] * (number < count))
                 assert instant is not None and looks(instant.guest.session) == looks(session), count
         assert 2 < len(history.saved.states) <= 6
+
+
+def test_long_way_comes_to_its_end_among_short_ones(played: Played) -> None:
+    """As by two windows of a seat: one goes back far, in parts of half a million instructions, and the other by steps at the start."""
+    history = played.load("1", SUM, x6=1_500_000)
+    played.do("1 go", *["* slices 1000"] * 31)
+    assert history.count(never) == 3_000_000
+    history.saved.states.clear()
+    history.at(0, never)
+    for number in range(20):
+        parts = iter([False, False, False, True])
+        if instant := history.at(2_900_001, lambda: next(parts)):
+            break
+        assert x5(history, number) == -(-number // 2)
+    assert instant and instant.guest.query("regs", ScalarRegisters).x[5] == 1_450_001
 
 
 def test_saved_states_have_the_output_before(played: Played) -> None:

@@ -112,6 +112,12 @@ class History:
         self.saved.states.clear()
         self._work = self._wanted = None
 
+    def _leave_machine(self) -> None:
+        """Drop the private machine for another one. The state that it has come to is saved: a long way may be resumed there."""
+        if self._machine and self._machine_number == self.legs.number and not self._machine.is_used_up:
+            self._machine.save_if_due(WORTH)
+        self._drop_machine()
+
     def _drop_machine(self) -> None:
         if self._machine:
             self._executed += self._machine.executed
@@ -148,7 +154,7 @@ class History:
         """The private machine goes to a place: from where it is, or a new one from the last saved state before."""
         machine = self._machine
         if machine is None or not self._is_useful(machine, leg, offset):
-            self._drop_machine()
+            self._leave_machine()
             machine = self._open(leg, offset)
             self._machine, self._machine_number = machine, self.legs.number
         if offset > NEAR and machine.is_before(leg, offset - NEAR):
