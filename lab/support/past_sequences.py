@@ -446,7 +446,7 @@ class ClassPage:
 def dense_states() -> Iterator[None]:
     """Let replays save states after a few instructions, so that short programs have them, too."""
     names = ((saved_states, "SPACING", 40), (saved_states, "PAGE_SPACING", 0), (saved_states, "MAX_STATES", 6))
-    values = (*names, (history, "WORTH", 15), (history, "NEAR", 4), (private_machine, "CHUNK", 32))
+    values = (*names, (history, "WORTH", 15), (saved_states, "NEAR", 4), (private_machine, "CHUNK", 32))
     with ExitStack() as stack:
         for module, name, value in values:
             stack.enter_context(patch.object(module, name, value))

@@ -58,11 +58,10 @@ MILLIONS = 10_000_000
 @pytest.fixture
 def random_stores(program: pathlib.Path, tmp_path: pathlib.Path, monkeypatch: pytest.MonkeyPatch) -> pathlib.Path:
     """The image of RANDOM_STORES, of whose run a state is saved every 500 ticks."""
-    monkeypatch.setattr("vecmon_lab.replay.timeline.SPACING", 500)
-    monkeypatch.setattr("vecmon_lab.replay.timeline.PAGE_SPACING", 0)
+    monkeypatch.setattr("vecmon_lab.replay.saved_states.SPACING", 500)
+    monkeypatch.setattr("vecmon_lab.replay.saved_states.PAGE_SPACING", 0)
     monkeypatch.setattr("vecmon_lab.guest.runner.MAX_TICKS", 1000)
-    monkeypatch.setattr("vecmon_lab.replay.replayed.PART", 700)
-    monkeypatch.setattr("vecmon_lab.replay.replayed.NEAR", 50)
+    monkeypatch.setattr("vecmon_lab.replay.saved_states.NEAR", 50)
     make_image(program, tmp_path / "random", RANDOM_STORES)
     return tmp_path / "random"
 

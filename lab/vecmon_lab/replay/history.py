@@ -17,7 +17,8 @@ from ..machine.session import Session
 from .counting import count_to_stop, count_to_ticks, first_stop
 from .legs import Leg, Legs
 from .private_machine import PrivateMachine
-from .saved_states import NEAR, SavedStates
+from . import saved_states
+from .saved_states import SavedStates
 
 MAX_BACK = 300_000_000  # instructions of a history: a script has room for no more steps
 MAX_BYTES = 8 << 20  # of the memory of saved states
@@ -157,8 +158,9 @@ class History:
             self._leave_machine()
             machine = self._open(leg, offset)
             self._machine, self._machine_number = machine, self.legs.number
-        if offset > NEAR and machine.is_before(leg, offset - NEAR):
-            yield from machine.go_to(leg, offset - NEAR)
+        near = offset - saved_states.NEAR
+        if near > 0 and machine.is_before(leg, near):
+            yield from machine.go_to(leg, near)
             machine.save_if_due(WORTH)
         yield from machine.go_to(leg, offset)
         return machine

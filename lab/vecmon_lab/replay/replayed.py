@@ -9,10 +9,9 @@ from ..machine.answers import Answer, Output, Stop, read
 from ..machine.session import Session
 from .control import Control
 from .intervals import Interval
+from . import saved_states
 from .saved_states import SavedState, SavedStates
 
-PART = 1 << 22  # instructions between two states that are saved
-NEAR = 4096  # instructions before the last one, where a state is saved: the next way back mostly begins there
 PARTS = 16  # of a part in which a call may have found too little room for its output
 
 
@@ -35,8 +34,9 @@ class Replayed:
         """
         ticks, whole, left = interval.ticks, max(interval.count or 0, 1), count
         made = [replace(interval, count=0, ticks=0, has_stopped=False)]
-        while left > NEAR and user:
-            part = min(PART, left - NEAR)
+        near, spacing = saved_states.NEAR, saved_states.spacing(len(user.pages) if user else 0)
+        while left > near and user:
+            part = min(spacing, left - near)
             self._step(part, control)
             made[-1].count, made[-1].ticks = part, ticks * part // whole
             self._position += made[-1].work
@@ -61,7 +61,7 @@ class Replayed:
         session = self.session.rewound(self.session.script[:size], control.check)
         self.session.close()
         self.session = session
-        if number <= NEAR:
+        if number <= saved_states.NEAR:
             self._step_at_once(number, SAFE_STEPS, control)
             return
         for done in range(0, number, number // PARTS):

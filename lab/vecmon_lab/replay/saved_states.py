@@ -71,7 +71,7 @@ class SavedStates:
 
     def is_due(self, position: int, pages: int = 0) -> bool:
         """Whether a state of this number of pages at a position is so far after the one before that it is worth its time."""
-        return self.gap_before(position) >= SPACING + pages * PAGE_SPACING
+        return self.gap_before(position) >= spacing(pages)
 
     def gap_before(self, position: int) -> int:
         """How far a position is after the last state at or before it, or after the start."""
@@ -128,6 +128,11 @@ class SavedStates:
         if self._fresh is None or self._fresh[0] != user:
             self._fresh = user, fresh_memory(self._opening, user)
         return self._fresh[1]
+
+
+def spacing(pages: int) -> int:
+    """The instructions or ticks between two states of this number of pages, on a long way."""
+    return SPACING + pages * PAGE_SPACING
 
 
 def sparsest(positions: Sequence[int], here: int | None = None) -> int:

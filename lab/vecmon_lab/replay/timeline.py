@@ -17,14 +17,13 @@ from .control import Control, Interrupted
 from .intervals import MAX_TICKS, Interval, Intervals
 from .recorded import Halt, Search
 from .replayed import Replayed
-from .saved_states import SavedStates
+from .saved_states import SavedStates, spacing
 from .watches import Watch, accessed
 
 FEW = 16  # instructions that execute on the machine itself before the recorder runs
 MIN_TICKS, FIRST_TICKS = 4, 256  # that the recorder is given; of the least, all output has room
 LOGGED_TICKS, SEARCHED_TICKS = 1 << 20, 1 << 24  # at most, with a log of all instructions, and without
 GROWTH = 8  # of these, from one search to the next
-SPACING, PAGE_SPACING = 1 << 22, 1 << 18  # ticks or instructions between two saved states, and more for each page
 MAX_BACK = 1_000_000_000  # instructions of a way back
 TOO_FAR = f"there is no way back over more than {MAX_BACK:,} instructions"
 
@@ -143,10 +142,15 @@ class Timeline:
         """Save the guest's state, if it is far from the last one that was saved; the program is stopped."""
         self._catch_up()
         intervals = self._intervals.intervals
-        if not self._intervals.is_alone or not intervals or intervals[-1].work < SPACING or intervals[-1].has_stopped:
+        if (
+            not self._intervals.is_alone
+            or not intervals
+            or intervals[-1].work < spacing(0)
+            or intervals[-1].has_stopped
+        ):
             return
         user = self._intervals.user(self._guest.session)
-        if intervals[-1].work >= SPACING + len(user.pages) * PAGE_SPACING:
+        if intervals[-1].work >= spacing(len(user.pages)):
             self._intervals.split()
             dropped = self.saved.add(self._intervals.work, self._guest, user)
             if dropped:
