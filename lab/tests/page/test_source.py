@@ -17,6 +17,7 @@ PASTE = """((data) => (data.setData("text/plain", arguments[0]), code().getInput
     new ClipboardEvent("paste", { clipboardData: data, bubbles: true, cancelable: true }))))(new DataTransfer())"""
 TYPE_ON = """(window.later = setTimeout, window.setTimeout = (call, pause) => pause === 700 ? 0 : later(call, pause),
     code().replaceRange(' behind', { line: 1e9, ch: 0 }))"""  # which isn't sent before `later` is there again
+AHEAD = "code().replaceRange(' ahead', { line: 1e9, ch: 0 })"  # at once, so that it is sent as a whole
 TYPED = "loop: vadd.vx v1, v2, x5\n        j loop\n        nop     # it's an add\n        fro"
 
 
@@ -150,7 +151,7 @@ def test_two_windows_of_a_seat_type_at_once(sit: Sit) -> None:
     ahead.type(Keys.CONTROL, Keys.END, Keys.NULL, "# both")
     behind.wait(f"{TEXT}.endsWith('# both')")
     behind.run(TYPE_ON)
-    ahead.type(" ahead")
+    ahead.run(AHEAD)
     behind.wait("[...id('versions').options].length > 1 || text().includes('ahead') || id('use-own')?.hidden === false")
     assert behind.run(TEXT).endswith("# both behind")
     behind.wait("id('windows-say').textContent.includes('kept as a version') && !id('use-own').hidden")
@@ -172,12 +173,10 @@ def test_two_windows_of_a_seat_type_at_once(sit: Sit) -> None:
 
 def test_window_makes_its_text_the_seats(sit: Sit) -> None:
     """The other window, where nothing was typed since, shows it then; its text is a version."""
-    from selenium.webdriver.common.keys import Keys
-
     ahead, behind = sit("A7"), sit("A7")
     behind.wait("!id('windows').hidden")
     behind.run(TYPE_ON)
-    ahead.type(Keys.CONTROL, Keys.END, Keys.NULL, " ahead")
+    ahead.run(AHEAD)
     behind.wait("!id('use-own').hidden")
     behind.run("(window.setTimeout = later, 0)")
     behind.click("#use-own")
