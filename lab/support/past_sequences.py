@@ -457,7 +457,9 @@ def opened(vecmon: pathlib.Path, exercises: Mapping[str, Exercise], folder: path
     """A page of the kind that belongs to a seed: of a desk, a playground or a class. folder: an empty one"""
     if seed % 3 == 0:
         return DeskPage(vecmon, exercises)
-    return PlaygroundPage(vecmon, exercises, folder) if seed % 3 == 1 else ClassPage(vecmon, folder / "class")
+    if seed % 3 == 1:
+        return PlaygroundPage(vecmon, exercises, folder)
+    return ClassPage(vecmon, folder / "class")
 
 
 def main() -> None:

@@ -5,7 +5,7 @@ from contextlib import nullcontext
 
 import pytest
 
-from support.past_sequences import EXERCISE, ClassPage, DeskPage, PlaygroundPage, check, dense_states, found
+from support.past_sequences import EXERCISE, ClassPage, DeskPage, Page, PlaygroundPage, check, dense_states, found
 from vecmon_lab.classes.moments import Budget
 from vecmon_lab.classes.requests import BadRequest
 from vecmon_lab.exercises.answer import settled
@@ -64,7 +64,10 @@ def test_history_that_goes_on_through_a_load_is_found(
         self._breaks, self.is_running, self.written = frozenset(), False, 0
 
     monkeypatch.setattr(Legs, "_restart", restart)
-    page = ClassPage(program, tmp_path / "class") if is_class else DeskPage(program, exercises)
+    page: Page = DeskPage(program, exercises)
+    if is_class:
+        page.close()
+        page = ClassPage(program, tmp_path / "class")
     with pytest.raises(AssertionError, match="seed 4, after"):
         check(page, program, 4, 30)
     page.close()

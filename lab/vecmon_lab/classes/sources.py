@@ -126,7 +126,8 @@ class SeatSource:
         for place, version in enumerate(self.versions):
             if (version["number"], version["exercise"], version["language"]) == (number, exercise, source.language):
                 self.versions = [*self.versions]
-                self.versions[place] = {**version, "time": int(time.time())}
+                self.versions[place] = version.copy()
+                self.versions[place]["time"] = int(time.time())
                 self._unsaved[version["number"]] = source
                 self._newest = self._newest_of(self.exercise)
                 return
