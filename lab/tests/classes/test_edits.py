@@ -183,3 +183,9 @@ def test_first_run_stops_at_breakpoint_of_first_instruction(desk: Desk) -> None:
 @pytest.mark.parametrize("breaks", [3, [0.5], ["3"], [-1]])
 def test_lines_of_breakpoints_are_whole_numbers(desk: Desk, breaks: object) -> None:
     assert "breaks is" in ask(desk, ask="source", text=COUNT, breaks=breaks)["error"]
+
+
+@pytest.mark.parametrize("text, is_decimal", [("0x2a", True), ("0x2A", False), ("2a", False), ("42", True)])
+def test_number_with_0x_is_hexadecimal(text: str, is_decimal: bool) -> None:
+    assert edit_line("set x5", text, is_decimal, {}) == "set x5 2a"
+    assert edit_line("setpc", "0x10000", is_decimal, {}) == "setpc 10000"

@@ -77,7 +77,7 @@ def test_lesson_steps_forwards_and_backwards(
             masked += sum(reply.masked.values())
         press(browser, Keys.ARROW_RIGHT)
     assert text_of(browser, "#count") == f"{len(frames)} of {len(frames)}"
-    assert (masked > 0) == (name in ("masks_and_tails", "strip_mined"))
+    assert (masked > 0) == (name in ("masks_and_tails", "masked_instructions", "strip_mined"))
     assert browser.save_screenshot(str(tmp_path / f"{name}.png")) and (tmp_path / f"{name}.png").stat().st_size > 10_000
     for picture in reversed(pictures):
         assert browser.execute_async_script(PICTURE)[1] == picture

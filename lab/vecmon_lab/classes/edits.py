@@ -7,7 +7,7 @@ from .moved_breakpoints import MAX_BREAKPOINTS
 from .requests import BadRequest
 
 _EDIT = re.compile(r"setpc|poke [0-9a-f]+|set x\d+|vset v(\d+) (\d+) (\d+) (\w+)")
-_DECIMAL, _HEXADECIMAL = re.compile(r"-?[0-9]{1,20}"), re.compile(r"[0-9A-Fa-f]{1,16}")
+_DECIMAL, _HEXADECIMAL = re.compile(r"-?[0-9]{1,20}"), re.compile(r"(0x)?[0-9A-Fa-f]{1,16}")
 
 
 def edit_line(edit: str, text: str, is_decimal: bool, v: Mapping[str, str]) -> str:
@@ -21,7 +21,7 @@ def edit_line(edit: str, text: str, is_decimal: bool, v: Mapping[str, str]) -> s
     if not found:
         raise BadRequest("there is no such edit")
     if not edit.startswith(("set x", "vset")):
-        return f"{edit} {text}"
+        return f"{edit} {text.removeprefix('0x')}"
     register, bits, index, form = found.groups()
     if not register:
         return f"{edit} {_value(text, is_decimal, 64):x}"
@@ -35,7 +35,8 @@ def edit_line(edit: str, text: str, is_decimal: bool, v: Mapping[str, str]) -> s
 
 
 def _value(text: str, is_decimal: bool, bits: int) -> int:
-    """The number of a text, signed or not, modulo 2^bits. Raises BadRequest."""
+    """The number of a text, signed or not, modulo 2^bits; one that starts with 0x is hexadecimal. Raises BadRequest."""
+    is_decimal = is_decimal and not text.startswith("0x")
     if (_DECIMAL if is_decimal else _HEXADECIMAL).fullmatch(text):
         value = int(text, 10 if is_decimal else 16)
         if -(1 << bits) // 2 <= value < 1 << bits:

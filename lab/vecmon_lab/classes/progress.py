@@ -42,6 +42,7 @@ class ExerciseView(TypedDict):
 
     number: its place among the exercises, from 1 on
     starts: sources to start with, the preferred one first; of two one is in C
+    unsigned: whether all numbers in the memory of its cases are unsigned, and so those that the page shows
     hint_count: of those that are due and others; best: the most cases that passed in one try
     before: the path of the lesson before it; "" for none
     lesson: the path of a lesson of the case that failed first; "" for none
@@ -52,6 +53,7 @@ class ExerciseView(TypedDict):
     before: str
     text: str
     starts: list[Start]
+    unsigned: bool
     cases: list[CaseView]
     hints: Sequence[str]
     hint_count: int
@@ -215,6 +217,7 @@ class Exercises:
             "before": f"lesson/{name}" if "lesson" in exercise.files else "",
             "text": exercise.text,
             "starts": self._starts[name],
+            "unsigned": is_unsigned(exercise),
             "cases": self._cases[name],
             "hints": exercise.hints[: len(progress.tries) - (progress.first > 0)],
             "hint_count": len(exercise.hints),
@@ -231,6 +234,12 @@ def _case_view(exercise: Exercise, case: Case) -> CaseView:
     if case.is_hidden:
         return {"name": case.name, "hidden": True}
     return {"name": case.name, "hidden": False, "shown": case_rows(exercise, case)}
+
+
+def is_unsigned(exercise: Exercise) -> bool:
+    """Whether the cases of an exercise have numbers in memory, and all of them are unsigned."""
+    types = {numbers.type for case in exercise.cases for numbers in case.memory}
+    return bool(types) and all(it.startswith("u") for it in types)
 
 
 def source_of(done: Try) -> SourceText:

@@ -24,6 +24,7 @@ import { textOf } from "./texts.js";
 /** @typedef {import("./types").Request} Request */
 /** @typedef {import("./types").SourceAction | import("./types").RunAction & { number?: number }} BuildAction */
 
+const LOOKED_AT = 64; // bytes of memory that are asked for at an address
 const PAUSE = 600; // ms in which nothing is typed, and then problems are asked for
 const LEAVING = { absent: [], stopped: ["leave"], running: ["stop", "leave"] };
 
@@ -59,10 +60,11 @@ export class Bench {
     this.editor = new Editor(part(root, "source"), () => this.typed(), part(root, "language"));
     this.source = new Source(root, this.editor, connection);
     this.desk.past.built = () => this.source.built;
+    this.desk.view.memory.look = (address) => this.isAtPresent && this.send([`peek ${address} ${LOOKED_AT}`]);
     this.waiting = new WaitingBreakpoints(this.editor.code);
     this.links = new LineLinks(root, this.editor);
     this.problems = new Problems(root, this.editor, (panel) => this.panes.show(panel));
-    this.askValue = editDialog(root, (edit, text) => this.request({ ask: "edit", edit, text, decimal: numbers.value === "signed" }));
+    this.askValue = editDialog(root, (edit, text) => this.request({ ask: "edit", edit, text, decimal: numbers.value !== "hexadecimal" }));
     addEventListener("pagehide", () => this.source.told && keepLines(this.waiting, this.source.loaded));
     this.listen();
   }
@@ -88,7 +90,8 @@ export class Bench {
     const { timer } = this;
     const { mistakes, warnings } = (await this.connection.ask({ ask: "problems", text, language })) ?? {};
     if (!mistakes || this.timer !== timer) return;
-    this.showMistakes(mistakes.filter(({ line }) => line), warnings, false); // those of a linker may be of text that is still to come
+    this.timer = 0;
+    this.problems.showTyped([...mistakes.filter(({ line }) => line), ...(warnings ?? [])]); // those of a linker may be of text to come
   }
 
   listen() {
@@ -243,6 +246,9 @@ export class Bench {
     return this.refuse(way === "back" ? textOf("past.no-back") : textOf("past.no-forth"));
   }
 
+  /** Whether the machine is stopped, and shown as it is now. */
+  get isAtPresent() { return this.desk.state.run === "stopped" && !this.desk.past.moment; }
+
   /** Leaves the machine. */
   leave = () => this.send(LEAVING[this.desk.state.run]);
 
@@ -382,7 +388,9 @@ export class Bench {
   async write(/** @type {import("./types").SourceAction} */ request = { ask: "source", number: this.source.number }) {
     const answer = await this.build(request);
     if (answer?.listings) open(`listings/${answer.listings}`);
+    const wasWriting = this.editor.code.hasFocus();
     if (answer?.mistakes) this.panes.show(answer.mistakes.length || request.ask === "case" ? "editor" : "listing");
+    if (wasWriting && this.editor.box.closest("[hidden]")) part(this.root, "listing").focus(); // in place of the editor
     if (request.ask === "case") this.editor.bringIntoSight(this.editor.marks.next); // for the steps that follow
   }
 

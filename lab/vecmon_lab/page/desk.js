@@ -1,6 +1,7 @@
 // A seat's machine, live: paints the parts of its state that changed.
 
-import { make, part, prose } from "./elements.js";
+import { announcementOf } from "./announcement.js";
+import { make, part, prose, put } from "./elements.js";
 import { Past, isAlike } from "./past.js";
 import { textOf } from "./texts.js";
 import { Log } from "./transcript.js";
@@ -29,6 +30,7 @@ export class Desk {
   refusal = ""; // of what was sent last, until a program stops
   notice = ""; // in place of a refusal, until the state changes
   frame = 0; // in which it is painted
+  /** @type {State | undefined} */ said; // whose step was announced
 
   /**
    * @param {HTMLElement} root has the machine, its stage and its past
@@ -37,6 +39,7 @@ export class Desk {
   constructor(root, ask) {
     this.view = new MachineView(root);
     this.log = part(root, "log");
+    this.announced = root.matches("body") ? part(root, "announced") : null;
     this.entries = new Log(this.log, true);
     this.view.machine.addEventListener("change", () => this.paint());
     this.past = new Past(root, ask, () => this.paint());
@@ -72,8 +75,18 @@ export class Desk {
     const { state, before } = this.past.moment ?? this;
     this.view.paint(state, before, { v: this.used });
     this.painted(state);
+    this.announce(state, before);
     this.showStage();
     this.entries.showEnd();
+  }
+
+  /** Says in words what the last step did. Pages that look over a shoulder are silent. */
+  announce(/** @type {State} */ state, /** @type {State} */ before) {
+    if (!this.announced || state === this.said || !state.x || !before.x) return;
+    this.said = state;
+    const [now, then] = /** @type {import("./types").MachineState[]} */ ([state, before]);
+    const { elements, hasAbiNames } = this.view.changed;
+    put(this.announced, announcementOf(now, then, elements, hasAbiNames));
   }
 
   /** Shows the newest of a notice, a refusal and the reason for the stop; the reason is in the status line if another one is newer. */

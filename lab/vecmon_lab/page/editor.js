@@ -175,6 +175,7 @@ export class Editor {
     if (this.isLetter) this.suggest(false);
     else this.code.closeHint();
     this.isLetter = false;
+    this.problems?.caretMoved();
     this.problems?.showBelow();
     this.caretMoved(this.code.getLine(line), ch);
   }

@@ -119,7 +119,9 @@ export class Lanes {
       const cell = cells[element];
       const where = [textOf("lanes.cell", { element, head }), words].filter(Boolean).join(", ");
       const title = [where, cell.words].filter(Boolean).join(": ");
-      const shown = Object.assign(make("td", cell.classes.join(" "), cell.text), { role: "gridcell", title });
+      const fate = cell.words || (cell.classes.includes("active") ? textOf("outcome.active") : "");
+      const ariaLabel = textOf("lanes.cell.label", { where, value: cell.text, fate }).replace(/, $/, "");
+      const shown = Object.assign(make("td", cell.classes.join(" "), cell.text), { role: "gridcell", title, ariaLabel });
       shown.dataset.element = `${element}`;
       if (cell.words) shown.append(unseen(` ${cell.words}`));
       if (view.width) shown.dataset.edit = elementEdit(view, register, width, element);
@@ -193,11 +195,13 @@ export class Lanes {
       cell.classList.toggle("chosen", isChosen);
       cell.ariaSelected = `${isChosen}`;
       cell.removeAttribute("tabindex");
+      cell.removeAttribute("aria-describedby");
     }
     for (const curve of this.box.querySelectorAll("path")) curve.classList.toggle("chosen", curve.dataset.to === `${element}`);
     const results = own.filter((cell) => cell.matches(":is(.after, .plain) > td"));
     const reached = results.find((cell) => cell.matches(`[data-register="${this.register}"] > td`)) ?? results[0] ?? own.at(-1);
     if (reached) reached.tabIndex = 0;
+    reached?.setAttribute("aria-describedby", this.detail.id); // which has the reason for its value
     if (takesFocus) reached?.focus();
     this.paintDetail(view, columns);
   }

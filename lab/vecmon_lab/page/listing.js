@@ -49,7 +49,7 @@ function listingRow(state, before, address, abi) {
   if (kinds[1]) marks.append(unseen(state.faulted ? textOf("listing.stopped") : textOf("listing.executed")));
   const text = make("td", "text", withNames(line.slice(9), abi));
   const goal = state.targets?.[address];
-  if (goal) text.append(make("span", "goal", ` → ${state.labels?.[goal]?.[0] ?? goal}`));
+  if (goal) text.append(make("span", "goal", ` → ${state.labels?.[goal]?.[0] ?? `0x${goal}`}`));
   const word = make("td", "word", line.slice(0, 8));
   if (before.code[address] !== line && (before.code[address] || !state.instruction)) word.classList.add("changed");
   const call = state.calls?.[address]; // which the machine doesn't support
@@ -58,7 +58,7 @@ function listingRow(state, before, address, abi) {
   const room = " ".repeat(Math.max(0, `${text.textContent}`.length + 1 - COLUMNS)); // where the instruction reaches into it
   const beside = call ? "" : room + saysMore(said, line.slice(9));
   const source = Object.assign(make("td", "source", beside), { title: said });
-  const row = make("tr", kinds.join(" "), marks, header("row", address), word, text, source);
+  const row = make("tr", kinds.join(" "), marks, header("row", `0x${address}`), word, text, source);
   Object.assign(row.dataset, { address, edit: `break ${address}` });
   const number = state.starts ? lineOf(state, address) : 0;
   if (number) row.classList.add(`tint-${number % TINTS}`);

@@ -6,24 +6,35 @@ import { LETTER, littleEndian } from "./numbers.js";
 import { RowTable, placesOf } from "./rows.js";
 import { textOf } from "./texts.js";
 import { knownVariables, numberText } from "./variables.js";
+import { ABI_NAMES } from "./words.js";
 
 /** @typedef {import("./types").MachineState} MachineState */
 /** @typedef {{ at: bigint, element: string, counts: number[] }} PlacedArray */
+/** @typedef {(place: bigint, most: number) => [element: string, size: number]} KindAt the kind of a number at a place, and its bytes */
 
 const NAMES = [textOf("memory.address"), textOf("memory.bytes"), "4–7", "8–11", "12–15", textOf("memory.text")];
 const ACCESSES = { read: "read", write: "written" }; // classes
 const ROW = 16; // bytes of a row in a state
-const HEAD = 13; // characters of the address and of spaces
+const HEAD = 15; // characters of the address and of spaces
 /** @type {Record<string, number>} */
-const ROOM = { i8: 6, u8: 5 }; // characters of a byte as a number, with a space and its place in the text; of others 4.4
+const ROOM = { i8: 6, u8: 5, x8: 6 }; // characters of a byte as a number, with a space and its place in the text; of others 4.4
+/** @type {Record<string, string>} */
+const KINDS = { signed: "i", unsigned: "u", hexadecimal: "x" }; // of numbers, by the form in which the page shows them
 
 /** The rows of a machine's memory. */
 export class MemoryPanel {
   /** @type {[MachineState, MachineState] | null} */ shown = null;
   letters = Infinity; // that fit into a row
+  goal = ""; // an address that the reader has chosen, until memory changes
+  /** Asks for the memory at an address, which may not be shown yet. */
+  look = (/** @type {string} */ _) => {};
 
   constructor(/** @type {ParentNode} */ root) {
     this.box = part(root, "bytes");
+    this.form = part(root, "memory-form");
+    this.numbers = part(root, "numbers");
+    part(root, "memory-address").addEventListener("change", ({ currentTarget }) =>
+      this.goTo(/** @type {HTMLInputElement} */ (currentTarget)));
     this.rows = new RowTable(this.box, textOf("memory"), NAMES, textOf("memory.none"));
     new ResizeObserver(([{ contentRect }]) => this.measured(contentRect.width)).observe(this.box);
   }
@@ -35,6 +46,22 @@ export class MemoryPanel {
     if (this.shown) this.paint(...this.shown);
   }
 
+  /** Brings into sight the memory that a field names: by an address, a label, or a register that has the address. */
+  goTo(/** @type {HTMLInputElement} */ field) {
+    const address = this.shown ? addressOf(field.value.trim(), this.shown[0]) : "";
+    field.setCustomValidity(address || !field.value ? "" : textOf("memory.address.unknown"));
+    if (!field.reportValidity() || !address) return;
+    this.goal = address;
+    this.look(address);
+    if (this.shown) this.paint(...this.shown);
+  }
+
+  /** The kind of a number that the reader has chosen for all memory; "" for the types of the source. */
+  get kind() {
+    const { value } = this.form;
+    return value === "c" ? "c8" : value && `${KINDS[this.numbers.value]}${value}`;
+  }
+
   /** A change comes into sight, the first one where there are more. */
   paint(/** @type {MachineState} */ state, /** @type {MachineState} */ before) {
     this.shown = [state, before];
@@ -42,14 +69,29 @@ export class MemoryPanel {
     const names = placed.filter(({ counts, isLocal }) => counts.length || !isLocal);
     const labels = names.map(({ at, declaration }) => [at.toString(16), [declaration]]);
     const arrays = [...placed.filter(({ element }) => element && element !== "c8"), ...arraysOf(state)];
-    const letters = Math.max(4.4, ...arrays.map(({ element }) => ROOM[element] ?? 0));
+    const letters = Math.max(4.4, ...[...arrays.map(({ element }) => element), this.kind].map((kind) => ROOM[kind] ?? 0));
     const bytes = [ROW, ROW / 2].find((each) => HEAD + letters * each <= this.letters) ?? ROW / 4;
     const [now, then] = [state.memory, before.memory].map((rows) => (bytes === ROW ? rows : cut(rows, bytes)));
     const places = placesOf(Object.keys(now), bytes, { ...state.labels, ...Object.fromEntries(labels) });
-    const row = (/** @type {string} */ address) => memoryRow(address, now[address], then[address], arrays, state.accessed ?? []);
+    const { kind } = this;
+    /** @type {KindAt} */
+    const kindAt = (place, most) => (kind ? [kind, Number(kind.slice(1)) / 8] : elementAt(place, arrays, most));
+    const row = (/** @type {string} */ address) => memoryRow(address, now[address], then[address], kindAt, state.accessed ?? []);
     const isOther = ({ address = "" }) => ![undefined, now[address]].includes(then[address]);
-    this.rows.show(places, row, places.find(isOther)?.address);
+    const changed = places.find(isOther)?.address;
+    if (changed) this.goal = "";
+    const isGoal = ({ address = "" }) => this.goal && address && isWithin(BigInt(`0x${this.goal}`), BigInt(`0x${address}`), bytes);
+    this.rows.show(places, row, changed ?? places.find(isGoal)?.address);
   }
+}
+
+/** The address that a text names in a state, as hexadecimal digits; "" without one. */
+/** @type {(text: string, state: MachineState) => string} */
+function addressOf(text, { labels = {}, x }) {
+  const labelled = Object.keys(labels).find((address) => labels[address].includes(text));
+  const register = ABI_NAMES.includes(text) ? ABI_NAMES.indexOf(text) : /^x([12]?\d|3[01])$/.test(text) ? Number(text.slice(1)) : -1;
+  const digits = /^(?:0x)?([0-9a-f]{1,16})$/i.exec(text)?.[1];
+  return labelled ?? (register >= 0 ? x[register] : digits ? BigInt(`0x${digits}`).toString(16) : "");
 }
 
 /** Rows of a state cut into shorter ones. */
@@ -120,32 +162,39 @@ function elementAt(place, arrays, most) {
  * @param {string} address
  * @param {string} digits
  * @param {string | undefined} digitsBefore
- * @param {PlacedArray[]} arrays
+ * @param {KindAt} kindAt
  * @param {import("./messages").Access[]} accessed
  */
-function memoryRow(address, digits, digitsBefore, arrays, accessed) {
+function memoryRow(address, digits, digitsBefore, kindAt, accessed) {
   const bytes = digits.length / 2;
   const cells = Array.from({ length: Math.ceil(bytes / 4) }, () => make("td", ""));
   for (let place = 0, size = 1; place < bytes; place += size) {
     const at = BigInt("0x" + address) + BigInt(place);
-    const [element, length] = elementAt(at, arrays, bytes - place);
+    const [element, length] = kindAt(at, bytes - place);
     const access = accessed.find((each) => isWithin(at, BigInt(`0x${each.address}`), each.length))?.kind ?? "";
     size = length;
     const own = digits.slice(2 * place, 2 * (place + size));
     const changed = digitsBefore !== undefined && digitsBefore.slice(2 * place, 2 * (place + size)) !== own;
     const kinds = [element && "number", changed ? "changed" : /[^0]/.test(own) ? "" : "zero", access && ACCESSES[access]];
-    const span = make("span", kinds.filter(Boolean).join(" "), element ? numberText(element, littleEndian(own)) : own);
+    const span = make("span", kinds.filter(Boolean).join(" "), element ? elementText(element, own) : own);
     span.dataset.edit = `poke ${at.toString(16)}`;
     if (element) span.title = own.replace(/..(?=.)/g, "$& ");
     const cell = cells[place >> 2];
     cell.append(...(cell.firstChild ? [" "] : []), span);
     cell.colSpan = Math.max(1, size / 4);
   }
-  const text = (digits.match(/../g) ?? []).map((byte) => (/[2-6].|7[0-9a-e]/.test(byte) ? String.fromCharCode(parseInt(byte, 16)) : "·"));
-  const row = make("tr", "", header("row", address), ...cells.filter((cell) => cell.firstChild), make("td", "text", text.join("")));
+  const text = (digits.match(/../g) ?? []).map(letterOf);
+  const row = make("tr", "", header("row", `0x${address}`), ...cells.filter((cell) => cell.firstChild), make("td", "text", text.join("")));
   row.dataset.address = address;
   return row;
 }
+
+/** A byte as a letter; a dot for those that aren't letters, digits or signs of ASCII. */
+const letterOf = (/** @type {string} */ byte) => (/[2-6].|7[0-9a-e]/.test(byte) ? String.fromCharCode(parseInt(byte, 16)) : "·");
+
+/** A number of a kind, or a letter, from its bytes. */
+/** @type {(element: string, bytes: string) => string} */
+const elementText = (element, bytes) => (element === "c8" ? letterOf(bytes) : numberText(element, littleEndian(bytes)));
 
 /** Bytes in hexadecimal as a text, with a picture for each control character but newlines and tabs. */
 function outputText(/** @type {string} */ digits) {

@@ -229,6 +229,7 @@ export interface ExerciseTable {
  *
  * number: its place among the exercises, from 1 on
  * starts: sources to start with, the preferred one first; of two one is in C
+ * unsigned: whether all numbers in the memory of its cases are unsigned, and so those that the page shows
  * hint_count: of those that are due and others; best: the most cases that passed in one try
  * before: the path of the lesson before it; "" for none
  * lesson: the path of a lesson of the case that failed first; "" for none
@@ -239,6 +240,7 @@ export interface ExerciseView {
   before: string;
   text: string;
   starts: Start[];
+  unsigned: boolean;
   cases: CaseView[];
   hints: string[];
   hint_count: number;

@@ -22,7 +22,7 @@ export type Parts =
   Ids<HTMLFormElement, "clocks" | "command" | "join" | "operate" | "sending" | "steps" | "until"> &
   Ids<
     HTMLInputElement,
-    | "called" | "code" | "copied" | "find" | "gift-title" | "letters" | "moment" | "name" | "number" | "open" | "place" | "until-line" | "value"
+    | "called" | "code" | "copied" | "find" | "gift-title" | "letters" | "memory-address" | "moment" | "name" | "number" | "open" | "place" | "until-line" | "value"
   > &
   Ids<HTMLLabelElement, "copied-name" | "edit-name"> &
   Ids<HTMLOListElement, "course-list" | "lessons" | "log" | "mistakes" | "operator-log" | "progress" | "slips"> &
@@ -31,7 +31,7 @@ export type Parts =
   Ids<HTMLScriptElement, "data" | "lesson" | "reference-data"> &
   Ids<
     HTMLSelectElement,
-    | "against" | "answer-try" | "by" | "form" | "given-language" | "images" | "language" | "names" | "numbers" | "operated"
+    | "against" | "answer-try" | "by" | "form" | "given-language" | "images" | "language" | "memory-form" | "names" | "numbers" | "operated"
     | "own-answers" | "text-size" | "versions" | "view" | "width"
   > &
   Ids<HTMLTableElement, "lengths" | "rows"> &
@@ -42,7 +42,7 @@ export type Parts =
   Ids<HTMLSelectElement | HTMLTextAreaElement, "line"> &
   Ids<
     HTMLElement,
-    | "about" | "answer-says" | "answer-title" | "at" | "banner" | "beside" | "bytes" | "called-hint" | "calls" | "card" | "cases"
+    | "about" | "announced" | "answer-says" | "answer-title" | "at" | "banner" | "beside" | "bytes" | "called-hint" | "calls" | "card" | "cases"
     | "code-hint" | "console" | "course" | "desk" | "detail" | "dock" | "editor" | "elements" | "entries" | "entry"
     | "examples" | "exercise" | "exercise-text" | "exercise-title" | "exercises-title" | "file" | "flame" | "gift" | "gone" | "head"
     | "help-count" | "hint" | "hints" | "introduction" | "introduction-title" | "join-says" | "join-title" | "key-says" | "key-title"

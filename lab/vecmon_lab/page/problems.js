@@ -18,6 +18,7 @@ const placeOf = (/** @type {string} */ text, /** @type {number} */ column) => [.
 export class Problems {
   /** @type {Problem[]} */ all = [];
   /** @type {Problem[]} */ marked = []; // in the text, until it changes
+  /** @type {Problem[]} */ awaited = []; // at the word that is being typed: they come into sight once the caret leaves it
   place = -1; // of the problem that was gone to last
   line = -1; // whose problems are shown below it, counted from 0
   /** @type {import("./codemirror.js").Clearable | undefined} */ below;
@@ -38,10 +39,30 @@ export class Problems {
     this.parts["previous-problem"].addEventListener("click", () => this.goOn(-1));
   }
 
+  /** Shows problems that were found while the source is typed: one at the word before the caret waits until the caret leaves the word. */
+  showTyped(/** @type {Problem[]} */ problems) {
+    const awaited = problems.filter((problem) => this.isAtCaret(problem));
+    this.show(problems.filter((problem) => !awaited.includes(problem)));
+    this.awaited = awaited;
+  }
+
+  /** Whether a problem's word ends at the caret, or has it in it. */
+  isAtCaret(/** @type {Problem} */ problem) {
+    if (!problem.line) return false;
+    const { from, to } = this.rangeOf(problem);
+    const { line, ch } = this.code.getCursor();
+    return line === from.line && from.ch <= ch && ch <= to.ch;
+  }
+
+  /** Shows the problems that waited for the caret to leave a word. */
+  caretMoved() {
+    if (this.awaited.length && !this.awaited.some((problem) => this.isAtCaret(problem))) this.show([...this.all, ...this.awaited]);
+  }
+
   /** Lists problems, and marks them in the text. */
   show(/** @type {Problem[]} */ problems) {
     const { mistakes, "no-problems": none, "problems-count": count, "next-problem": next, "previous-problem": previous } = this.parts;
-    Object.assign(this, { all: problems, place: -1 });
+    Object.assign(this, { all: problems, awaited: [], place: -1 });
     mistakes.replaceChildren(...problems.map((problem, place) => this.item(problem, place)));
     put(count, problems.length ? `${problems.length}` : "");
     none.hidden = problems.length > 0;

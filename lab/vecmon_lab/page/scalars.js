@@ -7,6 +7,8 @@ import { ABI_NAMES, signedText } from "./words.js";
 /** @typedef {import("./types").MachineState} MachineState */
 
 const COLUMN = 9; // characters of a register besides its value
+const WIDEST = 12; // characters of a value with its label in one column; a wider one takes two
+const POINTERS = ["ra", "sp", "gp"]; // registers that have addresses
 
 /** Shows registers in a list, whose columns fit them. */
 function paintList(/** @type {HTMLElement} */ list, /** @type {HTMLElement[]} */ rows) {
@@ -21,23 +23,27 @@ function paintList(/** @type {HTMLElement} */ list, /** @type {HTMLElement[]} */
  * @type {(root: ParentNode, state: MachineState, before: MachineState, used: Set<number>) => void}
  */
 export function paintRegisters(root, state, before, used) {
-  const [hasNames, isSigned] = [part(root, "names").value === "abi", part(root, "numbers").value === "signed"];
+  const [hasNames, form] = [part(root, "names").value === "abi", part(root, "numbers").value];
   const labelOf = (/** @type {string} */ value) =>
     (state.labels?.[value] ?? []).slice(0, 1).map((label) => make("small", "label", ` ${label}`));
   const rows = ABI_NAMES.map((abi, number) => {
     const [value, numbered] = [state.x[number], `x${number}`];
     const [name, other] = hasNames ? [abi, numbered] : [numbered, abi];
     const [signed, label] = [signedText(value), labelOf(value)];
-    const shown = isSigned ? signed : value;
-    const cell = make("dd", before.x[number] === value ? "" : "changed", isSigned && label.length ? `0x${value}` : shown, ...label);
-    cell.title = `${numbered}, ${abi}: ${value} = ${signed}`;
-    cell.dataset.value = shown;
+    const isHexadecimal = form === "hexadecimal";
+    const decimal = form === "unsigned" ? `${BigInt(`0x${value}`)}` : signed;
+    const isAddress = label.length > 0 || (POINTERS.includes(abi) && value !== "0");
+    const text = isHexadecimal || isAddress ? `0x${value}` : decimal;
+    const cell = make("dd", before.x[number] === value ? "" : "changed", text, ...label);
+    cell.title = `${numbered}, ${abi}: 0x${value} = ${signed}`;
+    cell.dataset.value = isHexadecimal ? value : decimal;
     if (number) cell.dataset.edit = `set x${number}`;
-    const kind = value === "0" ? "zero" : label.length ? "labelled" : "";
+    const isWide = `${cell.textContent}`.length > WIDEST;
+    const kind = value === "0" ? "zero" : label.length && isWide ? "labelled" : "";
     return make("div", kind, make("dt", "", name, " ", make("small", "", other)), cell);
   });
-  const pc = make("dd", "", state.pc, ...labelOf(state.pc));
-  pc.dataset.edit = "setpc";
+  const pc = make("dd", "", `0x${state.pc}`, ...labelOf(state.pc));
+  Object.assign(pc.dataset, { edit: "setpc", value: state.pc });
   const [list, unused] = elementsIn(root, "dl.registers");
   const others = unused && used.size ? rows.filter((_, number) => !used.has(number)) : [];
   paintList(list, [make("div", "", make("dt", "", "pc"), pc), ...rows.filter((row) => !others.includes(row))]);

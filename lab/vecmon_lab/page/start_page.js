@@ -27,7 +27,10 @@ export class StartPage {
     this.view = view;
     const { editor, source } = bench;
     /** @type {(name: string, text: string | null) => () => unknown} */
-    const beginner = (name, text) => () => this.begin({ name, text: text ?? "", language: languageOf(name, editor.language) });
+    const beginner = (name, text) => async () => {
+      await this.begin({ name, text: text ?? "", language: languageOf(name, editor.language) });
+      editor.code.focus(); // where one writes
+    };
     part(root, "new-program").addEventListener("click", beginner("program.s", part(root, "source").defaultValue));
     part(root, "new-in-c").addEventListener("click", beginner("program.c", part(root, "c-start").textContent));
     part(root, "open-source").addEventListener("click", () => source.file.click());
@@ -38,6 +41,7 @@ export class StartPage {
     part(root, "new-in-c").disabled = view.no_c !== "";
     const why = view.no_c && textOf("author.no-c", { reason: view.no_c });
     put(part(root, "why-no-c"), why, prose(why));
+    part(root, "new-in-c").title = why.replaceAll("`", "");
     addEventListener("pagehide", () => this.keep());
     document.addEventListener("drop", () => this.toggle(false)); // an image, whose refusal is in the console
     for (const [heading, own = []] of Object.entries(Object.groupBy(view.examples ?? [], (example) => example.group)))

@@ -113,6 +113,9 @@ export interface Places {
   "step.running": never;
   "step.stopped": never;
   "step.executed": never;
+  "step.announced": "changes" | "instruction";
+  "step.changed-elements": "count" | "registers";
+  "step.changed-nothing": never;
   "step.no-machine": never;
   "past.step": "last" | "step";
   "past.at-now": "step";
@@ -348,6 +351,7 @@ export interface Places {
   "lanes.none": never;
   "lanes.element": never;
   "lanes.cell": "element" | "head";
+  "lanes.cell.label": "fate" | "value" | "where";
   "lanes.folded": "first" | "last";
   "detail.change": never;
   "detail.change.title": never;
@@ -440,6 +444,15 @@ export interface Places {
   "memory.bytes": never;
   "memory.text": never;
   "memory.none": never;
+  "memory.address.example": never;
+  "memory.address.title": never;
+  "memory.address.unknown": never;
+  "memory.typed": never;
+  "memory.bytes-8": never;
+  "memory.halfwords": never;
+  "memory.words": never;
+  "memory.doublewords": never;
+  "memory.characters": never;
   "variables": never;
   "variables.at": "address";
   "variables.unsupported": never;

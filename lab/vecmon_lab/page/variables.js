@@ -13,7 +13,8 @@ const number = (/** @type {string} */ digits) => BigInt(`0x${digits}`);
 export function numberText(/** @type {string} */ element, /** @type {bigint} */ value) {
   const bits = Number(element.slice(1));
   if (element[0] === "i") return BigInt.asIntN(bits, value).toString();
-  return BigInt.asUintN(bits, value).toString(element[0] === "x" ? 16 : 10);
+  const unsigned = BigInt.asUintN(bits, value);
+  return element[0] === "x" ? `0x${unsigned.toString(16)}` : unsigned.toString();
 }
 
 /**

@@ -23,14 +23,40 @@ const machineOf = (state) => (state && state.run !== "absent" && state.x ? /** @
 
 /** The panels of a machine, and the stage above them, below a root that has both. */
 export class MachineView {
+  isFormChosen = false; // whether the reader has chosen how numbers are shown
+  /** Chooses how numbers are shown, unless the reader has. */
+  suggestForm = (/** @type {"signed" | "unsigned"} */ _) => {};
+
   constructor(/** @type {ParentNode} */ root) {
     this.machine = part(root, "machine");
     this.parts = parts(root, "names", "step", "stop");
     this.output = new OutputPanel(root);
     this.lanes = new Lanes(part(root, "vectors"));
-    const panels = [new ListingPanel(root), new MemoryPanel(root)].map((panel) => panel.paint.bind(panel));
+    this.memory = new MemoryPanel(root);
+    const panels = [new ListingPanel(root), this.memory].map((panel) => panel.paint.bind(panel));
     this.paints = [...panels, paintVariables.bind(null, root)];
     this.paintRegisters = paintRegisters.bind(null, root);
+    this.linkNumbers(part(root, "form"), part(root, "numbers"));
+  }
+
+  /** Keeps the form of numbers the same for elements and registers; the reader's choice stays. */
+  linkNumbers(/** @type {HTMLSelectElement} */ form, /** @type {HTMLSelectElement} */ numbers) {
+    const lists = [form, numbers].filter(Boolean); // some pages have no registers
+    const choose = (/** @type {string} */ value) => lists.forEach((list) => (list.value = value));
+    this.suggestForm = (/** @type {"signed" | "unsigned"} */ value) => this.isFormChosen || choose(value);
+    this.machine.addEventListener("change", ({ target }) => {
+      const list = lists.find((each) => each === target);
+      if (!list) return;
+      this.isFormChosen = true;
+      choose(list.value);
+    }, true); // before what paints the numbers
+    choose(form.value || "signed");
+  }
+
+  /** The number of elements that the last instruction changed, and the names of registers in use. */
+  get changed() {
+    const elements = this.lanes.columns?.changed.filter(Boolean).length ?? 0;
+    return { elements, hasAbiNames: this.parts.names.value === "abi" };
   }
 
   /** The command, which its page knows, and the instruction that executed last, or that faulted. */
@@ -62,6 +88,8 @@ export class MachineView {
     this.machine.classList.toggle("absent", !shown);
     this.machine.classList.toggle("running", shown?.run === "running");
     if (!shown) return;
+    const types = (shown.variables ?? []).map(({ element }) => element[0]).filter((kind) => "iu".includes(kind || "?"));
+    if (types.length) this.suggestForm(types.includes("i") ? "signed" : "unsigned"); // by the types of a source in C
     this.output.paint(shown); // first, since it asks how the page is laid out
     const hasAbiNames = this.parts.names.value === "abi";
     this.lanes.show({ state: shown, before: machineOf(step) ?? shown, used: used.v, hasAbiNames });

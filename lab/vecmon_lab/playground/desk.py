@@ -39,7 +39,7 @@ from ..machine.session import Session
 
 SLICES = 1000  # that a running program gets at once
 TURN_SECONDS, WATCH_SECONDS = 0.025, 0.5  # of a turn of a running program; and between looks at it
-NO_C = "there is no compiler here"
+NO_C = "this page has no compiler; `vecmon-lab explore` on your own computer, and classes, compile C"
 
 
 class NoRecorder:

@@ -21,7 +21,7 @@ test("vtype has vlmul in bits 2 to 0, vsew in bits 5 to 3, vta, vma, and vill in
 
 test("numbers are signed or not by their kind, with the lowest byte first", () => {
   assert.equal(littleEndian("feff"), 0xfffen);
-  assert.deepEqual(["i16", "u16", "x16"].map((kind) => numberText(kind, 0xfffen)), ["-2", "65534", "fffe"]);
+  assert.deepEqual(["i16", "u16", "x16"].map((kind) => numberText(kind, 0xfffen)), ["-2", "65534", "0xfffe"]);
   assert.deepEqual([signedText("ffffffffffffffff"), signedText("7fffffffffffffff")], ["-1", "9223372036854775807"]);
 });
 
