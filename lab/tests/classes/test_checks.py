@@ -303,10 +303,10 @@ async def test_bad_answers_delay_no_other_seat(room: Served) -> None:
     tab, others = await room.sit("A8"), [await room.sit(f"A{number}") for number in range(1, 8)]
     await tab.do("enter", "map 10000 1 rwx", "asm 10000 jal x0, 0", "setpc 10000")
     checks = [asyncio.create_task(check(other, "square", HOSTILE[at % 4])) for at, other in enumerate(others)]
-    steps = 0  # that were answered while all checks went on
-    while not all(each.done() for each in checks):
+    steps = 0  # that waited for the end of no check
+    while (ended := sum(each.done() for each in checks)) < len(checks):
         assert (await tab.do("step 1"))[0][0].startswith("stepped 1")
-        steps += not any(each.done() for each in checks)
+        steps += sum(each.done() for each in checks) == ended
         await asyncio.sleep(0.02)
     assert steps > 5
     assert not any([passes for expected in await asyncio.gather(*checks) for passes in passed(expected)])

@@ -36,7 +36,7 @@ pytestmark = pytest.mark.skipif(not CUTS or os.geteuid() != 0, reason="POWER_CUT
 def mounted(image: pathlib.Path) -> Iterator[pathlib.Path]:
     """The folder where an image is mounted."""
     folder = image.with_suffix(".mounted")
-    folder.mkdir(exist_ok=True)
+    folder.mkdir()
     subprocess.run(["mount", "-o", "loop", image, folder], check=True)
     try:
         yield folder
@@ -80,13 +80,15 @@ def cut(room: Served, image: pathlib.Path, copy: pathlib.Path) -> float:
 
 async def wait_for_steps(room: Served, image: pathlib.Path, program: pathlib.Path, steps: list[int]) -> None:
     """Waits until a copy of the disk has these numbers of steps."""
-    copy, end = image.with_suffix(".copy"), time.monotonic() + PATIENCE
-    cut(room, image, copy)
-    while any(count < minimum for count, minimum in zip(check(copy, program, [0] * len(steps)), steps)):
+    end, counts, number = time.monotonic() + PATIENCE, [0] * len(steps), 0
+    while any(count < minimum for count, minimum in zip(counts, steps)):
         assert time.monotonic() < end
         await asyncio.sleep(0.3)
+        number += 1
+        copy = image.with_name(f"later{number}")  # a new file, of which no loop device has old blocks
         cut(room, image, copy)
-    copy.unlink()
+        counts = check(copy, program, [0] * len(steps))
+        copy.unlink()
 
 
 @pytest.mark.asyncio
