@@ -102,7 +102,7 @@ class Reference:
     def __init__(self, vecmon: Vecmon, program: Program) -> None:
         self._session, self._output, self._stop = Session(vecmon), b"", ""
         self.states = list[Shown]()
-        for line in ["enter", *program.lines, f"setpc {program.entry:x}"]:
+        for line in ["enter", *program.load_lines()]:
             assert " E" not in self._session.do(f"1 {line}")[0]
         self.states.append(self._look(0))
 

@@ -9,6 +9,7 @@ from collections.abc import Iterator
 
 from vecmon_lab.compilers.compiled import CompiledProgram
 from vecmon_lab.compilers.compiling import compile_c
+from vecmon_lab.machine.start_state import STACK
 from vecmon_lab.compilers.compiler import Compiler, choice_of
 from vecmon_lab.lessons.tour import TOURS
 
@@ -35,7 +36,7 @@ def first_vector_instruction(program: CompiledProgram, text: str) -> int:
 
 def short_lines(program: CompiledProgram) -> Iterator[str]:
     """The lines that bring a program in, with fewer bytes each."""
-    for line in program.lines:
+    for line in (*program.lines, *STACK):
         match line.split():
             case ["poke", address, digits]:
                 for place, part in enumerate(textwrap.wrap(digits, DIGITS)):

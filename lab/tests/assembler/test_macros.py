@@ -52,7 +52,8 @@ def test_mistake_of_body_is_reported_once() -> None:
         (".macro m a:odd\n.endm", 1, 10, "a parameter is a name"),
         (".macro\n.endm", 1, 1, ".macro takes a name"),
         (".macro m\n.endm\n.macro M\n.endm", 3, 8, "there already is a macro M"),
-        (".macro m\n m\n.endm\n m", 2, 2, "nested more than 50 deep"),
+        (".macro m\n m\n.endm\n m", 2, 2, "nested more than 50 deep here; in macro m, called in line 2, 49 deep"),
+        (".macro m\n nop\n.end_macro\n m", 3, 1, "write .endm"),
         (".rept 100000\n.rept 100000\n.endr\n.endr", 2, 1, "make more than 20,000 statements"),
         (".rept -1\n.endr", 1, 6, ".rept takes how often"),
         (".irp\n.endr", 1, 5, ".irp takes a name"),
@@ -70,6 +71,35 @@ def test_mistake_has_place(text: str, line: int, column: int, message: str) -> N
     (mistake,) = read_source(text).mistakes
     assert (mistake.line, mistake.column) == (line, column), mistake
     assert message in mistake.message
+
+
+@pytest.mark.parametrize(
+    "call, texts",
+    [
+        (" m ,5,6", ["1", "5", "6"]),
+        (" m ,,6", ["1", "2", "6"]),
+        (" m 4,,6", ["4", "2", "6"]),
+        (" m , 5", ["1", "5", "3"]),
+        (" m ,", ["1", "2", "3"]),
+    ],
+)
+def test_empty_arguments_have_defaults(call: str, texts: list[str]) -> None:
+    """As in GNU as 2.40 and clang 19."""
+    program = assemble(f".macro m a=1, b=2, c=3\n li a0, \\a\n li a1, \\b\n li a2, \\c\n.endm\n{call}")
+    assert [it.text.rpartition(" ")[2] for it in program.statements] == texts
+
+
+@pytest.mark.parametrize(
+    "text, number",
+    [
+        (".rept 2\n.macro m\n nop\n.endm\n m\n.purgem m\n.endr", 2),
+        (".irp n, 1, 2\n.macro m\\n\n nop\n.endm\n m\\n\n.endr", 2),
+        (".rep 3\n nop\n.endr", 3),
+    ],
+)
+def test_macro_in_repetition(text: str, number: int) -> None:
+    """As in GNU as 2.40 and clang 19."""
+    assert [it.text for it in assemble(text).statements] == ["addi x0, x0, 0"] * number
 
 
 def test_text_of_skipped_branch_is_not_read() -> None:

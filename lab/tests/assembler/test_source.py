@@ -21,7 +21,7 @@ PURE = settings(derandomize=True, database=None)
 
 def load(session: Session, program: Program) -> None:
     """Enter, and execute all lines of a program; the machine must refuse none."""
-    for line in ["enter", *program.lines, f"setpc {program.entry:x}"]:
+    for line in ["enter", *program.load_lines()]:
         [answer] = session.do(f"1 {line}")
         assert re.fullmatch(r"1 (?:entered|ok|[0-9a-f]{16} [0-9a-f]{8})", answer), line
 
@@ -102,7 +102,7 @@ def test_long_data_is_split() -> None:
 def test_branch_reaches_range_limits() -> None:
     assert assemble("a: .zero 4096\n beqz a0, a").statements[0].text == "beq x10, x0, -4096"
     assert assemble(" blt a0, a1, a\n .zero 4088\na: nop").statements[0].text == "blt x10, x11, 4092"
-    assert assemble(" j a\n .zero 0xffff8\na: .byte 1").statements[0].text == "jal x0, 1048572"
+    assert assemble(" j a\n .zero 0xfaff8\na: .byte 1").statements[0].text == "jal x0, 1028092"
 
 
 def run(session: Session, name: str) -> tuple[Program, str]:
@@ -158,8 +158,8 @@ ERRORS = [
     (" li a0, 0x", 1, 9, "0x is no number"),
     ("a: .zero 4100\n beqz a0, a", 2, 11, "this is -4100 bytes away, and -4096 to 4094 can be reached"),
     (" beqz a0, a\n .zero 4092\na: nop", 1, 11, "this is 4096 bytes away"),
-    (" nop\n .zero 1044480\n .zero 4092\na: nop", 4, 4, "here the program grows beyond 256 pages"),
-    (".data\n .zero 0x100000\n .zero 1", 3, 2, "here the program grows beyond 256 pages"),
+    (" nop\n .zero 1024000\n .zero 4092\na: nop", 4, 4, "here the program grows beyond 251 pages"),
+    (".data\n .zero 0xfb000\n .zero 1", 3, 2, "here the program grows beyond 251 pages"),
     (' .incbin "x"', 1, 2, ".incbin isn't here: files are read only by run, explore and console"),
     (" add a0, a1, a9", 1, 14, "a9 is no register that fits here"),
     (" add x32, a1, a2", 1, 6, "x32 is no register that fits here"),
@@ -204,6 +204,12 @@ ERRORS = [
     (" add a0, a0, " + "0 - " * 80 + "a0", 1, 334, "a0 is no register that fits here"),
     (" add a0, a0, " + ", ".join(["-9"] * 80), 1, 2, "an instruction has at most 256 characters, and this one 332"),
     (".data\n nop", 2, 2, "nop is outside .text"),
+    (".data\n nop\n li a0, 1\nx: la a0, x", 2, 2, "write .text before it"),
+    (".data 0x10010000\nx: .byte 1\n.text\n la a0, x", 1, 7, "write .data alone"),
+    (".data\n .word 0:10", 2, 9, "written with .fill COUNT, SIZE, VALUE"),
+    (".byte '\\0'", 1, 7, "stock assemblers have no octal escapes"),
+    (".dword 1 !! 2", 1, 10, "!! between numbers is ^ to GNU as"),
+    (".comm a, 8, 3", 1, 13, ".comm aligns to a power of two"),
     (".byte 1\n nop", 2, 2, "the address of nop isn't divisible by 4"),
     (".bss\n .byte 1", 2, 2, ".bss has zeros alone"),
     ('.bss\n .string "a"', 2, 2, ".bss has zeros alone"),
@@ -384,3 +390,13 @@ def test_directives_are_accepted() -> None:
         reply = str(read_source(f"{name} 1, 2").mistakes)
         assert "there is no directive" not in reply, name
     assert ".frob" not in DIRECTIVES
+
+
+def test_complement_has_64_bits() -> None:
+    """As in GNU as 2.40 and clang 19."""
+    lines = assemble(" .data\n .dword ~0x8000000000000000, ~0xffffffff00000000").lines
+    assert lines[1] == "poke 10000 ffffffffffffff7fffffffff00000000"
+
+
+def test_byte_order_mark_is_skipped() -> None:
+    assert assemble("\ufeff_start: nop").labels == {"_start": 0x10000}

@@ -60,11 +60,11 @@ def test_any_case_that_is_shown_can_be_tried(desk: Desk) -> None:
     assert [int(state["x"][number], 16) for number in ("10", "11", "12")] == [0x20100, 0x20000, 3]
     assert state["pc"] == "10000" and state["memory"]["20000"] == "0a000000ecffffff1e00000028000000"
     assert "instruction" not in state and desk.seat.condition == "Ready"  # the program's own code doesn't set vxrm
-    assert state["code"] == {"10000": "00008067 jalr x0, 0(x1)"}
+    assert state["code"] == {"10000": "00008067 jalr x0, 0(x1)", "10004": "00100073 ebreak"}
     ask(desk, ask="lines", do=["step 1"])
     state = desk.seat.state
     assert state["instruction"] == "10000" and state["code"]["7ffff000"] == "00100073 ebreak"  # where it returns to
-    assert [*state["code"]] == ["10000", "7ffff000"]
+    assert [*state["code"]] == ["10000", "10004", "7ffff000"]
     ask(desk, ask="case", exercise="doubles", text="ret", case=0)
     assert int(desk.seat.state["x"]["12"], 16) == 8
 

@@ -33,7 +33,7 @@ def test_examples_in_assembler_step(program: pathlib.Path) -> None:
     for example in example_sources():
         if example["language"] == 0:
             source = assemble(example["text"])
-            lines = ["enter", *source.lines, f"setpc {source.entry:x}", "step 256"]
+            lines = ["enter", *source.load_lines(), "step 256"]
             with Session(program) as session:
                 replies = [session.do(f"1 {line}")[-1] for line in lines]
             assert not [reply for reply in replies if reply.startswith("1 E")], example["name"]

@@ -43,7 +43,7 @@ def run(session: Session, clang: Compiler, text: str, choice: int = 0) -> tuple[
     program = compile_c(text, clang, choice, KERNELS)
     assert not program.mistakes, program.mistakes
     guest = Guest(session)
-    guest.ask("enter", *program.lines, f"setpc {program.entry:x}")
+    guest.ask("enter", *program.load_lines())
     stop = guest.go(200_000)
     assert stop and stop.kind == "exit", stop
     return guest.output(), stop.number
@@ -172,9 +172,9 @@ def test_segments_become_pages_and_bytes() -> None:
         "map 12000 2 rw",
         "poke 10000 01010101",
         f"poke 11010 {'02' * 0x20}",
-        "map 7fffb000 4 rw",
-        "set x2 7fffefc0",
     ]
+    start = ["map 7fffb000 4 rw", "set x2 7fffefc0", "map 7ffff000 1 rx", "poke 7ffff000 73001000", "set x1 7ffff000"]
+    assert program.load_lines() == [*program.lines, *start, "setpc 11010"]
     assert (program.entry, program.names()) == (0x11010, {"11010": ["_start"]})
 
 

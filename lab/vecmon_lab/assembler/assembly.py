@@ -3,11 +3,10 @@
 import contextlib
 from collections.abc import Callable, Iterator
 
-from ..instructions.accesses import PAGE_BYTES
 from .data_runs import DataItem
 from .instruction import Instruction
 from .line import Line, Operand, SourceError, Token
-from .sections import USER_PAGES, Sections
+from .sections import PROGRAM_PAGES, TOO_LARGE, Sections
 from .symbols import Symbols
 from .value import Value
 
@@ -61,6 +60,7 @@ class Assembly:
         column = self.line.column if self.line.places else name.column
         self.instructions.append(Instruction(name, operands, self.here(), texts, self.line.number, column))
         self.put(name, 4 * len(texts))
+        self.sections.current.code_end = self.sections.current.size
 
     def put(self, name: Token, size: int, make: Callable[[], bytes] | None = None) -> None:
         """Make room in the section for this number of bytes, made at the end; without `make` zeros or instructions."""
@@ -69,10 +69,9 @@ class Assembly:
         if make is not None:
             section.contents.append((section.size, _zeros(name, make) if section.zeros else make))
         section.size += size
-        if section.pages() != pages and self.sections.pages() > USER_PAGES:
+        if section.pages() != pages and self.sections.pages() > PROGRAM_PAGES:
             section.size -= size  # so that others may fit
-            limit = f"{USER_PAGES} pages of {PAGE_BYTES} bytes"
-            raise name.error(f"here the program grows beyond {limit}, all that a user has")
+            raise name.error(TOO_LARGE)
 
     def put_item(self, name: Token, size: int, make: Callable[[], bytes], value: Callable[[], int] | None) -> None:
         """Make room for a number or a text, and take it up as data. value: of a number, at the end"""

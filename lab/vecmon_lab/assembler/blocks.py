@@ -132,7 +132,7 @@ class Blocks:
         """The statements of a macro that a line calls."""
         length = len(macro.name)
         self._calls += 1
-        made = called(macro, line, 0, length, self._calls - 1)
+        made = called(macro, line, (0, length), self._calls - 1, self._depth)
         self._count_one(line)
         yield from self._nested(self._made(made), line)
 
@@ -169,6 +169,9 @@ class Blocks:
                 macros -= 1
             else:
                 depth += (word in _OPENINGS[name]) - (word in _ENDS[name])
+            if word == ".end_macro":
+                self._assembly.note(each.error(0, ".end_macro isn't in this assembler: write .endm"))
+                depth = 0
             if depth == 0:
                 return body
             body.append(each)

@@ -7,14 +7,14 @@ from .. import LabError
 from ..instructions.accesses import PAGE_BYTES
 from .assembly import Assembly
 from .line import Operand, Token, check_count
-from .sections import USER_PAGES
+from .sections import PROGRAM_PAGES, TOO_LARGE
 from .value import Value
 
 WIDTHS = {".byte": 1, ".half": 2, ".word": 4, ".dword": 8}
 WIDTHS |= {".2byte": 2, ".hword": 2, ".short": 2, ".4byte": 4, ".long": 4, ".int": 4, ".8byte": 8, ".quad": 8}
 STRINGS = {".ascii": b"", ".asciz": b"\0", ".string": b"\0"}  # and what ends them
 _OTHER_SIZES = {".float": 4, ".single": 4, ".double": 8, ".octa": 16}  # of an operand, of directives that are refused
-MOST_BYTES = USER_PAGES * PAGE_BYTES
+MOST_BYTES = PROGRAM_PAGES * PAGE_BYTES
 
 Directive = Callable[[Token, list[Operand]], None]
 
@@ -91,9 +91,7 @@ class DataDirectives:
                 f"{name.text} takes how many {'copies' if name.text == '.fill' else 'bytes'} there are"
             )
         if size > MOST_BYTES:
-            raise name.error(
-                f"here the program grows beyond {USER_PAGES} pages of {PAGE_BYTES} bytes, all that a user has"
-            )
+            raise name.error(TOO_LARGE)
         return size
 
     def _put_leb(self, name: Token, operands: list[Operand]) -> None:
@@ -113,6 +111,8 @@ class DataDirectives:
         skipped, *count = [self._assembly.constant(operand) for operand in operands[1:]] or [0]
         if skipped < 0 or min(count, default=0) < 0:
             raise name.error(".incbin takes a file, how many bytes of it to leave out, and how many to take")
+        if skipped > len(content):
+            raise operands[1][0].error(f"the file has {len(content):,} bytes, and {skipped:,} are left out")
         data = content[skipped : skipped + count[0]] if count else content[skipped:]
         self._assembly.put_item(name, len(data), partial(bytes, data), None)
 

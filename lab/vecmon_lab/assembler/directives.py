@@ -74,12 +74,13 @@ class Directives:
             self._symbols.assign(name, operand, self._assembly.here(), is_once)
 
     def _enter_section(self, name: Token, operands: list[Operand]) -> None:
-        if operands:
-            raise operands[0][0].error(f"{name.text} has no parts here: write .section with a name of its own")
         if name.text == ".rodata":
             self._sections.open(name, name.text, [])
         else:
             self._sections.enter(self._sections.named(name.text))
+        if operands:
+            message = f"{name.text} takes no address and no part here: write {name.text} alone, or .section with a name of its own"
+            raise operands[0][0].error(message)
 
     def _enter_named_section(self, name: Token, operands: list[Operand]) -> None:
         if not operands:
@@ -123,12 +124,13 @@ class Directives:
         is_written = fill or (fill is None and "x" in section.permissions)
         self._assembly.put(name, padding, partial(bytes, data) if is_written else None)
 
-    def _alignment(self, name: Token, operand: Operand) -> int:
-        """The number of bytes of which the next address is a multiple. Raises SourceError."""
+    def _alignment(self, name: Token, operand: Operand, is_bytes: bool = False) -> int:
+        """The number of bytes of which the next address is a multiple. is_bytes: whether it is named. Raises SourceError."""
         number = self._assembly.constant(operand)
-        if name.text.startswith(".balign"):
+        if is_bytes or name.text.startswith(".balign"):
             if not 1 <= number <= PAGE_BYTES or number & number - 1:
-                raise operand[0].error(f"{name.text} takes a power of two from 1 to {PAGE_BYTES}")
+                verb = "aligns to" if is_bytes else "takes"
+                raise operand[0].error(f"{name.text} {verb} a power of two from 1 to {PAGE_BYTES}")
             return number
         if not 0 <= number <= _PAGE_POWER:
             raise operand[0].error(f"{name.text} n aligns to 2^n bytes, with n from 0 to {_PAGE_POWER}")
@@ -155,11 +157,7 @@ class Directives:
         label, size = operands[0][0], self._assembly.constant(operands[1])
         if label.kind is not Kind.NAME or len(operands[0]) != 1 or size < 0:
             raise label.error(f"{name.text} takes a name, how many bytes it has, and its alignment")
-        alignment = (
-            self._alignment(Token(Kind.NAME, ".balign", name.line, name.column), operands[2])
-            if len(operands) > 2
-            else 1
-        )
+        alignment = self._alignment(name, operands[2], is_bytes=True) if len(operands) > 2 else 1
         is_common = name.text == ".comm" and label.text not in self._assembly.locals
         section = self._sections.common(alignment) if is_common else self._sections.named(BSS)
         if len(operands) < 3 and is_common:

@@ -7,6 +7,7 @@ from dataclasses import dataclass, replace
 from .line import Line, Place
 
 MAX_CHARACTERS = 10_000  # of a statement with its arguments
+MAX_NAMED_CALLS = 4  # in a message, of calls inside each other
 _NAME = r"[A-Za-z_.$][\w.$]*"
 _QUOTED = r'"(?:[^"\\]|\\.)*"'
 _PARAMETER = re.compile(rf"[\s,]*({_NAME})(?:\s*:\s*(\w+))?(?:\s*=\s*({_QUOTED}|[^\s,]*))?", re.ASCII)
@@ -136,10 +137,15 @@ def _value_of(line: Line, match: re.Match[str], arguments: Mapping[str, Line], c
     return arguments.get(match[3])
 
 
-def called(macro: Macro, line: Line, start: int, end: int, count: int) -> Iterator[Callable[[], Line]]:
-    """The statements of a call, whose name is between two indices of a line; each raises SourceError where it is made."""
+def called(macro: Macro, line: Line, name: tuple[int, int], count: int, depth: int) -> Iterator[Callable[[], Line]]:
+    """The statements of a call; each raises SourceError where it is made.
+
+    name: where it begins and ends in the line; count: of calls before; depth: of the calls and repetitions around it
+    """
+    start, end = name
     arguments = macro.arguments(line, start, end)
-    within = f"; in macro {macro.name}, called in line {line.place(start)[0]}{line.within}"
+    around = line.within if depth < MAX_NAMED_CALLS else f", {depth} deep"
+    within = f"; in macro {macro.name}, called in line {line.place(start)[0]}{around}"
     column = line.column if line.places else line.place(start)[1]
 
     def make(each: Line) -> Line:

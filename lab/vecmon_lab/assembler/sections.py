@@ -7,10 +7,13 @@ import re
 from collections.abc import Iterator
 
 from ..instructions.accesses import PAGE_BYTES
+from ..machine.start_state import START_PAGES
 from .line import Kind, Operand, Token
 from .value import Section, Value
 
 USER_PAGES = 256
+PROGRAM_PAGES = USER_PAGES - START_PAGES
+TOO_LARGE = f"here the program grows beyond {PROGRAM_PAGES} pages of {PAGE_BYTES} bytes, all that a program has next to its stack"
 TEXT, DATA, BSS = ".text", ".data", ".bss"
 _Kind = tuple[str, bool]  # permissions, and whether it has zeros alone
 _ORDER: list[_Kind] = [("rx", False), ("rwx", False), ("r", False), ("rw", False), ("rw", True)]
@@ -28,13 +31,17 @@ NO_THREADS = "thread-local storage isn't in this machine: a program has one hart
 
 
 class Sections:
-    """The sections of a source by name, and the one that lines are in."""
+    """The sections of a source by name, and the one that lines are in.
+
+    end: the address after the last instruction, once sections have their bases; 0 if other bytes follow
+    """
 
     def __init__(self) -> None:
         self._sections = {TEXT: Section("rx"), DATA: Section("rw"), BSS: Section("rw", True)}
         self.current = self._previous = self._sections[TEXT]
         self._stack: list[tuple[Section, Section]] = []
         self._common = Section("rw", True)
+        self.end = 0
 
     def here(self) -> Value:
         """The address of the next byte."""
@@ -94,14 +101,20 @@ class Sections:
         return sum(-(-size // PAGE_BYTES) for size in sizes.values())
 
     def place(self, origin: int) -> Iterator[str]:
-        """Give all sections their bases, from an address that is a multiple of a page; the lines that map their pages."""
+        """Give all sections their bases, from an address that is a multiple of a page; the lines that map their pages.
+
+        After the last instruction there is room for one more.
+        """
         for kind in _ORDER:
-            start = origin
+            start, last = origin, Section("")
             for section in (*self._sections.values(), self._common):
                 if (section.permissions, section.zeros) == kind:
                     origin += -origin % section.alignment
                     section.base = origin
                     origin += section.size
+                    last = section if section.size else last
+            if kind == _ORDER[0] and last.code_end == last.size > 0:
+                self.end, origin = origin, origin + 4
             pages = -(-(origin - start) // PAGE_BYTES)
             if pages:
                 yield f"map {start:x} {pages} {kind[0]}"

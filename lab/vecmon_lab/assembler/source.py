@@ -8,6 +8,7 @@ from collections.abc import Iterable, Iterator, Mapping, Sequence
 from dataclasses import dataclass, field, replace
 
 from ..instructions.accesses import PAGE_BYTES
+from ..machine.start_state import start_lines
 from .assembly import Assembly, FileReader
 from .blocks import BLOCK_DIRECTIVES, Blocks
 from .data_runs import DataRun, data_runs
@@ -31,6 +32,8 @@ class Program:
 
     mistakes: of form, one for a place in the source and MAX_MISTAKES at most, in order; with any there are no lines
     data: the numbers and texts of its directives, by address; warnings: of the assembler, or of a compiler
+    set_up: commands of the monitor of its `#>` lines, each with the number of its line, if these were read (`inputs.py`)
+    end: the address after its last instruction, which gets an ebreak; 0 if other bytes follow there
     """
 
     lines: list[str]
@@ -40,6 +43,13 @@ class Program:
     mistakes: list[SourceError]
     data: Mapping[int, DataRun] = field(default_factory=dict, kw_only=True)
     warnings: Sequence[SourceError] = field(default=(), kw_only=True)
+    set_up: Sequence[tuple[int, str]] = field(default=(), kw_only=True)
+    end: int = field(default=0, kw_only=True)
+
+    def load_lines(self) -> list[str]:
+        """The lines of the monitor after `enter` that load it: its own, and those of its start."""
+        after_last = [f"asm {self.end:x} ebreak"] if self.end else []
+        return [*self.lines, *after_last, *start_lines(self.labels), f"setpc {self.entry:x}"]
 
     def names(self) -> dict[str, list[str]]:
         """The labels by address, which is in hexadecimal digits."""
@@ -135,7 +145,7 @@ class _Assembler:
 
     def lines(self, text: str) -> Iterator[Line]:
         """The statements of a source, each made after the one before is read."""
-        plain, error = without_comments(text)
+        plain, error = without_comments(text.replace("\ufeff", " ", text.startswith("\ufeff")))  # a byte order mark
         if error:
             self.assembly.note(error)
         return self._blocks.expanded(statements(plain))
@@ -172,7 +182,10 @@ class _Assembler:
     def _read_instruction(self, name: Token, operands: list[Operand]) -> None:
         section = self._sections.current
         if "x" not in section.permissions:
-            raise name.error(f"{name.text} is outside .text, where programs can't execute it")
+            if section.has_instructions:  # of which the first one is a mistake
+                return
+            section.has_instructions = True
+            raise name.error(f"{name.text} is outside .text, where programs can't execute it: write .text before it")
         if section.size % 4:
             if section.is_certain:
                 self.assembly.note(
@@ -207,10 +220,18 @@ class _Assembler:
         labels, mistakes = self._symbols.addresses(), in_order(assembly.mistakes.values())
         lines += [statement.command for statement in made]
         lines += [] if mistakes else [line for section in filled for line in section.pokes()]
-        entry = labels.get("_start", self._sections.named(".text").base)
+        entry = _entry(labels, made, self._sections.named(".text").base)
         data = {} if mistakes else data_runs(assembly.items, {*labels.values()})
         warnings = in_order(assembly.warnings.values())
-        return Program([] if mistakes else lines, labels, made, entry, mistakes, data=data, warnings=warnings)
+        lines = [] if mistakes else lines
+        return Program(lines, labels, made, entry, mistakes, data=data, warnings=warnings, end=self._sections.end)
+
+
+def _entry(labels: Mapping[str, int], statements: Sequence[Statement], text: int) -> int:
+    """Where a program starts: at _start, else at main if it is an instruction, else at the start of .text."""
+    main = labels.get("main")
+    is_function = main is not None and any(statement.address == main for statement in statements)
+    return labels.get("_start", main if main is not None and is_function else text)
 
 
 def _checked_label(label: Token) -> Token:

@@ -8,6 +8,7 @@ from ..machine.answers import Refused, read
 from ..machine.process import Vecmon
 from ..machine.session import TOGETHER, Session
 from .assembly import FileReader
+from .inputs import with_inputs
 from .instruction import with_fitting_operand
 from .source import Program, SourceError, Statement, in_order, read_source, refusal
 
@@ -16,13 +17,13 @@ MAX_OPERANDS = 5  # of an instruction
 
 def read_whole_source(text: str, vecmon: Vecmon, files: FileReader | None = None) -> Program:
     """The program of a source; where that has mistakes of form, with all its mistakes. files: as in `read_source`"""
-    program = read_source(text, files=files)
+    program = with_inputs(read_source(text, files=files), text)
     return replace(program, mistakes=all_mistakes(program, vecmon)) if program.mistakes else program
 
 
 def read_tried_source(text: str, vecmon: Vecmon, files: FileReader | None = None) -> Program:
     """The program of a source, with all its mistakes, also those that only the machine refuses."""
-    program = read_source(text, files=files)
+    program = with_inputs(read_source(text, files=files), text)
     return replace(program, mistakes=all_mistakes(program, vecmon))
 
 

@@ -14,6 +14,8 @@ class Section:
     permissions: "" if it isn't loaded, as of notes; zeros: whether it has no bytes but zeros
     alignment: of its address, in bytes
     is_certain: whether no directive was refused whose size isn't known since the last alignment
+    code_end: its size after its last instruction; 0 without one
+    has_instructions: whether there was an instruction in a section that isn't executed
     """
 
     permissions: str
@@ -22,6 +24,8 @@ class Section:
     base: int = 0
     alignment: int = 1
     is_certain: bool = True
+    code_end: int = 0
+    has_instructions: bool = False
     contents: list[tuple[int, Callable[[], bytes]]] = field(default_factory=list)  # by offset; all else is zeros
 
     def pages(self) -> int:

@@ -5,7 +5,7 @@ from collections.abc import Callable, Iterator, Mapping
 from dataclasses import dataclass, field
 
 from ..compilers.compiled import rights_by_page
-from ..guest.guest import STACK_BYTES, STACK_END, Guest
+from ..guest.guest import Guest
 from ..guest.notebook import registers_html
 from ..instructions.accesses import PAGE_BYTES
 from ..machine.answers import (
@@ -22,6 +22,7 @@ from ..machine.answers import (
 from ..machine.lines import DIGITS, words_of
 from ..machine.program import segments_of
 from ..machine.session import Session
+from ..machine.start_state import STACK_BYTES, STACK_END
 
 TOUCHING = "vadd.vv v0, v1, v2, v0.t"
 """An instruction that is illegal under each vector type: it makes its user the vector unit's owner and changes nothing."""

@@ -2,10 +2,10 @@
 
 from collections.abc import Iterable, Iterator, Mapping
 
-from ..guest.guest import STACK_POINTER
 from ..instructions.accesses import LINE_BYTES, PAGE_BYTES, REGISTER_BYTES
 from ..machine.answers import VILL
 from ..machine.lines import DIGITS
+from ..machine.start_state import STACK_POINTER
 from .machine_state import TOUCHING, Machine
 
 TRACED = 16  # addresses that a trace has at most

@@ -12,6 +12,7 @@ from .languages import C
 
 EXAMPLES = pathlib.Path(__file__).parents[2] / "examples"
 LESSON = "lesson.s"  # in the folder of an exercise
+_OF_LESSONS = re.compile(r"^#> *(?:step|go)\b.*\n", re.MULTILINE)  # lines that pages don't take
 
 
 class ExampleSource(TypedDict):
@@ -51,6 +52,7 @@ def _example(group: str, path: pathlib.Path) -> ExampleSource:
     about = " ".join(line.lstrip("/# ") for line in comments if not line.startswith(("##", "//#", "//>")))
     title = titles[0] if titles else path.stem.replace("_", " ").capitalize()
     language = C if path.suffix == ".c" else 0
+    text = _OF_LESSONS.sub("", text)
     name = _file_name(title) if path.name == LESSON else path.name
     return {"group": group, "name": name, "title": title, "about": about, "text": text, "language": language}
 

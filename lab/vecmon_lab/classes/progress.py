@@ -5,7 +5,6 @@ from collections.abc import Mapping, Sequence
 from dataclasses import dataclass, field
 from typing import NotRequired, TypedDict
 
-from ..compilers.compiled import STACK
 from ..exercises.answer import C_SUFFIX, inputs
 from ..exercises.check import CaseRows, CheckResult, case_rows, passes_all
 from ..exercises.exercise import Case, Exercise
@@ -197,8 +196,8 @@ class Exercises:
         number = result["number"] if number is None else number
         if not 0 <= number < len(exercise.cases) or exercise.cases[number].is_hidden:
             raise BadRequest(f"case {number} of {name} isn't shown: take one from the list of cases")
-        case, stack = exercise.cases[number], STACK if source.choice is None else ()
-        return TriedCase(name, number, lambda start: [*stack, *inputs(exercise, case, start)])
+        case = exercise.cases[number]
+        return TriedCase(name, number, lambda start: inputs(exercise, case, start))
 
     def answered(self, ticket: str) -> tuple[str, str, Progress] | None:
         """The seat and the exercise of the answer whose lesson a ticket opens, and the progress there."""

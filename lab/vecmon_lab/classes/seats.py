@@ -170,7 +170,11 @@ class Seat:
             self.named["variables"] = shown_variables(program.variables)
 
     def list_program(self, program: Program) -> None:
-        """Has instructions and variables of a program shown that a compiler made, in place of all that lines name."""
+        """Has instructions and variables of a program shown that a compiler made, in place of all that lines name.
+
+        The end of any program is known from then on.
+        """
+        self.watch_set.end = program.end
         if isinstance(program, CompiledProgram):
             self.watch_set.take_compiled(program.text(), variable_rows(program.variables)[:MAX_NAMED])
 

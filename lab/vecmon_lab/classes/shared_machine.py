@@ -11,6 +11,7 @@ from functools import partial
 from typing import Protocol, TypeVar
 
 from .. import LabError
+from ..assembler.commands import explain_refusal
 from ..assembler.source import Program, SourceError, in_order, refusal
 from ..guest.changes import Retired
 from ..guest.guest import Guest
@@ -148,17 +149,23 @@ class SharedMachine:
             return program.mistakes, warnings
         if (number := len(program.lines)) > SOURCE_LINES:
             raise BadRequest(f"a source becomes {SOURCE_LINES} lines at most, and this one {number}")
-        mistakes = yield from self.load_program(seat, program, _breakpoints_in(seat, source, program))
+        mistakes = yield from self.load_program(seat, program, _breakpoints_in(seat, source, program), is_answer)
         seat.take(source, program)
         return mistakes, warnings
 
-    def load_program(self, seat: Seat, program: Program, breaks: Iterable[int]) -> Steps[Mistakes]:
+    def load_program(
+        self, seat: Seat, program: Program, breaks: Iterable[int], is_answer: bool = False
+    ) -> Steps[Mistakes]:
         """Brings a program in, some dozens of lines at a turn; the mistakes that the machine refuses.
 
+        is_answer: whether it is tried with a case of an exercise, and not with the inputs of its source
         Raises BadRequest where the seat's share of the script has no room for it.
         """
-        start = [*LEAVING[seat.state["run"]], "enter", *program.lines, f"setpc {program.entry:x}"]
-        lines = own_lines(seat, [*start, *(f"break {address:x}" for address in breaks)])
+        start = [*LEAVING[seat.state["run"]], "enter", *program.load_lines()]
+        set_up, stops = dict[str, int](), {f"break {address:x}": 0 for address in breaks}
+        if not is_answer:  # a case of an exercise gives its own inputs
+            set_up = {f"{seat.digit} {command}": number for number, command in program.set_up if command not in stops}
+        lines = own_lines(seat, [*start, *stops]) + [*set_up]
         self.check_share(seat, lines)
         statements = {f"{seat.digit} {each.command}": each for each in program.statements}
         mistakes, done = list[SourceError](), list[Done]()
@@ -168,6 +175,8 @@ class SharedMachine:
             turn.is_last = len(done) + len(part) == len(lines)
             for line, answer in zip(part, self.do(turn, *part)):
                 match read(answer):
+                    case Refused() as refused if line in set_up:
+                        mistakes.append(SourceError(set_up[line], 1, explain_refusal(line, refused)[-1]))
                     case Refused("E15", column):
                         mistakes.append(refusal(statements[line], int(column)))
                     case Refused(code):

@@ -285,8 +285,8 @@ class Student:
         """
         if source:
             self.source.write(source, number)
-        is_answer, case = case is not None, case if source else self.seat.case
-        mistakes, warnings = yield from self.machine.write(self.seat, source, is_answer, is_tried)
+        case = case if source else self.seat.case
+        mistakes, warnings = yield from self.machine.write(self.seat, source, case is not None, is_tried)
         if mistakes:
             self.seat.set_status(problems_status(len(mistakes)))
         elif case:

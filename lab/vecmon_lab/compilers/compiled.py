@@ -12,7 +12,7 @@ from typing import Any
 from .. import LabError, SourceMistakes
 from ..assembler.source import Program, SourceError
 from ..guest.entries import NAME_LETTERS
-from ..guest.guest import STACK_END, STACK_POINTER, pokes
+from ..guest.guest import pokes
 from ..instructions.accesses import PAGE_BYTES, ROW_BYTES
 from .compiler import OWN_SOURCES
 from .debug import MESSAGE_LETTERS, MAX_BYTES, MAX_MESSAGES, MAX_ROWS, MAX_SEGMENTS, MAX_STOPS, MAX_SYMBOLS
@@ -22,7 +22,6 @@ from .variables import Variable, read_variables
 IMAGE_BYTES, IMAGE_PAGES = 1 << 16, 200  # of what isn't zeros; and of all pages
 
 _DATA = re.compile(rb"[^\0]+(?:\0{1,15}[^\0]+)*")  # bytes with few zeros between them
-STACK = (f"map {STACK_END - 0x4000:x} 4 rw", f"set x2 {STACK_POINTER:x}")
 
 Isolation = Callable[[Sequence[str], str], bytes]
 """A function that runs `sandbox_main` with these arguments for a source of others, apart from the user's files; its output."""
@@ -130,7 +129,7 @@ def program_of(
     if len(pages) > IMAGE_PAGES or size > most_bytes:
         limit = f"{IMAGE_PAGES} pages and {most_bytes:,} bytes that aren't zeros"
         raise LabError(f"the program has {len(pages)} pages and {size:,} bytes; {limit} are the most")
-    lines = [*maps(pages), *(line for address, data in pieces for line in pokes(address, data)), *STACK]
+    lines = [*maps(pages), *(line for address, data in pieces for line in pokes(address, data))]
     rows = [(int(address), _own_line(line), str(inlined)) for address, line, inlined in image["rows"][:MAX_ROWS]]
     labels = dict(islice(dict(image["symbols"]).items(), MAX_SYMBOLS))
     variables = read_variables(image["variables"])

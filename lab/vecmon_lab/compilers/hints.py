@@ -33,9 +33,7 @@ _WIDE_INTEGERS = re.compile(
 )  # mode ti: 128 bits
 _ATOMICS = re.compile(r"__(?:atomic|sync)_\w+")
 
-NO_LIBRARY = (
-    'there is no C library here. "vecmon.h" declares put, exit, memcpy and memset; docs/COMPILING.md links picolibc'
-)
+NO_LIBRARY = 'there is no C library here. "vecmon.h" declares put, put_int, put_uint, put_hex, exit, memcpy and memset; docs/COMPILING.md links picolibc'
 NO_FLOATS = "the machine has no floating point, and nothing computes it in software: use integers"
 NO_MEMORY_FUNCTION = "compilers call it to copy or to compare; memory.c in docs/COMPILING.md defines memmove and memcmp"
 NO_WIDE_INTEGERS = "no library divides or multiplies integers of 128 bits here: use 64 bits"

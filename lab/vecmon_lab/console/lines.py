@@ -82,6 +82,7 @@ class Console:
         saved, is_same, self._program = self._breakpoints.all(), commands == self._program, commands
         self._guest.ask("stop", "leave", *commands)
         self.names.symbols = Symbols.of_labels(script.labels)
+        self._guest.end = script.program.end if script.program else 0
         self._source.own = OwnSource(path, text, {each.address: each.line for each in script.statements.values()})
         self._conditions.by_address.clear()
         self._breakpoints.restart(saved, is_same)
@@ -167,7 +168,7 @@ class Console:
         else:
             self._screen.say(*lines if has_user else self._shown(answer, lines))
         if is_loaded:
-            self.names.symbols, self._source.own = self._image_symbols, None
+            self.names.symbols, self._source.own, self._guest.end = self._image_symbols, None, 0
             self._breakpoints.restart(saved, own == self._program)
             self._program = own
         elif own in (["enter"], ["leave"]) and not isinstance(answer, Refused):

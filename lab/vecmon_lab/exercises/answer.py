@@ -11,28 +11,24 @@ from dataclasses import dataclass, replace
 from random import Random
 
 from .. import LabError, mistakes_in
-from ..compilers.compiled import STACK, CompiledProgram, Isolation
+from ..compilers.compiled import CompiledProgram, Isolation
 from ..compilers.compiler import find_compiler, refuse_cxx
 from ..guest.entries import printable
-from ..guest.guest import IMAGE_BYTES, MAX_STEPS, QUANTUM, SET_UP_ADDRESS, STACK_END, Guest, pokes
+from ..guest.guest import IMAGE_BYTES, MAX_STEPS, QUANTUM, SET_UP_ADDRESS, Guest, pokes
 from ..guest.runner import Reporter
 from ..lessons.script import Script, read_assembled, read_compiled, send
 from ..machine.answers import Position, ScalarRegisters, Stop
 from ..machine.lines import check_line, words_of
 from ..machine.process import Vecmon
 from ..machine.session import Session
+from ..machine.start_state import RETURN, RETURN_PAGE
 from ..machine.target import check_flags, check_kind, target_warnings
 from .exercise import UNLIMITED, Case, Exercise, Limits, Results
-
-RETURN = STACK_END
-"""Where an answer returns to, as x1 has it: to an ebreak in a page of its own."""
 
 TURNED = 0xA5
 """The bits of a byte that are turned round where something is expected. All would make -32768 of 32767, as sums do."""
 
 C_SUFFIX = ".c"
-
-_RETURN_PAGE = (f"map {RETURN:x} 1 rx", f"poke {RETURN:x} 73001000", f"set x1 {RETURN:x}")
 
 
 @dataclass(frozen=True)
@@ -113,8 +109,7 @@ def source_answer(text: str, path: pathlib.Path, compiled: CompiledProgram | Non
     source = read_compiled(text, name, compiled, True) if compiled else read_assembled(text, name)
     if not (source.statements or compiled):
         raise LabError("there is no instruction in the source")
-    stack = [] if compiled else STACK  # which a compiled program has
-    return Answer(path, [line[2:] for line in source.steps[0].lines[1:]] + [*stack], source)
+    return Answer(path, [line[2:] for line in source.steps[0].lines[1:]], source)
 
 
 def _open(name: str, flags: int) -> int:
@@ -161,7 +156,8 @@ def ready(
             send(guest, ["enter", *answer.commands], answer.source)
         guest.ask("stop")  # where a script's last line is `go`
         guest.output()
-        send(guest, inputs(exercise, case, guest.query("state", Position).pc))
+        return_page = [] if answer.source else RETURN_PAGE  # which a source has
+        send(guest, [*return_page, *inputs(exercise, case, guest.query("state", Position).pc)])
         guest.write = write or guest.write
         yield guest
 
@@ -177,7 +173,7 @@ def attempt(program: Vecmon, answer: Answer, exercise: Exercise, case: Case) -> 
 
     with ready(program, answer, exercise, case, write) as guest:
         before, (stop, is_long) = _results(guest, case.expected, b""), _run(guest, exercise.limits)
-        if stop is None or stop.kind not in ("ebreak", "exit"):
+        if stop is None or stop.kind not in ("ebreak", "exit") or _runs_on(answer, stop.pc):
             raise LabError(_without_end(guest, answer, stop, exercise.limits.ticks))
         return Attempt(before, _results(guest, case.expected, bytes(output)), is_long)
 
@@ -189,9 +185,15 @@ def _without_end(guest: Guest, answer: Answer, stop: Stop | None, ticks: int) ->
     if stop is None:
         place = f"; it is at line {line}" if line else ""
         return f"it hasn't ended after {ticks:,} ticks (an instruction takes at least one){place}"
-    if source and source.statements and pc == source.statements[-1].address + 4:
+    if _runs_on(answer, pc):
         return "it runs on behind its last instruction: is `ret` missing?"
     return (f"line {line}: " if line else "") + guest.explain(stop)
+
+
+def _runs_on(answer: Answer, pc: int) -> bool:
+    """Whether an address is the one after the last instruction of an answer's source."""
+    source = answer.source.program if answer.source else None
+    return bool(source and source.statements and pc == source.statements[-1].address + 4)
 
 
 def _run(guest: Guest, limits: Limits) -> tuple[Stop | None, bool]:
@@ -217,7 +219,7 @@ def inputs(exercise: Exercise, case: Case, start: int) -> list[str]:
     written = [command for address, data in places for command in pokes(address, data)]
     values = [f"set {name} {value:x}" for name, value in registers.items()]
     junk = _junk(case.name, start) if exercise.junk else []
-    return [*exercise.set_up, *_RETURN_PAGE, *junk, f"policy {case.policy}", *written, *values]
+    return [*exercise.set_up, *junk, f"policy {case.policy}", *written, *values]
 
 
 def _junk(name: str, start: int) -> Iterator[str]:

@@ -194,6 +194,9 @@ class Target:
         if stop and stop.kind == "exit":
             self._tell(f"it exits here with status {stop.number}; continue ends it, reverse-continue goes back")
             self._exit, self._last = f"W{stop.number:02x}", LAST_INSTANT
+        if stop and self._guest.has_ended(stop):
+            self._tell(self._guest.explain(stop))
+            self._exit, self._last = "W00", LAST_INSTANT
         if stop and stop.kind == "fault":
             self._tell(self._guest.explain(stop))
             self._last = FAULTS[stop.cause]

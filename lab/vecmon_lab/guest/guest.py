@@ -24,10 +24,11 @@ from ..machine.answers import (
     Word,
     read,
 )
-from ..machine.image import STACK_PAGES
 from ..machine.program import find_program, image_refusal
 from ..machine.session import TOGETHER, Session
+from ..machine.start_state import RETURN, STACK_END, STACK_POINTER
 from ..machine.target import check_flags, check_kind
+from .image_start import image_start
 from .input import input_of
 from .runner import OUTPUT_BYTES, SAFE_STEPS, Report, Reporter, Runner
 
@@ -39,7 +40,6 @@ PACES = ((MAX_STEPS, OUTPUT_BYTES - 1), (SAFE_STEPS, OUTPUT_BYTES))
 
 VECTOR_LOOKS = [f"vreg v{number} 64" for number in range(32)]
 
-STACK_POINTER, STACK_END, STACK_BYTES = 0x7FFF_EFC0, STACK_PAGES.stop, len(STACK_PAGES)  # as `load` leaves them
 SET_UP_ADDRESS = STACK_END + 4  # of the instruction that sets up a case of an exercise: no listing has it
 
 AnswerType = TypeVar("AnswerType", bound=Answer)
@@ -51,6 +51,7 @@ class Guest:
     pc: its place, from the answers to `start`, `go` and `step`, or from `regs` of a `Stepper`
     ticks: how many of them `go` has granted, in whole slices
     start_commands: the commands that `start` gave behind `load`, without the policy
+    end: the address of the ebreak after the program's last instruction; 0 if it has none or is unknown
     write: is given what the program writes
     runner: what `go` does
     on_pause: is called in a run after each part, whose output was taken, while the program is stopped
@@ -68,7 +69,7 @@ class Guest:
         report: is given calls that aren't supported; without it they are printed on standard error, each once
         """
         self.session, self.user = session, user
-        self.pc = self.ticks = 0
+        self.pc = self.ticks = self.end = 0
         self.start_commands: Sequence[str] = ()
         self._kept: list[bytes] = []
         self.write = write or self._kept.append
@@ -118,8 +119,9 @@ class Guest:
             raise LabError(image_refusal(image, str(loaded)))
         self.pc = loaded.pc
         written = [command for address, part in (data or {}).items() for command in pokes(address, part)]
-        place = STACK_END - len(block)
-        self.start_commands = [*written, *((*pokes(place, block), f"set x2 {place:x}") if arguments else ())]
+        place, start = STACK_END - len(block), image_start(self.session.images[image])
+        placed = (*pokes(place, block), f"set x2 {place:x}") if arguments else ()
+        self.start_commands, self.end = [*start.commands, *written, *placed], start.end
         for command, answer in zip(self.start_commands, self.ask(*self.start_commands)):
             if isinstance(answer, Refused):
                 raise LabError(f"the machine refuses to write from {command.split()[1]} on ({answer})")
@@ -212,10 +214,14 @@ class Guest:
         (reply,) = self.ask(f"dis {address:x} 1")
         return (reply.words[0].word, reply.words[0].text) if isinstance(reply, Listing) else (0, "")
 
+    def has_ended(self, stop: Stop) -> bool:
+        """Whether a stop is at an ebreak of the lab, to which a source returns, or after its last instruction."""
+        return stop.kind == "ebreak" and stop.pc in (RETURN, self.end)
+
     def explain(self, stop: Stop) -> str:
         """A stop in sentences, by the instruction at its place."""
         word, text = self.word_at(stop.pc)
-        return describe_stop(stop, word, self.query("vcsr", ControlRegisters), text)
+        return describe_stop(stop, word, self.query("vcsr", ControlRegisters), text, self.end)
 
     def describe(self, stop: Stop | None, place: str = "") -> str:
         """A stop in a line: its address, and the place by a symbol; the instruction there; and why, in sentences.
@@ -224,6 +230,8 @@ class Guest:
         """
         if stop is None:
             return f"the ticks ran out at {self.pc:x} {place}".rstrip()
+        if self.has_ended(stop):
+            return self.explain(stop)
         text = self.word_at(stop.pc)[1]
         return ": ".join(filter(None, [f"{stop.pc:x} {place}".rstrip(), text, self.explain(stop)]))
 

@@ -4,13 +4,16 @@ import atexit
 import pathlib
 import tempfile
 
+from .. import LabError
 from ..assembler.own_files import files_beside
 from ..compilers.compiling import read_own_source
 from ..guest.guest import Guest
+from ..guest.image_start import END_SYMBOL
 from ..instructions.accesses import PAGE_BYTES
 from ..lessons.script import print_warnings, read_assembled, send
 from ..machine.program import find_program
 from ..machine.session import Session
+from ..machine.start_state import EBREAK, RETURN
 from .elf import EXECUTE, READ, WRITE, Segment, elf
 from .line_table import debug_sections
 
@@ -18,22 +21,25 @@ from .line_table import debug_sections
 def assembled_image(path: pathlib.Path) -> pathlib.Path:
     """The image of your own assembler source, by the lab's assembler, which is there until the command ends.
 
-    It has the source's name without `.s`, its labels as symbols, and the lines of its instructions. The source's `#>` lines
-    are for lessons. Raises LabError where the source has mistakes, and OSError.
+    It has the source's name without `.s`, its labels as symbols, the lines of its instructions, and the page that it returns
+    to. The source's `#>` lines are for lessons. Raises LabError where the source has mistakes, and OSError.
     """
     script = read_assembled(read_own_source(path), f"{path}", files_beside(path))
     print_warnings(script)
     program = script.program
-    assert program
+    if not program or not program.statements:
+        raise LabError(f"{path}: there is no instruction in the source")
     with Session(find_program()) as session:
         guest = Guest(session)
         send(guest, [line.removeprefix("1 ") for line in script.steps[0].lines], script)
         segments = [_segment(guest, *line.split()[1:]) for line in program.lines if line.startswith("map ")]
+    segments.append(Segment(RETURN, EBREAK, PAGE_BYTES, READ | EXECUTE))
+    symbols = {**({END_SYMBOL: program.end} if program.end else {}), **program.labels}
     rows = [(statement.address, statement.line) for statement in program.statements]
     saved = tempfile.TemporaryDirectory()
     atexit.register(saved.cleanup)
     image = pathlib.Path(saved.name, path.stem)
-    image.write_bytes(elf(program.entry, segments, program.labels, debug_sections(path.absolute(), rows)))
+    image.write_bytes(elf(program.entry, segments, symbols, debug_sections(path.absolute(), rows)))
     return image
 
 

@@ -8,6 +8,7 @@ from fractions import Fraction
 
 from ..machine.answers import ControlRegisters, ProgramState
 from ..machine.image import STACK_PAGES
+from ..machine.start_state import RETURN
 from ..tables.table import read_table
 from .words import VECTOR_ACCESSES, NoInstruction, Operand, Trait, VectorInstruction, decode, listed
 
@@ -120,13 +121,16 @@ _MEMORY_BYTES = 1 << 20  # that a user has at most, so that no stack can reach f
 
 
 def describe_stop(
-    where: ProgramState, word: int | None = None, view: ControlRegisters | None = None, text: str = ""
+    where: ProgramState, word: int | None = None, view: ControlRegisters | None = None, text: str = "", end: int = 0
 ) -> str:
     """A stop, or an answer to `step`, `go`, `stop` or `state`, in sentences.
 
     word, text: the word at the program counter, and its canonical text
     view: the vector state at the stop
+    end: the address of the ebreak after the program's last instruction; 0 if it has none or is unknown
     """
+    if where.what == "ebreak" and where.pc in (RETURN, end):
+        return _SENTENCES["returned" if where.pc == RETURN else "end"]
     value, text = f"{where.value:#x}", text or f"{where.value:#010x}"
     sentence = _SENTENCES[where.what].format(number=where.number, pc=f"{where.pc:#x}", value=value, text=text)
     if view and where.what == "fault cause=2":

@@ -21,7 +21,7 @@ from ..compilers.compiler import C_SOURCE, CHOICES, IMAGE, PREPROCESSED_SUFFIX, 
 from ..compilers.signatures import Signatures
 from ..exercises.answer import Answer, read_answer
 from ..guest.changes import Stepper
-from ..guest.guest import MAX_STEPS, QUANTUM, STACK_END, Guest
+from ..guest.guest import MAX_STEPS, QUANTUM, Guest
 from ..guest.notebook import registers_html
 from ..guest.runner import Reporter
 from ..guest.symbols import Symbols
@@ -30,6 +30,7 @@ from ..machine.answers import Answer as Reply
 from ..machine.answers import Memory, Refused, ScalarRegisters, Stop
 from ..machine.program import find_program
 from ..machine.session import Session
+from ..machine.start_state import RETURN, STACK
 from ..machine.target import target_warnings
 from ..meanings.stepped import Step
 from ..runs.initial_state import initial_state_at
@@ -41,7 +42,6 @@ from .arrays import Layout, Placed, like
 
 __all__ = ["CallStopped", "Kernel", "Placed", "PoliciesDiffer", "Result"]
 
-RETURN = STACK_END  # where there is no page: who returns is the one that can't be fetched there
 RENEWED_BYTES = 2_000_000  # of a session's script, behind which another session takes its place
 MAX_STEP_TICKS = 256  # of an instruction: a load or store of 256 elements takes them
 EXACT_TICKS = 1_000_000  # limits up to this number are exact; greater ones are rounded up to slices of QUANTUM
@@ -316,7 +316,11 @@ def _compiled(path: pathlib.Path, choice: int, compiler: str | None) -> tuple[An
         words = (text, find_compiler(compiler), choice, path.parent, False, None, saved, is_preprocessed)
         program = thread.submit(compile_c, *words).result()
         program.check(path.name)
-        return Answer(path, program.lines), Symbols.of_labels(program.names()), Signatures((saved / IMAGE).read_bytes())
+        return (
+            Answer(path, [*program.lines, *STACK]),
+            Symbols.of_labels(program.names()),
+            Signatures((saved / IMAGE).read_bytes()),
+        )
 
 
 def _differences(kept: _Left, ones: _Left) -> Iterator[str]:

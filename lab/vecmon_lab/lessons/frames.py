@@ -114,6 +114,7 @@ class _Maker:
             )
             if not isinstance(answer, Refused):
                 watch_set.follow(line)
+                watch_set.end = self._script.program.end if self._script.program else 0
                 uses.follow(line)
         log += log_entries(line, parts)
         answers += answers_by_user(parts)

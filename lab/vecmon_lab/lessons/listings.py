@@ -48,7 +48,7 @@ def listing_of(program: CompiledProgram, name: str, machine: pathlib.Path) -> Co
     lines = dict(islice(((address, line) for run, line in of_source for address in run), MAX_WORDS))
     with Session(machine) as session:
         guest = Guest(session)
-        send(guest, ["enter", *program.lines, f"setpc {program.entry:x}"])
+        send(guest, ["enter", *program.load_lines()])
         words = guest.words(lines)
         counts, stop = record(initial_state_at(guest), MAX_TICKS), guest.go(MAX_TICKS)
         end = f"status {stop.number}" if stop and stop.kind == "exit" else guest.describe(stop)

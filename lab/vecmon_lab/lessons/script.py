@@ -1,6 +1,5 @@
 """The file of a lesson: the lines for the monitor, and the author's sentences, which begin with `#`."""
 
-import re
 import sys
 from collections.abc import Iterator, Sequence
 from dataclasses import dataclass, field, replace
@@ -8,6 +7,7 @@ from dataclasses import dataclass, field, replace
 from .. import LabError, SourceMistakes
 from ..assembler.assembly import FileReader
 from ..assembler.commands import explain_refusal
+from ..assembler.inputs import is_input, read_inputs, with_addresses
 from ..assembler.line import refuse_preprocessor_lines
 from ..assembler.source import Program, SourceError, Statement, read_source, refusal
 from ..compilers.compiled import CompiledProgram
@@ -126,12 +126,21 @@ def _script_of(program: Program, lines: list[str], name: str) -> Script:
     """The lesson of a source's program, by its lines."""
     title = next((_sentence([line]) for line in lines if line.startswith("##")), "")
     introduction, notes = _source_notes(lines, program)
-    into_memory = [f"1 {line}" for line in program.lines]
-    steps = [Step(["1 enter", *into_memory, f"1 setpc {program.entry:x}"], introduction)]
-    set_up = [each for line in lines if line.startswith("#>") for each in _set_up_lines(line[2:].strip(), program)]
+    steps = [Step(["1 enter", *(f"1 {line}" for line in program.load_lines())], introduction)]
+    own = [(number, line) for number, line in enumerate(lines, 1) if line.startswith("#>")]
+    inputs = read_inputs([(number, line) for number, line in own if is_input(line)], program.labels)
+    if inputs.mistakes:
+        raise SourceMistakes("\n".join(mistake.diagnostic(name) for mistake in inputs.mistakes))
+    set_up = list[str]()
+    for number, line in own:
+        if is_input(line):
+            steps.append(Step([f"1 {command}" for at, command in inputs.commands if at == number]))
+        else:
+            set_up += _set_up_lines(line[2:].strip(), program)
     runs = any(words_of(line)[:1] in (["step"], ["go"]) for line in set_up)
     for line in set_up + ([] if runs else RUN_LINES):
         add_line(steps, line)
+    program = replace(program, data={**program.data, **inputs.data})
     statements = {f"1 {each.command}": each for each in program.statements}
     return Script(title, steps, name, labels=program.names(), statements=statements, notes=notes, program=program)
 
@@ -192,6 +201,5 @@ def _set_up_lines(line: str, program: Program) -> list[str]:
     entries = program.entries if isinstance(program, CompiledProgram) else {}
     if line.split()[:1] == ["break"] and (addresses := entries.get(line.removeprefix("break").strip())):
         return [f"1 break {address:x}" for address in addresses]
-    labels = program.labels
-    named = re.sub(r"\S+", lambda word: f"{labels[word[0]]:x}" if word[0] in labels else word[0], line)
+    named = with_addresses(line, program.labels)
     return [named if named.startswith("* ") else f"1 {named}"]

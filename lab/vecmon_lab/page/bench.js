@@ -5,6 +5,7 @@ import { Desk } from "./desk.js";
 import { editDialog, followCursor } from "./edits.js";
 import { Editor } from "./editor.js";
 import { ask, copy, make, offerCopy, part, parts, put } from "./elements.js";
+import { Inputs } from "./inputs.js";
 import { goToPane } from "./keys.js";
 import { LineLinks } from "./line_links.js";
 import { offer, offerLanguages } from "./languages.js";
@@ -63,6 +64,7 @@ export class Bench {
     this.desk.view.memory.look = (address) => this.isAtPresent && this.send([`peek ${address} ${LOOKED_AT}`]);
     this.waiting = new WaitingBreakpoints(this.editor.code);
     this.links = new LineLinks(root, this.editor);
+    this.inputs = new Inputs(root, this.editor);
     this.problems = new Problems(root, this.editor, (panel) => this.panes.show(panel));
     this.askValue = editDialog(root, (edit, text) => this.request({ ask: "edit", edit, text, decimal: numbers.value !== "hexadecimal" }));
     addEventListener("pagehide", () => this.source.told && keepLines(this.waiting, this.source.loaded));
@@ -107,6 +109,7 @@ export class Bench {
     on("steps", "submit", () => this.step("into", Number(part(this.root, "number").value)));
     on("until", "submit", () => this.execute({ ask: "step", until: Number(part(this.root, "until-line").value) }));
     on("break-here", "click", () => this.breakAt(this.editor.caretLine));
+    on("add-output", "click", () => this.editor.append(`${part(this.root, "number-output").content.textContent}`));
     on("next-pane", "click", () => goToPane(this.root, 1));
     on("previous-pane", "click", () => goToPane(this.root, -1));
     listenToLines(line, (lines) => this.enter(lines));

@@ -123,6 +123,15 @@ export class Editor {
     this.code.setValue(text);
   }
 
+  /** Adds lines after the text, with an empty one before them, and brings them into sight. */
+  append(/** @type {string} */ lines) {
+    const { code } = this;
+    const last = code.lastLine();
+    const end = { line: last, ch: code.getLine(last).length };
+    code.replaceRange(`${end.ch ? "\n" : ""}\n${lines}`, end, end);
+    code.setCursor({ line: code.lastLine(), ch: 0 });
+  }
+
   /** Takes up a language that was chosen, which can be undone. */
   chooseLanguage() {
     const caret = this.code.getCursor();

@@ -1,9 +1,10 @@
 // Memory in rows of 16, 8 or 4 bytes, by the width of the pane, with a gap where rows are left out, with numbers where the source or its
 // variables have them, and with marks of the bytes that the last instruction accessed; and what the program has printed.
 
-import { header, make, part } from "./elements.js";
+import { header, make, part, renew } from "./elements.js";
 import { LETTER, littleEndian } from "./numbers.js";
 import { RowTable, placesOf } from "./rows.js";
+import { lineOf } from "./source_lines.js";
 import { textOf } from "./texts.js";
 import { knownVariables, numberText } from "./variables.js";
 import { ABI_NAMES } from "./words.js";
@@ -105,6 +106,13 @@ const arraysOf = (/** @type {MachineState} */ { data = {} }) =>
   Object.entries(data).filter(([, { type }]) => type !== "text").map(([address, { type, count }]) =>
     ({ at: BigInt(`0x${address}`), element: type, counts: [count] }));
 
+/** The calls that a program made, or is about to make, and the machine doesn't have, in words. A program that hasn't executed anything has none. */
+const unsupported = (/** @type {MachineState} */ state) =>
+  Object.entries(state.instruction || state.stop ? state.calls ?? {} : {}).map(([address, sentence]) => {
+    const line = lineOf(state, address);
+    return line ? textOf("output.unsupported-at", { line, sentence }) : `0x${address}: ${sentence}.`;
+  });
+
 /** The output of a machine's program. */
 export class OutputPanel {
   output = ""; // in hexadecimal
@@ -115,6 +123,7 @@ export class OutputPanel {
     this.empty = part(root, "no-output");
     this.mark = part(root, "output-new");
     this.text = part(root, "output");
+    this.calls = part(root, "unsupported");
     new ResizeObserver(() => this.seen()).observe(this.text);
   }
 
@@ -128,8 +137,11 @@ export class OutputPanel {
   /** The output's end stays in sight, unless one has scrolled away from it. Much of it isn't shown anew each frame. */
   paint(/** @type {MachineState} */ state) {
     this.output = state.output ?? Object.values(state.outputs ?? {}).join("");
-    this.empty.hidden = Boolean(this.output);
+    const calls = unsupported(state);
+    this.empty.hidden = Boolean(this.output || calls.length);
     this.text.hidden = !this.output;
+    if (calls.length && !this.calls.childElementCount) this.mark.hidden = this.empty.checkVisibility() || this.calls.checkVisibility();
+    renew(this.calls, calls.map((call) => make("li", "call", call)));
     this.show();
   }
 

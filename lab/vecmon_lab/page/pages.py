@@ -31,6 +31,7 @@ class Page:
         text = read("page.html").replace("$body", read(f"{name}.html"))
         for piece in PIECES:
             text = text.replace(f"${piece}\n", read(f"{piece}.html"))
+        text = text.replace("$number_output", read("number_output.s"))
         self._template = string.Template(text)
         styles = {path.name for each in (FILES, folder) for path in each.glob(f"{name}*.css")}
         self._script = join_modules(name, read)

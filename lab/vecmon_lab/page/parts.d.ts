@@ -5,7 +5,7 @@ type Ids<Kind, Names extends string> = { [Name in Names]: Kind };
 export type Parts =
   Ids<
     HTMLButtonElement,
-    | "again" | "all-messages" | "assemble" | "back" | "backward" | "begin" | "break-here" | "by-address" | "by-ticks" | "check"
+    | "add-input" | "add-output" | "again" | "all-messages" | "assemble" | "back" | "backward" | "begin" | "break-here" | "by-address" | "by-ticks" | "check"
     | "close-sheet" | "first" | "fold-dock" | "fold-exercise" | "fold-state" | "forget" | "forth" | "go" | "halt" | "hand"
     | "home" | "last" | "line-back" | "line-go" | "line-next" | "link" | "lower-hand" | "many" | "new" | "new-in-c" | "new-program"
     | "next" | "next-help" | "next-pane" | "next-problem" | "no" | "now" | "on-wall" | "one" | "open-exercises" | "open-file"
@@ -38,14 +38,15 @@ export type Parts =
   Ids<HTMLTableSectionElement, "case-rows" | "codes" | "seats"> &
   Ids<HTMLTextAreaElement, "given" | "operator-line" | "source" | "words"> &
   Ids<HTMLTableRowElement, "columns"> &
-  Ids<HTMLUListElement, "failures" | "in-memory" | "notices" | "points" | "sent"> &
+  Ids<HTMLTemplateElement, "number-output"> &
+  Ids<HTMLUListElement, "failures" | "in-memory" | "notices" | "points" | "sent" | "unsupported"> &
   Ids<HTMLSelectElement | HTMLTextAreaElement, "line"> &
   Ids<
     HTMLElement,
     | "about" | "announced" | "answer-says" | "answer-title" | "at" | "banner" | "beside" | "bytes" | "called-hint" | "calls" | "card" | "cases"
     | "code-hint" | "console" | "course" | "desk" | "detail" | "dock" | "editor" | "elements" | "entries" | "entry"
     | "examples" | "exercise" | "exercise-text" | "exercise-title" | "exercises-title" | "file" | "flame" | "gift" | "gone" | "head"
-    | "help-count" | "hint" | "hints" | "introduction" | "introduction-title" | "join-says" | "join-title" | "key-says" | "key-title"
+    | "help-count" | "hint" | "hints" | "inputs" | "introduction" | "introduction-title" | "join-says" | "join-title" | "key-says" | "key-title"
     | "left" | "left-column" | "line-ways" | "links" | "listing" | "machine" | "machines" | "memory" | "menu" | "message" | "middle"
     | "no-output" | "no-problems" | "opening" | "opening-title" | "operator-title" | "output-box" | "output-new" | "past" | "preview"
     | "problems" | "problems-count" | "program" | "program-title" | "question" | "reading" | "recent" | "reference" | "registers"

@@ -26,6 +26,7 @@ from ..machine.answers import (
     VectorRegister,
 )
 from ..machine.lines import words_of
+from ..machine.start_state import START, STACK_END
 from ..meanings.instruction import End
 from .executed import ShownExecuted, shown_executed
 from .last_instruction import (
@@ -143,18 +144,25 @@ class WatchSet:
         self.accessed: dict[int, int] = {}  # by page: the row in which a load or store started its access first
         self.breaks: set[int] = set()  # where the program stops, which a look at a running program doesn't show
         self.is_compiled = False  # whether a compiler made the program in memory
+        self.end = 0  # the address of the ebreak after the last instruction of a source; 0 without one
         self.trace: Sequence[int] = []  # as it was when it was looked at last
         # First addresses of listings, in memory that hasn't changed since.
         self.followed: set[int] = set()
 
     def follow(self, line: str) -> None:
-        """Takes up the places that a user's line names, which was accepted."""
+        """Takes up the places that a user's line names, which was accepted.
+
+        Of the lines that set up the start of a program it is the last page of the stack.
+        """
+        if line[2:] in START:
+            self._add_pages(STACK_END - PAGE_BYTES, PAGE_BYTES)
+            return
         match words_of(line):
             case ["enter"] | ["leave"] | ["load", _]:
                 for places in (self.code, self.pages, self.named, self.breaks):
                     places.clear()
                 self.accessed.clear()
-                self.is_compiled = False
+                self.is_compiled, self.end = False, 0
             case ["map", address, pages, _]:
                 self._add_pages(int(address, 16), int(pages) * PAGE_BYTES, MAPPED_PAGES)
             case ["poke", address, digits]:
@@ -229,7 +237,7 @@ def look_at(
     _set_memory(guest, watch_set, state, scalar, text, may_store)
     if trace and trace[-1] != SET_UP_ADDRESS and (stepped or trace != watch_set.trace):
         state["instruction"] = f"{trace[-1]:x}"
-    _set_stop(state, answers, text, control)
+    _set_stop(state, answers, text, control, watch_set.end)
     watch_set.trace = trace
     return state
 
@@ -274,11 +282,14 @@ def _set_code(state: State, code: dict[str, str]) -> None:
         state["targets"] = {address: f"{target:x}" for address, target in targets.items() if target is not None}
 
 
-def _set_stop(state: State, answers: Sequence[Answer], text: str, control: ControlRegisters) -> None:
-    """Set the description of the last stop among the answers. text: the line of the listing at the program counter"""
+def _set_stop(state: State, answers: Sequence[Answer], text: str, control: ControlRegisters, end: int) -> None:
+    """Set the description of the last stop among the answers.
+
+    text: the line of the listing at the program counter; end: as in `WatchSet`
+    """
     stop = next((answer for answer in reversed(answers) if isinstance(answer, Stop)), None)
     if stop:
-        state["stop"] = describe_stop(stop, int(text[:8], 16) if text else None, control, text[9:])
+        state["stop"] = describe_stop(stop, int(text[:8], 16) if text else None, control, text[9:], end)
     if stop and stop.kind == "fault":
         state.update({"instruction": state["pc"], "faulted": True})
         if stop.cause == ILLEGAL:

@@ -260,6 +260,16 @@ export interface Places {
   "source.open.label": never;
   "source.link": never;
   "source.link.title": never;
+  "source.add-output": never;
+  "source.add-output.title": never;
+  "inputs": never;
+  "inputs.add": never;
+  "inputs.add.title": never;
+  "inputs.place": never;
+  "inputs.type": never;
+  "inputs.number": never;
+  "inputs.values": never;
+  "inputs.remove": "place";
   "source.copy": never;
   "source.copy.title": never;
   "source.not-sent": "most" | "size";
@@ -310,6 +320,8 @@ export interface Places {
   "output": never;
   "output.new": never;
   "output.none": never;
+  "output.unsupported": never;
+  "output.unsupported-at": "line" | "sentence";
   "console": never;
   "console.height.label": never;
   "console.fold.label": never;

@@ -11,13 +11,14 @@ from random import Random
 from typing import Any
 
 from ..arguments import add_image
-from ..guest.guest import STACK_BYTES, STACK_END, Guest, started
+from ..guest.guest import Guest, started
 from ..guest.runner import Reporter
 from ..guest.symbols import Symbols
 from ..instructions.accesses import REGISTER_BYTES
 from ..machine.answers import Stop
 from ..machine.program import segments_of
 from ..machine.session import ScriptFull
+from ..machine.start_state import STACK_BYTES, STACK_END
 from .initial_state import InitialState, initial_state_of
 from .divergence import Pair, alike_until, explain, recorded
 from .run import TICKS_RAN_OUT

@@ -6,11 +6,13 @@ from dataclasses import dataclass
 
 from .. import mistakes_in
 from ..checkpoints.snapshot import Snapshot
-from ..guest.guest import STACK_END, Guest, argument_block, check_image
+from ..guest.guest import Guest, argument_block, check_image
+from ..guest.image_start import image_start
 from ..guest.input import input_of
 from ..instructions.accesses import PAGE_BYTES, Span
 from ..machine.answers import ControlRegisters, ScalarRegisters
 from ..machine.lines import words_of
+from ..machine.start_state import STACK_END
 
 PlacedBytes = tuple[int, str, bytes]
 """Memory: an address, the permissions of pages that aren't there, and bytes."""
@@ -49,7 +51,8 @@ def initial_state_of(
         given = input_of(image, file) if file else {}
     placed = {**given, STACK_END - len(block): block}
     memory = [(address, "rw", data) for address, data in placed.items()]
-    return InitialState(image, memory, [f"x2 {STACK_END - len(block):x}"], policy)
+    start = [command.removeprefix("set ") for command in image_start(image).commands]
+    return InitialState(image, memory, [f"x2 {STACK_END - len(block):x}", *start], policy)
 
 
 def initial_state_at(

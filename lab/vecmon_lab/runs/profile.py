@@ -54,7 +54,7 @@ def run(arguments: argparse.Namespace) -> int:
         lengths = [(kind, vl, times) for (kind, vl), times in sorted(counts.lengths.items())]
         title, frames = page_text("profile.page", image=image.name), ticks_spent.callers.frames()
         page.write_text(profile_page(title, summary, tables, lengths, frames, rows), "utf-8")
-    return status_of(counts.stop)
+    return status_of(counts.stop, image)
 
 
 def _profiled(arguments: argparse.Namespace, image: pathlib.Path) -> tuple[Counts, Symbols, TickProfile, list[str]]:

@@ -18,11 +18,13 @@ from .. import LabError
 from ..arguments import add_image, between, check_outputs
 from ..guest.guest import QUANTUM, Guest, started
 from ..guest.calls import unshown_calls
+from ..guest.image_start import image_start
 from ..guest.runner import Report, Reporter, unreported
 from ..guest.symbols import Symbols
 from ..instructions.calls import ECALL
 from ..instructions.reasons import describe_stop
 from ..machine.answers import Stop
+from ..machine.start_state import RETURN
 from ..output import write_out
 from .initial_state import initial_state_of
 from .counts import Counts
@@ -76,7 +78,7 @@ def run(arguments: argparse.Namespace) -> int:
         if file:
             start = functools.partial(_begun, arguments)
             _write_trace(file, trace(start, symbols, window))
-    return counts.stop.number if counts.stop and is_exit else status_of(counts.stop)
+    return counts.stop.number if counts.stop and is_exit else status_of(counts.stop, arguments.image)
 
 
 def counted(
@@ -133,8 +135,11 @@ def stats(counts: Counts) -> Iterator[str]:
     yield from (f"{times:>12,}  vl={vl}  {kind}" for (kind, vl), times in counts.lengths.most_common())
 
 
-def status_of(stop: Stop | None) -> int:
-    """The exit status for a program's stop, 0 for an exit. Without a stop its ticks ran out."""
+def status_of(stop: Stop | None, image: pathlib.Path) -> int:
+    """The exit status for the stop of an image's program, 0 for an exit and for a return. Without a stop its ticks ran out."""
+    start = image_start(image)
+    if stop and stop.kind == "ebreak" and start.commands and stop.pc in (RETURN, start.end):
+        return 0
     return TICKS_RAN_OUT if stop is None else {"exit": 0, "fault": FAULT}.get(stop.kind, BREAKPOINT)
 
 

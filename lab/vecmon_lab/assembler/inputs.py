@@ -1,0 +1,200 @@
+"""Inputs of a source: its `#>` lines, which set registers and memory before the program runs.
+
+`#> a0 = 5` gives a register a number or the address of a label. `#> a1 = i32 3, 1, 4` gives a register the address of an
+array, which ends where a page does. `#> numbers = i32 3, 1, 4` writes numbers at a label. Other lines are commands of the
+monitor, as `#> set x10 5`.
+"""
+
+import re
+import struct
+from collections.abc import Mapping
+from dataclasses import dataclass, field, replace
+from difflib import get_close_matches
+
+from .. import LabError
+from ..instructions.accesses import LINE_BYTES, PAGE_BYTES
+from ..instructions.table import REGISTERS
+from ..machine.lines import check_text
+from .commands import COMMANDS
+from .data_runs import DataRun, DataType
+from .line import SourceError
+from .sections import USER_PAGES
+from .source import Program, in_order
+
+ARRAYS = 0x20_0000
+"""The address from which on arrays lie, each in pages of its own; no program reaches it."""
+
+_LETTERS = {"i8": "b", "u8": "B", "i16": "h", "u16": "H", "i32": "i", "u32": "I", "i64": "q", "u64": "Q"}  # of struct
+_TYPES: Mapping[str, DataType] = {
+    "i8": "i8",
+    "u8": "u8",
+    "i16": "i16",
+    "u16": "u16",
+    "i32": "i32",
+    "u32": "u32",
+    "i64": "i64",
+    "u64": "u64",
+    "text": "text",
+}
+FORM = "#> a0 = 5, or #> a0 = i32 3, 1, 4"
+
+_SET_UP = ("asm", "break", "map", "poke", "policy", "set", "setpc", "vset")  # commands that pages take
+_INPUT = re.compile(r"#>\s*(?P<place>[\w.$]+)\s*=\s*(?:(?P<type>[iu](?:8|16|32|64)|text)\b(?:\[(?P<count>\d+)\])?)?\s*")
+_NUMBER = re.compile(r"[+-]?(?:0x[0-9a-fA-F]+|0b[01]+|[0-9]+)")
+_REGISTERS = {**REGISTERS, **{f"x{number}": f"x{number}" for number in range(32)}}
+
+
+@dataclass
+class Inputs:
+    """What the `#>` lines of a source say.
+
+    commands: of the monitor, each with the number of its line; mistakes, warnings: of the lines
+    data: the numbers and texts of arrays, by address
+    """
+
+    commands: list[tuple[int, str]] = field(default_factory=list)
+    mistakes: list[SourceError] = field(default_factory=list)
+    warnings: list[SourceError] = field(default_factory=list)
+    data: dict[int, DataRun] = field(default_factory=dict)
+
+
+def is_input(line: str) -> bool:
+    """Whether a line that starts with `#>` is an input, and no command of the monitor."""
+    return _INPUT.match(line) is not None
+
+
+def with_inputs(program: Program, text: str) -> Program:
+    """A program with the commands, the mistakes and the data of the `#>` lines of its source."""
+    lines = [(number, line) for number, line in enumerate(text.split("\n"), 1) if line.lstrip().startswith("#>")]
+    if not lines:
+        return program
+    inputs = read_inputs(lines, program.labels)
+    mistakes, warnings = in_order([*program.mistakes, *inputs.mistakes]), [*program.warnings, *inputs.warnings]
+    data = {**program.data, **inputs.data}
+    return replace(program, set_up=inputs.commands, mistakes=mistakes, warnings=in_order(warnings), data=data)
+
+
+def read_inputs(lines: list[tuple[int, str]], labels: Mapping[str, int]) -> Inputs:
+    """The inputs of `#>` lines with their numbers. labels: their addresses, for which the names stand"""
+    inputs, place = Inputs(), ARRAYS
+    for number, line in lines:
+        try:
+            if is_input(line.strip()):
+                place = _read_input(inputs, number, line, labels, place)
+            else:
+                _read_command(inputs, number, line, labels)
+        except SourceError as error:
+            inputs.mistakes.append(error)
+    return inputs
+
+
+def with_addresses(command: str, labels: Mapping[str, int]) -> str:
+    """A command of the monitor with the addresses of labels in place of their names."""
+    return re.sub(r"\S+", lambda word: f"{labels[word[0]]:x}" if word[0] in labels else word[0], command)
+
+
+def _read_command(inputs: Inputs, number: int, line: str, labels: Mapping[str, int]) -> None:
+    """Take up a command of the monitor. Raises SourceError."""
+    command = line.lstrip()[2:].strip()
+    column = line.index("#>") + 1
+    name = "".join(command.split()[:1])
+    if name in _SET_UP:
+        named = with_addresses(command, labels)
+        try:
+            check_text(named)
+        except LabError as error:
+            raise SourceError(number, column, str(error)) from error
+        inputs.commands.append((number, named))
+    elif name == "*" or name in COMMANDS:
+        message = f"{name} is for lessons: elsewhere a `#>` line gives inputs, as {FORM}, or a command of {', '.join(_SET_UP)}"
+        inputs.warnings.append(SourceError(number, column, message))
+    else:
+        near = get_close_matches(name, _SET_UP, 1)
+        what = f"there is no command {name}" if name else "there is no input"
+        raise SourceError(number, column, f"{what}: the form is {FORM}, or a command of the monitor", fix=near)
+
+
+def _read_input(inputs: Inputs, number: int, line: str, labels: Mapping[str, int], place: int) -> int:
+    """Take up an input. Return the address for the next array. Raises SourceError."""
+    start = line.index("#>")
+    found = _INPUT.match(line, start)
+    assert found
+    name, kind, rest = found["place"], found["type"], line[found.end() :].rstrip()
+    column = found.start("place") + 1
+    register = _REGISTERS.get(name)
+    if register == "x0" or register is None and name not in labels:
+        near = get_close_matches(name, [*labels, *(set(_REGISTERS) - {"x0", "zero"})], 1)
+        raise SourceError(number, column, f"{name} is no register that can be set, and no label", fix=near)
+    if kind is None:
+        if register is None:
+            message = f"{name} is a label: numbers there have a type, as in #> {name} = i32 3, 1, 4"
+            raise SourceError(number, column, message)
+        inputs.commands.append((number, f"set {register} {_scalar(number, found.end() + 1, rest, labels):x}"))
+        return place
+    data = _data(number, found.end() + 1, kind, int(found["count"] or 0), rest)
+    pages = -(-len(data) // PAGE_BYTES)
+    address = labels[name] if register is None else place + pages * PAGE_BYTES - len(data)
+    if register is not None:
+        inputs.commands.append((number, f"map {place:x} {pages} rw"))
+        place += (pages + 1) * PAGE_BYTES  # a page that isn't mapped is between two arrays
+    for at in range(0, len(data), LINE_BYTES):
+        inputs.commands.append((number, f"poke {address + at:x} {data[at : at + LINE_BYTES].hex()}"))
+    if register is not None:
+        inputs.commands.append((number, f"set {register} {address:x}"))
+    inputs.data[address] = _run(kind, len(data))
+    return place
+
+
+def _run(kind: str, size: int) -> DataRun:
+    """The type and the number of an array's numbers. size: in bytes"""
+    return DataRun(_TYPES[kind], size if kind == "text" else size // struct.calcsize(_LETTERS[kind]))
+
+
+def _scalar(number: int, column: int, text: str, labels: Mapping[str, int]) -> int:
+    """The value of a register as 64 bits. Raises SourceError."""
+    if text in labels:
+        return labels[text]
+    if not _NUMBER.fullmatch(text):
+        raise SourceError(number, column, f"{text or 'nothing'} is no number, no type and no label; the form is {FORM}")
+    value = int(text, 0) if not text.lstrip("+-").isdecimal() else int(text)
+    if not -(1 << 63) <= value < 1 << 64:
+        raise SourceError(number, column, f"{text} is out of range: {-(1 << 63)} to {(1 << 64) - 1} fit")
+    return value % (1 << 64)
+
+
+def _data(number: int, column: int, kind: str, count: int, text: str) -> bytes:
+    """The bytes of an array. count: of its numbers, of which the last ones are 0; 0 for those that the text has. Raises SourceError."""
+    if kind == "text":
+        found = re.fullmatch(r'"((?:[^"\\]|\\.)*)"', text)
+        if not found:
+            raise SourceError(number, column, 'a text is between quotation marks, as #> a0 = text "abc"')
+        escapes = {"n": "\n", "t": "\t", "0": "\0", "r": "\r"}
+        plain = re.sub(r"\\(.)", lambda escape: escapes.get(escape[1], escape[1]), found[1])
+        return plain.encode("utf-8") + b"\0"
+    size = struct.calcsize(_LETTERS[kind])
+    values = [
+        _element(number, column + part.start(), kind, part[0])
+        for part in re.finditer(r"[^\s,][^,]*?(?=\s*(?:,|$))", text)
+    ]
+    if not values and not count:
+        raise SourceError(
+            number, column, f"an array has a number at least, as #> a0 = {kind} 1, 2, or zeros, as #> a0 = {kind}[8]"
+        )
+    if count and len(values) > count:
+        raise SourceError(number, column, f"{len(values)} numbers are more than {count}")
+    if max(count, len(values)) * size > USER_PAGES * PAGE_BYTES:
+        raise SourceError(number, column, f"the array is larger than the {USER_PAGES} pages that a user has")
+    return struct.pack(f"<{len(values)}{_LETTERS[kind]}", *values).ljust(count * size, b"\0")
+
+
+def _element(number: int, column: int, kind: str, text: str) -> int:
+    """A number of an array. Raises SourceError."""
+    bits = int(kind[1:])
+    minimum = -(1 << bits - 1) if kind[0] == "i" else 0
+    maximum = minimum + (1 << bits) - 1
+    if not _NUMBER.fullmatch(text):
+        raise SourceError(number, column, f"{text} is no number")
+    value = int(text) if text.lstrip("+-").isdecimal() else int(text, 0)
+    if not minimum <= value <= maximum:
+        raise SourceError(number, column, f"{text} is no {kind}: {minimum} to {maximum} fit")
+    return value

@@ -1,0 +1,35 @@
+"""The start of a program that lines of the monitor bring in: its stack, where it returns to, and its global pointer.
+
+The lab adds these lines to each source in assembler or C that it loads, so that a program starts in the same way
+everywhere. `enter`, `load` and scripts are without them.
+"""
+
+from collections.abc import Mapping
+
+from .image import STACK_PAGES
+
+_PAGE_BYTES = 4096
+STACK_END, STACK_BYTES = STACK_PAGES.stop, len(STACK_PAGES)
+STACK_POINTER = STACK_END - 64
+"""x2 at the start, as `load` leaves it."""
+
+RETURN = STACK_END
+"""Where a program returns to, as x1 has it: an ebreak in a page of its own."""
+
+EBREAK = bytes.fromhex("73001000")
+GLOBAL_POINTER = "__global_pointer$"
+"""The symbol whose address x3 has at the start, as linkers call it."""
+
+STACK = (f"map {STACK_PAGES.start:x} {STACK_BYTES // _PAGE_BYTES} rw", f"set x2 {STACK_POINTER:x}")
+RETURN_PAGE = (f"map {RETURN:x} 1 rx", f"poke {RETURN:x} {EBREAK.hex()}", f"set x1 {RETURN:x}")
+START = (*STACK, *RETURN_PAGE)
+"""The lines of every start, without the user's digit."""
+
+START_PAGES = STACK_BYTES // _PAGE_BYTES + 1
+"""The pages that the start takes of a user's 256."""
+
+
+def start_lines(labels: Mapping[str, int]) -> list[str]:
+    """The lines that set up the start of a program with these labels, in addition to those that bring it in."""
+    pointer = [f"set x3 {labels[GLOBAL_POINTER]:x}"] if GLOBAL_POINTER in labels else []
+    return [*START, *pointer]
