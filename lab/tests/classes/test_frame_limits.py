@@ -76,6 +76,7 @@ def test_rate_of_frames_is_limited() -> None:
         frame(0x2, b"a"),
         frame(PING) * 17,
     ],
+    ids=["fragment", "continuation", "long", "very long", "second", "binary", "pings"],
 )
 def test_one_small_text_comes_before_code(data: bytes) -> None:
     FrameLimits(Clock()).follow(frame(PING) * 16 + frame(TEXT, b"a" * 1024))
