@@ -24,7 +24,7 @@ def made() -> tuple[str, str]:
     program = compile_c(text, COMPILER, choice_of(OPTIONS), TOURS)
     first = first_vector_instruction(program, text)
     lines = ["1 enter", *(f"1 {line}" for line in short_lines(program)), f"1 setpc {program.entry:x}"]
-    lines += [f"1 break {first:x}", "1 go", "* run 1", "1 step 256", "1 out"]
+    lines += [f"1 break {first:x}", "1 go", "* run 1", f"1 unbreak {first:x}", "1 step 256", "1 out"]
     return "".join(f"{line}\n" for line in lines), kernel_json(program, text)
 
 

@@ -232,7 +232,7 @@ def test_first_view_and_keys_work(sit: Sit) -> None:
     tab.wait("one('#listing .next').dataset.address === '10004'")
     tab.choose("#view", "all 32 registers")
     for box, keys, place, text in (
-        ("registers", [Keys.ARROW_DOWN, Keys.ARROW_RIGHT], "set x1", "5"),
+        ("registers", [Keys.ARROW_DOWN, Keys.ARROW_RIGHT], "set x1", "0x5"),  # ra has an address
         ("elements", [Keys.ARROW_DOWN, *[Keys.ARROW_RIGHT] * 7], "vset v1 32 7 signed", "5"),
     ):
         tab.keys(f"#{box}", *keys, Keys.ENTER)
@@ -301,7 +301,7 @@ def test_values_are_edited_by_clicks_and_keys(sit: Sit) -> None:
     change("[data-edit='set x10']", "31")
     assert tab.text("[data-edit='set x10']") == "31"
     change("[data-edit='setpc']", "10004")
-    assert tab.text("[data-edit='setpc']") == "10004"
+    assert tab.text("[data-edit='setpc']") == "0x10004"
     tab.command("peek 20000 16", "vset v1 " + "00" * 32)
     tab.click("#show-memory")
     change("[data-edit='poke 20002']", "0aff")
