@@ -52,6 +52,8 @@ def test_output_names_unsupported_calls(sit: Sit) -> None:
     tab.write("        li a0, 5\n        li a7, 1\n        ecall\n        ret\n")
     step(tab)
     tab.wait("one('#unsupported li')")
+    tab.run("id('show-output').click()")
+    tab.wait("id('output-new').hidden")
     assert tab.run("one('#unsupported li').textContent").startswith(
         "Line 3: ecall 1 prints an integer in RARS, and isn't supported"
     )

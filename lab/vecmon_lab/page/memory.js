@@ -124,12 +124,14 @@ export class OutputPanel {
     this.mark = part(root, "output-new");
     this.text = part(root, "output");
     this.calls = part(root, "unsupported");
-    new ResizeObserver(() => this.seen()).observe(this.text);
+    const observer = new ResizeObserver(() => this.seen());
+    observer.observe(this.text);
+    observer.observe(this.calls);
   }
 
   /** Shows the end of new output when its panel comes into sight. */
   seen() {
-    if (this.mark.hidden || !this.text.checkVisibility()) return;
+    if (this.mark.hidden || !(this.text.checkVisibility() || this.calls.checkVisibility())) return;
     this.mark.hidden = true;
     this.text.scrollTop = this.text.scrollHeight;
   }
