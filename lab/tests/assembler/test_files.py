@@ -1,5 +1,6 @@
 """Files that a source includes: read for your own source, from its folder; refused where others' could be read."""
 
+import os
 import pathlib
 
 import pytest
@@ -46,6 +47,21 @@ def test_other_files_are_refused(source: pathlib.Path, name: str) -> None:
         (mistake,) = read_source(f'{directive} "{name}"', files=files_beside(source)).mistakes
         assert mistake.line == 1 and mistake.column == len(directive) + 2
         assert "outside of the folder" in mistake.message or "can't be read" in mistake.message
+
+
+def test_named_pipe_is_refused(source: pathlib.Path) -> None:
+    os.mkfifo(source.parent / "pipe")
+    (mistake,) = read_source('.incbin "pipe"', files=files_beside(source)).mistakes
+    assert mistake.message == "pipe can't be read: it isn't a regular file"
+
+
+@pytest.mark.parametrize(
+    "operands, problem", [("5", "1:24 the file has 4 bytes, and this leaves out 5"), ("4", ""), ("4, 1", "")]
+)
+def test_skip_past_end_of_file_is_refused(source: pathlib.Path, operands: str, problem: str) -> None:
+    """GNU as refuses 5 of 4 bytes, too."""
+    mistakes = read_source(f'.incbin "parts/bytes", {operands}', files=files_beside(source)).mistakes
+    assert [f"{it.line}:{it.column} {it.message}" for it in mistakes] == ([problem] if problem else [])
 
 
 def test_mistake_in_file_is_at_its_directive(source: pathlib.Path) -> None:

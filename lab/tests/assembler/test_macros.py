@@ -43,6 +43,30 @@ def test_mistake_of_body_is_reported_once() -> None:
     assert mistake.message.endswith("; in macro put, called in line 5; in macro outer, called in line 7")
 
 
+def test_message_names_three_calls() -> None:
+    (mistake,) = read_source(".macro r\n nop\n r\n.endm\n r").mistakes
+    call = "; in macro r, called in line 3"
+    assert mistake.message == f"calls and repetitions are nested more than 50 deep here{3 * call}; ... 47 more"
+
+
+@pytest.mark.parametrize(
+    "text, messages",
+    [
+        (".macro done\n nop\n.end_macro\n done\n", ["3:1 .end_macro isn't in this assembler: write .endm"]),
+        (
+            ".macro put(%x)\n li a0, %x\n.endm\n put(5)\n put(6)\n",
+            ["1:11 a parameter has no % or parentheses: write x here, and \\x in the macro's lines"],
+        ),
+        (
+            ".macro put n, %x\n.endm\n",
+            ["1:15 a parameter has no % or parentheses: write x here, and \\x in the macro's lines"],
+        ),
+    ],
+)
+def test_form_of_rars_has_one_message(text: str, messages: list[str]) -> None:
+    assert [f"{it.line}:{it.column} {it.message}" for it in read_source(text).mistakes] == messages
+
+
 @pytest.mark.parametrize(
     "text, line, column, message",
     [
@@ -59,7 +83,7 @@ def test_mistake_of_body_is_reported_once() -> None:
         (".irp\n.endr", 1, 5, ".irp takes a name"),
         (".exitm", 1, 1, ".exitm is outside of a macro"),
         (".purgem m", 1, 9, "there is no macro m"),
-        (".if later\n.endif\nlater = 1", 1, 5, "later is no register that fits here, and no label"),
+        (".if later\n.endif\nlater = 1", 1, 5, "later is defined in line 3, and its value is needed here"),
         (".if\n.endif", 1, 1, ".if takes a number"),
         (".if 0\n.else\n.else\n.endif", 3, 1, ".else is after the .else"),
         (".ifc a\n.endif", 1, 1, ".ifc takes two texts"),

@@ -6,7 +6,7 @@ from collections.abc import Sequence
 import pytest
 
 from vecmon_lab.assembler.mistakes import mistakes_json
-from vecmon_lab.assembler.source import SourceError
+from vecmon_lab.assembler.source import SourceError, read_source
 from vecmon_lab.assembler.trial import read_tried_source
 
 
@@ -127,6 +127,49 @@ def test_one_mistake_has_one_message(program: pathlib.Path, line: str, problem: 
         assert len(messages) == 1 and messages[0].startswith(problem)
     in_code = FROM_MEMORY.replace("1:  ", f"{line}\n1:  ")
     assert len(read_tried_source(in_code, program).mistakes) <= 2
+
+
+ONE_CAUSE = [
+    (".data\nmain: li a0, 1\n la a1, main\n lw a2, (a1)\n bnez a0, main", "2:7 li is outside .text"),
+    (".rodata\n.byte 1\nf: nop\n j f\n.data\n.byte 1", "3:4 nop is outside .text"),
+    ("bad label: nop\n j bad\n la a0, bad\n.word bad", "1:1 bad label is no label: a label is one word, as bad_label"),
+    (".word x\n j x\n la a0, x", "1:7 x is no register that fits here, and no label"),
+    (".data\n.comm a, 8, 3", "2:13 .comm takes an alignment that is a power of two from 1 to 4096"),
+    (" li\u00a0a0, 1", "1:4 this is U+00A0, no-break space: only texts and comments may have it"),
+    (" nop\n\ufeff nop", "2:1 this is U+FEFF, zero width no-break space"),
+    (" nop\0", "1:5 this is U+0000, a control character"),
+    (" .byte 3 – 2", "1:10 this is U+2013, en dash"),
+    (" nop # \udce9\nb\udce9: nop", "2:2 the byte 0xe9 isn't UTF-8: save the file as UTF-8"),
+    ("größe: li a0, 1", "1:3 ö can't be in a name: names have letters of ASCII"),
+    (" li a2, COUNT\n nop\nCOUNT = 5", "1:9 COUNT is defined in line 3, and its value is needed here"),
+    ("a = \n li a0, a", "1:3 a number is missing after ="),
+    ("a = b + 1\nb = a + 1\n nop", "1:5 b is defined by itself"),
+    ("a = a\n nop", "1:5 a is defined by itself"),
+    (" foo", "1:2 there is no instruction foo"),
+    (".eqv N, 10\n li a0, N", "1:1 .eqv isn't in this assembler: write .equ"),
+    (".data 0x10010000\nx: .word 1\n.text\n la a0, x", "1:7 .data takes no address"),
+    (".data 1\nx: .word 1\n.text\n la a0, x", "1:7 .data has no parts here: write .section"),
+    (" .half 7:10, 5\n .align 2\n nop", "1:9 7:10 isn't in this assembler: write .fill 10, 2, 7"),
+]
+
+
+@pytest.mark.parametrize("text, message", ONE_CAUSE)
+def test_one_cause_has_one_message(program: pathlib.Path, text: str, message: str) -> None:
+    (mistake,) = read_tried_source(text, program).mistakes
+    assert f"{mistake.line}:{mistake.column} {mistake.message}".startswith(message)
+    assert "fence.tso" not in mistake.message
+
+
+@pytest.mark.parametrize("text, fix", [("li\u00a0a0, 1", " "), (".byte 3 – 2", "-"), (".eqv N, 10", ".equ")])
+def test_foreign_form_has_replacement(text: str, fix: str) -> None:
+    (mistake,) = read_source(text).mistakes
+    assert [*mistake.fix] == [fix]
+
+
+def test_constants_of_later_ones_end_at_once() -> None:
+    """Each is twice the next one: 2^44 terms, evaluated once each."""
+    lines = [f"c{number} = c{number + 1} + c{number + 1}" for number in range(44)]
+    assert read_source("\n".join([*lines, "c44 = 1", ".data", ".dword c0"])).lines[-1] == "poke 10000 0000000000100000"
 
 
 def test_misaligned_instructions_are_one_mistake(program: pathlib.Path) -> None:

@@ -218,7 +218,7 @@ ERRORS = [
     (" .zero -1", 1, 8, ".zero takes how many bytes there are"),
     (" .section .tdata", 1, 11, "thread-local storage isn't in this machine"),
     (" .equ 5, 5", 1, 7, ".equ takes a name and a number"),
-    (" li a0, later\n .equ later, 1", 1, 9, "later is no register that fits here"),
+    (" li a0, later\n .equ later, 1", 1, 9, "later is defined in line 2, and its value is needed here"),
     (".data\nb: .text\na: nop\n li a0, b - a", 4, 9, "the distance between two sections isn't known here"),
     ("a: .dword -a", 1, 12, "of two addresses only the difference can be taken"),
     ("a: .dword a + a", 1, 15, "of two addresses only the difference can be taken"),
@@ -258,7 +258,7 @@ def test_mistakes_are_reported_in_order(program: pathlib.Path) -> None:
 def test_first_hundred_mistakes_are_reported() -> None:
     mistakes = read_source("j later\n" + "jmp x\n" * 4999 + "later: nop").mistakes
     assert [each.line for each in mistakes] == [*range(2, 102)]
-    mistakes = read_source("j nowhere\n" * 5000 + "jmp x").mistakes
+    mistakes = read_source("".join(f"j nowhere{number}\n" for number in range(5000)) + "jmp x").mistakes
     assert [each.line for each in mistakes] == [*range(1, 101)]
 
 

@@ -7,14 +7,18 @@ from dataclasses import dataclass, replace
 from .assembly import Assembly
 from .data_directives import read_file
 from .line import Line, tokens_of
-from .macros import Macro, called, read_parameters, separate_arguments, with_arguments
+from .macros import Macro, Parameter, called, read_parameters, separate_arguments, with_arguments
 from .statements import statements, without_comments
 
 MAX_DEPTH = 50  # of calls and repetitions inside each other
 MAX_STATEMENTS = 20_000  # of all calls and repetitions
 _HEAD = re.compile(r"\s*((?:[\w.$]+\s*:\s*)*)([A-Za-z_.$][\w.$]*)?", re.ASCII)
 _REPETITIONS = (".rept", ".rep", ".irp", ".irpc")
-_ENDS = {".macro": (".endm", ".endmacro"), **dict.fromkeys(_REPETITIONS, (".endr", ".endm"))}
+_RARS_END = ".end_macro"
+_ENDS: dict[str, tuple[str, ...]] = {
+    ".macro": (".endm", ".endmacro", _RARS_END),
+    **dict.fromkeys(_REPETITIONS, (".endr", ".endm")),
+}
 _OPENINGS: dict[str, tuple[str, ...]] = {".macro": (".macro",), **dict.fromkeys(_REPETITIONS, _REPETITIONS)}
 _NUMBER_TESTS: Mapping[str, Callable[[int], bool]] = {
     ".if": lambda number: number != 0,
@@ -58,7 +62,7 @@ class Blocks:
             ".include": self._include,
             ".exitm": self._leave,
             ".purgem": self._purge,
-            **dict.fromkeys((".endr", ".endm", ".endmacro"), self._unmatched),
+            **dict.fromkeys((".endr", ".endm", ".endmacro", _RARS_END), self._unmatched),
         }
 
     def expanded(self, lines: Iterable[Line]) -> Iterator[Line]:
@@ -132,7 +136,7 @@ class Blocks:
         """The statements of a macro that a line calls."""
         length = len(macro.name)
         self._calls += 1
-        made = called(macro, line, (0, length), self._calls - 1, self._depth)
+        made = called(macro, line, 0, length, self._calls - 1)
         self._count_one(line)
         yield from self._nested(self._made(made), line)
 
@@ -151,6 +155,7 @@ class Blocks:
         key = match[1].lower()
         if key in self.macros:
             raise line.error(match.start(1), f"there already is a macro {match[1]}: .purgem {match[1]} forgets it")
+        self.macros[key] = Macro(match[1], [Parameter("", takes_rest=True)], ())  # if its parameters are refused
         self.macros[key] = Macro(match[1], read_parameters(line, match.end()), body)
         return ()
 
@@ -169,9 +174,8 @@ class Blocks:
                 macros -= 1
             else:
                 depth += (word in _OPENINGS[name]) - (word in _ENDS[name])
-            if word == ".end_macro":
-                self._assembly.note(each.error(0, ".end_macro isn't in this assembler: write .endm"))
-                depth = 0
+            if word == _RARS_END:
+                self._assembly.note(each.error(0, f"{_RARS_END} isn't in this assembler: write .endm"))
             if depth == 0:
                 return body
             body.append(each)
@@ -285,5 +289,5 @@ class Blocks:
 def _at(line: Line, file: str, lines: Iterable[Line]) -> Iterator[Line]:
     """The lines of a file as if they were typed where a line includes it."""
     for each in lines:
-        within = f"; in {file}, line {each.number}{line.within}"
+        within = (f"in {file}, line {each.number}", *line.within)
         yield Line(each.text, line.number, line.place(0)[1], [line.place(0)] * (len(each.text) + 1), within)

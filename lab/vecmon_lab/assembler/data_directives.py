@@ -1,6 +1,7 @@
 """Directives that put numbers, texts and room into a section."""
 
 from collections.abc import Callable, Sequence
+from dataclasses import replace
 from functools import partial
 
 from .. import LabError
@@ -49,11 +50,20 @@ class DataDirectives:
         width, section = WIDTHS[name.text], self._assembly.sections.current
         for operand in operands:
             here = self._assembly.here()
-            if width == 4 and "x" in section.permissions and section.size % 4 == 0:
+            if len(operand) == 3 and operand[1].text == ":":
+                self._put_rars_copies(operand, width)
+            elif width == 4 and "x" in section.permissions and section.size % 4 == 0:
                 self._assembly.put_instruction(name, [operand], [".word {0:word}"])
             else:
                 value = partial(self._number, operand, here)
                 self._assembly.put_item(name, width, partial(self._symbols.data, operand, here, width), value)
+
+    def _put_rars_copies(self, operand: Operand, width: int) -> None:
+        """Make room for copies in the form of RARS, as 0:10, and note that .fill makes them."""
+        number, colon, count = operand
+        form = f".fill {count.text}, {width}, {number.text}"
+        self._assembly.note(colon.error(f"{number.text}:{count.text} isn't in this assembler: write {form}"))
+        self._assembly.put(number, width * self._size(replace(number, text=".fill"), [count]))
 
     def _number(self, operand: Operand, here: Value) -> int:
         """The value of an operand, once sections have their bases. Raises SourceError."""
@@ -112,7 +122,7 @@ class DataDirectives:
         if skipped < 0 or min(count, default=0) < 0:
             raise name.error(".incbin takes a file, how many bytes of it to leave out, and how many to take")
         if skipped > len(content):
-            raise operands[1][0].error(f"the file has {len(content):,} bytes, and {skipped:,} are left out")
+            raise operands[1][0].error(f"the file has {len(content):,} bytes, and this leaves out {skipped:,}")
         data = content[skipped : skipped + count[0]] if count else content[skipped:]
         self._assembly.put_item(name, len(data), partial(bytes, data), None)
 

@@ -20,6 +20,7 @@ REFUSED = {name: reason for reason, names in _ROWS if reason != "none" for name 
 """Why other directives of stock assemblers are refused."""
 
 _NOP = b"\x13\0\0\0"
+_MAX_SUBSECTION = 8192  # of GNU as; larger numbers after .data are addresses, as in RARS
 _PAGE_POWER = PAGE_BYTES.bit_length() - 1
 _IN_ANY_SECTION = {".section", ".pushsection", ".popsection", ".previous", TEXT, DATA, BSS, ".rodata", ".end"}
 
@@ -59,7 +60,7 @@ class Directives:
             self._data.keep_room(name.text, operands)
             if name.text == ".eqv" and operands and operands[0]:
                 self._symbols.assume(operands[0][0].text)
-            raise name.error(f"{name.text} {REFUSED[name.text]}")
+            raise name.error(f"{name.text} {REFUSED[name.text]}", [".equ"] if name.text == ".eqv" else [])
         self._sections.current.is_certain = False
         near = get_close_matches(name.text, [*self.directives, *others], MAX_NEAR)
         raise name.error(f"there is no directive {name.text}", near)
@@ -78,9 +79,12 @@ class Directives:
             self._sections.open(name, name.text, [])
         else:
             self._sections.enter(self._sections.named(name.text))
+        if operands and self._assembly.constant(operands[0]) > _MAX_SUBSECTION:
+            raise operands[0][0].error(
+                f"{name.text} takes no address: the lab chooses it, so write {name.text} by itself"
+            )
         if operands:
-            message = f"{name.text} takes no address and no part here: write {name.text} alone, or .section with a name of its own"
-            raise operands[0][0].error(message)
+            raise operands[0][0].error(f"{name.text} has no parts here: write .section with a name of its own")
 
     def _enter_named_section(self, name: Token, operands: list[Operand]) -> None:
         if not operands:
@@ -124,13 +128,13 @@ class Directives:
         is_written = fill or (fill is None and "x" in section.permissions)
         self._assembly.put(name, padding, partial(bytes, data) if is_written else None)
 
-    def _alignment(self, name: Token, operand: Operand, is_bytes: bool = False) -> int:
-        """The number of bytes of which the next address is a multiple. is_bytes: whether it is named. Raises SourceError."""
+    def _alignment(self, name: Token, operand: Operand) -> int:
+        """The number of bytes of which the next address is a multiple. Raises SourceError."""
         number = self._assembly.constant(operand)
-        if is_bytes or name.text.startswith(".balign"):
+        if name.text.startswith((".balign", ".comm", ".lcomm")):
             if not 1 <= number <= PAGE_BYTES or number & number - 1:
-                verb = "aligns to" if is_bytes else "takes"
-                raise operand[0].error(f"{name.text} {verb} a power of two from 1 to {PAGE_BYTES}")
+                what = "" if name.text.startswith(".balign") else "an alignment that is "
+                raise operand[0].error(f"{name.text} takes {what}a power of two from 1 to {PAGE_BYTES}")
             return number
         if not 0 <= number <= _PAGE_POWER:
             raise operand[0].error(f"{name.text} n aligns to 2^n bytes, with n from 0 to {_PAGE_POWER}")
@@ -157,7 +161,7 @@ class Directives:
         label, size = operands[0][0], self._assembly.constant(operands[1])
         if label.kind is not Kind.NAME or len(operands[0]) != 1 or size < 0:
             raise label.error(f"{name.text} takes a name, how many bytes it has, and its alignment")
-        alignment = self._alignment(name, operands[2], is_bytes=True) if len(operands) > 2 else 1
+        alignment = self._alignment(name, operands[2]) if len(operands) > 2 else 1
         is_common = name.text == ".comm" and label.text not in self._assembly.locals
         section = self._sections.common(alignment) if is_common else self._sections.named(BSS)
         if len(operands) < 3 and is_common:

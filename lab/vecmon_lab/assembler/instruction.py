@@ -7,7 +7,7 @@ from string import Formatter
 
 from ..instructions.table import Row, instruction_table
 from .expression import signed
-from .line import Operand, Place, SourceError, Token
+from .line import Operand, Place, SourceError, Token, chain
 from .names import INSTRUCTION_NAMES, PSEUDO_NAMES, near_names, no_instruction
 from .operands import KEYWORD, REGISTER_NAMES, address_register
 from .symbols import Symbols, UnknownName, control_register_error
@@ -24,7 +24,7 @@ class Statement:
     """A machine instruction: its address, its source line, its text for asm, and where each character of it was typed.
 
     line: that executes it; column: in that line, where the instruction begins
-    places: one more than the text has characters, for its end; within: the end of a message about it
+    places: one more than the text has characters, for its end; within: the calls and files that it comes from, innermost first
     """
 
     address: int
@@ -32,7 +32,7 @@ class Statement:
     column: int
     text: str
     places: tuple[Place, ...]
-    within: str = ""
+    within: tuple[str, ...] = ()
 
     @property
     def command(self) -> str:
@@ -61,7 +61,7 @@ def refusal(statement: Statement, column: int, written: str = "") -> SourceError
     else:
         limits = number_range(row, statement.text[: column - 1]) if row and token[0][0].isdecimal() else ""
         message = f"{token[0]} doesn't fit here, as the machine reads it: {read}{form}{limits}"
-    return SourceError(*statement.places[column - 1], message + statement.within, "E15", fix)
+    return SourceError(*statement.places[column - 1], message + chain(statement.within), "E15", fix)
 
 
 _FITTING = {"imm": "0", "shamt": "0", "uimm": "0", "offset": "0", "csr": "vl", "imm(rs1)": "0(x0)", "(rs1)": "(x0)"}

@@ -2,6 +2,7 @@
 
 import enum
 import re
+import unicodedata
 from collections.abc import Sequence
 from dataclasses import dataclass, replace
 
@@ -13,6 +14,8 @@ _TOKEN = re.compile(
     | (?P<MARK><<|>>|<=|>=|==|!=|<>|&&|\|\||.)""",
     re.VERBOSE,
 )
+MAX_CALLS = 3  # that a message names
+_REPLACEMENTS = {"–": "-", "—": "-", "−": "-", "“": '"', "”": '"', "„": '"', "‘": "'", "’": "'"}
 _NUMBER = re.compile("0|[1-9][0-9]*|0[xX][0-9A-Fa-f]+|0[bB][01]+")
 _PIECE = re.compile(r"\\([0-7]{1,3})|\\x([0-9A-Fa-f]{1,2})(?![0-9A-Fa-f])|\\(.)|([^\\]+)")
 _LETTERS = {"b": "\b", "f": "\f", "n": "\n", "r": "\r", "t": "\t", '"': '"', "\\": "\\"}
@@ -28,7 +31,10 @@ class SourceError(LabError):
     """A mistake in a source, with its line and column.
 
     code: the machine's refusal, or ""; fix: texts that may replace the token there, the nearest one first
+    name: that is missing, of which the first use is reported, or ""
     """
+
+    name = ""
 
     def __init__(self, line: int, column: int, message: str, code: str = "", fix: Sequence[str] = ()) -> None:
         super().__init__(line, column, message)
@@ -42,6 +48,13 @@ class SourceError(LabError):
         return f"{name}:{self.line}:{self.column}: {self.message}" if self.line else f"{name}: {self.message}"
 
 
+def chain(within: Sequence[str]) -> str:
+    """The end of a message: the calls and files that a statement comes from, innermost first, MAX_CALLS at most."""
+    more = len(within) - MAX_CALLS
+    shown = "".join(f"; {each}" for each in within[:MAX_CALLS])
+    return f"{shown}; ... {more} more" if more > 0 else shown
+
+
 @dataclass(frozen=True)
 class Line:
     """A statement of a source: a line, or the part of one up to a semicolon, without its comment.
@@ -49,14 +62,14 @@ class Line:
     number: of the line that executes it, which for the body of a macro is the line that calls it
     column: of its first character, or where the line that executes it calls it
     places: where each character was typed, if that isn't one after another in this line
-    within: the end of a message about it, as `; in macro NAME, called in line 7`, or ""
+    within: the calls and files that it comes from, innermost first, as `in macro NAME, called in line 7`
     """
 
     text: str
     number: int
     column: int = 1
     places: Sequence[Place] = ()
-    within: str = ""
+    within: tuple[str, ...] = ()
 
     def place(self, at: int) -> Place:
         """Where the character at this index was typed; at the end, one after the last character."""
@@ -73,7 +86,7 @@ class Line:
 
     def error(self, at: int, message: str, fix: Sequence[str] = ()) -> SourceError:
         """An error at the character of this index. fix: texts that may replace the token there"""
-        return SourceError(*self.place(at), message + self.within, fix=fix)
+        return SourceError(*self.place(at), message + chain(self.within), fix=fix)
 
 
 @dataclass(frozen=True)
@@ -87,12 +100,12 @@ class Token:
     text: str
     line: int
     column: int
-    within: str = ""
+    within: tuple[str, ...] = ()
     symbol: str = ""
 
     def error(self, message: str, fix: Sequence[str] = ()) -> SourceError:
         """An error that points at this token. fix: texts that may replace it"""
-        return SourceError(self.line, self.column, message + self.within, fix=fix)
+        return SourceError(self.line, self.column, message + chain(self.within), fix=fix)
 
     def number(self) -> int:
         """The value of a number below 2^64: decimal, hexadecimal after 0x, binary after 0b, or a character."""
@@ -164,9 +177,29 @@ def tokens_of(line: Line) -> list[Token]:
         kind = match.lastgroup or ""
         if kind == "OPEN":
             raise line.error(match.start(), "this string doesn't end on its line")
+        if kind == "MARK" and not " " < match[0] <= "~":
+            raise line.error(match.start(), _problem_of(match[0]), _replacement_of(match[0]))
         if kind in Kind.__members__:
             tokens.append(Token(Kind[kind], match[0], *line.place(match.start()), line.within))
     return tokens
+
+
+def _problem_of(character: str) -> str:
+    """Why a character is refused outside of texts and comments."""
+    number = ord(character)
+    if 0xDC80 <= number <= 0xDCFF:
+        return f"the byte 0x{number - 0xDC00:x} isn't UTF-8: save the file as UTF-8"
+    if character.isalnum():
+        return f"{character} can't be in a name: names have letters of ASCII, digits and . _ $"
+    name = unicodedata.name(character, "a control character").lower()
+    return f"this is U+{number:04X}, {name}: only texts and comments may have it"
+
+
+def _replacement_of(character: str) -> list[str]:
+    """The character of ASCII that a refused one looks like."""
+    if unicodedata.category(character) == "Zs":
+        return [" "]
+    return [_REPLACEMENTS[character]] if character in _REPLACEMENTS else []
 
 
 def token_length(text: str, column: int) -> int:

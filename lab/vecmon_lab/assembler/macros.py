@@ -7,7 +7,6 @@ from dataclasses import dataclass, replace
 from .line import Line, Place
 
 MAX_CHARACTERS = 10_000  # of a statement with its arguments
-MAX_NAMED_CALLS = 4  # in a message, of calls inside each other
 _NAME = r"[A-Za-z_.$][\w.$]*"
 _QUOTED = r'"(?:[^"\\]|\\.)*"'
 _PARAMETER = re.compile(rf"[\s,]*({_NAME})(?:\s*:\s*(\w+))?(?:\s*=\s*({_QUOTED}|[^\s,]*))?", re.ASCII)
@@ -66,8 +65,13 @@ def read_parameters(line: Line, start: int) -> list[Parameter]:
     while at < len(text):
         match = _PARAMETER.match(text, at)
         if match is None or match[2] not in (None, "req", "vararg"):
+            start = len(text) - len(text[at:].lstrip(" \t,"))
             message = "a parameter is a name, and after it :req, :vararg or = and a text, as size=4"
-            raise line.error(at + len(text[at:]) - len(text[at:].lstrip()), message)
+            if rars := re.compile(rf"\(?\s*%({_NAME})", re.ASCII).match(text, start):
+                message = (
+                    f"a parameter has no % or parentheses: write {rars[1]} here, and \\{rars[1]} in the macro's lines"
+                )
+            raise line.error(start, message)
         default = unquoted(line.part(match.start(3), match.end(3))) if match[3] else None
         parameters.append(Parameter(match[1], default, match[2] == "req", match[2] == "vararg"))
         at = match.end()
@@ -137,15 +141,10 @@ def _value_of(line: Line, match: re.Match[str], arguments: Mapping[str, Line], c
     return arguments.get(match[3])
 
 
-def called(macro: Macro, line: Line, name: tuple[int, int], count: int, depth: int) -> Iterator[Callable[[], Line]]:
-    """The statements of a call; each raises SourceError where it is made.
-
-    name: where it begins and ends in the line; count: of calls before; depth: of the calls and repetitions around it
-    """
-    start, end = name
+def called(macro: Macro, line: Line, start: int, end: int, count: int) -> Iterator[Callable[[], Line]]:
+    """The statements of a call, whose name is between two indices of a line; each raises SourceError where it is made."""
     arguments = macro.arguments(line, start, end)
-    around = line.within if depth < MAX_NAMED_CALLS else f", {depth} deep"
-    within = f"; in macro {macro.name}, called in line {line.place(start)[0]}{around}"
+    within = (f"in macro {macro.name}, called in line {line.place(start)[0]}", *line.within)
     column = line.column if line.places else line.place(start)[1]
 
     def make(each: Line) -> Line:

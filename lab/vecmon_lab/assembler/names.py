@@ -24,7 +24,7 @@ def near_names(name: str, names: Set[str] = SOURCE_NAMES) -> list[str]:
     own, small = sorted(each for each in names if each[0] == name[0].lower()), name.lower()
     near = get_close_matches(small, own, len(own) or 1)
     if len(name) <= 3 and not near:  # as jmp, which has one letter of jal
-        near = get_close_matches(small, own, len(own) or 1, 1 / 3)
+        near = get_close_matches(small, [each for each in own if len(each) <= len(name) + 2], len(own) or 1, 1 / 3)
     ranks = {each: (SequenceMatcher(None, each, small).ratio(), len(commonprefix([each, small]))) for each in near}
     return sorted(near, key=ranks.__getitem__, reverse=True)[:MAX_NEAR]
 

@@ -18,8 +18,8 @@ def files_beside(source: pathlib.Path) -> FileReader:
             path = (folder / name).resolve()
             if not path.is_relative_to(folder):
                 raise LabError(f"{name} is outside of the folder of the source, and isn't read")
-            if path.exists() and not (path.is_file() or path.is_dir()):
-                raise LabError(f"{name} is no regular file, and others aren't read")
+            if not path.is_file() and path.exists():
+                raise LabError(f"{name} can't be read: it isn't a regular file")
             if path.stat().st_size > MAX_BYTES:
                 raise LabError(f"{name} has more than {MAX_BYTES:,} bytes")
             return path.read_bytes()

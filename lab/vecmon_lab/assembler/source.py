@@ -17,8 +17,9 @@ from .instruction import Statement, refusal
 from .line import Kind, Line, Operand, SourceError, Token, split_operands, tokens_of
 from .names import SOURCE_NAMES, near_names, no_instruction
 from .pseudo import templates
-from .sections import USER_PAGES
+from .sections import TEXT, USER_PAGES
 from .statements import statements, without_comments
+from .value import Value
 from .vector_type import completed
 
 __all__ = ["Program", "SourceError", "Statement", "assemble", "in_order", "read_source", "refusal"]
@@ -128,10 +129,12 @@ def read_source(text: str, origin: int = 0x10000, files: FileReader | None = Non
 
 
 def in_order(mistakes: Iterable[SourceError]) -> list[SourceError]:
-    """The first mistakes, in the order of the source, and one at each place."""
-    places = dict[tuple[int, int], SourceError]()
+    """The first mistakes, in the order of the source: one at each place, and one for each missing name."""
+    places, names = dict[tuple[int, int], SourceError](), set[str]()
     for mistake in sorted(mistakes, key=lambda mistake: (mistake.line, mistake.column)):
-        places.setdefault((mistake.line, mistake.column), mistake)
+        if mistake.name not in names:
+            places.setdefault((mistake.line, mistake.column), mistake)
+        names |= {mistake.name} - {""}
     return [*places.values()][:MAX_MISTAKES]
 
 
@@ -165,6 +168,9 @@ class _Assembler:
         if not tokens:
             return
         name = replace(tokens[0], text=tokens[0].text.lower())
+        if len(tokens) == 2 and tokens[1].text == "=":
+            self._symbols.assume(tokens[0].text)
+            raise tokens[1].error("a number is missing after =")
         if len(tokens) > 2 and tokens[1].text in ("=", "=="):
             self._directives.assign(tokens[0], self._symbols.bound(tokens[2:]), tokens[1].text == "==")
         elif name.kind is not Kind.NAME:
@@ -174,24 +180,32 @@ class _Assembler:
         elif name.text.startswith("."):
             operands = split_operands(tokens[1:], "align" in name.text)
             self._directives.execute(name, [self._symbols.bound(each) for each in operands], BLOCK_DIRECTIVES)
+        elif name.text not in SOURCE_NAMES and [token.text for token in tokens[2:3]] == [":"]:
+            self._refuse_label(tokens[0], tokens[1])
+            self._read(tokens[3:])
         elif name.text not in SOURCE_NAMES:
             raise name.error(no_instruction(tokens[0].text), near_names(name.text))
         elif self._sections.current.permissions:
             self._read_instruction(name, [self._symbols.bound(each) for each in split_operands(tokens[1:])])
 
+    def _refuse_label(self, first: Token, second: Token) -> None:
+        """Note that two words are no label. Statements that use one of them have no mistake."""
+        for word in (first, second):
+            if word.kind is Kind.NAME and not self._symbols.is_defined(word.text):
+                self._symbols.define(word, self.assembly.here())
+        problem = f"{first.text} {second.text} is no label: a label is one word, as {first.text}_{second.text}"
+        self.assembly.note(first.error(problem))
+
     def _read_instruction(self, name: Token, operands: list[Operand]) -> None:
+        if "x" not in self._sections.current.permissions:
+            self._go_on_in_text(name)
         section = self._sections.current
-        if "x" not in section.permissions:
-            if section.has_instructions:  # of which the first one is a mistake
-                return
-            section.has_instructions = True
-            raise name.error(f"{name.text} is outside .text, where programs can't execute it: write .text before it")
         if section.size % 4:
             if section.is_certain:
                 self.assembly.note(
                     name.error(f"the address of {name.text} isn't divisible by 4: put .align 2 before it")
                 )
-            self._symbols.move(self.assembly.here(), -section.size % 4)
+            self._symbols.move(self.assembly.here(), self.assembly.here().plus(Value(-section.size % 4)))
             self.assembly.put(name, -section.size % 4)
         if name.text in ("call", "tail", "jump") and operands:
             texts = [token.text for token in operands[0]]
@@ -205,6 +219,15 @@ class _Assembler:
         self._symbols.note_high(operands, here)
         self.assembly.put_instruction(name, operands, texts)
 
+    def _go_on_in_text(self, name: Token) -> None:
+        """Note that an instruction is outside .text, and go on there, so that the next ones have no mistake."""
+        self.assembly.note(
+            name.error(f"{name.text} is outside .text, where programs can't execute it: write .text before it")
+        )
+        before = self.assembly.here()
+        self._sections.enter(self._sections.named(TEXT))
+        self._symbols.move(before, self.assembly.here())
+
     def finish(self, origin: int) -> Program:
         """The program, with its text at the origin, or what is wrong with it."""
         assembly = self.assembly
@@ -217,7 +240,10 @@ class _Assembler:
         for _, make in [content for section in filled for content in section.contents]:
             with assembly.noting():
                 make()
-        labels, mistakes = self._symbols.addresses(), in_order(assembly.mistakes.values())
+        if loop := self._symbols.loop():
+            assembly.note(loop)
+        labels = self._symbols.addresses()
+        mistakes = in_order(self._symbols.explained(each) for each in assembly.mistakes.values())
         lines += [statement.command for statement in made]
         lines += [] if mistakes else [line for section in filled for line in section.pokes()]
         entry = _entry(labels, made, self._sections.named(".text").base)

@@ -7,7 +7,7 @@ from difflib import get_close_matches
 
 from ..tables.table import read_table
 from .expression import Expression, signed
-from .line import Kind, Operand, SourceError, Token
+from .line import Kind, Operand, SourceError, Token, chain
 from .names import absence
 from .value import Value
 
@@ -16,11 +16,20 @@ _NO_FUNCTIONS = {
     "t": "thread-local storage isn't in this machine",
     "": "those of this assembler are %hi, %lo, %pcrel_hi and %pcrel_lo",
 }
+MAX_DEPTH = 50  # of constants that are defined by later ones
 _CONTROL_REGISTERS = dict(read_table("keywords"))[r"csr\w*"].split()
 
 
 class UnknownName(SourceError):
     """A name that has no value here."""
+
+    def __init__(self, token: Token, message: str, fix: Sequence[str] = ()) -> None:
+        super().__init__(token.line, token.column, message + chain(token.within), fix=fix)
+        self.token, self.name = token, "" if token.symbol else token.text
+
+
+class DefinitionLoop(SourceError):
+    """A constant that is defined by itself."""
 
 
 @dataclass(frozen=True)
@@ -47,6 +56,7 @@ class Symbols:
         self._numeric = Counter[int]()
         self._highs: dict[Value, tuple[Operand, Value]] = {}  # operands of %pcrel_hi by the instruction's address
         self._pending: set[str] = set()
+        self._found: dict[str, Value] = {}  # values of constants that were evaluated, once sections have their bases
 
     def define(self, name: Token, here: Value) -> None:
         """Defines a label, which may be a number. Raises SourceError if a name is defined already."""
@@ -76,10 +86,9 @@ class Symbols:
         self._values[version] = self._values[name.text] = value
         self._versions[name.text], self._lines[name.text] = version, name.line
 
-    def move(self, place: Value, size: int) -> None:
-        """Moves the labels at a place on by a number of bytes."""
-        moved = {name: place.plus(Value(size)) for name, value in self._values.items() if value == place}
-        self._values |= moved
+    def move(self, place: Value, destination: Value) -> None:
+        """Moves the labels at a place to another one."""
+        self._values |= {name: destination for name, value in self._values.items() if value == place}
 
     def assume(self, name: str) -> None:
         """Gives a name a value, whose definition is refused, so that what uses it isn't refused too."""
@@ -150,13 +159,41 @@ class Symbols:
         value = self._values[name]
         if isinstance(value, Value):
             return value
+        if name in self._found:
+            return self._found[name]
         if name in self._pending:
-            raise token.error(f"{token.text} is defined by itself")
+            error = token.error(f"{token.text} is defined by itself")
+            raise DefinitionLoop(error.line, error.column, error.message)
+        if len(self._pending) == MAX_DEPTH:
+            raise token.error(f"{token.text} is defined by more than {MAX_DEPTH} constants, each by the next one")
         self._pending.add(name)
         try:
-            return self.evaluate(value.operand, value.here)
+            found = self.evaluate(value.operand, value.here)
         finally:
             self._pending.discard(name)
+        if self.is_placed:
+            self._found[name] = found
+        return found
+
+    def loop(self) -> DefinitionLoop | None:
+        """The mistake of the first constant that is defined by itself, once sections have their bases."""
+        for value in self._values.values():
+            try:
+                if isinstance(value, _Later):
+                    self.evaluate(value.operand, value.here)
+            except DefinitionLoop as error:
+                return error
+            except SourceError:  # of a name that is missing: the constant may be unused
+                continue
+        return None
+
+    def explained(self, error: SourceError) -> SourceError:
+        """A mistake; of a name that is missing there, with the line that defines it later."""
+        line = self._lines.get(error.name, 0)
+        if not line or not isinstance(error, UnknownName):
+            return error
+        problem = f"{error.name} is defined in line {line}, and its value is needed here: define it before this line"
+        return error.token.error(problem)
 
     def _unknown(self, token: Token) -> SourceError:
         near = () if token.symbol else get_close_matches(token.text, [name for name in self._values if _is_word(name)])
@@ -165,7 +202,7 @@ class Symbols:
             message = f"there is no label {token.text[:-1]}: {side} here, where {token.text} looks for one"
         else:
             message = f"{token.text} is no register that fits here, and no label or constant known here"
-        return UnknownName(token.line, token.column, message + token.within, fix=near)
+        return UnknownName(token, message, near)
 
     def _function(self, name: Token, inner: Operand, here: Value) -> Value:
         """The value of %hi, %lo, %pcrel_hi and %pcrel_lo of a symbol. Raises SourceError."""

@@ -15,7 +15,6 @@ class Section:
     alignment: of its address, in bytes
     is_certain: whether no directive was refused whose size isn't known since the last alignment
     code_end: its size after its last instruction; 0 without one
-    has_instructions: whether there was an instruction in a section that isn't executed
     """
 
     permissions: str
@@ -25,7 +24,6 @@ class Section:
     alignment: int = 1
     is_certain: bool = True
     code_end: int = 0
-    has_instructions: bool = False
     contents: list[tuple[int, Callable[[], bytes]]] = field(default_factory=list)  # by offset; all else is zeros
 
     def pages(self) -> int:
