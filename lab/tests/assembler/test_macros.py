@@ -76,7 +76,7 @@ def test_form_of_rars_has_one_message(text: str, messages: list[str]) -> None:
         (".macro m a:odd\n.endm", 1, 10, "a parameter is a name"),
         (".macro\n.endm", 1, 1, ".macro takes a name"),
         (".macro m\n.endm\n.macro M\n.endm", 3, 8, "there already is a macro M"),
-        (".macro m\n m\n.endm\n m", 2, 2, "nested more than 50 deep here; in macro m, called in line 2, 49 deep"),
+        (".macro m\n m\n.endm\n m", 2, 2, "in macro m, called in line 2; ... 47 more"),
         (".macro m\n nop\n.end_macro\n m", 3, 1, "write .endm"),
         (".rept 100000\n.rept 100000\n.endr\n.endr", 2, 1, "make more than 20,000 statements"),
         (".rept -1\n.endr", 1, 6, ".rept takes how often"),
