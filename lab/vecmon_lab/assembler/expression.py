@@ -82,8 +82,6 @@ class Expression:
         if token := self._peek():
             if token.text == "(":
                 raise token.error("an address is a register in parentheses, with a number before it or without")
-            if token.text == ":":
-                raise token.error("copies are written with .fill COUNT, SIZE, VALUE, as .fill 10, 4, 0")
             raise token.error(f"{token.text} doesn't fit here: a comma may be missing before it")
         if not (value.is_number or value.section or value.is_difference):
             raise self.tokens[-1].error(ONLY_DIFFERENCES)

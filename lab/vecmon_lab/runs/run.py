@@ -77,7 +77,7 @@ def run(arguments: argparse.Namespace) -> int:
         window = _window(arguments, counts)
         if file:
             start = functools.partial(_begun, arguments)
-            _write_trace(file, trace(start, symbols, window))
+            _write_trace(arguments.trace, file, trace(start, symbols, window))
     return counts.stop.number if counts.stop and is_exit else status_of(counts.stop, arguments.image)
 
 
@@ -171,8 +171,8 @@ def _logs(arguments: argparse.Namespace) -> Iterator[Record]:
         yield Record([*words, "--log"], arguments.log.open("ab", buffering=0))  # emptied by the recorder
 
 
-def _write_trace(file: io.FileIO, lines: Iterator[str]) -> None:
-    """Empty a file, and write lines to it. Raises LabError if they can't be written."""
+def _write_trace(path: pathlib.Path, file: io.FileIO, lines: Iterator[str]) -> None:
+    """Empty a file of this path, and write lines to it. Raises LabError if they can't be written."""
     try:
         if stat.S_ISREG(os.fstat(file.fileno()).st_mode):
             file.truncate(0)
@@ -180,7 +180,7 @@ def _write_trace(file: io.FileIO, lines: Iterator[str]) -> None:
             while block:
                 block = block[file.write(block) :]
     except OSError as error:
-        raise LabError(f"{file.name}: {error.strerror}") from error
+        raise LabError(f"{path}: {error.strerror}") from error
 
 
 def _window(arguments: argparse.Namespace, counts: Counts) -> range:
