@@ -97,6 +97,16 @@ def test_state_has_elements_of_last_instruction(desk: Desk) -> None:
     assert desk.seat.state["illegal"] and desk.seat.state["executed"]["end"] == "illegal"
 
 
+@pytest.mark.parametrize("text", ["vzext.vf2 v1, v2", "vsext.vf8 v1, v2"])
+def test_sources_without_elements_have_no_row(desk: Desk, text: str) -> None:
+    """At e8 their sources would have 4 bits and 1 bit: both are illegal."""
+    code = ["asm 10000 vsetivli x0, 4, e8, m1, ta, ma", f"asm 10004 {text}", "vset v2 " + "ff" * 32]
+    ask(desk, ask="lines", do=["leave", "enter", "map 10000 1 rwx", *code, "setpc 10000"])
+    step(desk, 2)
+    executed = desk.seat.state["executed"]
+    assert (executed["end"], [each["role"] for each in executed["groups"]]) == ("illegal", ["destination"])
+
+
 def test_masked_store_writes_active_elements(desk: Desk) -> None:
     step(desk, STORED)
     assert desk.seat.state["read"]["x"] == {"10": "11000"} and desk.seat.state["read"]["v0"].startswith("05000000")

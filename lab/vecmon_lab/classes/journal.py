@@ -68,11 +68,12 @@ class Journal:
 
     def switch(self) -> None:
         """Let the next record start another journal."""
-        if self._file is not None:
+        file, self._file = self._file, None
+        if file is not None:
             with contextlib.suppress(OSError):
-                os.ftruncate(self._file, self.generations[-1].size)
-            os.close(self._file)
-            self._file = None
+                os.ftruncate(file, self.generations[-1].size)
+            with contextlib.suppress(OSError):  # which reports what an earlier sync has reported
+                os.close(file)
 
     def flush_files(self, generation: Generation) -> None:
         """Flush the files of a journal to which no record is appended any more. Raises OSError."""

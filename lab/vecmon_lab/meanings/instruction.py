@@ -86,7 +86,7 @@ class ExecutedInstruction:
 
     name: the mnemonic
     layout: how sources lie to results (`Record.layout`)
-    groups: the operands: the destination or what a store writes, then vs2 and vs1
+    groups: the operands: the destination or what a store writes, then vs2 and vs1; without those whose width no element has
     elements: how many it has at most under the vector type
     vl, vstart: before it
     outcomes: by element; in a reduction of its source
@@ -153,7 +153,7 @@ class _Form:
         if self.is_whole:
             self.elements = len(operands[0].registers) * REGISTER_BITS // operands[0].eew
         self.mask: Mask = "mask" if instruction.leaves_out else "bits" if instruction.is_masked else ""
-        self.groups = tuple(self._group(place, operand) for place, operand in enumerate(operands))
+        self.groups = tuple(self._group(at, operand) for at, operand in enumerate(operands) if _has_elements(operand))
         guard = ("if v0.mask[i]: ",) if instruction.leaves_out and self.layout != "reduce" else ()
         self.does, self.formula = sentence_parts(execution), (*guard, *formula_parts(execution))
         places = {"rd": 7, "rs1": 15, "rs2": 20}
@@ -175,6 +175,11 @@ class _Form:
             return "moved"
         is_scalar = self.destination is None and operand.is_whole and operand.eew > 1
         return "single" if is_scalar or self.layout == "reduce" and is_second else "element"
+
+
+def _has_elements(operand: Operand) -> bool:
+    """Whether there are elements of an operand's width, as not of 4 bits, for which its instruction is illegal."""
+    return operand.part is None or 8 <= operand.eew <= 64
 
 
 @functools.lru_cache(maxsize=4096)
