@@ -268,7 +268,7 @@ async def test_teacher_gets_table_and_answers(room: Served) -> None:
 HOSTILE = [
     "j .",
     "next: li a0, 1\nli a7, 64\nmv a1, sp\nli a2, 4096\necall\nj next",
-    "ret\n.zero 1044480",
+    "ret\n.zero 1024000",
     "nop\n" * 16384,
 ]
 

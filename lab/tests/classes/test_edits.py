@@ -36,7 +36,7 @@ def test_value_becomes_line(edit: str, text: str, is_decimal: bool, line: str) -
         ("vset v1 8 0 signed", "-129", "decimal number of 8 bits"),
         ("vset v1 1 0 mask", "2", "decimal number of 1 bits"),
         ("vset v1 16 0 hexadecimal", "12345", "hexadecimal number of 16 bits"),
-        ("set x5", "0x5", "hexadecimal number of 64 bits"),
+        ("set x5", "0xg", "hexadecimal number of 64 bits"),
         ("set x5", "", "hexadecimal number of 64 bits"),
     ],
 )

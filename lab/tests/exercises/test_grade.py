@@ -241,7 +241,11 @@ def test_first_difference_is_reported(echo: Echo, change: tuple[str, str], reaso
         ),
         pytest.param(b"\x7fELF" + bytes(1 << 22), "image", "it has more than 4,194,304 bytes", id="large"),
         (b"1 regs\n\xff\xfe", "script", "it is no image and no text: byte 8 is 0xff"),
-        (b"\0\0\0", "answer.s", "answer.s:1:1: ? isn't an instruction, a directive or a label"),
+        (
+            b"\0\0\0",
+            "answer.s",
+            "answer.s:1:1: this is U+0000, a control character: only texts and comments may have it",
+        ),
     ],
 )
 def test_unusable_answer_fails_with_reason(echo: Echo, content: str | bytes, name: str, reason: str) -> None:
@@ -269,7 +273,7 @@ def test_author_of_answer_controls_no_terminal(tmp_path: pathlib.Path, option: l
     completed = run_grade("strlen", *option, odd)
     text = completed.stdout.replace("\n", "")
     assert text.isprintable() and not re.search("^b.s", completed.stdout, re.MULTILINE)
-    assert "a??[31m?b.s  ok  5 of 5?.s" in text and "? isn't an instruction" in text
+    assert "a??[31m?b.s  ok  5 of 5?.s" in text and "this is U+202E, right-to-left override" in text
     assert (completed.returncode, completed.stderr) == (1, "")
 
 

@@ -263,7 +263,7 @@ def test_hidden_rows_are_not_created(tabs: "Chrome", own_class: Served) -> None:
     tab = Tab(tabs, own_class, "A1")
     source = "vid.v v1\n" + "addi a0, a0, 1\n" * 3898 + "last: ebreak\n"
     tab.run("(code().setValue(arguments[0]), id('assemble').click())", source)
-    tab.wait("!id('listing').hidden && id('registers').textContent.includes('pc10000')")
+    tab.wait("!id('listing').hidden && id('registers').textContent.includes('pc0x10000')")
     seen = """((row, box) => row && row.top >= box.top - 2 && row.bottom <= box.bottom + 2)(
         one(`#listing [data-address='${arguments[0]}']`)?.getBoundingClientRect(), id('listing').getBoundingClientRect())"""
     for address in ("10000", "13ce8", "12000"):
@@ -305,7 +305,7 @@ def test_values_are_edited_by_clicks_and_keys(sit: Sit) -> None:
     tab.command("peek 20000 16", "vset v1 " + "00" * 32)
     tab.click("#show-memory")
     change("[data-edit='poke 20002']", "0aff")
-    assert tab.text("tr[data-address='20000']").startswith("2000000 00 0a ff00")
+    assert tab.text("tr[data-address='20000']").startswith("0x2000000 00 0a ff00")
     tab.choose("#form", "hexadecimal")
     tab.choose("#view", "all 32 registers")
     change("[data-edit='vset v1 32 3 hexadecimal']", "89abcdef")
@@ -318,7 +318,7 @@ def test_values_are_edited_by_clicks_and_keys(sit: Sit) -> None:
     tab.click("#show-registers")
     tab.click("[data-edit='set x10']")
     tab.keys("#value", Keys.CONTROL, "a", Keys.NULL, "-g", Keys.ENTER)
-    tab.wait("id('stop').textContent.startsWith(arguments[0])", "-g isn't a decimal number of 64 bits")
+    tab.wait("id('stop').textContent.startsWith(arguments[0])", "-g isn't a hexadecimal number of 64 bits")
     assert not tab.run("id('edit').open")
     tab.click("[data-edit='vset v1 32 3 hexadecimal']")
     tab.keys("#value", Keys.CONTROL, "a", Keys.NULL, "1ffffffff", Keys.ENTER)

@@ -91,16 +91,16 @@ def test_step_over_and_out_of_a_function(sit: Sit) -> None:
 
 
 def test_loading_a_program_is_one_entry_of_the_console(sit: Sit) -> None:
-    """It unfolds to all its lines: a new machine, a page, four instructions, and the program counter."""
+    """It unfolds to all its lines: a new machine, a page, four instructions, the ebreak after them, the start, and the program counter."""
     tab = sit("A3")
     write(tab, DOUBLES)
     tab.click("#assemble")
     tab.wait(f"{CONDITION} === 'Ready'")
     (entry,) = tab.run("all('#log > li').map((item) => item.querySelector('summary').textContent)")
-    assert entry == "Load 4 instructions, from 0x10000 (7 lines)"
+    assert entry == "Load 4 instructions, from 0x10000 (13 lines)"
     assert not tab.run("one('#log details').open")
     asked = tab.run("all('#log .group .asked').map((item) => item.textContent.split(' ')[1]).join(' ')")
-    assert asked == "enter map asm asm asm asm setpc"
+    assert asked == "enter map asm asm asm asm asm map set map poke set setpc"
     tab.command("set x5 1")
     assert tab.run("all('#log > .asked').map((item) => item.textContent)") == ["> set x5 1"]
 
@@ -226,9 +226,9 @@ def test_loaded_image_opens_its_listing(sit: Sit) -> None:
 
 
 def test_fault_outside_of_memory_names_the_address(sit: Sit) -> None:
-    """`ret` returns to address 0, where nothing is mapped."""
+    """Nothing is mapped at address 0."""
     tab = sit("A6")
-    write(tab, "ret\n")
+    write(tab, "jr zero\n")
     tab.click("#one")
     tab.wait(f"{CONDITION} === 'Paused'")
     tab.click("#one")

@@ -143,6 +143,7 @@ class Flusher:
 
     def _save_each(self, changes: Changes) -> None:
         """Replace and remove files, flushing each: after their journals, which would replace them by older ones at a start."""
+        self._journal.switch()
         try:
             for generation in list(self._journal.generations):
                 self._journal.flush_files(generation)

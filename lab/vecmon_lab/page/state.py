@@ -154,7 +154,8 @@ class WatchSet:
 
         Of the lines that set up the start of a program it is the last page of the stack.
         """
-        if line[2:] in START:
+        command = line.partition(" ")[2]
+        if command in START:
             self._add_pages(STACK_END - PAGE_BYTES, PAGE_BYTES)
             return
         match words_of(line):

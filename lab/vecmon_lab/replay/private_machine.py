@@ -23,7 +23,7 @@ Signature = Sequence[Sequence[str]]
 """Registers in the machine's answers."""
 
 
-_FOLLOWED = tuple("elmv")  # how commands start that change what is known of the user: enter, load, map, vset
+_FOLLOWED = ("enter", "load", "map", "vset")  # commands that change what is known of the user
 
 
 class ReplayDiffers(LabError):
@@ -90,7 +90,7 @@ class PrivateMachine:
         for line, answer in zip(lines, answers):
             if line == f"{self.digit} out" and isinstance(reply := read([answer]), Output):
                 self.output += reply.data
-            elif line[2:3] in _FOLLOWED:
+            elif command_of(line) in _FOLLOWED:
                 follow_line(self._users, line)
                 self._users[self.digit].pages = {}
         self.executed += _LINE_COST * len(lines)
