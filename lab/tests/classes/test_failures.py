@@ -72,9 +72,14 @@ async def test_pages_show_machine_rebuild(tmp_path: pathlib.Path) -> None:
         assert terminal.end()[0] == 0
 
 
+def _heed_hangup() -> None:
+    """SIGHUP ends a process, even if these tests run under nohup."""
+    signal.signal(signal.SIGHUP, signal.SIG_DFL)
+
+
 @pytest.mark.parametrize("sign", [signal.SIGINT, signal.SIGTERM, signal.SIGHUP])
 async def test_signalled_server_ends_cleanly(tmp_path: pathlib.Path, sign: signal.Signals) -> None:
-    async with process(tmp_path / "class", "--patience", "1000") as room:
+    async with process(tmp_path / "class", "--patience", "1000", preexec_fn=_heed_hangup) as room:
         tab, unresponsive = await room.sit("A1"), await room.sit("teacher")
         await tab.do(*LOOP)
         child = room.machine()

@@ -268,6 +268,7 @@ def test_listing_shows_source_lines(sit: Sit) -> None:
         ["10008", "", ""],
         ["1000c", "", "vid.v v1"],
         ["10010", "j loop", "j loop"],
+        ["10014", "", ""],  # the ebreak after the last instruction
     ]
     assert tab.run("id('listing').scrollWidth <= id('listing').clientWidth")
     tab.command("asm 1000c vsetvli x5, x10, e32, m1, ta, mu", "step 1")

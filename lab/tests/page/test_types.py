@@ -22,6 +22,7 @@ KINDS = {  # HTML Living Standard, section 3: the interface of each kind of elem
     "select": "HTMLSelectElement",
     "table": "HTMLTableElement",
     "tbody": "HTMLTableSectionElement",
+    "template": "HTMLTemplateElement",
     "tr": "HTMLTableRowElement",
     "textarea": "HTMLTextAreaElement",
     "ul": "HTMLUListElement",

@@ -53,9 +53,10 @@ export class Inputs {
 
   /** The row of an input: where it goes, its type, its values, and a button that removes it. */
   row(/** @type {Input} */ input) {
+    const labels = { place: textOf("inputs.place"), type: textOf("inputs.type"), values: textOf("inputs.values") };
     /** @type {(name: "place" | "type" | "values") => HTMLInputElement} */
     const field = (name) => {
-      const element = Object.assign(make("input", name), { value: input[name], spellcheck: false, ariaLabel: textOf(`inputs.${name}`) });
+      const element = Object.assign(make("input", name), { value: input[name], spellcheck: false, ariaLabel: labels[name] });
       element.placeholder = name === "type" ? textOf("inputs.number") : "";
       if (name === "type") element.setAttribute("list", "input-types");
       element.addEventListener("change", () => this.write(input.line, inputLine({ ...input, [name]: element.value.trim() })));

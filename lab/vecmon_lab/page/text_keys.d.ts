@@ -445,7 +445,6 @@ export interface Places {
   "registers": never;
   "registers.names": never;
   "registers.form": never;
-  "registers.decimal": never;
   "registers.hexadecimal": never;
   "registers.height.label": never;
   "registers.fold.label": never;

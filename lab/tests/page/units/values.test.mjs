@@ -7,7 +7,7 @@ import { inOrder, placesOf } from "../../../vecmon_lab/page/rows.js";
 import { lineBegins, startOf, stoppedLines } from "../../../vecmon_lab/page/source_lines.js";
 import { littleEndian } from "../../../vecmon_lab/page/numbers.js";
 import { numberText } from "../../../vecmon_lab/page/variables.js";
-import { saysMore, signedText, target, typeText, typeWords, vectorType, withNames } from "../../../vecmon_lab/page/words.js";
+import { saysMore, signedText, typeText, typeWords, vectorType, withNames } from "../../../vecmon_lab/page/words.js";
 
 test("vtype has vlmul in bits 2 to 0, vsew in bits 5 to 3, vta, vma, and vill in bit 63", () => {
   const types = { d0: ["e32, m1, ta, ma", 8], c3: ["e8, m8, ta, ma", 256], 7: ["e8, mf2, tu, mu", 16], 58: ["e64, m1, ta, mu", 4] };
@@ -23,12 +23,6 @@ test("numbers are signed or not by their kind, with the lowest byte first", () =
   assert.equal(littleEndian("feff"), 0xfffen);
   assert.deepEqual(["i16", "u16", "x16"].map((kind) => numberText(kind, 0xfffen)), ["-2", "65534", "0xfffe"]);
   assert.deepEqual([signedText("ffffffffffffffff"), signedText("7fffffffffffffff")], ["-1", "9223372036854775807"]);
-});
-
-test("a branch has its target, and other instructions none", () => {
-  assert.equal(target("10010", "bne x5, x0, -8"), "10008");
-  assert.equal(target("fffc", "jal x1, 2048"), "107fc");
-  assert.equal(target("10010", "addi x5, x5, -8"), "");
 });
 
 test("registers have their ABI names, and of a source line is shown what the machine's text hasn't", () => {
