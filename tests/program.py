@@ -11,7 +11,8 @@ from dataclasses import dataclass
 TOP = pathlib.Path(__file__).resolve().parent.parent
 CONTEXT = 3  # lines before a difference
 SHOWN = 12  # lines from it on
-STACK = 1 << 20  # bytes of stack that the programs need at most (docs/GUARANTEES.md, "Trusted")
+STACK = int(os.environ.get("VECMON_STACK", 1 << 20))
+"""The bytes of stack that the programs need at most (docs/GUARANTEES.md, "Trusted"): those of Rattle's own compiler need more."""
 
 
 @dataclass(frozen=True)
