@@ -2,7 +2,6 @@
 
 import enum
 import re
-import unicodedata
 from collections.abc import Sequence
 from dataclasses import dataclass, replace
 
@@ -16,6 +15,24 @@ _TOKEN = re.compile(
 )
 MAX_CALLS = 3  # that a message names
 _REPLACEMENTS = {"–": "-", "—": "-", "−": "-", "“": '"', "”": '"', "„": '"', "‘": "'", "’": "'"}
+_NAMES = {  # of characters that can't be seen, or that look like others, by Unicode; the playground's Python has no unicodedata
+    "\u00a0": "no-break space",
+    "\u00ad": "soft hyphen",
+    "\u200b": "zero width space",
+    "\u200e": "left-to-right mark",
+    "\u200f": "right-to-left mark",
+    "\u2013": "en dash",
+    "\u2014": "em dash",
+    "\u2018": "left single quotation mark",
+    "\u2019": "right single quotation mark",
+    "\u201c": "left double quotation mark",
+    "\u201d": "right double quotation mark",
+    "\u201e": "double low-9 quotation mark",
+    "\u2028": "line separator",
+    "\u202e": "right-to-left override",
+    "\u2212": "minus sign",
+    "\ufeff": "zero width no-break space",
+}
 _NUMBER = re.compile("0|[1-9][0-9]*|0[xX][0-9A-Fa-f]+|0[bB][01]+")
 _PIECE = re.compile(r"\\([0-7]{1,3})|\\x([0-9A-Fa-f]{1,2})(?![0-9A-Fa-f])|\\(.)|([^\\]+)")
 _LETTERS = {"b": "\b", "f": "\f", "n": "\n", "r": "\r", "t": "\t", '"': '"', "\\": "\\"}
@@ -191,13 +208,14 @@ def _problem_of(character: str) -> str:
         return f"the byte 0x{number - 0xDC00:x} isn't UTF-8: save the file as UTF-8"
     if character.isalnum():
         return f"{character} can't be in a name: names have letters of ASCII, digits and . _ $"
-    name = unicodedata.name(character, "a control character").lower()
+    is_control = number < 0x20 or 0x7F <= number < 0xA0
+    name = _NAMES.get(character, "a control character" if is_control else character)
     return f"this is U+{number:04X}, {name}: only texts and comments may have it"
 
 
 def _replacement_of(character: str) -> list[str]:
     """The character of ASCII that a refused one looks like."""
-    if unicodedata.category(character) == "Zs":
+    if character.isspace():
         return [" "]
     return [_REPLACEMENTS[character]] if character in _REPLACEMENTS else []
 
