@@ -270,9 +270,11 @@ def test_the_pages_around_it(tabs: "Chrome", server: tuple[str, list[str]]) -> N
     tabs.get(f"{server[0]}/index.html")
     links = tabs.execute_script("return [...document.querySelectorAll('main a')].map((each) => each.href)")
     assert len(links) == 5
-    for place in range(2, 7):  # to vmacc.vx, under a mask of 9, 2, 7, 1, 8, 3, 6, 4 above 4
-        tabs.find_element("id", "next").click()
-        assert tabs.find_element("id", "count").text == f"{place} of 22"
+    assert (
+        tabs.find_element("id", "count").text == "5 of 22"
+    )  # vmacc.vx, under a mask of 9, 2, 7, 1, 8, 3, 6, 4 above 4
+    tabs.find_element("id", "next").click()
+    assert tabs.find_element("id", "count").text == "6 of 22"
     assert tabs.find_element("css selector", "#listing [aria-current]").text == "vse32.v v9, (a2)"
     tabs.find_element("id", "back").click()
     cells = tabs.execute_script(
