@@ -175,6 +175,7 @@ def test_window_makes_its_text_the_seats(sit: Sit) -> None:
     """The other window, where nothing was typed since, shows it then; its text is a version."""
     ahead, behind = sit("A7"), sit("A7")
     behind.wait("!id('windows').hidden")
+    versions = behind.run("[...id('versions').options].length")  # of other tests of this seat
     behind.run(TYPE_ON)
     ahead.run(AHEAD)
     behind.wait("!id('use-own').hidden")
@@ -182,7 +183,7 @@ def test_window_makes_its_text_the_seats(sit: Sit) -> None:
     behind.click("#use-own")
     for each in (ahead, behind):
         each.wait(f"{TEXT}.endsWith(' behind') && id('use-own').hidden")
-    behind.wait("[...id('versions').options].length === 2")
+    behind.wait("[...id('versions').options].length > arguments[0]", versions)
 
 
 def test_given_source_is_offered(sit: Sit, tmp_path: pathlib.Path) -> None:
