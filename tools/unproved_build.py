@@ -28,9 +28,12 @@ FLAGS = (
     "-mllvm -no-x86-call-frame-opt -mllvm -disable-machine-licm -mllvm -disable-postra-machine-licm "
     "-mllvm -sink-common-insts=false --no-default-config -no-canonical-prefixes -fno-crash-diagnostics -fPIE"
 ).split()
+# Each begins with a line's end, which a search through 46 MB finds much faster than a line's beginning.
 CHECK = re.compile(
-    r'\s*call void @"rattle-llvm-checks::|\s*call void @llvm\.trap\(\)|\s*call void @llvm\.memset\.p0\.i64\(ptr %r\d+, i8 -86,'
+    r'\n +call void @(?:"rattle-llvm-checks::|llvm\.trap\(\)|llvm\.memset\.p0\.i64\(ptr %r\d+, i8 -86,).*'
 )
+DEFINED = re.compile(r'(\ndefine internal .*?@"([^"]*)"\(.*\)) #0 \{')
+ATTRIBUTES = re.compile(r"\nattributes #0 = .*")
 COMMON = 'nounwind "frame-pointer"="all" "probe-stack"="inline-asm" "stack-probe-size"="3072" "target-cpu"="x86-64-v2"'
 
 
@@ -55,23 +58,17 @@ def inlined(crates):
 
 
 def without_checks(module, marks):
-    """The lines of the module without its checks, and with the marks."""
-    for line in module:
-        if line.startswith(" "):  # an instruction, as nearly all lines are
-            if not CHECK.match(line):
-                yield line
-            continue
-        name = re.match(r'define internal .*?@"([^"]*)"\(', line)
-        path = name[1].split("::<")[0].split("::") if name else []
+    """The text of the module without its checks, and with the marks."""
+
+    def marked(found):
+        path = found[2].split("::<")[0].split("::")
         kinds = (marks.get((path[0], "::".join(path[1:end]), path[-1])) for end in range(1, len(path)))
-        kind = next((it for it in kinds if it), None)
-        if kind:
-            line = line.replace(") #0 {", f") {'#90' if kind == 'always' else '#91'} {{")
-        if line.startswith("attributes #0 "):
-            yield f"attributes #0 = {{ {COMMON} }}\n"
-            yield f"attributes #90 = {{ alwaysinline {COMMON} }}\nattributes #91 = {{ noinline {COMMON} }}\n"
-        else:
-            yield line.replace("sanitize_address ", "")
+        group = {"always": "#90", "never": "#91", None: "#0"}[next((it for it in kinds if it), None)]
+        return f"{found[1]} {group} {{"
+
+    groups = (f"\nattributes {group} {COMMON} }}" for group in ("#0 = {", "#90 = { alwaysinline", "#91 = { noinline"))
+    text = DEFINED.sub(marked, CHECK.sub("", module))
+    return ATTRIBUTES.sub("".join(groups), text).replace("sanitize_address ", "")
 
 
 def write_module(crate, out):
@@ -85,8 +82,7 @@ def write_module(crate, out):
         make_module(kit, f"{crates}/{crate}", made)
         write_text(kit, made, text)
         with open(text, encoding="utf-8") as module, open(out, "w", encoding="utf-8") as it:
-            it.write(f"; {kit_identity()}\n")
-            it.writelines(without_checks(module, inlined(crates)))
+            it.write(f"; {kit_identity()}\n{without_checks(module.read(), inlined(crates))}")
 
 
 def compile_module(module, out, level="-O3"):
@@ -95,7 +91,10 @@ def compile_module(module, out, level="-O3"):
     make_folder(out)
     with tempfile.TemporaryDirectory() as room:
         compiled = f"{room}/compiled.o"
-        clang = [f"{kit}/toolchain/bin/clang", f"--target={TARGET}", *FLAGS, level, "-c", "-x", "ir"]
+        passes = (
+            ["-Xclang", "-disable-llvm-passes"] if level == "-O0" else []
+        )  # else it takes functions in line, a fifth of its time
+        clang = [f"{kit}/toolchain/bin/clang", f"--target={TARGET}", *FLAGS, level, *passes, "-c", "-x", "ir"]
         subprocess.run([*clang, module, "-o", compiled], check=True)
         link_program(kit, compiled, out)
 

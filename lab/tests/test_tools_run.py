@@ -78,6 +78,7 @@ class Clone:
         }
         self.write("rattle/rt", RT.replace("TOP", shlex.quote(str(top))).replace("PROGRAM", shlex.quote(str(program))))
         self.write("lab/setup", SET_UP)
+        self.write("tools/debian_packages", "#!/bin/sh\n")
         self.write("tools/unproved_build.py", BUILD.replace("PROGRAM", str(program)))
         for name in ("run", "complete_build", "source_digest", "proved_build.py", "linked_kit.py", "front_end.py"):
             shutil.copy(TOP / "tools" / name, top / "tools" / name)
@@ -556,6 +557,7 @@ def test_concurrent_starts_build_once(clone: Clone, tmp_path: pathlib.Path) -> N
 def test_script_and_images_are_passed_on(clone: Clone, program: pathlib.Path, tmp_path: pathlib.Path) -> None:
     (tmp_path / "script").write_text("1 enter\n1 list\n")
     (tmp_path / "image").write_bytes(b"no image")
+    clone.complete()
     for words in (
         ["script"],
         ["script", "a=image"],
@@ -592,6 +594,34 @@ def test_missing_packages_are_reported(clone: Clone) -> None:
     expected = f"tools/debian_packages: missing packages; as root, run: {command}\n"
     assert (completed.returncode, completed.stdout, completed.stderr) == (2, "", expected)
     assert clone.builds() == []
+
+
+def test_the_lab_is_set_up_during_the_first_build(clone: Clone) -> None:
+    clone.write("lab/setup", SET_UP + "while [ ! -e go ]; do sleep 0.02; done\n")
+    process = clone.start()
+    clone.wait_for_step(*FIRST)
+    until(clone.folders)
+    assert process.poll() is None
+    clone.write("go", "")
+    assert process.communicate(timeout=PATIENCE)[0] == check.first_script()[1]
+
+
+def test_a_failed_set_up_is_reported_after_the_build(clone: Clone) -> None:
+    clone.write("lab/setup", "#!/bin/sh\necho 'lab/setup: no room' >&2\nexit 1\n")
+    completed = clone.complete()
+    assert (completed.returncode, completed.stdout) == (2, "")
+    assert "lab/setup: no room\n" in completed.stderr and clone.programs() == OPTIMIZED
+
+
+def test_an_interrupted_set_up_is_ended(clone: Clone) -> None:
+    clone.write("lab/setup", f"#!/bin/sh\ncd '{clone.top}' && echo $$ > setting-up && exec sleep 600\n")
+    clone.hold(FIRST[0])
+    process = clone.start()
+    clone.wait_for_step(FIRST[0])
+    until(lambda: (clone.top / "setting-up").exists() and (clone.top / "setting-up").read_text())
+    process.terminate()
+    assert process.wait(timeout=PATIENCE) == 143
+    until(lambda: not pathlib.Path("/proc", (clone.top / "setting-up").read_text().strip()).exists())
 
 
 def test_unwritable_folder_is_reported(clone: Clone) -> None:
