@@ -49,6 +49,7 @@ const host = {
   write: (descriptor, address, size) => attempt(() => fs.writeSync(descriptor, bytes(address, size))),
   close: (descriptor) => attempt(() => (fs.closeSync(descriptor), 0)),
   seek: () => BigInt(NO_SEEK), // node has no lseek
+  truncate: (descriptor, size) => attempt(() => (fs.ftruncateSync(descriptor, Number(size)), 0)),
   stat: (address, numbers) =>
     attempt(() => {
       const found = fs.statSync(pathAt(address), { bigint: true });

@@ -18,6 +18,7 @@ HOST(read) int32_t host_read(int32_t file, uint8_t *bytes, uint32_t size);
 HOST(write) int32_t host_write(int32_t file, const uint8_t *bytes, uint32_t size);
 HOST(close) int32_t host_close(int32_t file);
 HOST(seek) int64_t host_seek(int32_t file, int64_t offset, int32_t whence);
+HOST(truncate) int32_t host_truncate(int32_t file, int64_t size);
 HOST(stat) int32_t host_stat(const uint8_t *path, uint64_t *numbers); // device, file number, mode and size
 HOST(link) int32_t host_link(const uint8_t *path, uint8_t *target, uint32_t size);
 
@@ -165,6 +166,11 @@ int32_t close(int32_t file)
 int64_t lseek(int32_t file, int64_t offset, int32_t whence)
 {
     return result(host_seek(file, offset, whence));
+}
+
+int32_t ftruncate(int32_t file, int64_t size)
+{
+    return (int32_t)result(host_truncate(file, size));
 }
 
 struct statx {

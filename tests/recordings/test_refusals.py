@@ -3,6 +3,7 @@
 import os
 import pathlib
 import subprocess
+from collections.abc import Mapping
 
 import pytest
 
@@ -10,7 +11,20 @@ from tests.program import TOP
 from tests.recordings.recorder import built_recorder, record
 
 GOOD = TOP / "tests/command_lines/data/images/sum"
+OUTPUTS = ("counts", "changes", "log")
 NO_LINE = "line {}: no register and a value that it can have"
+RUN = ["--watch", "100000:8", "--to", 5]
+
+
+def all_outputs(paths: Mapping[str, str]) -> list[str]:
+    """The arguments for outputs at these paths, by their options."""
+    return [argument for name, path in paths.items() for argument in (f"--{name}", path)]
+
+
+def make_bytes(folder: pathlib.Path) -> str:
+    """Write a file of eight zeros. Returns the argument that places it at the watched address."""
+    (folder / "bytes").write_bytes(bytes(8))
+    return "--memory=100000:rw:bytes"
 
 
 def refused(folder: pathlib.Path, *arguments: object) -> tuple[int, str]:
@@ -128,6 +142,33 @@ def test_unwritable_counts_file_is_refused(tmp_path: pathlib.Path) -> None:
         completed = subprocess.run(command, capture_output=True, check=False)
         assert (completed.returncode, completed.stderr.decode()) == (5, f"vecmon-record: cannot write {path}\n")
         assert completed.stdout == output
+
+
+@pytest.mark.parametrize("unopened", OUTPUTS)
+def test_outputs_keep_their_bytes_if_another_cannot_be_opened(tmp_path: pathlib.Path, unopened: str) -> None:
+    """Outputs that exist aren't changed, and the program doesn't run."""
+    paths = {name: f"no-folder/{name}" if name == unopened else f"{name}.txt" for name in OUTPUTS}
+    kept = [tmp_path / path for name, path in paths.items() if name != unopened]
+    for file in kept:
+        file.write_text("old\n" * 100)
+    completed = record(tmp_path, *RUN, *all_outputs(paths), make_bytes(tmp_path), GOOD, counts=False)
+    assert (completed.status, completed.stderr) == (5, f"vecmon-record: cannot write {paths[unopened]}\n")
+    assert completed.stdout == b"" and all(file.read_text() == "old\n" * 100 for file in kept)
+
+
+def test_outputs_replace_longer_files(tmp_path: pathlib.Path) -> None:
+    """Nothing is left of the old bytes, in files that the outputs link to."""
+    paths = {name: f"{name}.txt" for name in OUTPUTS}
+    for folder in (tmp_path / "new", tmp_path / "old"):
+        folder.mkdir()
+        for path in paths.values() if folder.name == "old" else ():
+            (folder / f"{path}.file").write_text("old\n" * 100_000)
+            (folder / path).symlink_to(f"{path}.file")
+        completed = record(folder, *RUN, *all_outputs(paths), make_bytes(folder), GOOD, counts=False)
+        assert (completed.status, completed.stderr) == (0, "")
+    for path in paths.values():
+        new = (tmp_path / "new" / path).read_bytes()
+        assert new and (tmp_path / "old" / path).read_bytes() == new
 
 
 def test_unwritable_output_is_refused(tmp_path: pathlib.Path) -> None:

@@ -48,6 +48,7 @@ pub(crate) struct MemoryFiles {
     /// Whether memory ran out when a file was closed.
     pub is_lost: bool,
     failures: u64,
+    write_failures: u64,
 }
 
 impl MemoryFiles {
@@ -60,6 +61,7 @@ impl MemoryFiles {
             closed: Vec::new(alloc),
             is_lost: false,
             failures: 0,
+            write_failures: 0,
         }
     }
 }
@@ -78,6 +80,7 @@ fn empty_file(alloc: Global, path: &str, piece: usize) -> Result<MemoryFile, All
 }
 
 impl Outputs for MemoryFiles {
+    ghost use Rattle.std.proofs.Common.{◌∙◌, refl};
     ghost use Rattle.test_devices.specs.ClosedFiles.{IsClosed, IsCreated};
 
     type Created = MemoryFile;
@@ -86,7 +89,11 @@ impl Outputs for MemoryFiles {
 
     ghost is_closed = { IsClosed };
 
+    ghost are_kept = { λ a b. b.closed.items ≡ a.closed.items };
+
     ghost failures = { λ files. files.failures };
+
+    ghost write_failures = { λ files. files.write_failures };
 
     fn create(&mut self, path: &str) -> Result<MemoryFile, DeviceFault> {
         let Ok(file) = empty_file(self.alloc, path, self.piece) else {
@@ -98,6 +105,7 @@ impl Outputs for MemoryFiles {
     }
 
     fn close(&mut self, file: MemoryFile) {
+        self.write_failures = self.write_failures.saturating_add(file.failures);
         if self.closed.push(file).is_err() {
             self.is_lost = true;
         }
@@ -106,4 +114,8 @@ impl Outputs for MemoryFiles {
     fn is_same_file(&self, _alloc: Global, first: &str, second: &str) -> Result<bool, AllocError> {
         Ok(first == second)
     }
+
+    ghost kept_none = { λ _. refl };
+
+    ghost kept_more = { λ _ _ _ first second. second ∙ first };
 }

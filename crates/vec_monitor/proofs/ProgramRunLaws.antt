@@ -1,12 +1,12 @@
 -- The result of the program's run: the files that it reads, and the machine that it creates
-use Rattle.std.proofs.Common.{◌≡◌, ◌≢◌, ◌∙◌, ℕ, List, [], ◌∷◌, ◌++◌, append-nil, Bool, true, false, Option, Some, None, Result, Ok, Err, ◌⊎◌, inl, inr, ap, subst, sym, refl, length, map, not, ◌&&◌, ◌||◌, nat_le, nat_lt, if◌then◌else◌, is_some, true≢false, leb-true, arith}
+use Rattle.std.proofs.Common.{◌≡◌, ◌≢◌, ◌∙◌, ℕ, List, [], ◌∷◌, ◌++◌, append-nil, Bool, true, false, Option, Some, None, Result, Ok, Err, ◌⊎◌, inl, inr, ap, subst, sym, refl, length, map, not, ◌&&◌, ◌||◌, nat_le, nat_lt, if◌then◌else◌, is_some, true≢false, leb-true, length-append, arith, ◌<◌}
 use Rattle.std.specs.Borrow.{Bor}
 use Rattle.std.specs.Io.{StartsWith}
-use Rattle.std.specs.Io.KnownBytes.{Consumes, IsAtEnd}
-use Rattle.std.specs.List.{AllZip, list_all}
+use Rattle.std.specs.Io.KnownBytes.{Consumes, IsAtEnd, Keeps}
+use Rattle.std.specs.List.{AllZip, Any, list_all}
 use Rattle.std.specs.Option.{option_map_or}
-use Rattle.std.specs.Prelude.{IfErr, IfOk, IsErrAnd, IsOk}
-use Rattle.std.proofs.KnownBytes.{Consumes-whole}
+use Rattle.std.specs.Prelude.{⊤, IfErr, IfOk, IsErrAnd, IsOk}
+use Rattle.std.proofs.KnownBytes.{Consumes-whole, Keeps-refl}
 use Rattle.std.proofs.lemmas.Bool.{and_parts}
 use Rattle.clap.specs.Walk.{Text, texts}
 use Rattle.monitor_machine.specs.Images.{named_images, setup_of}
@@ -21,10 +21,11 @@ use Rattle.rv_model.specs.machine.Script.{World, new_world, whole, whole_from}
 use Rattle.rv_model.specs.machine.Setup.{Image as NamedImage, Setup}
 use Rattle.vec_monitor.specs.CommandLine.{image_arguments, quantum_word, script_word, arguments_fault, IsQuantum}
 use Rattle.vec_monitor.specs.ImageFiles.{named_file, IsFileOf}
-use Rattle.vec_monitor.specs.ImageArguments.{IsNameAndPath, IsPathOf}
+use Rattle.vec_monitor.specs.ImageArguments.{IsNameAndPath, IsPathOf, LacksEqualsSign}
+use Rattle.devices.specs.Device.{Rose}
 use Rattle.devices.specs.KnownBytes.{AreKnownAs}
 use Rattle.vec_monitor.specs.ProgramRuns.{IsImageOf, OutputPrefix, RanOptions, RanScript, RanArguments}
-use Rattle.vec_monitor.specs.Statuses.{IsRunFault, machine_fault, program_status}
+use Rattle.vec_monitor.specs.Statuses.{IsRunFault, IsTooLong, IsUnread, MayBeRefused, machine_fault, program_status}
 use Rattle.vec_monitor.specs.declared.image_files.ImageFile.{ImageFile}
 use Rattle.vec_monitor.specs.declared.image_arguments.ImagePath.{ImagePath}
 use Rattle.vec_monitor.specs.declared.program_fault.ProgramFault.{ProgramFault}
@@ -97,34 +98,34 @@ machine_statuses new_faults.ImageSize = inl refl
 machine_statuses new_faults.NoMemory = inr refl
 
 -- the output is as before, unless the script failed
-pub unused_unless : {T : Type 0} (Unused Failed : Type 0) (r : Result T ProgramFault) (created : Result MachineState NewFault) → IfErr r (IsRunFault created Unused Failed)
+pub unused_unless : {T : Type 0} (Unused Failed : Type 0) (Unread : RunFault → Type 0) (r : Result T ProgramFault) (created : Result MachineState NewFault) → IfErr r (IsRunFault created Unused Failed Unread)
     → IfErr r (λ fault. (program_status fault ≡ 2) ⊎ ((program_status fault ≡ 4) ⊎ (program_status fault ≡ 6)) → Unused)
-unused_unless Unused Failed (Ok x) created is = tt
-unused_unless Unused Failed (Err fault) created (inl refused) = λ _. refused.2.1
-unused_unless {T = T} Unused Failed (Err fault) created (inr stopped) =
+unused_unless Unused Failed Unread (Ok x) created is = tt
+unused_unless Unused Failed Unread (Err fault) created (inl refused) = λ _. refused.2.1
+unused_unless {T = T} Unused Failed Unread (Err fault) created (inr stopped) =
     other_status {T = T} Unused (Err fault) stopped.0 (λ status. (status ≡ 2) ⊎ ((status ≡ 4) ⊎ (status ≡ 6))) stopped.1
     (λ q. elim q [ inl e ↦ omega (arith, e) | inr q ↦ elim q [ inl e ↦ omega (arith, e) | inr e ↦ omega (arith, e) ] ])
     (λ q. elim q [ inl e ↦ omega (arith, e) | inr q ↦ elim q [ inl e ↦ omega (arith, e) | inr e ↦ omega (arith, e) ] ])
 
 -- no such fault is one of the arguments
-pub no_usage : {T : Type 0} (G Unused Failed : Type 0) (r : Result T ProgramFault) (created : Result MachineState NewFault) → IfErr r (IsRunFault created Unused Failed)
+pub no_usage : {T : Type 0} (G Unused Failed : Type 0) (Unread : RunFault → Type 0) (r : Result T ProgramFault) (created : Result MachineState NewFault) → IfErr r (IsRunFault created Unused Failed Unread)
     → IfErr r (λ fault. program_status fault ≡ 2 → G)
-no_usage G Unused Failed (Ok x) created is = tt
-no_usage G Unused Failed (Err fault) created (inl refused) = λ two. absurd (elim (machine_statuses refused.0) [
+no_usage G Unused Failed Unread (Ok x) created is = tt
+no_usage G Unused Failed Unread (Err fault) created (inl refused) = λ two. absurd (elim (machine_statuses refused.0) [
   | inl e ↦ omega (arith, sym e ∙ (sym (ap program_status refused.2.0) ∙ two))
   | inr e ↦ omega (arith, sym e ∙ (sym (ap program_status refused.2.0) ∙ two))
 ])
-no_usage {T = T} G Unused Failed (Err fault) created (inr stopped) =
+no_usage {T = T} G Unused Failed Unread (Err fault) created (inr stopped) =
     other_status {T = T} G (Err fault) stopped.0 (λ status. status ≡ 2) stopped.1 (λ e. omega (arith, e)) (λ e. omega (arith, e))
 
 -- no such fault is one of the images, if only memory can be lacking
-pub no_image_fault : {T : Type 0} (Unused Failed : Type 0) (r : Result T ProgramFault) (created : Result MachineState NewFault)
-    → IfErr created (λ refused. refused ≡ new_faults.NoMemory) → IfErr r (IsRunFault created Unused Failed) → IfErr r (λ fault. program_status fault ≢ 4)
-no_image_fault Unused Failed (Ok x) created only is = tt
-no_image_fault Unused Failed (Err fault) created only (inl refused) = λ four.
+pub no_image_fault : {T : Type 0} (Unused Failed : Type 0) (Unread : RunFault → Type 0) (r : Result T ProgramFault) (created : Result MachineState NewFault)
+    → IfErr created (λ refused. refused ≡ new_faults.NoMemory) → IfErr r (IsRunFault created Unused Failed Unread) → IfErr r (λ fault. program_status fault ≢ 4)
+no_image_fault Unused Failed Unread (Ok x) created only is = tt
+no_image_fault Unused Failed Unread (Err fault) created only (inl refused) = λ four.
     let memory : refused.0 ≡ new_faults.NoMemory = subst (λ it. IfErr it (λ refused. refused ≡ new_faults.NoMemory)) refused.1 only in
     omega (arith, sym (ap (λ it. program_status (machine_fault it)) memory) ∙ (sym (ap program_status refused.2.0) ∙ four))
-no_image_fault {T = T} Unused Failed (Err fault) created only (inr stopped) =
+no_image_fault {T = T} Unused Failed Unread (Err fault) created only (inr stopped) =
     other_status {T = T} ⊥ (Err fault) stopped.0 (λ status. status ≡ 4) stopped.1 (λ e. omega (arith, e)) (λ e. omega (arith, e))
 
 -- the only fault of a script with exit status 5
@@ -134,14 +135,88 @@ write_of TooLong e = absurd (omega (arith, e))
 write_of Write e = refl
 
 -- such a fault has exit status 5 only after a failed write
-pub write_failed : {T : Type 0} (Unused Failed : Type 0) (r : Result T ProgramFault) (created : Result MachineState NewFault) → IfErr r (IsRunFault created Unused Failed)
+pub write_failed : {T : Type 0} (Unused Failed : Type 0) (Unread : RunFault → Type 0) (r : Result T ProgramFault) (created : Result MachineState NewFault) → IfErr r (IsRunFault created Unused Failed Unread)
     → IfErr r (λ fault. program_status fault ≡ 5 → Failed)
-write_failed Unused Failed (Ok x) created is = tt
-write_failed Unused Failed (Err fault) created (inl refused) = λ five. absurd (elim (machine_statuses refused.0) [
+write_failed Unused Failed Unread (Ok x) created is = tt
+write_failed Unused Failed Unread (Err fault) created (inl refused) = λ five. absurd (elim (machine_statuses refused.0) [
   | inl e ↦ omega (arith, sym e ∙ (sym (ap program_status refused.2.0) ∙ five))
   | inr e ↦ omega (arith, sym e ∙ (sym (ap program_status refused.2.0) ∙ five))
 ])
-write_failed Unused Failed (Err fault) created (inr stopped) = λ five. stopped.2 (write_of stopped.0 (sym (ap program_status stopped.1) ∙ five))
+write_failed Unused Failed Unread (Err fault) created (inr stopped) = λ five. stopped.2.0 (write_of stopped.0 (sym (ap program_status stopped.1) ∙ five))
+
+-- a fault of the script with exit status 3 says that it wasn't read or is too long
+unread_of : (before now : ℕ) (known : Option (List ℕ)) (stopped : RunFault) → program_status (Run stopped) ≡ 3 → IsUnread before now known stopped → Rose before now ⊎ IsTooLong known
+unread_of before now known Read e unread = inl unread
+unread_of before now known TooLong e unread = inr unread
+unread_of before now known Write e unread = absurd (omega (arith, e))
+
+pub script_unread : {T : Type 0} (Unused Failed : Type 0) (before now : ℕ) (known : Option (List ℕ)) (r : Result T ProgramFault) (created : Result MachineState NewFault)
+    → IfErr r (IsRunFault created Unused Failed (IsUnread before now known)) → IfErr r (λ fault. program_status fault ≡ 3 → Rose before now ⊎ IsTooLong known)
+script_unread Unused Failed before now known (Ok x) created is = tt
+script_unread Unused Failed before now known (Err fault) created (inl refused) = λ three. absurd (elim (machine_statuses refused.0) [
+  | inl e ↦ omega (arith, sym e ∙ (sym (ap program_status refused.2.0) ∙ three))
+  | inr e ↦ omega (arith, sym e ∙ (sym (ap program_status refused.2.0) ∙ three))
+])
+script_unread Unused Failed before now known (Err fault) created (inr stopped) =
+    λ three. unread_of before now known stopped.0 (sym (ap program_status stopped.1) ∙ three) stopped.2.1
+
+-- the bytes that a reader returned are at most those that are known
+pub too_long : (known after : Option (List ℕ)) (text : List ℕ) → Consumes known after text → 16777216 < length text → IsTooLong known
+too_long None after text given long = tt
+too_long (Some xs) None text given long = absurd given
+too_long (Some xs) (Some rest) text given long =
+    let longer : 16777216 < length (text ++ rest) = grind (arith, length-append) in
+    subst (λ (l : List ℕ). 16777216 < length l) (sym given) longer
+
+-- the fault of a run, from what it says of each
+pub unread_from : {T : Type 0} (r : Result T RunFault) (before now : ℕ) (known after : Option (List ℕ)) → (r ≡ Err Read → Rose before now)
+    → (r ≡ Err TooLong → (text : List ℕ) × (Consumes known after text × (16777216 < length text))) → IfErr r (IsUnread before now known)
+unread_from (Ok x) before now known after rose long = tt
+unread_from (Err Read) before now known after rose long = rose refl
+unread_from (Err TooLong) before now known after rose long =
+    let text = long refl in
+    too_long known after text.0 text.1.0 text.1.1
+unread_from (Err Write) before now known after rose long = tt
+
+-- a fault with exit status 2, from the images of accepted arguments
+pub usage_of : {T : Type 0} (r : Result T ProgramFault) (arguments images : List Text) → arguments_fault arguments ≡ [] → images ≡ image_arguments arguments
+    → IfErr r (λ fault. program_status fault ≡ 2 → Any LacksEqualsSign images) → IfErr r (λ fault. program_status fault ≡ 2 → MayBeRefused arguments)
+usage_of (Ok x) arguments images accepted are usage = tt
+usage_of (Err fault) arguments images accepted are usage = λ two. inr (accepted, subst (λ (them : List Text). Any LacksEqualsSign them) are (usage two))
+
+-- ---- bytes that a reader keeps
+
+known_by : (known held : Option (List ℕ)) (xs : List ℕ) → Keeps known held → AreKnownAs held xs → AreKnownAs known xs
+known_by None held xs kept is = tt
+known_by (Some ys) None xs kept is = absurd kept
+known_by (Some ys) (Some zs) xs kept is = is ∙ kept
+
+pub kept_by_path : (file_bytes : Text → Option (List ℕ)) (script : Option Text) (known held : Option (List ℕ)) → Keeps known held → Keeps (option_map_or file_bytes script known) (option_map_or file_bytes script held)
+kept_by_path file_bytes None known held kept = kept
+kept_by_path file_bytes (Some path) known held kept = Keeps-refl (file_bytes path)
+
+pub ran_by : (took : List ℕ → Type 0) (setup : Setup) (known held : Option (List ℕ)) → Keeps known held → RanScript took setup held → RanScript took setup known
+ran_by took setup known held kept ran =
+    record { script = ran.script; output = ran.output; read = known_by known held ran.script kept ran.read; not_too_long = ran.not_too_long; taken = ran.taken; all = ran.all; each_user = ran.each_user }
+
+-- a run with an output whose bytes are unspecified, and with the input of a process
+pub any_output : (file_bytes : Text → Option (List ℕ)) (known held : Option (List ℕ)) (arguments : List Text) (took : List ℕ → Type 0) → Keeps known held
+    → RanArguments file_bytes held arguments (RanScript took) → RanArguments file_bytes known arguments (RanScript (λ _. ⊤))
+any_output file_bytes known held arguments took kept ran =
+    let by = ran.run in
+    let script = ran_by took by.setup (option_map_or file_bytes (script_word arguments) known) (option_map_or file_bytes (script_word arguments) held) (kept_by_path file_bytes (script_word arguments) known held kept) by.run in
+    record {
+      accepted = ran.accepted;
+      quantum = ran.quantum;
+      ticks = ran.ticks;
+      run = record {
+        setup = by.setup;
+        ticks = by.ticks;
+        files = by.files;
+        faultless = by.faultless;
+        run = record { script = script.script; output = script.output; read = script.read; not_too_long = script.not_too_long; taken = tt; all = script.all; each_user = script.each_user };
+      };
+    }
 
 -- ---- images
 

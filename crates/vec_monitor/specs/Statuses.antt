@@ -1,7 +1,8 @@
 -- The exit statuses of the program (docs/PROGRAM.md)
-use Rattle.std.specs.Prelude.{◌≡◌, ◌≢◌, ◌⊎◌, ℕ, List, [], Result, Err}
+use Rattle.std.specs.Prelude.{◌≡◌, ◌≢◌, ◌<◌, ◌⊎◌, ⊤, ℕ, List, [], length, Option, IfSome, Result, Err}
 use Rattle.std.specs.List.{Any}
 use Rattle.clap.specs.Words.{IsAmong, Text}
+use Rattle.devices.specs.Device.{Rose}
 use Rattle.clap.specs.declared.error.kind.ErrorKind.{ErrorKind}
 use Rattle.clap.specs.declared.error.kind.ErrorKind.TheVariants.{DisplayHelp}
 use Rattle.monitor_machine.specs.MachineState.{MachineState}
@@ -33,12 +34,23 @@ abbrev pub machine_fault : NewFault → ProgramFault
 machine_fault new_fault.NoMemory = NoMemory
 machine_fault _ = ImageList
 
+-- a script, if its bytes are known, has more than 16,777,216 bytes
+abbrev pub IsTooLong : Option (List ℕ) → Type 0
+IsTooLong known = IfSome known (λ script. 16777216 < length script)
+
+-- A run stopped with this fault, in which the failure count of the script's reader has these values before and after. If the script couldn't be
+-- read, the count has risen; if it was too long, the script is.
+abbrev pub IsUnread : ℕ → ℕ → Option (List ℕ) → RunFault → Type 0
+IsUnread before now known Read = Rose before now
+IsUnread before now known TooLong = IsTooLong known
+IsUnread before now known Write = ⊤
+
 -- the program's fault if a machine wasn't created, and then the output is as before, or if its script failed, and then by
--- a failed write if the fault says so
-abbrev pub IsRunFault : Result MachineState NewFault → Type 0 → Type 0 → ProgramFault → Type 0
-IsRunFault created Unused Failed fault =
+-- a failed write if the fault says so, and otherwise as `Unread` says
+abbrev pub IsRunFault : Result MachineState NewFault → Type 0 → Type 0 → (RunFault → Type 0) → ProgramFault → Type 0
+IsRunFault created Unused Failed Unread fault =
     ((refused : NewFault) × (created ≡ Err refused) × ((fault ≡ machine_fault refused) × Unused))
-    ⊎ ((stopped : RunFault) × (fault ≡ Run stopped) × (stopped ≡ Write → Failed))
+    ⊎ ((stopped : RunFault) × (fault ≡ Run stopped) × ((stopped ≡ Write → Failed) × Unread stopped))
 
 -- clap may return an error other than help for the arguments, or clap accepts them and an image argument has no equals
 -- sign

@@ -7,6 +7,7 @@ mod image_arguments;
 mod image_files;
 mod program;
 mod program_fault;
+mod script_reader;
 
 pub use arguments::options;
 pub use command_line::{Options, UsageFault};
@@ -22,3 +23,4 @@ pub use rv_model::{
     absent_users_have_nothing, each_user_alone, others_can_be_purged, preserved_configurations,
     refusals_change_nothing, slices_add_up, steps_take_ticks, turns_are_fair,
 };
+pub use script_reader::ScriptReader;

@@ -1,5 +1,5 @@
 -- Runs that end with a fault: the output, and the reason for the exit status
-use Rattle.std.proofs.Common.{◌≡◌, ◌∙◌, ◌<◌, [], ℕ, List, ap, append-nil, arith, flat_map, inl, inr, refl, subst, sym, Option, Some, Result, Ok, Err, IfErr, IsErrAnd}
+use Rattle.std.proofs.Common.{◌≡◌, ◌∙◌, [], ℕ, List, ap, append-nil, arith, flat_map, inl, inr, refl, subst, sym, Option, Some, Result, Ok, Err, IfErr, IsErrAnd}
 use Rattle.std.specs.Prelude.{◌⊎◌, IsSome, option_map}
 use Rattle.devices.specs.Device.{Rose}
 use Rattle.recording.specs.Runs.{TakesFirst, output_of, ran}
@@ -46,6 +46,10 @@ module _ {K : Type 0} (took : K → List ℕ → K → Type 0) (ticks : ℕ) (s 
       → IsErrAnd r (λ fault. fault ≡ record_fault stopped) → IfErr r (IsStopped took ticks s before after Cause)
   stopped_by before after stopped (Ok x) first cause is = tt
   stopped_by before after stopped (Err fault) first cause is = record { status = ap program_status is ∙ stopped_status stopped; first = first; cause = cause }
+
+  pub stopped_as : (before after : K) (stopped : RecordFault) (fault : ProgramFault) → TakesFirst took before (flat_map output_of (ran ticks s).found) after → Cause
+      → fault ≡ record_fault stopped → IsStopped took ticks s before after Cause fault
+  stopped_as before after stopped fault first cause is = record { status = ap program_status is ∙ stopped_status stopped; first = first; cause = cause }
 
   -- a fault that is passed on, for the reason of the caller
   pub passed_on : {T Old : Type 0} (before after : K) {fault : ProgramFault} (r : Result T ProgramFault) → (Old → Cause) → IsStopped took ticks s before after Old fault
@@ -102,12 +106,12 @@ failed_by (Err fault) stopped Failed last (inl rise) is = inl rise
 failed_by (Err fault) stopped Failed last (inr failed) is = inr (last, subst (Failed last) (sym is) failed)
 
 -- a reason of a part of the run, after a file was created
-pub wider_cause : {F Old New : Type 0} (failures : F → ℕ) {output_before output_now files_before files_mid files_now : ℕ} → files_mid ≡ files_before → (Old → (((file : F) × (0 < failures file)) ⊎ New))
-    → HasCause failures Old output_before output_now files_mid files_now → HasCause failures New output_before output_now files_before files_now
-wider_cause failures same wider (inl rose) = inl rose
-wider_cause failures {output_before} {output_now} {files_before} {files_mid} {files_now} same wider (inr (inl rose)) = inr (inl (subst (λ (n : ℕ). Rose n files_now) same rose))
-wider_cause failures same wider (inr (inr (inl file))) = inr (inr (inl file))
-wider_cause failures same wider (inr (inr (inr other))) = inr (inr (wider other))
+pub wider_cause : {Old New : Type 0} {output_before output_now files_before files_mid files_now writes_before writes_mid writes_now : ℕ} → files_mid ≡ files_before → writes_mid ≡ writes_before → (Old → New)
+    → HasCause Old output_before output_now files_mid files_now writes_mid writes_now → HasCause New output_before output_now files_before files_now writes_before writes_now
+wider_cause same same_writes wider (inl rose) = inl rose
+wider_cause {files_now = files_now} same same_writes wider (inr (inl rose)) = inr (inl (subst (λ (n : ℕ). Rose n files_now) same rose))
+wider_cause {writes_now = writes_now} same same_writes wider (inr (inr (inl rose))) = inr (inr (inl (subst (λ (n : ℕ). Rose n writes_now) same_writes rose)))
+wider_cause same same_writes wider (inr (inr (inr other))) = inr (inr (inr (wider other)))
 
 pub some_is : {A B : Type 0} (f : A → B) (o : Option A) (x : A) → o ≡ Some x → IsSome (option_map f o)
 some_is {A} f o x is = subst (λ (o : Option A). IsSome (option_map f o)) (sym is) refl

@@ -1,5 +1,5 @@
 -- The exit statuses of the program (docs/RECORDER.md)
-use Rattle.std.specs.Prelude.{◌≡◌, ◌<◌, ◌⊎◌, ℕ}
+use Rattle.std.specs.Prelude.{◌≡◌, ◌⊎◌, ℕ}
 use Rattle.devices.specs.Device.{Rose}
 use Rattle.recording.specs.declared.fault.RecordFault.{RecordFault}
 use Rattle.recording.specs.declared.fault.RecordFault.TheVariants as stopped
@@ -39,8 +39,8 @@ record_fault (stopped.Write name) = Write name
 abbrev pub IsInitialFault : ProgramFault → Type 0
 IsInitialFault fault = (program_status fault ≡ 4) ⊎ (program_status fault ≡ 6)
 
--- The reason for exit status 5: a write to the output failed, a file couldn't be created, a write to a created file failed, or `Other`. The numbers
--- count the failures of the output and of the files, before and after.
-abbrev pub HasCause : {F : Type 0} → (F → ℕ) → Type 0 → ℕ → ℕ → ℕ → ℕ → Type 0
-HasCause {F} failures Other output_before output_now files_before files_now =
-    Rose output_before output_now ⊎ (Rose files_before files_now ⊎ (((file : F) × (0 < failures file)) ⊎ Other))
+-- The reason for exit status 5: a write to the output failed, a file couldn't be created, a write to a file failed, or `Other`. The numbers count the
+-- failures of the output, of creating files, and of writes to closed files, before and after.
+abbrev pub HasCause : Type 0 → ℕ → ℕ → ℕ → ℕ → ℕ → ℕ → Type 0
+HasCause Other output_before output_now files_before files_now writes_before writes_now =
+    Rose output_before output_now ⊎ (Rose files_before files_now ⊎ (Rose writes_before writes_now ⊎ Other))

@@ -11,6 +11,7 @@ mod outputs;
 mod paths;
 mod program;
 mod program_fault;
+mod record_file;
 mod record_lines;
 mod runs;
 mod same_files;
@@ -23,3 +24,4 @@ pub use program::{record, record_into, report};
 pub use program_fault::{
     ProgramFault, STATUS_DONE, STATUS_INITIAL_STATE, STATUS_NO_MEMORY, STATUS_USAGE, STATUS_WRITE,
 };
+pub use record_file::RecordFile;

@@ -1,5 +1,5 @@
 //! The program: it runs one user's program, and writes the output to a sink and the records to files.
-ghost use Rattle.std.specs.Prelude.{◌≡◌, ◌⊎◌, [], IfErr, IfOk, IsSome, OnOk, flat_map, ⊤};
+ghost use Rattle.std.specs.Prelude.{◌≡◌, ◌<◌, ◌⊎◌, [], IfErr, IfOk, IsSome, OnOk, flat_map, ⊤};
 ghost use Rattle.clap.specs.Walk.{texts};
 ghost use Rattle.clap.specs.Words.{IsAmong};
 ghost use Rattle.clap.specs.declared.error.kind.ErrorKind.TheVariants.{DisplayHelp};
@@ -84,9 +84,11 @@ fn run_options<'a, I: Inputs, F: Outputs, K: Sink>(
         (program_status fault ≡ 2) ⊎ ((program_status fault ≡ 4) ⊎ (program_status fault ≡ 6)) → K.took output.old [] output.new) }
     ensures unused { IfErr result (λ fault.
         (program_status fault ≡ 2) ⊎ ((program_status fault ≡ 4) ⊎ (program_status fault ≡ 6)) → files.new ≡ files.old) }
-    ensures failed { IfErr result (λ fault. program_status fault ≡ 5 → HasCause F.Created.failures
+    ensures failed { IfErr result (λ fault. program_status fault ≡ 5 → HasCause
         (IsSome (option_arguments options.now).counts ⊎ IsSome (option_arguments options.now).changes)
-        (K.failures output.old) (K.failures output.new) (F.failures files.old) (F.failures files.new)) }
+        (K.failures output.old) (K.failures output.new) (F.failures files.old) (F.failures files.new)
+        (F.write_failures files.old) (F.write_failures files.new)) }
+    ensures kept { F.failures files.old < F.failures files.new → F.are_kept files.old files.new }
 {
     let CheckedOptions {
         ticks,
@@ -138,9 +140,11 @@ fn record_options<'a, I: Inputs, F: Outputs, K: Sink>(
         (program_status fault ≡ 2) ⊎ ((program_status fault ≡ 4) ⊎ (program_status fault ≡ 6)) → K.took output.old [] output.new) }
     ensures unused { IfErr result (λ fault.
         (program_status fault ≡ 2) ⊎ ((program_status fault ≡ 4) ⊎ (program_status fault ≡ 6)) → files.new ≡ files.old) }
-    ensures failed { IfErr result (λ fault. program_status fault ≡ 5 → HasCause F.Created.failures
+    ensures failed { IfErr result (λ fault. program_status fault ≡ 5 → HasCause
         (IsSome (option_arguments options.now).counts ⊎ IsSome (option_arguments options.now).changes)
-        (K.failures output.old) (K.failures output.new) (F.failures files.old) (F.failures files.new)) }
+        (K.failures output.old) (K.failures output.new) (F.failures files.old) (F.failures files.new)
+        (F.write_failures files.old) (F.write_failures files.new)) }
+    ensures kept { F.failures files.old < F.failures files.new → F.are_kept files.old files.new }
 {
     let policy = policy(options.policy)?;
     let ticks = ticks(options.ticks)?;
@@ -192,9 +196,11 @@ fn record_arguments<'a, I: Inputs, F: Outputs, K: Sink>(
         (program_status fault ≡ 2) ⊎ ((program_status fault ≡ 4) ⊎ (program_status fault ≡ 6)) → K.took output.old [] output.new) }
     ensures unused { IfErr result (λ fault.
         (program_status fault ≡ 2) ⊎ ((program_status fault ≡ 4) ⊎ (program_status fault ≡ 6)) → files.new ≡ files.old) }
-    ensures failed { IfErr result (λ fault. program_status fault ≡ 5 → HasCause F.Created.failures
+    ensures failed { IfErr result (λ fault. program_status fault ≡ 5 → HasCause
         (IsSome (run_arguments (texts arguments.now)).counts ⊎ IsSome (run_arguments (texts arguments.now)).changes)
-        (K.failures output.old) (K.failures output.new) (F.failures files.old) (F.failures files.new)) }
+        (K.failures output.old) (K.failures output.new) (F.failures files.old) (F.failures files.new)
+        (F.write_failures files.old) (F.write_failures files.new)) }
+    ensures kept { F.failures files.old < F.failures files.new → F.are_kept files.old files.new }
 {
     match options(alloc, arguments) {
         Ok(options) => record_options(inputs, alloc, &options, output, files),
@@ -253,11 +259,14 @@ pub fn record_into<R: Inputs + Eprint, F: Outputs, K: Sink>(
     ensures nothing { (result ≡ 2) ⊎ ((result ≡ 4) ⊎ (result ≡ 6)) → K.took output.old [] output.new }
     // No file was created, written or closed.
     ensures unused { (result ≡ 2) ⊎ ((result ≡ 4) ⊎ (result ≡ 6)) → files.new ≡ files.old }
-    // The exit status is 5 only if a write to the output failed, a file couldn't be created, a write to a created file
+    // The exit status is 5 only if a write to the output failed, a file couldn't be created, a write to a closed file
     // failed, or the arguments name a counts file or a changes file.
-    ensures failed { result ≡ 5 → HasCause F.Created.failures
+    ensures failed { result ≡ 5 → HasCause
         (IsSome (run_arguments (texts arguments.now)).counts ⊎ IsSome (run_arguments (texts arguments.now)).changes)
-        (K.failures output.old) (K.failures output.new) (F.failures files.old) (F.failures files.new) }
+        (K.failures output.old) (K.failures output.new) (F.failures files.old) (F.failures files.new)
+        (F.write_failures files.old) (F.write_failures files.new) }
+    // If a file couldn't be created, no file that existed has changed.
+    ensures kept { F.failures files.old < F.failures files.new → F.are_kept files.old files.new }
 {
     match record_arguments(rt, alloc, arguments, output, files) {
         Ok(short) => {

@@ -8,7 +8,7 @@ ghost use Rattle.recording.specs.declared.fault.RecordFault.{RecordFault};
 ghost use Rattle.first_state.specs.OwnMemory.{own_memory};
 ghost use Rattle.vec_recorder.specs.RecordLines.{last_line, row_line};
 ghost use Rattle.vec_recorder.specs.Recorded.{AreChangesKept, AreRecordsKept, IsLogKept, IsStopped, IsUnstarted, RecordsRun};
-ghost use Rattle.vec_recorder.specs.Statuses.{HasCause, program_status};
+ghost use Rattle.vec_recorder.specs.Statuses.{HasCause, program_status, record_fault};
 
 use crate::outputs::Outputs;
 use crate::program_fault::ProgramFault;
@@ -24,20 +24,46 @@ use recording::{
 use rv_model::StepEnd;
 use std::alloc::{AllocError, Global};
 
-/// Create the file at a path.
+/// Create the file at a path, or open an existing one.
 fn created_file<'a, F: Outputs>(
     files: &mut F,
     path: &'a str,
 ) -> Result<F::Created, ProgramFault<'a>>
     ensures created { IfOk result (λ file. F.is_created files.old path.entry.now file files.new) }
     ensures refused { IfErr result (λ fault. program_status fault ≡ 5) }
-    ensures kept { OnOk result (F.failures files.new ≡ F.failures files.old) }
+    ensures kept { F.are_kept files.old files.new }
+    ensures unfailed { OnOk result (F.failures files.new ≡ F.failures files.old) }
+    ensures writes { F.write_failures files.new ≡ F.write_failures files.old }
     ensures failed { OnErr result (Rose (F.failures files.old) (F.failures files.new)) }
 {
     match files.create(path) {
         Ok(file) => Ok(file),
         Err(_) => Err(ProgramFault::Write(path)),
     }
+}
+
+/// Close a file to which a write may have failed.
+fn close_failed<F: Outputs>(files: &mut F, file: F::Created)
+    ensures unfailed { F.failures files.new ≡ F.failures files.old }
+    ensures writes { 0 < F.Created.failures file
+        → Rose (F.write_failures files.old) (F.write_failures files.new) }
+{
+    files.close(file);
+}
+
+/// Close a file, and return the fault of the run that stopped.
+fn closed_after<'a, F: Outputs>(
+    files: &mut F,
+    file: F::Created,
+    stopped: RecordFault,
+) -> ProgramFault<'a>
+    ensures fault { result ≡ record_fault stopped }
+    ensures unfailed { F.failures files.new ≡ F.failures files.old }
+    ensures writes { 0 < F.Created.failures file
+        → Rose (F.write_failures files.old) (F.write_failures files.new) }
+{
+    close_failed(files, file);
+    ProgramFault::from(stopped)
 }
 
 /// Write the rows as the counts of a run with this end and this program counter.
@@ -142,8 +168,11 @@ fn run_recorded<'a, F: Outputs, K: Sink, O: Recorder<OwnBytes> + Drop>(
         (option_map (λ log. log.path.now) asked.entry.log) asked.entry.window asked.entry.ticks
         (state_of own_memory machine.old) files.old files.new) }
     ensures stopped { IfErr result (IsStopped K.took asked.entry.ticks (state_of own_memory machine.old)
-        output.old output.new (HasCause F.Created.failures ((last : O) × ((fault : RecordFault) × O.failed last fault))
-        (K.failures output.old) (K.failures output.new) (F.failures files.old) (F.failures files.new))) }
+        output.old output.new (HasCause ((last : O) × ((fault : RecordFault) × O.failed last fault))
+        (K.failures output.old) (K.failures output.new) (F.failures files.old) (F.failures files.new)
+        (F.write_failures files.old) (F.write_failures files.new))) }
+    ensures kept { F.failures files.old < F.failures files.new → F.are_kept files.old files.new }
+    ensures unfailed { OnOk result (F.failures files.new ≡ F.failures files.old) }
 {
     let LoggedRun { ticks, log, window } = asked;
     let Some(log) = log else {
@@ -159,16 +188,25 @@ fn run_recorded<'a, F: Outputs, K: Sink, O: Recorder<OwnBytes> + Drop>(
             second: log,
         },
     };
-    let end = run(&mut both, machine, output, ticks)?;
+    let end = match run(&mut both, machine, output, ticks) {
+        Ok(end) => end,
+        Err(stopped) => {
+            let RecorderPair { second, .. } = both;
+            return Err(closed_after(files, second.second.sink, stopped));
+        }
+    };
     let RecorderPair { first, second } = both;
     let RecorderPair {
         first: retired,
         second: mut log,
     } = second;
-    log.finish()?;
+    if let Err(stopped) = log.finish() {
+        return Err(closed_after(files, log.sink, stopped));
+    }
     let mut log_file = log.sink;
     let pc = machine.scalar.pc;
     let Ok(()) = write_last(&mut log_file, pc, end, retired.times, retired.ticks) else {
+        close_failed(files, log_file);
         return Err(ProgramFault::Write(path));
     };
     files.close(log_file);
@@ -191,9 +229,12 @@ fn run_watched<'a, F: Outputs, K: Sink, O: Recorder<OwnBytes> + Drop>(
         asked.entry.watched.places.items asked.entry.logged.window asked.entry.logged.ticks
         (state_of own_memory machine.old) files.old files.new) }
     ensures stopped { IfErr result (IsStopped K.took asked.entry.logged.ticks (state_of own_memory machine.old)
-        output.old output.new (HasCause F.Created.failures
+        output.old output.new (HasCause
         (((last : O) × ((fault : RecordFault) × O.failed last fault)) ⊎ IsSome (option_map (λ path. path.now) asked.entry.changes))
-        (K.failures output.old) (K.failures output.new) (F.failures files.old) (F.failures files.new))) }
+        (K.failures output.old) (K.failures output.new) (F.failures files.old) (F.failures files.new)
+        (F.write_failures files.old) (F.write_failures files.new))) }
+    ensures kept { F.failures files.old < F.failures files.new → F.are_kept files.old files.new }
+    ensures unfailed { OnOk result (F.failures files.new ≡ F.failures files.old) }
 {
     let WatchedRun {
         logged,
@@ -246,6 +287,7 @@ fn run_counted<'a, F: Outputs, K: Sink>(
         asked.entry.logged.ticks (state_of own_memory machine.old) files.old files.new) }
     ensures stopped { IfErr result (IsStopped K.took asked.entry.logged.ticks (state_of own_memory machine.old)
         output.old output.new ⊤) }
+    ensures kept { F.failures files.old < F.failures files.new → F.are_kept files.old files.new }
 {
     let mut counts_file = created_file(files, path)?;
     let both = RecorderPair {
@@ -283,10 +325,12 @@ pub(crate) fn run_machine<'a, F: Outputs, K: Sink>(
         asked.entry.ticks (state_of own_memory machine.old) files.old files.new) }
     ensures stopped { IfErr result (λ fault. IsUnstarted K.took output.old output.new files.old files.new fault
         ⊎ IsStopped K.took asked.entry.ticks (state_of own_memory machine.old)
-        output.old output.new (HasCause F.Created.failures
+        output.old output.new (HasCause
         (IsSome (option_map (λ path. path.now) asked.entry.counts)
         ⊎ IsSome (option_map (λ path. path.now) asked.entry.changes))
-        (K.failures output.old) (K.failures output.new) (F.failures files.old) (F.failures files.new)) fault) }
+        (K.failures output.old) (K.failures output.new) (F.failures files.old) (F.failures files.new)
+        (F.write_failures files.old) (F.write_failures files.new)) fault) }
+    ensures kept { F.failures files.old < F.failures files.new → F.are_kept files.old files.new }
 {
     let RecordedRun {
         ticks,

@@ -3,7 +3,8 @@ use Rattle.std.proofs.lemmas.Result.{on_ok_weaker}
 use Rattle.clap.specs.Walk.{texts}
 use Rattle.clap.specs.Words.{kind_of, IsAmong}
 use Rattle.vec_monitor.specs.CommandLine.{arguments_fault, IsRefusedFor}
-use Rattle.vec_monitor.proofs.ProgramRunLaws.{ran_arguments}
+use Rattle.vec_monitor.proofs.ProgramRunLaws.{ran_arguments, usage_of}
+use Rattle.either.specs.Either.{either}
 use Rattle.vec_monitor.proofs.program.run_arguments.Goals as goal
 
 pub returns-in-Ok-clause-ran : goal.returns-in-Ok-clause-ran
@@ -11,7 +12,7 @@ returns-in-Ok-clause-ran g c =
     let arguments = texts c.args.arguments.now in
     let asked = c.in-Ok.ensures in
     on_ok_weaker c.run_options.result
-    (λ ran. inr (ran_arguments (g.R.Inputs.file_bytes c.args.rt.now) (g.R.Inputs.input_bytes c.args.rt.now) arguments _ _ _ _
+    (λ ran. inr (ran_arguments (g.R.Inputs.file_bytes c.args.rt.now) (either g.R.File.Read.remaining g.S.Read.remaining c.args.reader.now.reader) arguments _ _ _ _
     (asked.taken refl) asked.quantum asked.script asked.images ran))
     c.run_options.ensures.ran
 
@@ -22,9 +23,12 @@ returns-in-Ok-clause-printed g c =
     elim c.run_options.ensures.printed [
       | inl none ↦ inl none
       | inr ran ↦
-          inr (inr (ran_arguments (g.R.Inputs.file_bytes c.args.rt.now) (g.R.Inputs.input_bytes c.args.rt.now) arguments _ _ _ _
+          inr (inr (ran_arguments (g.R.Inputs.file_bytes c.args.rt.now) (either g.R.File.Read.remaining g.S.Read.remaining c.args.reader.now.reader) arguments _ _ _ _
           (asked.taken refl) asked.quantum asked.script asked.images ran))
     ]
+
+pub returns-in-Ok-clause-usage : goal.returns-in-Ok-clause-usage
+returns-in-Ok-clause-usage g c = usage_of c.run_options.result (texts c.args.arguments.now) _ (c.in-Ok.ensures.taken refl) c.in-Ok.ensures.images c.run_options.ensures.usage
 
 pub returns-in-Ok-write_text-clause-ran : goal.returns-in-Ok-write_text-clause-ran
 returns-in-Ok-write_text-clause-ran g c =

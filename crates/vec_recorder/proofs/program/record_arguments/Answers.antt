@@ -36,9 +36,10 @@ returns-in-Ok g c =
       nothing = c.record_options.ensures.nothing;
       unused = c.record_options.ensures.unused;
       failed = subst
-          (λ them. IfErr c.record_options.result (λ fault. program_status fault ≡ 5 → HasCause g.F.Created.Sink.failures (IsSome them.counts ⊎ IsSome them.changes)
-          (g.K.Sink.failures c.args.output.now) (g.K.Sink.failures c.record_options.new.output) (g.F.Outputs.failures c.args.files.now) (g.F.Outputs.failures c.record_options.new.files)))
+          (λ them. IfErr c.record_options.result (λ fault. program_status fault ≡ 5 → HasCause (IsSome them.counts ⊎ IsSome them.changes)
+          (g.K.Sink.failures c.args.output.now) (g.K.Sink.failures c.record_options.new.output) (g.F.Outputs.failures c.args.files.now) (g.F.Outputs.failures c.record_options.new.files) (g.F.Outputs.write_failures c.args.files.now) (g.F.Outputs.write_failures c.record_options.new.files)))
           asked.arguments c.record_options.ensures.failed;
+      kept = c.record_options.ensures.kept;
     }
 
 pub returns-in-Ok-write_text-clause-recorded : goal.returns-in-Ok-write_text-clause-recorded

@@ -41,6 +41,7 @@ returns g c =
       nothing = c.run_options.ensures.nothing;
       unused = c.run_options.ensures.unused;
       failed = c.run_options.ensures.failed;
+      kept = c.run_options.ensures.kept;
     }
 
 pub returns-in_err-policy-clause-failed : goal.returns-in_err-policy-clause-failed

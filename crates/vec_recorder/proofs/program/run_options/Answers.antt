@@ -26,6 +26,7 @@ returns g c =
       nothing = tt;
       unused = tt;
       failed = tt;
+      kept = c.in_ok-short.ensures.kept;
     }
 
 pub returns-in_err-short-clause-printed : goal.returns-in_err-short-clause-printed

@@ -1,4 +1,4 @@
-use Rattle.std.proofs.Common.{ap, ◌++◌, List, ℕ, flat_map, refl, subst}
+use Rattle.std.proofs.Common.{◌<◌, ap, ◌++◌, List, ℕ, flat_map, refl, subst, sym}
 use Rattle.std.specs.Prelude.{IsPermutation}
 use Rattle.devices.proofs.Moves.{moved}
 use Rattle.recording.specs.Machines.{state_of}
@@ -57,3 +57,8 @@ returns-then-not-ascend-clause-stopped g c =
 pub returns-in_default-clause-stopped : goal.returns-in_default-clause-stopped
 returns-in_default-clause-stopped g c =
     stopped_late g.K.Sink.took c.args.asked.logged.ticks (state_of own_memory c.args.machine.now) _ _ _ _ c.in_ok-end.ensures.run.output refl tt
+
+pub returns-in_err-end-clause-kept : goal.returns-in_err-end-clause-kept
+returns-in_err-end-clause-kept g c = λ more.
+    g.met.F.Outputs.kept_more _ _ _ c.in_ok-counts_file.ensures.kept
+    (c.in_err-end.ensures.kept (subst (λ (n : ℕ). n < g.F.Outputs.failures c.run_watched.new.files) (sym c.in_ok-counts_file.ensures.unfailed) more))

@@ -1,4 +1,4 @@
-use Rattle.std.proofs.Common.{ap, inl, inr, refl}
+use Rattle.std.proofs.Common.{◌<◌, ℕ, ap, inl, inr, refl, subst, sym}
 use Rattle.recording.specs.Machines.{state_of}
 use Rattle.recording.specs.Runs.{ran}
 use Rattle.first_state.specs.OwnMemory.{own_memory}
@@ -29,7 +29,7 @@ returns-clause-changes g c =
 pub returns-in_default-clause-stopped : goal.returns-in_default-clause-stopped
 returns-in_default-clause-stopped g c =
     widened g.K.Sink.took c.args.asked.logged.ticks (state_of own_memory c.args.machine.now) _ _ _ c.run_recorded.result
-    (wider_cause g.F.Created.Sink.failures refl (λ last. inr (inl last))) c.run_recorded.ensures.stopped
+    (wider_cause refl refl (λ last. inl last)) c.run_recorded.ensures.stopped
 
 pub returns-in_err-file-clause-stopped : goal.returns-in_err-file-clause-stopped
 returns-in_err-file-clause-stopped g c =
@@ -42,14 +42,19 @@ returns-in_err-file-clause-stopped g c =
 pub returns-in_err-end-clause-stopped : goal.returns-in_err-end-clause-stopped
 returns-in_err-end-clause-stopped g c =
     passed_on g.K.Sink.took c.args.asked.logged.ticks (state_of own_memory c.args.machine.now) _ _ _ c.from_residual-in_err-end.result
-    (wider_cause g.F.Created.Sink.failures c.in_ok-file.ensures.kept
+    (wider_cause c.in_ok-file.ensures.unfailed c.in_ok-file.ensures.writes
     (λ last. elim last.1.1 [
-      | inl first ↦ inr (inl (last.0.first, (last.1.0, first)))
-      | inr second ↦ inr (inr (some_is _ c.args.asked.changes _ c.in-Some.is))
+      | inl first ↦ inl (last.0.first, (last.1.0, first))
+      | inr second ↦ inr (some_is _ c.args.asked.changes _ c.in-Some.is)
     ]))
     c.in_err-end.ensures.stopped c.from_residual-in_err-end.ensures.1
 
 pub returns-in_default-write_last-clause-stopped : goal.returns-in_default-write_last-clause-stopped
 returns-in_default-write_last-clause-stopped g c =
     stopped_late g.K.Sink.took c.args.asked.logged.ticks (state_of own_memory c.args.machine.now) _ _ _ _ c.in_ok-end.ensures.run.output refl
-    (inr (inr (inl (c.write_last.new.sink, c.in_default-write_last.ensures.failed))))
+    (inr (inr (inr (inr (some_is _ c.args.asked.changes _ c.in-Some.is)))))
+
+pub returns-in_err-end-clause-kept : goal.returns-in_err-end-clause-kept
+returns-in_err-end-clause-kept g c = λ more.
+    g.met.F.Outputs.kept_more _ _ _ c.in_ok-file.ensures.kept
+    (c.in_err-end.ensures.kept (subst (λ (n : ℕ). n < g.F.Outputs.failures c.run_recorded-2.new.files) (sym c.in_ok-file.ensures.unfailed) more))
