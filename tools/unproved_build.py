@@ -10,7 +10,7 @@ checks, marks the functions that have `#[inline(..)]`, and compiles the rest at 
 within 3 % of the proved program's where both took the same functions in line; the compiler of the proved one drops some of those marks,
 and then they differ much. Nothing else may be concluded from it: the program that counts is the proved one.
 
-MODULE is text whose first line names the kit (tools/wasm).
+MODULE is text whose first line names the kit (tools/programs). The same sources give the same bytes.
 """
 
 import glob
@@ -28,6 +28,7 @@ FLAGS = (
     "-mllvm -no-x86-call-frame-opt -mllvm -disable-machine-licm -mllvm -disable-postra-machine-licm "
     "-mllvm -sink-common-insts=false --no-default-config -no-canonical-prefixes -fno-crash-diagnostics -fPIE"
 ).split()
+FILE_NAME = re.compile(r"\A; ModuleID = .*\n")  # a temporary file
 # Each begins with a line's end, which a search through 46 MB finds much faster than a line's beginning.
 CHECK = re.compile(
     r'\n +call void @(?:"rattle-llvm-checks::|llvm\.trap\(\)|llvm\.memset\.p0\.i64\(ptr %r\d+, i8 -86,).*'
@@ -58,7 +59,7 @@ def inlined(crates):
 
 
 def without_checks(module, marks):
-    """The text of the module without its checks, and with the marks."""
+    """The text of the module without its checks and the name of its file, and with the marks."""
 
     def marked(found):
         path = found[2].split("::<")[0].split("::")
@@ -67,7 +68,7 @@ def without_checks(module, marks):
         return f"{found[1]} {group} {{"
 
     groups = (f"\nattributes {group} {COMMON} }}" for group in ("#0 = {", "#90 = { alwaysinline", "#91 = { noinline"))
-    text = DEFINED.sub(marked, CHECK.sub("", module))
+    text = DEFINED.sub(marked, CHECK.sub("", FILE_NAME.sub("", module)))
     return ATTRIBUTES.sub("".join(groups), text).replace("sanitize_address ", "")
 
 

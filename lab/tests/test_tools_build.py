@@ -1,4 +1,4 @@
-"""What tools/site, tools/wasm and `tools/test crates` build and run. Stand-ins record their arguments, and take no time."""
+"""What tools/site, tools/programs and `tools/test crates` build and run. Stand-ins record their arguments, and take no time."""
 
 import os
 import pathlib
@@ -6,12 +6,25 @@ import re
 import shlex
 import shutil
 import subprocess
+import sys
 
 import pytest
 
 from support.places import TOP
 
 RECORD = '#!/bin/sh\necho "$(basename "$0") $*" >> RECORD\n'
+PROGRAMS = (
+    "programs",
+    "build_steps.py",
+    "linked_kit.py",
+    "native_program.py",
+    "program_modules.py",
+    "retarget.py",
+    "wasm_binary.py",
+    "wasm_program.py",
+)
+"""The files of tools/programs."""
+
 CRATES = "low:\nmiddle: low\nvecmon: middle\nrecording: low\nvecmon_record: recording\ntest_low: low\nother:\n"
 
 
@@ -48,14 +61,14 @@ def test_site_builds_one_module(tmp_path: pathlib.Path) -> None:
     """Of vecmon, proved or else without proofs; no native program, and nothing of the recorder."""
     tools = Tools(tmp_path, "site")
     tools.stand_in("tools/debian_packages")
-    tools.stand_in("tools/wasm", then='echo "tools/wasm: no module" >&2; [ "$1" = --unproved ]')
+    tools.stand_in("tools/programs", then='echo "tools/programs: no module" >&2; [ "$3" = --unproved ]')
     ran = tools.run("tools/site", "out")
     assert ran.returncode == 2 and "has no vecmon.wasm and PROVENANCE" in ran.stderr
     packages, *calls = tools.calls()
     assert packages.startswith("debian_packages ")
     assert [re.sub(r"/\S+/", "", call) for call in calls] == [
-        "wasm --program vecmon wasm",
-        "wasm --unproved --program vecmon wasm",
+        "programs --target wasm32 --program vecmon wasm",
+        "programs --target wasm32 --unproved --program vecmon wasm",
     ]
 
 
@@ -63,27 +76,42 @@ def test_site_builds_one_module(tmp_path: pathlib.Path) -> None:
     "options, crates",
     [([], ["vecmon"]), (["--program", "vecmon"], ["vecmon"]), (["--program", "vecmon-record"], ["vecmon_record"])],
 )
-def test_wasm_makes_modules_and_no_native_program(
+def test_programs_makes_modules_and_no_native_program(
     tmp_path: pathlib.Path, options: list[str], crates: list[str]
 ) -> None:
     """The first module that can't be read ends it; without --program the recorder's would be the second."""
-    tools = Tools(tmp_path, "wasm", "linked_kit.py", "retarget.py", "wasm_binary.py")
+    tools = Tools(tmp_path, *PROGRAMS)
     tools.stand_in("path/wasm-ld-19", "path/wasm-opt")
     (tmp_path / "tools" / "unproved_build.py").write_text(
         "import pathlib, sys\nkind, crate, module = sys.argv[1:]\npathlib.Path(module).write_text('no module')\n"
         f"with open({str(tools.record)!r}, 'a') as record:\n    print(kind, crate, file=record)\n"
     )
-    ran = tools.run("python3", "tools/wasm", "--unproved", *options, "out")
+    ran = tools.run("python3", "tools/programs", "--target", "wasm32", "--unproved", *options, "out")
     assert ran.returncode == 2 and ran.stderr.endswith(".ll isn't a module of a Rattle kit\n")
     both = [] if options else ["--module vecmon_record"]
     assert tools.calls() == [*(f"--module {crate}" for crate in crates), *both]
 
 
-def test_wasm_refuses_an_unknown_program(tmp_path: pathlib.Path) -> None:
-    ran = Tools(tmp_path, "wasm", "linked_kit.py", "retarget.py", "wasm_binary.py").run(
-        "python3", "tools/wasm", "--program", "vecmon_record", "out"
+@pytest.mark.parametrize(
+    "options, choices",
+    [
+        (["--target", "wasm32", "--program", "vecmon_record"], "'vecmon', 'vecmon-record'"),
+        (["--target", "arm64"], "'aarch64', 'riscv64', 'windows', 'wasm32'"),
+    ],
+)
+def test_programs_refuses_unknown_names(tmp_path: pathlib.Path, options: list[str], choices: str) -> None:
+    ran = Tools(tmp_path, *PROGRAMS).run("python3", "tools/programs", *options, "out")
+    assert ran.returncode == 2 and choices in ran.stderr
+
+
+def test_programs_refuses_a_missing_linker(tmp_path: pathlib.Path) -> None:
+    tools = Tools(tmp_path, *PROGRAMS)
+    tools.stand_in("tools/unproved_build.py")
+    ran = tools.run(
+        "env", f"PATH={tmp_path}", sys.executable, "tools/programs", "--target", "windows", "--unproved", "out"
     )
-    assert ran.returncode == 2 and "'vecmon', 'vecmon-record'" in ran.stderr
+    refusal = "tools/programs: x86_64-w64-mingw32-gcc not found: run tools/debian_packages windows\n"
+    assert (ran.returncode, ran.stdout, ran.stderr) == (2, "", refusal) and tools.calls() == []
 
 
 @pytest.fixture

@@ -1,7 +1,5 @@
-"""128-bit shifts and products of webassembly/runtime.c, compiled as tools/wasm does and run by node, against Python's integers."""
+"""128-bit shifts and products of webassembly/runtime.c, compiled as tools/programs does and run by node, against Python's integers."""
 
-import importlib.machinery
-import importlib.util
 import json
 import random
 import shutil
@@ -12,6 +10,7 @@ from pathlib import Path
 import pytest
 
 from tests.program import TOP
+from tests.webassembly.tools import load
 
 SEED, CASES = 7, 2_000
 FUNCTIONS = ("__ashlti3", "__lshrti3", "__multi3")
@@ -40,12 +39,8 @@ pytestmark = pytest.mark.skipif(not all(map(shutil.which, (LINKER, "node"))), re
 
 
 def compiler() -> list[str]:
-    """The compiler of webassembly/runtime.c with its options, as tools/wasm has them."""
-    loader = importlib.machinery.SourceFileLoader("wasm", str(TOP / "tools/wasm"))
-    spec = importlib.util.spec_from_loader("wasm", loader)
-    assert spec
-    tool = importlib.util.module_from_spec(spec)
-    loader.exec_module(tool)
+    """The compiler of webassembly/runtime.c with its options, as tools/wasm_program.py has them."""
+    tool = load("wasm_program")
     return [f"{tool.installed_kit()}/toolchain/bin/clang", *tool.CLANG, *tool.RUNTIME]
 
 
