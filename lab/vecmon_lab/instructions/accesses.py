@@ -66,9 +66,8 @@ def active_spans(word: int, x: Sequence[int], control: ControlRegisters, v: byte
     instruction = vector_instruction(word, control.vtype) if word & 0x7F in VECTOR_ACCESSES else None
     if instruction:
         body = body_of(word, instruction, control)
-        active = {*active_of(instruction, body, v)}
-        spans = zip(body, vector_spans(word, x, control, v, instruction))
-        yield from ((element, span) for element, span in spans if element in active)
+        spans = vector_spans(word, x, control, v, instruction)
+        yield from ((element, spans[element - body.start]) for element in active_of(instruction, body, v))
 
 
 def is_fault_only_first(word: int) -> bool:
@@ -102,22 +101,25 @@ def body_of(word: int, instruction: VectorInstruction, control: ControlRegisters
 
 def active_of(instruction: VectorInstruction, body: range, v: bytes) -> list[int]:
     """The elements of a body that the mask selects, by the bytes of v0, which come first."""
-    return [element for element in body if not instruction.leaves_out or v[element // 8] >> element % 8 & 1]
+    if not instruction.leaves_out:
+        return [*body]
+    return [element for element in body if v[element // 8] >> element % 8 & 1]
 
 
 def vector_spans(
     word: int, x: Sequence[int], control: ControlRegisters, v: bytes, instruction: VectorInstruction
-) -> Iterator[Span]:
+) -> list[Span]:
     """The spans of the elements of a vector load or store, or of its segments, in their order from vstart on."""
     base, stride, kind = x[word >> 15 & 31], x[word >> 20 & 31], word >> 26 & 3
     data, *indices = instruction.operands
     length = max(1, data.eew // 8) * (1 if data.is_whole else (word >> 29) + 1)
-    for element in body_of(word, instruction, control):
-        offset = element * (length if kind == UNIT_STRIDE else stride)
-        if kind not in (UNIT_STRIDE, STRIDED):
-            index = indices[0].registers.start * REGISTER_BYTES + element * indices[0].eew // 8
-            offset = int.from_bytes(v[index : index + indices[0].eew // 8], "little")
-        yield (base + offset) % (1 << 64), length
+    body = body_of(word, instruction, control)
+    if kind in (UNIT_STRIDE, STRIDED):
+        step = length if kind == UNIT_STRIDE else stride
+        return [((base + element * step) % (1 << 64), length) for element in body]
+    first, size = indices[0].registers.start * REGISTER_BYTES, indices[0].eew // 8
+    places = (first + element * size for element in body)
+    return [((base + int.from_bytes(v[at : at + size], "little")) % (1 << 64), length) for at in places]
 
 
 def _joined(spans: Iterable[Span]) -> list[Span]:

@@ -133,7 +133,7 @@ class Elements(Numbers):
         if indices and not 0 <= min(indices) <= max(indices) < len(self._values):
             return super().each(indices, is_signed)
         values = self._unpacked(_SIGNED_FORMS) if is_signed else self._values
-        return [values[index] for index in indices]
+        return [*map(values.__getitem__, indices)]
 
     @functools.cached_property
     def _values(self) -> tuple[int, ...]:
@@ -163,7 +163,11 @@ class Shared(Numbers):
 
     def __init__(self, name: str, value: Bits, scalar: int | None) -> None:
         super().__init__(name, value.width, lambda _: value)
-        self.scalar = scalar
+        self.scalar, self._value = scalar, value
+
+    def each(self, indices: Sequence[int], is_signed: bool) -> Sequence[int]:
+        """Return the number for each of these elements, as a signed or unsigned one."""
+        return [sext(self._value) if is_signed else self._value] * len(indices)
 
     def name_of(self, index: int) -> str:
         """The name of the register, or the digits of the immediate."""

@@ -202,10 +202,10 @@ def evaluate_each(node: ast.expr, names: Names, numbers: Sequence[int], name: st
     """The numbers that a part of a formula is for each number of a name: of elements, or of those in a list."""
     code, columns = _code_of_each(node, name)
     values = {**names, _EACH: numbers, "zip": zip}
-    for column, (operand, is_signed) in columns.items():
-        indexed = cast(Indexed, names[operand])
-        values[f"{_EACH}{column}"] = indexed.each(numbers, is_signed)
-    return [int(each) for each in eval(code, values)]
+    for column in columns:
+        indexed, indices = cast(Indexed, names[column.operand]), cast(Sequence[int], values[column.indices])
+        values[f"{_EACH}{column.name}"] = indexed.each(indices, column.is_signed)
+    return [*map(int, eval(code, values))]
 
 
 def condition(text: str) -> ast.expr:
@@ -219,26 +219,57 @@ def _code(node: ast.expr) -> CodeType:
     return code
 
 
-@functools.lru_cache(maxsize=4096)
-def _code_of_each(node: ast.expr, name: str) -> tuple[CodeType, Mapping[str, tuple[str, bool]]]:
-    """The code of a list: of what a part of a formula is for each of the numbers.
+@dataclass(frozen=True)
+class _Column:
+    """An operand's numbers, signed or unsigned, at the indices that a list has: the name of that list, and of the operand."""
 
-    Operands with the name as their index are columns that the list goes through. Returns their operands, and whether they are signed.
-    """
-    columns = _Columns(name)
+    operand: str
+    indices: str
+    is_signed: bool
+
+    @property
+    def name(self) -> str:
+        """The name of one of them in the list's loop."""
+        return f"_{'s' if self.is_signed else 'u'}{self.operand}{self.indices}"
+
+
+@functools.lru_cache(maxsize=4096)
+def _code_of_each(node: ast.expr, name: str) -> tuple[CodeType, Sequence[_Column]]:
+    """The code of a list: of what a part of a formula is for each of the numbers; and the columns that it goes through."""
+    columns = _Columns(name, _EACH)
     element = columns.visit(copy.deepcopy(node))
-    targets = ast.Tuple([ast.Name(each, ast.Store()) for each in (name, *columns.found)], ast.Store())
-    lists = [ast.Name(f"{_EACH}{each}", ast.Load()) for each in ("", *columns.found)]
-    loop = ast.comprehension(targets, ast.Call(ast.Name("zip", ast.Load()), lists, []), [], 0)
-    return _code(ast.ListComp(element, [loop])), columns.found
+    code = _code(ast.ListComp(element, [columns.loop()]))
+    return code, [*columns.found, *columns.inner]
 
 
 class _Columns(ast.NodeTransformer):
-    """Puts the names of columns in place of operands with an index, as signed or unsigned numbers."""
+    """Puts columns in place of operands whose index goes through a list.
 
-    def __init__(self, index: str) -> None:
-        self.found: dict[str, tuple[str, bool]] = {}
-        self._index = index
+    found: the columns of this list; inner: those of lists in it
+    """
+
+    def __init__(self, index: str, indices: str) -> None:
+        """index: the name of a number of the list; indices: the name of the list"""
+        self.found, self.inner = dict[_Column, None](), dict[_Column, None]()
+        self._index, self._indices = index, indices
+
+    def loop(self) -> ast.comprehension:
+        """Return the loop through the list and the columns."""
+        names = [self._index, *(column.name for column in self.found)]
+        lists = [self._indices, *(f"{_EACH}{column.name}" for column in self.found)]
+        targets = ast.Tuple([ast.Name(each, ast.Store()) for each in names], ast.Store())
+        zipped = ast.Call(ast.Name("zip", ast.Load()), [ast.Name(each, ast.Load()) for each in lists], [])
+        return ast.comprehension(targets, zipped, [], 0)
+
+    def visit_GeneratorExp(self, node: ast.GeneratorExp) -> ast.expr:
+        """Return a list that has a name, and no condition, with columns of its own."""
+        match node:
+            case ast.GeneratorExp(element, [ast.comprehension(ast.Name(index), ast.Name(indices), [])]):
+                own = _Columns(index, indices)
+                shown = own.visit(element)
+                self.inner |= own.found | own.inner
+                return ast.GeneratorExp(shown, [own.loop()])
+        return cast(ast.expr, self.generic_visit(node))
 
     def visit_Call(self, node: ast.Call) -> ast.expr:
         """Return a signed column in place of a conversion of an operand."""
@@ -256,9 +287,9 @@ class _Columns(ast.NodeTransformer):
         return cast(ast.expr, self.generic_visit(node))
 
     def _column(self, operand: str, is_signed: bool) -> ast.expr:
-        name = f"_{'s' if is_signed else 'u'}{operand}"
-        self.found[name] = operand, is_signed
-        return ast.Name(name, ast.Load())
+        column = _Column(operand, self._indices, is_signed)
+        self.found[column] = None
+        return ast.Name(column.name, ast.Load())
 
 
 def _assignment(text: str, whole: str) -> Assignment:

@@ -2,7 +2,7 @@
 
 import ast
 import functools
-from collections.abc import Collection, Iterator, Sequence
+from collections.abc import Collection, Iterable, Iterator, Sequence
 from dataclasses import dataclass, replace
 from typing import Literal
 
@@ -15,8 +15,8 @@ from .executed import Before, Elements, Execution, element_of, execution_of
 from .formula import Assignment, evaluate_each
 
 Outcome = Literal["active", "masked", "tail", "prestart", "fault", "pending", "kept", "idle"]
-"""How an element takes part. kept: the formula doesn't count for it, as below a slide's offset; pending: not reached, since the access of an
-element before it wasn't possible; idle: the instruction doesn't read it."""
+"""How an element takes part. kept: the formula doesn't count for it, as below a slide's offset;
+pending: not reached, since the access of an element before it wasn't possible; idle: the instruction doesn't read it."""
 
 Role = Literal["destination", "data", "element", "single", "moved", "index"]
 """The purpose of an operand. data: stored; element: read element by element; single: read at element 0; moved: its elements go to other
@@ -212,7 +212,8 @@ def _outcomes_of(elements: int, start: int, end: int, stop: int, how: End, mask:
     return tuple(outcome(element) for element in range(elements))
 
 
-def _active(outcomes: Sequence[Outcome]) -> list[int]:
+@functools.lru_cache(maxsize=4096)
+def _active(outcomes: tuple[Outcome, ...]) -> Sequence[int]:
     """The elements with the outcome `active`."""
     return [element for element, outcome in enumerate(outcomes) if outcome == "active"]
 
@@ -292,13 +293,13 @@ class _Instruction:
             return outcomes
         return tuple("kept" if at in kept else each for at, each in enumerate(outcomes))
 
-    def _kept(self, outcomes: Sequence[Outcome]) -> Collection[int]:
+    def _kept(self, outcomes: tuple[Outcome, ...]) -> Collection[int]:
         """The active elements that the record says aren't written."""
         condition, active = self.execution.record.kept, _active(outcomes)
         holds = evaluate_each(condition, self.execution.names, active) if condition else []
         return {element for element, is_kept in zip(active, holds) if is_kept}
 
-    def _pairs(self, outcomes: Sequence[Outcome]) -> tuple[tuple[int, int], ...]:
+    def _pairs(self, outcomes: tuple[Outcome, ...]) -> tuple[tuple[int, int], ...]:
         """Elements of the source, with those of the result that they go to."""
         active = _active(outcomes)
         if self.layout == "reduce":
@@ -332,7 +333,7 @@ class _Instruction:
     def _assignment(self) -> Assignment:
         return self.execution.formula.assignments[0]
 
-    def _equations(self, results: Sequence[Outcome]) -> Iterator[Equation]:
+    def _equations(self, results: tuple[Outcome, ...]) -> Iterator[Equation]:
         """The calculations of active elements, those of one form together."""
         if self.is_access:
             return
@@ -341,11 +342,16 @@ class _Instruction:
             if number:
                 yield self._equation([0], Term(f"x{number}", 0, 64, Sign.EITHER, number))
             return
-        active = _active(results)
-        branches = self._branches(active)
-        groups = [elements for _, elements in branches] if self.layout != "scan" else [[element] for element in active]
-        for elements in groups:
-            yield self._equation(elements, self._target(elements[0]))
+        for node, elements in self._branches(_active(results)):
+            groups: Iterable[Sequence[int]] = ([element] for element in elements)
+            for shown in groups if self.layout == "scan" else [elements]:
+                yield self._equation(shown, self._target(shown[0]), self._is_copy(node))
+
+    def _is_copy(self, node: ast.expr) -> bool:
+        """Whether a branch of the formula is an element as wide as the result, so that both have the same bits."""
+        names = self.execution.names
+        width = self.instruction.operands[0].eew
+        return isinstance(node, ast.Subscript) and numbers_of(node, names).width == width
 
     def _target(self, element: int) -> Term:
         """An element of the destination, with its bits afterwards."""
@@ -355,10 +361,10 @@ class _Instruction:
         bits = element_of(self.v, register, width, element)
         return Term(name, bits, width, Sign.EITHER, register=register, index=element, step=1)
 
-    def _equation(self, elements: Sequence[int], target: Term) -> Equation:
-        """The calculation of elements. target: the first of them, or a scalar register"""
+    def _equation(self, elements: Sequence[int], target: Term, is_copy: bool = False) -> Equation:
+        """The calculation of elements. target: the first of them, or a scalar register; is_copy: as `_is_copy` says"""
         self.execution.at(elements[0])
-        is_single = self.destination is None or self.destination.eew == 1
+        is_single = is_copy or self.destination is None or self.destination.eew == 1
         shown = elements[:1] if is_single else elements
         calculation, results = calculation_of_each(self.execution, target, self._assignment, shown)
         if target.scalar is not None:
@@ -376,11 +382,13 @@ class _Instruction:
         operand = self.instruction.operands[0]
         values = Elements(self.v, operand.registers.start, operand.eew, operand.group)
         unsigned, signed = values.each(elements, False), values.each(elements, True)
-        if results == [*zip(signed, unsigned)]:
-            return Sign.EITHER, {}
         pairs = [(Sign.EITHER, signed, unsigned), (Sign.SIGNED, signed, signed), (Sign.UNSIGNED, unsigned, unsigned)]
-        others = [
-            (sign, {each: found for each, found, *own in zip(elements, results, one, other) if found != tuple(own)})
-            for sign, one, other in pairs
-        ]
-        return min(others, key=lambda each: len(each[1]))
+        best: tuple[Sign, dict[int, tuple[int, int]]] | None = None
+        for sign, *own in pairs:
+            stored = [*zip(*own)]
+            if results == stored:
+                return sign, {}
+            others = {each: found for each, found, bits in zip(elements, results, stored) if found != bits}
+            best = (sign, others) if best is None or len(others) < len(best[1]) else best
+        assert best
+        return best

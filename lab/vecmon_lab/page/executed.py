@@ -273,6 +273,8 @@ def _condition(condition: Condition, element: int) -> ShownCondition:
 
 def _element_runs(elements: Sequence[int]) -> list[list[int]]:
     """Runs of elements that follow one another, each its first one and their number."""
+    if elements[-1] - elements[0] == len(elements) - 1:  # as most do; they are in rising order
+        return [[elements[0], len(elements)]]
     runs = list[list[int]]()
     for element in elements:
         if runs and element == sum(runs[-1]):

@@ -138,11 +138,12 @@ def _some(registers: Digits, numbers: Iterable[str]) -> dict[str, str]:
 
 def _joined(spans: Sequence[Span]) -> list[Span]:
     """Spans without those that touch each other, which are one."""
-    joined = list[Span]()
+    joined, start, end = list[Span](), 0, -1
     for address, length in sorted(spans):
-        if joined and address <= sum(joined[-1]):
-            first, before = joined[-1]
-            joined[-1] = first, max(before, address + length - first)
-        else:
-            joined.append((address, length))
-    return joined
+        if address > end >= 0:
+            joined.append((start, end - start))
+        if address > end:
+            start, end = address, address + length
+        elif address + length > end:
+            end = address + length
+    return [*joined, (start, end - start)] if end >= 0 else joined
