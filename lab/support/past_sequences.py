@@ -29,7 +29,7 @@ from vecmon_lab.machine.program import find_program
 from vecmon_lab.machine.session import Session
 from vecmon_lab.playground.kept_texts import KeptTexts
 from vecmon_lab.playground.page_desk import PageDesk
-from vecmon_lab.replay import history, private_machine, saved_states
+from vecmon_lab.replay import own_lines, private_machine, saved_states
 
 PROGRAMS = [
     "li t0, {n}\nli t1, 0\nloop: add t1, t1, t0\naddi t0, t0, -1\nbnez t0, loop\nebreak\n",
@@ -446,7 +446,7 @@ class ClassPage:
 def dense_states() -> Iterator[None]:
     """Let replays save states after a few instructions, so that short programs have them, too."""
     names = ((saved_states, "SPACING", 40), (saved_states, "PAGE_SPACING", 0), (saved_states, "MAX_STATES", 6))
-    values = (*names, (history, "WORTH", 15), (saved_states, "NEAR", 4), (private_machine, "CHUNK", 32))
+    values = (*names, (own_lines, "WORTH", 15), (saved_states, "NEAR", 4), (private_machine, "CHUNK", 32))
     with ExitStack() as stack:
         for module, name, value in values:
             stack.enter_context(patch.object(module, name, value))

@@ -18,8 +18,9 @@ from support.long_runs import LAST_PLACE, fresh_states, make_long_run, shown
 from vecmon_lab.guest.guest import Guest, started
 from vecmon_lab.machine.program import find_program, find_recorder
 from vecmon_lab.machine.session import Session
+from vecmon_lab.replay.control import never
 from vecmon_lab.replay.histories import Histories
-from vecmon_lab.replay.timeline import Timeline, never
+from vecmon_lab.replay.timeline import Timeline
 from vecmon_lab.replay.watches import Watch
 
 INSTRUCTIONS = 150_000_000
@@ -68,7 +69,7 @@ def go_back(guest: Guest, length: int, states: dict[int, object]) -> bool:
     timeline, times = Timeline(guest), Times()
     times.take("go to the end", lambda: timeline.go(never))
     print(
-        f"{len(timeline.saved.states)} states are saved, of {len(timeline.saved.states[-1].snapshot.user.pages)} pages each"
+        f"{len(timeline.run.saved.states)} states are saved, of {len(timeline.run.saved.states[-1].snapshot.user.pages)} pages each"
     )
     number, is_right = length, True
     for count, state in states.items():
@@ -99,7 +100,7 @@ def go_back_on_a_page(image: pathlib.Path, states: dict[int, object]) -> bool:
             histories.follow(line, session.do(line))
 
         def run() -> None:
-            while history.legs.is_running:
+            while history.run.legs.is_running:
                 histories.follow("* slices 1000", session.do("* slices 1000"))
 
         times.take("a page: go to the end", run)
@@ -108,7 +109,7 @@ def go_back_on_a_page(image: pathlib.Path, states: dict[int, object]) -> bool:
             times.take(f"a page: back to {count:,}", lambda: history.at(count, never))
             instant = history.at(count, never)
             is_right = is_right and instant is not None and shown(instant.guest) == state
-        print(f"{len(history.saved.states)} states are saved")
+        print(f"{len(history.run.saved.states)} states are saved")
         histories.close()
     return is_right
 

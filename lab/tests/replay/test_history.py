@@ -9,8 +9,10 @@ from support.past_sequences import dense_states
 from vecmon_lab.guest.guest import VECTOR_LOOKS
 from vecmon_lab.machine.answers import ScalarRegisters
 from vecmon_lab.machine.session import Session
-from vecmon_lab.replay.histories import Histories
-from vecmon_lab.replay.history import History, NoWayBack
+from vecmon_lab.replay.control import never
+from vecmon_lab.replay.histories import Histories, UserHistory
+from vecmon_lab.replay.history import Halts, NoWayBack
+from vecmon_lab.replay.own_lines import OwnLines
 from vecmon_lab.replay.saved_states import SavedStates
 
 SUM = ["addi x5, x5, 1", "bne x5, x6, -4", "ebreak"]  # two instructions for each addition, and one at its end
@@ -56,7 +58,7 @@ class Played:
             assert " E" not in answer[0], (line, answer)
             self.histories.follow(line, answer)
 
-    def load(self, digit: str, code: list[str], **registers: int) -> History:
+    def load(self, digit: str, code: list[str], **registers: int) -> UserHistory:
         """Enter a program; return its history."""
         self.do(f"{digit} enter", f"{digit} map 10000 1 rwx", f"{digit} map 20000 1 rw")
         self.do(*(f"{digit} asm {0x10000 + 4 * place:x} {text}" for place, text in enumerate(code)))
@@ -77,12 +79,7 @@ def played(program: pathlib.Path) -> Iterator[Played]:
     played.close()
 
 
-def never() -> bool:
-    """A replay that doesn't pause."""
-    return False
-
-
-def x5(history: History, count: int) -> int:
+def x5(history: UserHistory, count: int) -> int:
     """The register x5 after a number of instructions."""
     instant = history.at(count, never)
     assert instant is not None
@@ -101,7 +98,30 @@ def test_run_to_breakpoints_is_counted(played: Played) -> None:
     history = played.load("1", SUM, x6=1000)
     played.do("1 break 10004", "1 go", "* slices 9", "1 go", "* slices 9", "1 step 9", "1 unbreak 10004", "1 step 256")
     assert history.count(never) == 1 + 2 + 2 + 256
-    assert [history.next_break(count, {0x10000}, never) for count in (0, 1, 2, 260)] == [2, 2, 4, 261]
+    assert [history.next_halt(count, Halts(frozenset([0x10000])), never) for count in (0, 1, 2, 260)] == [2, 2, 4, 261]
+
+
+def test_search_does_not_pass_over_lines_that_write(played: Played) -> None:
+    """Ten more rounds after 60 instructions: x5 is 30 and becomes 40, so that the EBREAK is next after 80 of 130 instructions."""
+    history = played.load("1", SUM, x6=1000)
+    played.do("1 step 60", "1 set x6 28", "1 go", "* slices 9", "1 setpc 10000", "1 step 50")
+    assert history.count(never) == 130
+    assert history.next_halt(0, Halts(frozenset([0x10008])), never) == 80
+    assert [x5(history, count) for count in (70, 80)] == [35, 40]
+
+
+def test_user_history_finds_last_breakpoint(played: Played) -> None:
+    """The branch is next after odd numbers of instructions, the addition after even ones, and the EBREAK is the present."""
+    history = played.load("1", SUM, x6=5000)
+    played.do("1 step 60", "1 set x7 1", "1 go", "* slices 1000")
+    for address, count in ((0x10004, 9999), (0x10000, 9998)):
+        found = history.last_halt(Halts(frozenset([address])), never)
+        assert found and found.state and found.state.count == count and found.watch is None
+    found = history.last_halt(Halts(frozenset([0x10008])), never)
+    assert found and found.state is None
+    played.do("1 setpc 10004", "1 step 1")
+    found = history.last_halt(Halts(frozenset([0x10004])), never)
+    assert found and found.state and found.state.count == 10_000
 
 
 @pytest.mark.parametrize("slices", [3, 1000])
@@ -156,9 +176,9 @@ def test_replay_pauses_and_goes_on(played: Played) -> None:
     parts = 0
     while (instant := history.at(-2, lambda: True)) is None:
         parts += 1
-        assert 0 <= history.percent < 100
+        assert 0 <= history.run.percent < 100
     assert instant.count == 799_998 and parts > 10
-    assert history.executed > 800_000
+    assert history.run.executed > 800_000
 
 
 def test_new_machine_begins_anew(played: Played) -> None:
@@ -184,11 +204,11 @@ def test_long_way_starts_at_a_saved_state(played: Played) -> None:
     history = played.load("1", SUM, x6=5_000_000)
     played.do("1 go", *["* slices 1000"] * 101)
     assert history.count(never) == 10_000_000 and x5(history, -1) == 5_000_000
-    executed = history.executed
+    executed = history.run.executed
     assert x5(history, -4) == 4_999_998 and x5(history, 0) == 0 and x5(history, -6) == 4_999_997
-    assert history.executed - executed < 200_000
+    assert history.run.executed - executed < 200_000
     assert x5(history, 5_000_001) == 2_500_001
-    assert history.executed - executed < 5_000_000
+    assert history.run.executed - executed < 5_000_000
 
 
 @pytest.mark.parametrize(
@@ -207,7 +227,7 @@ def test_states_from_saved_ones_are_those_of_stepped_machines(
     """Lines write after 60 instructions, when states are saved already, and after 260."""
     with dense_states():
         history = played.load("1", code, x7=0x20000, x8=0x10010, x9=0x100000)
-        history.saved = SavedStates(lambda: Session(program), 6)
+        history.run.saved = SavedStates(lambda: Session(program), 6)
         loaded = played.session.script.decode("ascii").splitlines()
         played.do("1 step 60")
         history.at(50, never)
@@ -221,7 +241,7 @@ def test_states_from_saved_ones_are_those_of_stepped_machines(
                     session.do_all(edits.get(number, []))
                     session.do_all(["1 step 1"] * (number < count))
                 assert instant is not None and looks(instant.guest.session) == looks(session), count
-        assert 2 < len(history.saved.states) <= 6
+        assert 2 < len(history.run.saved.states) <= 6
 
 
 def test_long_way_comes_to_its_end_among_short_ones(played: Played) -> None:
@@ -229,7 +249,7 @@ def test_long_way_comes_to_its_end_among_short_ones(played: Played) -> None:
     history = played.load("1", SUM, x6=1_500_000)
     played.do("1 go", *["* slices 1000"] * 31)
     assert history.count(never) == 3_000_000
-    history.saved.states.clear()
+    history.run.saved.states.clear()
     history.at(0, never)
     for number in range(20):
         parts = iter([False, False, False, True])
@@ -245,7 +265,7 @@ def test_saved_states_have_the_output_before(played: Played) -> None:
         history = played.load("1", PRINTS, x6=600, x11=0x20000)
         for _ in range(3):
             played.do("1 go", "* slices 99", "1 out")
-        assert history.count(never) == 1 + 5 * 600 and history.saved.states
+        assert history.count(never) == 1 + 5 * 600 and history.run.saved.states
         for calls, size in ((600, 2998), (410, 2048), (205, 1024), (520, 2598), (204, 1020), (1, 5), (411, 2053)):
             instant = history.at(1 + 5 * (calls - 1) + 3, never)
             assert instant is not None and len(instant.output) == size
@@ -255,14 +275,14 @@ def test_memory_of_saved_states_is_bounded(program: pathlib.Path, played: Played
     """States share the page of code, and the page of data is another one in each: five pages are four states."""
     with dense_states():
         history = played.load("1", ["addi x5, x5, 1", "sw x5, 0(x7)", "jal x0, -8"], x7=0x20000)
-        history.saved = SavedStates(lambda: Session(program), 10, max_bytes=5 * 4096)
+        history.run.saved = SavedStates(lambda: Session(program), 10, max_bytes=5 * 4096)
         played.do("1 step 256", "1 step 256")
-        assert x5(history, -3) == 170 and len(history.saved.states) == 4
+        assert x5(history, -3) == 170 and len(history.run.saved.states) == 4
 
 
 def test_limit_of_a_way_back_is_one_of_instructions(played: Played, monkeypatch: pytest.MonkeyPatch) -> None:
     """As above, a round has three instructions and ten ticks: 1,000 ticks are more than 400, and 301 instructions aren't."""
-    monkeypatch.setattr("vecmon_lab.replay.history.MAX_BACK", 400)
+    monkeypatch.setattr(OwnLines, "limit", 400)
     history = played.load("1", LOADS, x7=0x20000)
     played.do("1 go", "* slices 10", "1 stop")
     assert history.count(never) == 1 + 3 * 99 + 2

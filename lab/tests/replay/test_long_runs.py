@@ -13,10 +13,11 @@ from vecmon_lab.checkpoints.snapshot import Snapshot
 from vecmon_lab.guest.guest import Guest, started
 from vecmon_lab.machine.answers import Stop
 from vecmon_lab.machine.program import find_recorder
-from vecmon_lab.replay.control import Interrupted
+from vecmon_lab.replay.control import Interrupted, never
 from vecmon_lab.replay.saved_states import MAX_STATES, SavedStates, sparsest
-from vecmon_lab.replay.timeline import Timeline, never
+from vecmon_lab.replay.timeline import Timeline
 from vecmon_lab.replay.watches import Watch
+from vecmon_lab.replay.whole_script import WholeScript
 
 # By a generator of random numbers some rounds store one, at a place that changes then.
 RANDOM_STORES = """
@@ -89,7 +90,7 @@ def test_long_run_goes_back_to_fresh_states(program: pathlib.Path, tmp_path: pat
     with started(image, write=lambda data: None) as guest:
         timeline = Timeline(guest)
         assert timeline.go(never) == Stop("ebreak", guest.pc)
-        assert len(timeline.saved.states) > 2
+        assert len(timeline.run.saved.states) > 2
         number = length
         for count in reversed(counts):
             assert timeline.back(number - count) and shown(guest) == states[count]
@@ -134,22 +135,22 @@ def test_watch_forwards_finds_recorded_changes(guest: Guest, random_stores: path
 
 def test_number_of_states_is_bounded(guest: Guest, random_stores: pathlib.Path) -> None:
     timeline = Timeline(guest)
-    timeline.saved = SavedStates(lambda: guest.session.rewound(b""), 5)
+    timeline.run.saved = SavedStates(lambda: guest.session.rewound(b""), 5)
     assert timeline.go(never) == Stop("ebreak", guest.pc)
-    length, states = timeline.count(), timeline.saved.states
+    length, states = timeline.count(), timeline.run.saved.states
     assert length > 30_000 and len(states) == 5
     places = [length // part for part in (9, 5, 3, 2)] + [length - 1500, length - 3]
     fresh = dict(zip(places, fresh_states(random_stores, places)))
     number = length
     for count in reversed(places):
-        assert timeline.back(number - count) and shown(guest) == fresh[count] and len(timeline.saved.states) <= 5
+        assert timeline.back(number - count) and shown(guest) == fresh[count] and len(timeline.run.saved.states) <= 5
         number = count
 
 
 def test_equal_pages_are_saved_once(guest: Guest) -> None:
     timeline = Timeline(guest)
     assert timeline.go(never)
-    first, *_, last = [state.snapshot.shown.memory for state in timeline.saved.states]
+    first, *_, last = [state.snapshot.shown.memory for state in timeline.run.saved.states]
     assert [page for page in first if first[page] is not last[page]] == [0x11000]
 
 
@@ -176,14 +177,14 @@ def test_state_that_lines_leave_otherwise_is_not_used(
     length = timeline.count()
     (state,) = fresh_states(random_stores, [length - 3])
     assert timeline.back(3) and shown(guest) == state
-    assert all(saved.lines() is None for saved in timeline.saved.states)
+    assert all(saved.lines() is None for saved in timeline.run.saved.states)
 
 
 def test_back_over_too_many_instructions_is_refused(guest: Guest, monkeypatch: pytest.MonkeyPatch) -> None:
     timeline = Timeline(guest)
     assert timeline.go(never) == Stop("ebreak", guest.pc)
     before = shown(guest)
-    monkeypatch.setattr("vecmon_lab.replay.timeline.MAX_BACK", 2000)
+    monkeypatch.setattr(WholeScript, "limit", 2000)
     with pytest.raises(LabError, match="no way back over more than 1,000,000,000 instructions"):
         timeline.back(2001)
     assert shown(guest) == before and timeline.back(2000)

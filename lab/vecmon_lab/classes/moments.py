@@ -7,15 +7,14 @@ from typing import NotRequired, TypedDict
 
 from ..machine.answers import Answer, Position
 from ..page.state import State, WatchSet, add_last_instruction, look_at, with_rows
-from ..replay.history import History, Instant
+from ..replay.histories import UserHistory
+from ..replay.history import IsDue
+from ..replay.own_lines import Instant
 from .requests import BadRequest
 from .seats import Condition, Seat, condition_after, output_blocks
 
 SHARE = 500_000_000  # instructions that a seat's replays may execute at once
 REFILL = 5_000_000  # that are added to what is left of them each second
-
-IsDue = Callable[[], bool]
-"""Whether a replay pauses, and goes on with the next request."""
 
 
 class HistoryView(TypedDict):
@@ -80,20 +79,20 @@ class Budget:
         self._left -= instructions
 
 
-def moment_at(seat: Seat, history: History, at: int, is_due: IsDue) -> PastResult:
+def moment_at(seat: Seat, history: UserHistory, at: int, is_due: IsDue) -> PastResult:
     """The moment after a number of instructions, negative from the end; or how much is done if it is due before.
 
     Raises LabError as a replay does.
     """
-    number, end = history.legs.number, history.count(is_due)
+    number, end = history.run.number, history.count(is_due)
     if end is None:
-        return {"number": number, "percent": history.percent}
+        return {"number": number, "percent": history.run.percent}
     at = max(0, end + at) if at < 0 else at
     if at >= end:
         return {"number": number}
     earlier = history.at(max(0, at - 1), is_due)
     if earlier is None:
-        return {"number": number, "percent": history.percent}
+        return {"number": number, "percent": history.run.percent}
     watch_set = copy.deepcopy(seat.watch_set)
     before = _state_of(earlier, watch_set, {"run": "absent"})
     state = before

@@ -22,12 +22,12 @@ from ..meanings.calculation import Notation
 from ..meanings.stepped import explanation_of
 from ..meanings.why import NO_STEP, read_name
 from ..page.state import State, registers_of
-from ..replay.histories import Histories
-from ..replay.history import History
+from ..replay.histories import Histories, UserHistory
+from ..replay.history import Halts, IsDue
 from .languages import SourceText
 from .last_run import Run, run_at, state_before
 from .live import server_line, with_output
-from .moments import Budget, HistoryView, IsDue, PastResult, moment_at
+from .moments import Budget, HistoryView, PastResult, moment_at
 from .moved_breakpoints import moved_breakpoints
 from .requests import BadRequest, Lines
 from .seat_status import LIMIT_STATUS
@@ -242,7 +242,7 @@ class SharedMachine:
         if seat.state["run"] != "stopped":
             raise BadRequest(NO_PAST)
         history, budget = self.histories.users[seat.digit], self.budgets.get(seat.digit)
-        found, executed = list[PastResult](), history.executed
+        found, executed = list[PastResult](), history.run.executed
         if budget:
             budget.check()
         try:
@@ -251,16 +251,16 @@ class SharedMachine:
             raise BadRequest(str(error)) from error
         finally:
             if budget:
-                budget.spend(history.executed - executed)
+                budget.spend(history.run.executed - executed)
         return found[0]
 
-    def _moment(self, seat: Seat, history: History, at: int, to_break: bool) -> PastResult:
+    def _moment(self, seat: Seat, history: UserHistory, at: int, to_break: bool) -> PastResult:
         """A part of a replay."""
         is_due = self.replay_pause()
         if to_break:
-            place = history.next_break(at, seat.watch_set.breaks, is_due)
+            place = history.next_halt(at, Halts(frozenset(seat.watch_set.breaks)), is_due)
             if place is None:
-                return {"number": history.legs.number, "percent": history.percent}
+                return {"number": history.run.number, "percent": history.run.percent}
             at = place
         return moment_at(seat, history, at, is_due)
 
@@ -277,7 +277,7 @@ class SharedMachine:
         """What is known of a seat's history."""
         history = self.histories.users[seat.digit]
         end = history.end
-        return {"number": history.legs.number} if end is None else {"number": history.legs.number, "end": end}
+        return {"number": history.run.number} if end is None else {"number": history.run.number, "end": end}
 
     def _last_run(self, seat: Seat) -> Run | None:
         session, number = self._runs[seat.digit]

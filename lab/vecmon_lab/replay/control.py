@@ -10,6 +10,11 @@ class Interrupted(Exception):
     """The user has ended the work, as by Ctrl-C."""
 
 
+def never() -> bool:
+    """Nobody interrupts the work, and it doesn't pause."""
+    return False
+
+
 class Control:
     """Ends long work if the user asks for it, and reports its progress.
 
@@ -18,11 +23,18 @@ class Control:
     """
 
     def __init__(
-        self, is_interrupted: Callable[[], bool], report: Callable[[int, int], object] = lambda done, whole: None
+        self,
+        is_interrupted: Callable[[], bool] = never,
+        report: Callable[[int, int], object] = lambda done, whole: None,
     ) -> None:
-        self._is_interrupted, self._report = is_interrupted, report
+        self.is_interrupted, self._report = is_interrupted, report
         self._due = time.monotonic() + SECONDS
         self._done, self._whole = 0, 1
+
+    @property
+    def percent(self) -> int:
+        """How much is done, as far as all parts are known."""
+        return min(99, 100 * self._done // self._whole)
 
     def advance(self, done: int, whole: int) -> None:
         """Note how much is done, in any unit. Raises Interrupted."""
@@ -31,7 +43,7 @@ class Control:
 
     def check(self) -> None:
         """Report progress if that is due. Raises Interrupted."""
-        if self._is_interrupted():
+        if self.is_interrupted():
             raise Interrupted
         now = time.monotonic()
         if now >= self._due:

@@ -5,7 +5,8 @@ from collections.abc import Callable, Collection, Generator, Sequence
 from ..guest.guest import MAX_STEPS
 from ..machine.answers import ControlRegisters, Position, Stop, read
 from .legs import Leg
-from .private_machine import CHUNK, Parts, PrivateMachine, ReplayDiffers, Signature
+from .private_machine import CHUNK, PrivateMachine, ReplayDiffers, Signature
+from .history import Parts
 
 WINDOW = 512  # instructions around an expected number
 GROWTH = 8  # times the ticks of the number before
@@ -45,17 +46,18 @@ def first_stop(
 
     least, most: the number of the leg's instructions with which the search begins, and at which it ends
     """
-    unit = 1
+    is_near = True  # the first instructions are stepped singly, and those in which a stop is
     while least <= most:
         machine = yield from reach(place, least)
-        number = MAX_STEPS if unit == 1 else max(1, min(CHUNK, most - least) // unit)
+        unit = 1 if is_near or most - least < MAX_STEPS else MAX_STEPS
+        number = min(MAX_STEPS, most - least + 1) if unit == 1 else min(CHUNK, most - least) // unit
         answers = _stepped(machine, unit, number, breaks)
         found = _first_irregular(answers, breaks)
         if found is None:
             least += unit * number
-            machine.place.offset = least
-            machine.save_if_due()
-            unit = MAX_STEPS
+            machine.place.offset, machine.is_used_up, is_near = least, least > most, False
+            if not machine.is_used_up:
+                machine.save_if_due()
             yield
             continue
         machine.is_used_up = True
@@ -65,7 +67,7 @@ def first_stop(
         count = least + unit * (found + is_passed)
         if unit == 1 or is_passed:
             return (count, reply) if count <= most else None
-        least, most, unit = count, min(most, count + unit - 1), 1
+        least, most, is_near = count, min(most, count + unit - 1), True
         yield
     return None
 

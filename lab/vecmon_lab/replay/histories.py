@@ -6,6 +6,15 @@ from ..machine.answers import Granted, read
 from ..machine.lines import DIGITS, is_look, words_of
 from ..machine.session import Session
 from .history import History
+from .own_lines import Instant, OwnLines
+
+
+class UserHistory(History[Instant]):
+    """The history of a machine's user. run: what the user's program has executed; it takes up the user's lines"""
+
+    def __init__(self, run: OwnLines) -> None:
+        super().__init__(run)
+        self.run = run
 
 
 class Histories:
@@ -13,7 +22,7 @@ class Histories:
 
     def __init__(self, quantum: int, opening: Callable[[], Session]) -> None:
         """opening: opens a session on a new machine with the same images and quantum"""
-        self.users = {digit: History(digit, quantum, opening) for digit in DIGITS}
+        self.users = {digit: UserHistory(OwnLines(digit, quantum, opening)) for digit in DIGITS}
         self._shares = Shares()
 
     def follow(self, line: str, answer: Sequence[str]) -> None:
@@ -24,22 +33,22 @@ class Histories:
             return
         granted = read(answer)
         if isinstance(granted, Granted):
-            running = {digit for digit, history in self.users.items() if history.legs.is_running}
+            running = {digit for digit, history in self.users.items() if history.run.legs.is_running}
             stops = dict(granted.stops)
             for digit, slices in self._shares.of(line, granted, running).items():
-                self.users[digit].legs.grant(slices, stops.get(digit))
+                self.users[digit].run.legs.grant(slices, stops.get(digit))
 
     def _follow_users(self, line: str, answer: Sequence[str]) -> None:
         history = self.users[line[0]]
-        number = history.legs.number
-        history.legs.follow(line, answer)
-        if history.legs.number != number:
+        number = history.run.number
+        history.run.legs.follow(line, answer)
+        if history.run.number != number:
             history.close()
 
     def set_up(self, is_on: bool) -> None:
         """The lines that follow are those of a checkpoint, or no longer."""
         for history in self.users.values():
-            history.legs.set_up(is_on)
+            history.run.legs.set_up(is_on)
 
     def close(self) -> None:
         """End all private machines."""

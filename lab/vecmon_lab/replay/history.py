@@ -1,136 +1,157 @@
-"""The states of a user's program since its machine began, by the number of instructions that it had executed.
+"""The history of a program: the state after any number of its instructions, and the places where it would halt.
 
-A private machine executes the user's own lines again, without those of other users: it prints the same.
+This is the one way back of the pages, the console, gdb, and what else goes back. Instruction 0 is the program as it was loaded. A
+history finds places by the stretches of a run. `OwnLines` is the run of a user among others, and `WholeScript` that of a guest alone.
 """
 
-from collections.abc import Callable, Collection, Generator
+from collections.abc import Callable, Generator, Sequence
 from dataclasses import dataclass
 from functools import partial
-from typing import TypeVar
+from typing import Generic, Protocol, TypeVar
 
 from .. import LabError
-from ..guest.guest import Guest
-from ..guest.runner import OUTPUT_BYTES
-from ..machine.answers import Stop
-from ..machine.lines import command_of
-from ..machine.session import Session
-from .counting import count_to_stop, count_to_ticks, first_stop
-from .legs import Leg, Legs
-from .private_machine import PrivateMachine
-from . import saved_states
-from .saved_states import SavedStates
+from .control import Interrupted
+from .watches import Watch
 
-MAX_BACK = 300_000_000  # instructions of a history: a script has room for no more steps
-MAX_BYTES = 8 << 20  # of the memory of saved states
-WORTH = 1 << 18  # instructions that take as long as to set up a saved state
-TOO_FAR = f"there is no way back into a run of more than {MAX_BACK:,} instructions"
-UNCOUNTED = "the instructions before this pause can't be counted"
+NO_PROGRAM = "there is no program to go back in"
 
 IsDue = Callable[[], bool]
-"""Whether a replay pauses, and goes on with the next call."""
+"""Whether a call ends before its result: a user interrupts it, or other work comes first."""
+Parts = Generator[None, None, None]
+"""Work in parts: a caller may pause, or drop it, after each one."""
 Result = TypeVar("Result")
+State = TypeVar("State")
+OfState = TypeVar("OfState", covariant=True)
 
 
 class NoWayBack(LabError):
     """There are no states before a place; the text says why."""
 
 
+class Stretch(Protocol):
+    """Instructions in a row. count: how many they are; None until they are counted"""
+
+    count: int | None
+
+
 @dataclass(frozen=True)
-class Instant:
-    """A state of the program, on a private machine, which is there until the next replay.
+class Halts:
+    """Where a program halts: at the addresses of `breaks`, and where an instruction does what is watched for."""
 
-    count: of executed instructions
-    output: what the program has written since its machine began
-    stop: why the program stopped there, if nothing has changed since
-    is_written: whether a line has set registers or memory since the last instruction
+    breaks: frozenset[int] = frozenset()
+    watches: tuple[Watch, ...] = ()
+
+
+@dataclass(frozen=True)
+class Found(Generic[OfState]):
+    """What a search backwards found. state: None if there is no halt; watch: None if the halt is a breakpoint"""
+
+    state: OfState | None
+    watch: Watch | None
+
+
+class Run(Protocol[OfState]):
+    """What a program has executed since it was loaded, in stretches; a place is a stretch, and a number of its instructions.
+
+    limit, too_far: how many instructions a way back may have; and the error if it has more
+    needs_counts: whether a stretch can be executed again only if those before it are counted
     """
 
-    count: int
-    guest: Guest
-    output: bytes
-    stop: Stop | None
-    is_written: bool
-
-
-class History:
-    """A user's history. Its replays work until they are due, and go on with the next call: to cancel one, call none.
-
-    legs: takes up the user's lines
-    saved: states on the way, from which a replay may start
-    executed: how many instructions replays have executed in all, with lines by their cost
-    """
-
-    def __init__(self, digit: str, quantum: int, opening: Callable[[], Session]) -> None:
-        """opening: opens a session on a new machine with the same images and quantum"""
-        self.legs, self._quantum, self._opening = Legs(digit, quantum), quantum, opening
-        self.saved = SavedStates(opening, max_bytes=MAX_BYTES)
-        self._machine: PrivateMachine | None = None
-        self._machine_number = self._work_number = 0  # of the history that they belong to
-        self._work: Generator[None, None, object] | None = None
-        self._wanted: object = None
-        self._executed = 0
+    limit: int
+    too_far: str
+    needs_counts: bool
 
     @property
-    def executed(self) -> int:
-        """The cost of all replays."""
-        return self._executed + (self._machine.executed if self._machine else 0)
+    def number(self) -> int:
+        """How often the run has begun anew."""
+
+    @property
+    def stretches(self) -> Sequence[Stretch]:
+        """The stretches up to the present. Lines that set registers or memory are before the first instruction of one."""
+
+    @property
+    def percent(self) -> int:
+        """How much of the present work is done."""
+
+    def count(self, place: int, most: int) -> Parts:
+        """Set the count of a stretch; it may stay None if it is above `most`. Raises LabError and Interrupted, as all of these."""
+
+    def state(self, place: int, offset: int) -> Generator[None, None, OfState]:
+        """Return the state at a place."""
+
+    def first_halt(self, place: int, offset: int, halts: Halts) -> Generator[None, None, int | None]:
+        """Return the first offset above this one at which the program halts before the next instruction; None without one."""
+
+    def last_halt(self, place: int, halts: Halts) -> Generator[None, None, tuple[int, Watch | None] | None]:
+        """Return the last offset at a breakpoint, or after an instruction that does what is watched for, and the watched place.
+
+        The end of the stretch is no breakpoint: the program is there now, or the next stretch begins there.
+        """
+
+    def close(self) -> None:
+        """End machines, and forget states that are saved."""
+
+
+class History(Generic[State]):
+    """The states of a run. A call works until `is_due`, and then returns None: the same call goes on with the work.
+
+    Another call, or `cancel`, drops that work. An error drops it, too.
+    """
+
+    def __init__(self, run: Run[State]) -> None:
+        self._run = run
+        self._work: Generator[None, None, object] | None = None
+        self._wanted: object = None
+        self._number = 0  # of the run that the work belongs to
 
     @property
     def end(self) -> int | None:
         """The number of instructions up to the present; None until it is counted."""
-        counts = [leg.count for leg in self.legs.legs]
+        counts = [stretch.count for stretch in self._run.stretches]
         return sum(count for count in counts if count is not None) if None not in counts else None
-
-    @property
-    def percent(self) -> int:
-        """How much of the history the private machine has executed."""
-        legs, place = self.legs.legs, self._machine.place if self._machine else None
-        whole = sum(leg.most if leg.count is None else leg.count for leg in legs)
-        done = sum(leg.count or 0 for leg in legs[: place.leg]) + place.offset if place and place.leg >= 0 else 0
-        return min(99, 100 * done // max(1, whole))
 
     def count(self, is_due: IsDue) -> int | None:
         """Return the number of instructions up to the present; None if it is due before. Raises as `at`."""
         return self._drive("count", self._counted, is_due)
 
-    def at(self, count: int, is_due: IsDue) -> Instant | None:
+    def at(self, count: int, is_due: IsDue) -> State | None:
         """Return the state after this number of instructions, from 0 to `end`; None if it is due before.
 
-        A negative number counts from the end. Raises NoWayBack, ReplayDiffers, and as a session does.
+        A negative number counts from the end. If there are fewer instructions, the state is the first or the last one. Lines that set
+        registers or memory there are done. Raises NoWayBack, and as a session does.
         """
         return self._drive(("at", count), partial(self._at, count), is_due)
 
-    def next_break(self, count: int, breaks: Collection[int], is_due: IsDue) -> int | None:
-        """Return the next number of instructions after one at which the program is at one of these addresses, or the end.
+    def next_halt(self, count: int, halts: Halts, is_due: IsDue) -> int | None:
+        """Return the next number of instructions after one at which the program halts, or the end.
+
+        A breakpoint or a watched place halts before its instruction. None if it is due before. Raises as `at`.
+        """
+        return self._drive(("next", count, halts), partial(self._next_halt, count, halts), is_due)
+
+    def last_halt(self, halts: Halts, is_due: IsDue) -> Found[State] | None:
+        """Return the last state before the present that is at a breakpoint, or after an instruction that does what is watched for.
 
         None if it is due before. Raises as `at`.
         """
-        return self._drive(("break", count, *breaks), partial(self._next_break, count, breaks), is_due)
+        return self._drive(("last", halts), partial(self._last_halt, halts), is_due)
+
+    def cancel(self) -> None:
+        """Drop the work of a call that was due before its end."""
+        if self._work:
+            self._work.close()
+        self._wanted = self._work = None
 
     def close(self) -> None:
-        """End the private machine, and forget the saved states."""
-        self._drop_machine()
-        self.saved.states.clear()
-        self._work = self._wanted = None
-
-    def _leave_machine(self) -> None:
-        """Drop the private machine for another one. The state that it has come to is saved: a long way may be resumed there."""
-        if self._machine and self._machine_number == self.legs.number and not self._machine.is_used_up:
-            self._machine.save_if_due(WORTH)
-        self._drop_machine()
-
-    def _drop_machine(self) -> None:
-        if self._machine:
-            self._executed += self._machine.executed
-            self._machine.session.close()
-        self._machine = None
+        """End the run's machines, and forget the states that it has saved."""
+        self.cancel()
+        self._run.close()
 
     def _drive(self, wanted: object, work: Callable[[], Generator[None, None, Result]], is_due: IsDue) -> Result | None:
         """Go on with a work until it is due; with another one than before, begin it."""
-        if self._wanted != wanted or self._work_number != self.legs.number or self._work is None:
-            if self._work:
-                self._work.close()
-            self._wanted, self._work, self._work_number = wanted, work(), self.legs.number
+        if self._wanted != wanted or self._number != self._run.number or self._work is None:
+            self.cancel()
+            self._wanted, self._work, self._number = wanted, work(), self._run.number
         try:
             while True:
                 next(self._work)
@@ -140,99 +161,91 @@ class History:
             self._wanted = self._work = None
             result: Result = end.value
             return result
+        except Interrupted:
+            self.cancel()
+            return None
+        except NoWayBack:
+            self.cancel()
+            raise
         except BaseException:
             self.close()
             raise
 
-    def _open(self, leg: int, offset: int = 0) -> PrivateMachine:
-        """A new private machine, at the last saved state before a place, or at the start."""
-        machine = PrivateMachine(self._opening(), self.legs, self.saved)
-        if state := self.saved.before(leg, offset):
-            machine.begin(state)
-        return machine
-
-    def _reach(self, leg: int, offset: int) -> Generator[None, None, PrivateMachine]:
-        """The private machine goes to a place: from where it is, or a new one from the last saved state before."""
-        machine = self._machine
-        if machine is None or not self._is_useful(machine, leg, offset):
-            self._leave_machine()
-            machine = self._open(leg, offset)
-            self._machine, self._machine_number = machine, self.legs.number
-        near = offset - saved_states.NEAR
-        if near > 0 and machine.is_before(leg, near):
-            yield from machine.go_to(leg, near)
-            machine.save_if_due(WORTH)
-        yield from machine.go_to(leg, offset)
-        return machine
-
-    def _is_useful(self, machine: PrivateMachine, leg: int, offset: int) -> bool:
-        """Whether a machine can go on to a place, and no saved state is much nearer to it."""
-        if self._machine_number != self.legs.number or machine.is_used_up or not machine.is_before(leg, offset):
-            return False
-        state = self.saved.before(leg, offset)
-        return state is None or state.position <= machine.position + WORTH
+    def _count(self, place: int, most: int) -> Generator[None, None, int]:
+        """The number of instructions of a stretch, which is counted if it wasn't yet."""
+        stretch = self._run.stretches[place]
+        if stretch.count is None:
+            yield from self._run.count(place, most)
+        if stretch.count is None:
+            raise NoWayBack(self._run.too_far)
+        return stretch.count
 
     def _counted(self) -> Generator[None, None, int]:
-        """Count each leg whose count is unknown. A pause whose instructions can't be counted begins the history anew."""
-        legs, done = self.legs.legs, 0
-        for place, leg in enumerate(legs):
-            most = MAX_BACK - done
-            if leg.count is None and leg.stop:
-                yield from count_to_stop(legs, place, most, self._quantum, self._reach)
-            elif leg.count is None and leg.ticks is None:
-                raise NoWayBack(UNCOUNTED)
-            elif leg.count is None:
-                yield from count_to_ticks(legs, place, most, self._quantum, self._reach, self._open)
-            if leg.count is None or leg.count > most:
-                raise NoWayBack(TOO_FAR)
-            done += leg.count
-        return done
+        """The number of all instructions."""
+        total = 0
+        for place, _ in enumerate(self._run.stretches):
+            total += yield from self._count(place, self._run.limit - total)
+            self._check_limit(total)
+        return total
 
-    def _at(self, count: int) -> Generator[None, None, Instant]:
+    def _check_limit(self, count: int) -> None:
+        """Raise NoWayBack if a way back has more instructions than it may have."""
+        if count > self._run.limit:
+            raise NoWayBack(self._run.too_far)
+
+    def _at(self, count: int) -> Generator[None, None, State]:
         """The state after a number of instructions."""
-        end = yield from self._counted()
-        count = max(0, end + count) if count < 0 else min(count, end)
-        place, offset = self._find(count)
-        legs = self.legs.legs
-        leg = legs[place]
-        machine = yield from self._reach(place, offset)
-        yield from machine.go_to(place, offset, is_trying=offset == leg.count)
-        machine.take_output()
-        machine.is_used_up = self.legs.written >= OUTPUT_BYTES  # a later call may find more room there than there was
-        stop = leg.stop if offset == leg.count else None
-        if offset == 0 and place and not _writes(leg):
-            stop = legs[place - 1].stop
-        return Instant(count, machine.guest, bytes(machine.output), stop, offset == 0 and _writes(leg))
+        if not self._run.stretches:
+            raise NoWayBack(NO_PROGRAM)
+        if count < 0 and not self._run.needs_counts:
+            place, offset = yield from self._find_from_end(-count)
+        else:
+            end = yield from self._counted()
+            place, offset = self._find(max(0, end + count) if count < 0 else min(count, end))
+        return (yield from self._run.state(place, offset))
 
     def _find(self, count: int) -> tuple[int, int]:
-        """The last place after a number of instructions."""
+        """The last place after a number of instructions, which are counted."""
         found, start = (0, 0), 0
-        for place, leg in enumerate(self.legs.legs):
+        for place, stretch in enumerate(self._run.stretches):
             if start > count:
                 break
-            found, start = (place, count - start), start + (leg.count or 0)
+            found, start = (place, count - start), start + (stretch.count or 0)
         return found
 
-    def _next_break(self, count: int, breaks: Collection[int]) -> Generator[None, None, int]:
-        """The next number of instructions at which the program is at one of these addresses, or the end."""
+    def _find_from_end(self, number: int) -> Generator[None, None, tuple[int, int]]:
+        """The last place from which there are as many instructions to the present, or the first place."""
+        passed = 0
+        for place in reversed(range(len(self._run.stretches))):
+            count = yield from self._count(place, self._run.limit)
+            self._check_limit(min(number, passed + count))
+            if number <= passed + count:
+                return place, passed + count - number
+            passed += count
+        return 0, 0
+
+    def _next_halt(self, count: int, halts: Halts) -> Generator[None, None, int]:
+        """The next number of instructions at which the program halts, or the end."""
         end = yield from self._counted()
         place, offset = self._find(min(count, end))
         start = min(count, end) - offset
-        for number, leg in enumerate(self.legs.legs[place:], place):
-            last = leg.count or 0
-            found = yield from first_stop(number, offset, last, breaks, self._reach) if last > offset else _nothing()
-            if found and found[1].pc in breaks:
-                return start + found[0]
-            start, offset = start + last, 0
+        for number, stretch in enumerate(self._run.stretches[place:], place):
+            if stretch.count and stretch.count > offset:
+                found = yield from self._run.first_halt(number, offset, halts)
+                if found is not None:
+                    return start + found
+            start, offset = start + (stretch.count or 0), 0
         return end
 
-
-def _writes(leg: Leg) -> bool:
-    """Whether lines of a leg set registers or memory."""
-    return any(command_of(line) != "out" for line in leg.lines)
-
-
-def _nothing() -> Generator[None, None, None]:
-    """No work."""
-    return
-    yield
+    def _last_halt(self, halts: Halts) -> Generator[None, None, Found[State]]:
+        """The last halt before the present."""
+        passed = 0
+        for place in reversed(range(len(self._run.stretches))):
+            count = yield from self._count(place, self._run.limit)
+            found = yield from self._run.last_halt(place, halts)
+            if found:
+                offset, watch = found
+                return Found((yield from self._run.state(place, offset)), watch)
+            passed += count
+            self._check_limit(passed)
+        return Found(None, None)

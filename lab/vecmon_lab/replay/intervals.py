@@ -42,10 +42,11 @@ class Intervals:
     """The intervals of a user since the user's machine began, by the lines of a script and their answers.
 
     size: how many bytes of the script were followed
+    number: how often the user's machine began
     """
 
     def __init__(self, user: int, quantum: int) -> None:
-        self.size = 0
+        self.size = self.number = 0
         self.intervals = list[Interval]()
         self._user, self._quantum = str(user), quantum
         self._users = dict[str, User]()
@@ -121,6 +122,7 @@ class Intervals:
                 self._breaks -= {int(words[0], 16)}
             case "enter" | "load" | "leave":
                 self.intervals, self._breaks, self._is_written, self._is_running = [], frozenset(), True, False
+                self.number += 1
             case "set" | "vset" | "setpc" | "poke" | "asm" | "map" | "policy":
                 self._is_written = True
 

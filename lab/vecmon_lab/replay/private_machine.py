@@ -1,6 +1,6 @@
 """A private machine that executes the legs of a user again, and stops at any of their instructions."""
 
-from collections.abc import Generator, Sequence
+from collections.abc import Sequence
 from dataclasses import replace
 
 from .. import LabError
@@ -11,14 +11,13 @@ from ..instructions.accesses import LINE_BYTES, PAGE_BYTES
 from ..machine.answers import Output, first_word, read
 from ..machine.lines import command_of
 from ..machine.session import Session
+from .history import Parts
 from .legs import TRIED, TRYING, Legs, Place
 from .saved_states import SavedState, SavedStates
 
 CHUNK = 1 << 17  # instructions of one part of a replay
 _LINE_COST = 32  # instructions that take as long as a line
 
-Parts = Generator[None, None, None]
-"""Work in parts: a caller may pause, or drop it, after each one."""
 Signature = Sequence[Sequence[str]]
 """Registers in the machine's answers."""
 
