@@ -55,7 +55,8 @@ def guest_run(image: pathlib.Path) -> Iterator[WholeScript]:
 @pytest.fixture(params=["user", "guest"])
 def history(request: pytest.FixtureRequest, user_history: History[Instant], guest_run: WholeScript) -> Either:
     """The history of either."""
-    return user_history if request.param == "user" else History(guest_run)
+    guest_history: History[Replay] = History(guest_run)
+    return user_history if request.param == "user" else guest_history
 
 
 def state(found: Instant | Replay | None) -> tuple[int, int, int, int]:
