@@ -1,7 +1,7 @@
 """Builds a program for another processor with Linux, or for Windows.
 
 All targets are little-endian and have 64-bit integers and pointers, as x86-64 has, and the kit addresses memory by byte offsets. So the LLVM
-module gets another triple, data layout and processor, and nothing else changes.
+module gets another triple, data layout and processor, and for Windows other probes of the stack. Nothing else changes.
 """
 
 import os
@@ -16,6 +16,7 @@ from program_modules import TOP
 
 SOURCES = TOP / "targets"
 PROCESSOR = re.compile(r' "(?:target-cpu|target-features|tune-cpu)"="[^"]*"')
+STACK_PROBES = re.compile(r' "probe-stack"="[^"]*"')  # on Windows LLVM has its own, and takes this for a function's name
 CLANG = (
     "-ffunction-sections -fdata-sections -mllvm -trap-unreachable --no-default-config -no-canonical-prefixes -fno-crash-diagnostics".split()
 )
@@ -85,6 +86,7 @@ def retarget(lines: Iterable[str], target: Target) -> Iterator[str]:
     for line in lines:
         head = line.partition(" = ")[0]
         if line.startswith("attributes #"):
+            line = STACK_PROBES.sub("", line) if target.is_windows else line
             yield PROCESSOR.sub("", line).replace("{ }", "{ nounwind }")
         elif head in replaced:
             yield f'{head} = "{replaced.pop(head)}"\n'

@@ -16,7 +16,7 @@ MODULE = [
     'target triple = "x86_64-unknown-linux-gnu"\n',
     '@a = constant [17 x i8] c"target triple = x"\n',
     "  %a = load ptr, ptr %b, align 8\n",
-    'attributes #0 = { nounwind "frame-pointer"="all" "target-cpu"="x86-64-v2" }\n',
+    'attributes #0 = { nounwind "frame-pointer"="all" "probe-stack"="inline-asm" "target-cpu"="x86-64-v2" }\n',
     'attributes #1 = { "target-cpu"="x86-64-v2" "target-features"="+sse4.2" }\n',
 ]
 
@@ -27,9 +27,15 @@ def test_only_target_and_processor_change() -> None:
         'target datalayout = "e-m:e-p270:32:32-p271:32:32-p272:64:64-i8:8:32-i16:16:32-i64:64-i128:128-n32:64-S128-Fn32"\n',
         'target triple = "aarch64-linux-gnu"\n',
         *MODULE[3:5],
-        'attributes #0 = { nounwind "frame-pointer"="all" }\n',
+        'attributes #0 = { nounwind "frame-pointer"="all" "probe-stack"="inline-asm" }\n',
         "attributes #1 = { nounwind }\n",
     ]
+
+
+def test_windows_has_its_own_stack_probes() -> None:
+    """LLVM would take "inline-asm" for the name of a function there."""
+    lines = list(NATIVE.retarget(MODULE, NATIVE.TARGETS["windows"]))
+    assert lines[5] == 'attributes #0 = { nounwind "frame-pointer"="all" }\n'
 
 
 @pytest.mark.parametrize("line, name", [(1, "target datalayout"), (2, "target triple")])
