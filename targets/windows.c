@@ -14,7 +14,7 @@
 enum { PATH_UNITS = 4096, MOST_AT_ONCE = 1 << 30 };
 enum { ACCESS = 03, CREATE = 0100, EXCLUSIVE = 0200, TRUNCATE = 01000, APPEND = 02000 }; // flags of Linux for open
 enum { OWN_BINARY = 0x8000, OWN_PRIVATE = 0x80, OWN_CREATE = 0x100, OWN_TRUNCATE = 0x200, OWN_EXCLUSIVE = 0x400, OWN_APPEND = 0x8 };
-enum { REGULAR = 0100000, FOLDER = 0040000, READABLE = 0444 }; // modes of Linux
+enum { REGULAR = 0100000, FOLDER = 0040000, CHARACTERS = 0020000, READABLE = 0444 }; // modes of Linux
 
 static const char *const standard_paths[] = {"/dev/stdin", "/dev/stdout", "/dev/stderr"};
 enum { STANDARD_FILES = 3 };
@@ -122,6 +122,12 @@ int64_t lseek(int32_t file, int64_t offset, int32_t whence)
     return _lseeki64(file, offset, whence);
 }
 
+int32_t ftruncate(int32_t file, int64_t size)
+{
+    errno = _chsize_s(file, size);
+    return errno ? -1 : 0;
+}
+
 struct statx {
     uint32_t mask, block_size;
     uint64_t attributes;
@@ -133,12 +139,19 @@ struct statx {
 };
 _Static_assert(sizeof(struct statx) == 256, "a struct statx of Linux has 256 bytes");
 
-static int describe(HANDLE handle, struct statx *found)
+// Describes an open file, and returns whether it could. Pipes and consoles are devices, each standard file with a number, other devices with 0.
+static int describe(HANDLE handle, int standard, struct statx *found)
 {
+    found->mask = 0x7ff; // the numbers of POSIX's stat
+    if (GetFileType(handle) != FILE_TYPE_DISK) {
+        found->mode = READABLE | CHARACTERS;
+        found->number = (uint64_t)standard + 1;
+        found->device_minor = UINT32_MAX;
+        return 1;
+    }
     BY_HANDLE_FILE_INFORMATION about;
     if (!GetFileInformationByHandle(handle, &about))
         return 0;
-    found->mask = 0x7ff; // the numbers of POSIX's stat
     found->links = about.nNumberOfLinks;
     found->mode = READABLE | (about.dwFileAttributes & FILE_ATTRIBUTE_DIRECTORY ? FOLDER : REGULAR);
     found->number = (uint64_t)about.nFileIndexHigh << 32 | about.nFileIndexLow;
@@ -160,7 +173,7 @@ int32_t statx(int32_t folder, const char *path, int32_t flags, uint32_t mask, st
     errno = ENOENT;
     if (handle == INVALID_HANDLE_VALUE)
         return -1;
-    int described = describe(handle, found);
+    int described = describe(handle, file, found);
     if (file < 0)
         CloseHandle(handle);
     return described ? 0 : -1;

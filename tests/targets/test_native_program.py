@@ -47,8 +47,8 @@ def test_module_without_target_is_refused(line: int, name: str) -> None:
 
 def test_module_of_temporary_file_has_no_name_of_it() -> None:
     """So the same sources give the same text, whose SHA-256 PROVENANCE records."""
-    lines = ["; ModuleID = '/tmp/tmp4f0x/made.bc'\n", *MODULE[:3]]
-    assert list(UNPROVED.without_checks(lines, {})) == MODULE[:3]
+    text = "".join(MODULE[:3])
+    assert UNPROVED.without_checks(f"; ModuleID = '/tmp/tmp4f0x/made.bc'\n{text}", {}) == text
 
 
 @pytest.mark.parametrize(
