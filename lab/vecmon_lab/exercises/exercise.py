@@ -2,9 +2,8 @@
 
 import pathlib
 import struct
-import tomllib
 from collections import Counter
-from collections.abc import Mapping, Sequence
+from collections.abc import Iterator, Mapping, Sequence
 from dataclasses import dataclass, replace
 from difflib import get_close_matches
 from types import SimpleNamespace
@@ -13,11 +12,14 @@ from .. import LabError, mistakes_in
 from ..guest.guest import IMAGE_BYTES
 from ..instructions.table import REGISTERS
 from ..tables.table import read_table
-from .named_files import FILES, SOURCE_BYTES, TOML_BYTES, KeyPlace, check_source, check_text, named_file
+from .named_files import FILES, SOURCE_BYTES, KeyPlace, check_source, check_text, named_file
+from .toml_file import read_toml, shown
 
 OURS = pathlib.Path(__file__).with_name("given")
 UNLIMITED = 1 << 63
 PLACE_BYTES = 1 << 20  # all that a user's pages have
+MAX_CASES, CASES_BYTES = 1_000, 16 << 20  # of an exercise; and of the places of all cases together
+MAX_TICKS = 100_000_000  # of a case, and of its instructions where they are limited: some seconds
 ADDRESSES = 0x10000  # a register with so much in it may have an address
 
 _NAMES = {bool: "true or false", int: "a number", str: "a text", list: "a list", dict: "a table"}
@@ -102,17 +104,19 @@ def read_exercise(folder: pathlib.Path) -> Exercise:
     path = _home(folder) / "exercise.toml"
     if not path.is_file():
         raise _not_found(folder)
-    toml, entries = _entries(path)
+    toml, entries = read_toml(path)
     texts = dict.fromkeys(["text", *FILES], "") | {"title": path.parent.name}
     table = _taken(str(path), entries, {**texts, "limits": {}, "hints": [], "set_up": [], "junk": False, "cases": []})
     limits = Limits(**vars(_taken(f"{path}: limits", table.limits, vars(Limits()))))
     by_reference = bool(table.reference)
-    cases = [_case(f"{path}: case {number}", each, by_reference) for number, each in enumerate(table.cases, 1)]
+    cases = list(_cases(path, table.cases, by_reference))
     twice = [name for name, count in Counter(case.name for case in cases).items() if count > 1]
     mistakes = {
         "there is no case: [[cases]] begins one": not cases,
-        f"two cases are called {' and '.join(twice)}": twice,
+        f"two cases are called {shown(' and '.join(twice))}": twice,
         "limits: each is from 1 up": min(vars(limits).values()) < 1,
+        f"limits: ticks are {MAX_TICKS:,} at most": limits.ticks > MAX_TICKS,
+        f"limits: instructions are {MAX_TICKS:,} at most": MAX_TICKS < limits.instructions != UNLIMITED,
         "set_up is a list of texts, which are lines of the monitor": {*map(type, table.set_up)} - {str},
         "hints is a list of texts": {*map(type, table.hints)} - {str},
     }
@@ -123,15 +127,6 @@ def read_exercise(folder: pathlib.Path) -> Exercise:
     files = _files(path, toml, {key: getattr(table, key) for key in FILES if getattr(table, key)})
     about = (table.title, table.text, table.hints, table.set_up, table.junk)
     return Exercise(path.parent, *about, limits, cases, files)
-
-
-def _entries(path: pathlib.Path) -> tuple[str, dict[str, object]]:
-    """The text of a TOML file, and its top table. Raises LabError and OSError."""
-    if (size := path.stat().st_size) > TOML_BYTES:
-        raise LabError(f"{path} has {size:,} bytes, and {TOML_BYTES:,} is the maximum")
-    with mistakes_in(path, tomllib.TOMLDecodeError, UnicodeDecodeError):
-        toml = path.read_text("utf-8")
-        return toml, tomllib.loads(toml)
 
 
 def _check_texts(path: pathlib.Path, toml: str, table: SimpleNamespace) -> None:
@@ -179,11 +174,24 @@ def _taken(where: str, entries: object, defaults: Mapping[str, object]) -> Simpl
         raise LabError(f"{where} isn't a table")
     for key, value in entries.items():
         if key not in defaults:
-            raise LabError(f"{where}: there is nothing that is called {key}")
+            raise LabError(f"{where}: there is nothing that is called {shown(key)}")
         kind = type(defaults[key])
         if type(value) is not kind:  # a bool is no number here
             raise LabError(f"{where}: {key} isn't {_NAMES[kind]}")
     return SimpleNamespace(**defaults | entries)
+
+
+def _cases(path: pathlib.Path, entries: Sequence[object], by_reference: bool) -> Iterator[Case]:
+    """The cases of an exercise. Raises LabError."""
+    if len(entries) > MAX_CASES:
+        raise LabError(f"{path}: there are {len(entries):,} cases, and {MAX_CASES:,} is the maximum")
+    size = 0
+    for number, each in enumerate(entries, 1):
+        case = _case(f"{path}: case {number}", each, by_reference)
+        size += sum(len(place.data) for place in (*case.memory, *case.expected.memory))
+        if size > CASES_BYTES:
+            raise LabError(f"{path}: case {number}: places of the cases have more than {CASES_BYTES:,} bytes together")
+        yield case
 
 
 def _case(where: str, entries: object, by_reference: bool) -> Case:
@@ -196,14 +204,14 @@ def _case(where: str, entries: object, by_reference: bool) -> Case:
     if "output" in table.expected:
         output = b"" if by_reference else expected.output.encode()
     asked = dict.fromkeys(map(str, expected.registers), 0) if by_reference else expected.registers
-    places = [_place(where, each, by_reference) for each in expected.memory]
+    places = _places(where, expected.memory, by_reference)
     if table.policy not in ("keep", "ones"):
-        raise LabError(f"{where}: policy is keep or ones, and not {table.policy}")
+        raise LabError(f"{where}: policy is keep or ones, and not {shown(table.policy)}")
     if not (asked or places or output is not None):
         raise LabError(f"{where}: nothing is expected: expected has registers, memory or output")
     with mistakes_in(f"{where}: name"):
         check_text(table.name)
-    memory = [_place(where, each, False) for each in table.memory]
+    memory = _places(where, table.memory, False)
     expectation = Results(_registers(where, asked), places, output)
     return Case(table.name, table.hidden, table.policy, _registers(where, table.registers), memory, expectation)
 
@@ -213,11 +221,22 @@ def _registers(where: str, named: Mapping[str, object]) -> dict[str, int]:
     values = {}
     for name, value in named.items():
         if _REGISTERS.get(name, "x0") == "x0":
-            raise LabError(f"{where}: {name} is no register that can be set, which are ra to t6 or x1 to x31")
+            raise LabError(f"{where}: {shown(name)} is no register that can be set, which are ra to t6 or x1 to x31")
         if not isinstance(value, int) or isinstance(value, bool) or not -(1 << 63) <= value < 1 << 64:
-            raise LabError(f"{where}: {name} is {value}, which is no whole number of 64 bits")
+            raise LabError(f"{where}: {name} is {shown(value)}, which is no whole number of 64 bits")
         values[_REGISTERS[name]] = value % (1 << 64)
     return values
+
+
+def _places(where: str, entries: Sequence[object], by_reference: bool) -> list[Numbers]:
+    """The places of a case that are given, or expected: together they fit into a user's pages. Raises LabError."""
+    places, size = list[Numbers](), 0
+    for each in entries:
+        places.append(_place(where, each, by_reference))
+        size += len(places[-1].data)
+        if size > PLACE_BYTES:
+            raise LabError(f"{where}: its places have more than {PLACE_BYTES:,} bytes together")
+    return places
 
 
 def _place(where: str, entries: object, by_reference: bool) -> Numbers:
@@ -226,9 +245,9 @@ def _place(where: str, entries: object, by_reference: bool) -> Numbers:
         case {"at": int(address), **others} if 0 <= address < 1 << 48:
             place = Numbers(address, *_numbers(f"{where}: the place at {address:#x}", others, by_reference))
         case {"at": address}:
-            raise LabError(f"{where}: {address} is no address of a place in memory, which is below 2^48")
+            raise LabError(f"{where}: {shown(address)} is no address of a place in memory, which is below 2^48")
         case _:
-            raise LabError(f"{where}: a place in memory is a table with `at`, its address, and not {entries}")
+            raise LabError(f"{where}: a place in memory is a table with `at`, its address, and not {shown(entries)}")
     size = len(place.data)
     if not 0 < size <= PLACE_BYTES:
         raise LabError(f"{where}: a place has 1 to {PLACE_BYTES:,} bytes, and the one at {address:#x} {size:,}")
@@ -250,7 +269,7 @@ def _numbers(where: str, entries: Mapping[object, object], by_reference: bool) -
             ]
             if not invalid:
                 return kind, numbers
-            raise LabError(f"{where}: {invalid[0]} is no {kind}")
+            raise LabError(f"{where}: {shown(invalid[0])} is no {kind}")
     form = "how many numbers there are" if by_reference else "a text, or a list of numbers"
-    listed = ", ".join(f"{key} = {value}" for key, value in entries.items()) or "nothing"
-    raise LabError(f"{where} has {form}, by their type, i8 to u64, and not {listed}")
+    listed = ", ".join(f"{key} = {shown(value)}" for key, value in entries.items()) or "nothing"
+    raise LabError(f"{where} has {form}, by their type, i8 to u64, and not {shown(listed)}")

@@ -9,7 +9,6 @@ from dataclasses import dataclass
 from .. import LabError
 from ..guest.guest import IMAGE_BYTES
 
-TOML_BYTES = 1 << 20
 SOURCE_BYTES = 1 << 16  # of a source that students get; a class takes no longer one back
 FILES = {
     "reference": IMAGE_BYTES,
