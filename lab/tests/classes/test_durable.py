@@ -3,6 +3,7 @@
 import os
 import pathlib
 import time
+from binascii import crc32
 from collections.abc import Iterator
 from typing import Any
 
@@ -192,7 +193,24 @@ def test_damaged_journal_is_reported(tmp_path: pathlib.Path) -> None:
     (tmp_path / "journal.1").write_bytes(one + two.replace(b"text", b"tent") + three)
     sentence = f"journal.1 is damaged behind byte {len(one)}: changes of the last minute may be lost"
     assert journal.recover(tmp_path) == [sentence]
-    assert [path.name for path in tmp_path.iterdir()] == ["A1.s"]
+    assert sorted(path.name for path in tmp_path.iterdir()) == ["A1.s", "journal.1.damaged"]
+
+
+@pytest.mark.parametrize(
+    "text",
+    [b"[1]", b"null", b"{", b'{"A2.s": 1}', b'{"A2.s": {"text": "new"}}', b'{"\xff": "x"}', b'{"a\\u0000b": "x"}']
+    + [b"[" * 100_000, b'{"A2.s": "\\ud800"}', b'{"\\ud800": "x"}', b'{"A2.s": ' + b"9" * 5_000 + b"}"],
+    ids=[*map(str, range(11))],
+)
+def test_record_of_another_form_is_set_aside(tmp_path: pathlib.Path, text: bytes) -> None:
+    """As a later version may write it: its length and its sum are right, and it is the last one."""
+    before = journal.record_of({"A1.s": b"text"})
+    data = before + b"%08x %08x\n%s\n" % (len(text), crc32(text), text)
+    (tmp_path / "journal.1").write_bytes(data)
+    sentence = f"journal.1 is damaged behind byte {len(before)}: changes of the last minute may be lost"
+    assert journal.recover(tmp_path) == [sentence]
+    assert (tmp_path / "A1.s").read_bytes() == b"text" and (tmp_path / "journal.1.damaged").read_bytes() == data
+    assert sorted(path.name for path in tmp_path.iterdir()) == ["A1.s", "journal.1.damaged"]
 
 
 def test_thread_flushes_files(tmp_path: pathlib.Path) -> None:

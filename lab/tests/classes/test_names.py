@@ -121,14 +121,15 @@ async def test_name_is_sent_to_seat_and_teacher_only(tmp_path: pathlib.Path) -> 
 
 @pytest.mark.asyncio
 async def test_class_deletes_names(tmp_path: pathlib.Path) -> None:
-    """Also what a full disk has left half done; the rest of the folder stays."""
+    """Also what a full disk has left half done, and damaged files that were set aside; the rest of the folder stays."""
     folder = tmp_path / "class"
     with pytest.raises(BadFolder, match="has no class"):
         forget(folder, "names.json")
     async with served(folder) as room:
         await (await room.sit("A3")).ask("name", name="Ada")
     before = {path.name for path in folder.iterdir()}
-    (folder / "names.json.new").write_text("Ada")
+    for left in ("names.json.new", "names.json.damaged", "names.json.damaged-2", "journal.1.damaged"):
+        (folder / left).write_text("Ada")
     for _ in range(2):
         assert run(arguments_of(["class", "--forget", str(folder)])) == 0
     assert {path.name for path in folder.iterdir()} == before - {"names.json"}

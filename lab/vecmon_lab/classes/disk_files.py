@@ -3,6 +3,8 @@
 import os
 import pathlib
 
+MAX_ASIDE = 10_000  # copies of a damaged file
+
 
 def replace_file(path: pathlib.Path, data: bytes) -> None:
     """Replaces a file, whose data is on the disk before it has its name; flush the folder behind. Raises OSError."""
@@ -38,3 +40,15 @@ def sync_folder(folder: pathlib.Path) -> None:
         os.fsync(file)
     finally:
         os.close(file)
+
+
+def aside_of(path: pathlib.Path) -> pathlib.Path:
+    """The path that a damaged file gets, or its copy: none is there yet."""
+    numbers = ("", *(f"-{number}" for number in range(2, MAX_ASIDE)))
+    names = (path.with_name(f"{path.name}.damaged{number}") for number in numbers)
+    return next(each for each in names if not each.exists())
+
+
+def asides_of(path: pathlib.Path) -> list[pathlib.Path]:
+    """The copies of a damaged file that were set aside."""
+    return sorted(path.parent.glob(f"{path.name}.damaged*"))

@@ -17,7 +17,7 @@ from binascii import crc32
 from collections.abc import Iterator, Mapping
 from dataclasses import dataclass, field
 
-from .disk_files import make_folder, replace_file, sync_folder, write_all
+from .disk_files import aside_of, make_folder, replace_file, sync_folder, write_all
 
 JOURNAL = re.compile(r"journal\.([1-9][0-9]{0,8})")
 HEADER_BYTES = 18
@@ -111,17 +111,37 @@ def record_of(changes: Changes) -> bytes:
 
 
 def records(data: bytes) -> Iterator[tuple[int, Changes]]:
-    """The records of a journal, each with the number of bytes up to its end; up to one that is torn or damaged."""
+    """The records of a journal, each with the number of bytes up to its end; up to one that is torn, damaged or of another form."""
     place = 0
-    while header := re.match(rb"([0-9a-f]{8}) ([0-9a-f]{8})\n", data[place : place + HEADER_BYTES]):
-        start, size = place + HEADER_BYTES, int(header[1], 16)
-        text, place = data[start : start + size], start + size + 1
-        if len(text) < size or data[place - 1 : place] != b"\n" or crc32(text) != int(header[2], 16):
-            return
-        yield place, {
+    while (text := _text_at(data, place)) is not None and (changes := _changes_of(text)) is not None:
+        place += HEADER_BYTES + len(text) + 1
+        yield place, changes
+
+
+def _text_at(data: bytes, place: int) -> bytes | None:
+    """The text of the record at a place of a journal; None if there is none, or if it is torn or damaged."""
+    header = re.match(rb"([0-9a-f]{8}) ([0-9a-f]{8})\n", data[place : place + HEADER_BYTES])
+    if header is None:
+        return None
+    end = place + HEADER_BYTES + int(header[1], 16)
+    text = data[place + HEADER_BYTES : end]
+    return text if data[end : end + 1] == b"\n" and crc32(text) == int(header[2], 16) else None
+
+
+def _changes_of(text: bytes) -> Changes | None:
+    """The changes of a record's text; None for a text of another form, as a later version may write."""
+    try:
+        values = json.loads(text)
+        if not isinstance(values, dict) or not all(isinstance(value, str | None) for value in values.values()):
+            return None
+        if any(b"\0" in os.fsencode(name) for name in values):
+            return None
+        return {
             name: None if content is None else content.encode("utf-8", "surrogateescape")
-            for name, content in json.loads(text).items()
+            for name, content in values.items()
         }
+    except (ValueError, RecursionError):
+        return None
 
 
 def journals(folder: pathlib.Path) -> list[pathlib.Path]:
@@ -130,21 +150,24 @@ def journals(folder: pathlib.Path) -> list[pathlib.Path]:
     return sorted(found, key=lambda path: int(path.name.partition(".")[2]))
 
 
-def journaled(folder: pathlib.Path) -> tuple[dict[str, bytes | None], list[str]]:
-    """The last contents by name that the journals of a folder have, and sentences on what is lost of them. Raises OSError."""
-    changes, lost = dict[str, bytes | None](), list[str]()
+def journaled(folder: pathlib.Path) -> tuple[dict[str, bytes | None], dict[pathlib.Path, str]]:
+    """The last contents by name that the journals of a folder have, and by journal a sentence on its damage. Raises OSError."""
+    changes, damaged = dict[str, bytes | None](), dict[pathlib.Path, str]()
     for path in journals(folder):
         data, end = path.read_bytes(), 0
         for end, record in records(data):
             changes |= {name: content for name, content in record.items() if _is_inside(name)}
-        if _has_later_record(data[end:]):
-            lost.append(f"{path.name} is damaged behind byte {end:,}: changes of the last minute may be lost")
-    return changes, lost
+        if _text_at(data, end) is not None or _has_later_record(data[end:]):
+            damaged[path] = f"{path.name} is damaged behind byte {end:,}: changes of the last minute may be lost"
+    return changes, damaged
 
 
 def recover(folder: pathlib.Path) -> list[str]:
-    """Bring files to the state of the journals, which end then; return sentences on what is lost. Raises OSError."""
-    changes, lost = journaled(folder)
+    """Bring files to the state of the journals, which end then, and set damaged ones aside.
+
+    Returns sentences on what is lost. Raises OSError.
+    """
+    changes, damaged = journaled(folder)
     for name, data in changes.items():
         if data is not None:
             replace_file(folder / name, data)
@@ -154,9 +177,12 @@ def recover(folder: pathlib.Path) -> list[str]:
         if parent.is_dir():
             sync_folder(parent)
     for path in journals(folder):
-        os.unlink(path)
+        if path in damaged:
+            os.replace(path, aside_of(path))
+        else:
+            os.unlink(path)
         sync_folder(folder)
-    return lost
+    return [*damaged.values()]
 
 
 def put_file(path: pathlib.Path, data: bytes) -> None:

@@ -30,7 +30,7 @@ from .. import LabError
 from ..machine.program import digest_of
 from ..machine.session import BadLine, Block, OutOfStep, Session, recorded_lines
 from .codes import LETTERS, TEACHER, Codes, new_code
-from .disk_files import replace_file, sync_folder
+from .disk_files import aside_of, asides_of, replace_file, sync_folder
 from .durable import Flusher
 from .journal import JOURNAL, journaled, journals, recover
 from .stored_files import SCRIPT_NAME, Facts, Notes, codes
@@ -42,7 +42,6 @@ class BadFolder(LabError):
 
 Kept = TypeVar("Kept")
 SHOWN = 5  # sentences on damaged files that pages show
-MAX_ASIDE = 10_000  # copies of a damaged file
 NEWLINE = b"\n"
 
 
@@ -442,13 +441,13 @@ class Store:
         """Renames a damaged file, or copies it; how that is reported. A class that is only read stays as it is."""
         if self._is_reading:
             return ""
-        names = (f"{name}.damaged{number}" for number in ("", *(f"-{number}" for number in range(2, MAX_ASIDE))))
-        aside = next(each for each in names if not (self.folder / each).exists())
+        path = aside_of(self.folder / name)
+        aside = path.relative_to(self.folder).as_posix()
         if copied is None:
-            os.replace(self.folder / name, self.folder / aside)
+            os.replace(self.folder / name, path)
         else:
-            replace_file(self.folder / aside, copied)
-        sync_folder((self.folder / name).parent)
+            replace_file(path, copied)
+        sync_folder(path.parent)
         return f", and is now {aside}" if copied is None else f", and {aside} is a copy of it"
 
     def _lines(self, machine: str, number: int) -> list[bytes]:
@@ -536,8 +535,9 @@ def forget(folder: pathlib.Path, name: str) -> None:
         raise BadFolder(f"{folder} has no class")
     lock = _locked(folder)
     recover(folder)
-    for each in (name, f"{name}.new"):
-        (folder / each).unlink(missing_ok=True)
+    copies = [*asides_of(folder / name), *folder.glob("journal.*.damaged*")]  # a journal may have the name's file
+    for each in (folder / name, folder / f"{name}.new", *copies):
+        each.unlink(missing_ok=True)
     sync_folder(folder)
     os.close(lock)
 
