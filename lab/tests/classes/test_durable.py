@@ -50,6 +50,8 @@ class Recorded:
 class Appended:
     """A file that was appended to."""
 
+    notes = "A.json"
+
     def __init__(self, calls: list[str]) -> None:
         self.calls, self.fails = calls, False
 
@@ -226,3 +228,45 @@ def test_thread_flushes_files(tmp_path: pathlib.Path) -> None:
     (tmp_path / "folder").unlink()
     flusher.end()
     assert not flusher.failures and (tmp_path / "folder" / "file").exists()
+
+
+def test_moved_folder_is_left_alone(tmp_path: pathlib.Path, recorded: Recorded) -> None:
+    """Another folder by the same path, as of a new class, isn't written; all is saved once the folder is back."""
+    folder = tmp_path / "class"
+    folder.mkdir()
+    flusher = Flusher(folder)
+    flusher.replace("A.json", b"first")
+    flusher.flush()
+    folder.rename(tmp_path / "elsewhere")
+    sentence = "A.json isn't saved: the class's folder was moved or removed"
+    for is_there in (False, True):
+        if is_there:
+            folder.mkdir()
+            (folder / "journal.1").write_bytes(b"another class's")
+        flusher.replace("A.json", b"second")
+        flusher.flush()
+        assert flusher.failures == {"A.json": sentence} and flusher.unsaved() == [sentence]
+        with pytest.raises(OSError, match="was moved or removed"):
+            flusher.shorten()
+        assert folder.exists() == is_there
+    assert [path.name for path in folder.iterdir()] == ["journal.1"]
+    (folder / "journal.1").unlink()
+    folder.rmdir()
+    (tmp_path / "elsewhere").rename(folder)
+    flusher.end()
+    assert flusher.unsaved() == [] and (folder / "A.json").read_bytes() == b"second"
+    assert [path.name for path in folder.iterdir()] == ["A.json"]
+
+
+def test_failing_script_delays_its_notes_alone(tmp_path: pathlib.Path, recorded: Recorded) -> None:
+    flusher, script = Flusher(tmp_path), Appended(recorded.calls)
+    script.fails = True
+    flusher.flush_soon(script)
+    for name in ("A.json", "B.json", "B1.s"):
+        flusher.replace(name, b"text")
+    flusher.flush()
+    assert sorted(path.name for path in tmp_path.glob("*.*")) == ["B.json", "B1.s", "journal.1"]
+    assert flusher.unsaved() == ["A.json isn't saved"]
+    script.fails = False
+    flusher.end()
+    assert flusher.unsaved() == [] and sorted(path.name for path in tmp_path.iterdir()) == ["A.json", "B.json", "B1.s"]

@@ -15,6 +15,8 @@ import pytest
 from support.class_tabs import LOOP, SECONDS, served
 from support.places import SUM
 from vecmon_lab.__main__ import main
+from vecmon_lab.classes import durable
+from vecmon_lab.classes import server as class_server
 from vecmon_lab.classes.folder_report import folder_report
 from vecmon_lab.classes.stored_files import attempt
 from vecmon_lab.classes.store import BadFolder, ScriptFile, Store
@@ -63,8 +65,37 @@ def test_changed_image_or_quantum_is_refused(store: Store, program: pathlib.Path
 def test_second_server_is_refused(store: Store, program: pathlib.Path) -> None:
     with pytest.raises(BadFolder, match="served by another server"):
         Store(store.folder, program)
+    (store.folder / "lock").unlink()  # by somebody who tidies up
+    with pytest.raises(BadFolder, match="served by another server"):
+        Store(store.folder, program)
     store.close()
     Store(store.folder, program).close()
+
+
+def test_unsaved_files_are_reported_at_the_end(
+    tmp_path: pathlib.Path, program: pathlib.Path, monkeypatch: pytest.MonkeyPatch, capsys: pytest.CaptureFixture[str]
+) -> None:
+    """A disk that stays full: the command names what is lost, and its status is 2."""
+
+    def refuse(*_: object) -> None:
+        raise OSError(28, "No space left on device")
+
+    async def serve(members: Class, _: str, listeners: list[socket.socket], *__: object, **___: object) -> None:
+        for listener in listeners:
+            listener.close()
+        monkeypatch.setattr(durable.Journal, "append", refuse)
+        monkeypatch.setattr(durable, "replace_file", refuse)
+        members.set_name("A1", "Ada")
+        members.save()
+        members.end()
+
+    monkeypatch.setattr(class_server, "serve", serve)
+    monkeypatch.setattr(sys, "argv", ["vecmon-lab", "class", str(tmp_path / "class"), "--port", "0"])
+    assert main() == 2
+    output, errors = capsys.readouterr()
+    assert output == "" and errors.count("\n") == 1
+    assert errors.startswith("vecmon-lab: the class has ended, and a part of it is lost: ")
+    assert "names.json isn't saved: No space left on device" in errors
 
 
 def test_folder_without_class_is_refused(tmp_path: pathlib.Path, program: pathlib.Path) -> None:

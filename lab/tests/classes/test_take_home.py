@@ -13,7 +13,7 @@ import pytest
 from support.class_tabs import served
 from support.places import SUM
 from vecmon_lab.classes import room as class_room
-from vecmon_lab.classes.take_home import MAX_FRAMES, steps_of
+from vecmon_lab.classes.take_home import MAX_FRAMES, steps_of, zipped
 from vecmon_lab.machine.program import find_program
 
 SOURCE = (
@@ -65,3 +65,11 @@ def test_lesson_frames_are_limited() -> None:
     assert [line for step in steps for line in step.lines] == lines
     assert len(steps) + 2 * 98 == MAX_FRAMES and steps[1].lines == ["3 step 1"] and len(steps[-4].lines) == 902
     assert len(steps_of(lines[:300])) == 300 and steps_of([]) == []
+
+
+@pytest.mark.parametrize("seconds, date", [(0.0, (1980, 1, 1, 0, 0, 0)), (5e9, (2107, 12, 31, 23, 59, 58))])
+def test_archive_is_made_whatever_the_clock_says(seconds: float, date: tuple[int, ...]) -> None:
+    """A computer without a battery starts in 1970."""
+    packed = zipfile.ZipFile(io.BytesIO(zipped({"A3/A3.s": "nop", "A3/sum.elf": b"\x7fELF"}, seconds)))
+    assert [(each.filename, each.date_time) for each in packed.infolist()] == [("A3/A3.s", date), ("A3/sum.elf", date)]
+    assert packed.testzip() is None and packed.read("A3/A3.s") == b"nop"

@@ -18,7 +18,7 @@ from .codes import LETTERS
 from .folder_report import folder_report
 from .machine_thread import rebuilding
 from .names import NAMES
-from .store import Store, forget, renew_teacher
+from .store import SHOWN, Store, forget, renew_teacher
 from .view import Class
 
 MAX_TITLE = 80
@@ -124,7 +124,7 @@ def run(arguments: argparse.Namespace) -> int:
 
 
 def _serve(arguments: argparse.Namespace) -> None:
-    """Serves a class until SIGINT or SIGTERM. Raises as `run` does."""
+    """Serves a class until SIGINT or SIGTERM. Raises as `run` does, and LabError if the disk doesn't take all at the end."""
     from .server import listening, serve  # these need aiohttp; --help doesn't
     from .tls import key_warning, tls_context
 
@@ -156,6 +156,9 @@ def _serve(arguments: argparse.Namespace) -> None:
     members.class_title = members.class_title if arguments.title is None else arguments.title
     hosts = {*arguments.name, urlsplit(members.address).hostname or host}
     asyncio.run(serve(members, host, listeners, hosts, tls=tls))
+    if unsaved := members.unsaved():
+        more = f"; and {len(unsaved) - SHOWN} more" if len(unsaved) > SHOWN else ""
+        raise LabError(f"the class has ended, and a part of it is lost: {'; '.join(unsaved[:SHOWN])}{more}")
 
 
 def _address(text: str) -> str:

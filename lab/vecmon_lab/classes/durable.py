@@ -6,6 +6,7 @@ aren't on the disk. After that it replaces and removes files. Another thread flu
 """
 
 import contextlib
+import errno
 import os
 import pathlib
 import threading
@@ -20,7 +21,9 @@ RETRY_SECONDS = 1.0  # after a batch that failed in part
 
 
 class Appended(Protocol):
-    """A file that lines are appended to."""
+    """A file that lines are appended to. notes: the name of the file that counts them, and waits for them"""
+
+    notes: str
 
     def sync(self) -> None:
         """Flushes to the disk all that was appended. Raises OSError."""
@@ -34,7 +37,7 @@ class Flusher:
 
     def __init__(self, folder: pathlib.Path) -> None:
         self.failures: dict[str, str] = {}
-        self._folder = folder
+        self._folder, self._identity = folder, _identity_of(folder)
         self._waiting: dict[str, bytes | None] = {}  # None for a file that will be removed
         self._appended: set[Appended] = set()
         self._journal = Journal(folder)
@@ -81,14 +84,13 @@ class Flusher:
             with self._lock:
                 waiting, appended = dict(self._waiting), self._appended
                 self._appended = set()
-            try:
-                while appended:
-                    next(iter(appended)).sync()
-                    appended.pop()
-            except OSError:  # which the file reports; notes that count its lines wait
-                with self._lock:
-                    self._appended |= appended
-                return
+            for file in appended:
+                try:
+                    file.sync()
+                except OSError:  # which the file reports; notes that count its lines wait
+                    waiting.pop(file.notes, None)
+                    with self._lock:
+                        self._appended.add(file)
             if waiting:
                 self._save(waiting)
             with self._lock:
@@ -102,9 +104,17 @@ class Flusher:
             self._journal.switch()
             generations = list(self._journal.generations)
         for generation in generations:
+            self._check_folder()
             self._journal.flush_files(generation)
             with self._turn:
+                self._check_folder()
                 self._journal.drop(generation)
+
+    def unsaved(self) -> list[str]:
+        """Sentences on files whose contents aren't saved."""
+        with self._lock:
+            names = [name for name, data in self._waiting.items() if data is not None]
+        return [self.failures.get(name, f"{name} isn't saved") for name in names]
 
     def end(self) -> None:
         """Flushes, and ends the threads. A journal is left where the disk takes no more."""
@@ -117,6 +127,11 @@ class Flusher:
         with contextlib.suppress(OSError):
             self.shorten()
 
+    def _check_folder(self) -> None:
+        """Raise OSError if another folder has the path now, or none: files by that path aren't the class's."""
+        if _identity_of(self._folder) != self._identity:
+            raise FileNotFoundError(errno.ENOENT, "the class's folder was moved or removed")
+
     def _put(self, name: str, data: bytes | None) -> None:
         with self._lock:
             self._waiting.pop(name, None)
@@ -125,6 +140,11 @@ class Flusher:
 
     def _save(self, changes: Changes) -> None:
         """Bring changes to the disk by a record of the journal, or each by itself if there is no room for the record."""
+        try:
+            self._check_folder()
+        except OSError as error:
+            self.failures |= {name: f"{name} isn't saved: {error.strerror}" for name in changes}
+            return
         try:
             self._journal.append(changes)
         except OSError:
@@ -205,3 +225,12 @@ class Flusher:
             with self._lock:
                 if self._waiting or self._appended:
                     self._has_work.set()
+
+
+def _identity_of(folder: pathlib.Path) -> tuple[int, int] | None:
+    """The device and the number of a folder; None if there is none."""
+    try:
+        found = os.stat(folder)
+    except FileNotFoundError:
+        return None
+    return found.st_dev, found.st_ino

@@ -62,6 +62,7 @@ class ScriptFile:
     ) -> None:
         """Opens a machine's script of this number, and cuts off what no session recorded; `kept` has the lines before.
 
+        notes: the name of the file with the number of its lines
         flusher: calls `sync` after changes; without one nothing does but `close`
         new_program: the program, if another one answered the lines before
         """
@@ -72,6 +73,7 @@ class ScriptFile:
         self._file = os.open(path, os.O_RDWR | os.O_CREAT, 0o600)
         self.kept = recorded_lines(path.read_bytes())
         self._path, self._write_trouble, self._sync_trouble = path, "", ""
+        self.notes = f"{machine}.json"
         self._waiting = bytearray()
         self._saved = len(self.kept)
         os.ftruncate(self._file, self._saved)
@@ -217,7 +219,7 @@ class Store:
         folder.chmod(0o700)
         with contextlib.suppress(OSError):  # a folder above that may not be read
             sync_folder(folder.parent)
-        self._lock = _locked(folder)
+        self._locks = _locked(folder)
         self.lost += recover(folder)
         self._flusher = Flusher(folder)
         try:
@@ -258,7 +260,11 @@ class Store:
         """Brings to the disk what waits, and leaves the folder to others."""
         if self._flusher:
             self._flusher.end()
-            os.close(self._lock)
+            _unlock(self._locks)
+
+    def unsaved(self) -> list[str]:
+        """Sentences on files that aren't saved; after `close`, on those that are lost."""
+        return self._flusher.unsaved() if self._flusher else []
 
     def flush(self) -> None:
         """Brings to the disk now what waits, as far as the disk takes it; the caller waits for the disk."""
@@ -533,20 +539,20 @@ def forget(folder: pathlib.Path, name: str) -> None:
     """Deletes what a class that isn't served has kept by a name. Raises BadFolder."""
     if not (folder / "class.json").exists() and not journals(folder):
         raise BadFolder(f"{folder} has no class")
-    lock = _locked(folder)
+    locks = _locked(folder)
     recover(folder)
     copies = [*asides_of(folder / name), *folder.glob("journal.*.damaged*")]  # a journal may have the name's file
     for each in (folder / name, folder / f"{name}.new", *copies):
         each.unlink(missing_ok=True)
     sync_folder(folder)
-    os.close(lock)
+    _unlock(locks)
 
 
 def renew_teacher(folder: pathlib.Path) -> None:
     """Gives the teacher of a class that isn't served a new code; all others keep theirs. Raises BadFolder."""
     if not (folder / "class.json").exists() and not journals(folder):
         raise BadFolder(f"{folder} has no class")
-    lock = _locked(folder)
+    locks = _locked(folder)
     recover(folder)
     try:
         stored = codes(**json.loads((folder / "codes.json").read_bytes()))
@@ -557,18 +563,32 @@ def renew_teacher(folder: pathlib.Path) -> None:
     except (FileNotFoundError, TypeError, ValueError, RecursionError) as error:
         raise BadFolder(f"{folder}/codes.json is missing or damaged: the next start gives all new codes") from error
     finally:
-        os.close(lock)
+        _unlock(locks)
 
 
-def _locked(folder: pathlib.Path) -> int:
-    """The lock of a folder, which no other server has. Raises BadFolder."""
+def _locked(folder: pathlib.Path) -> list[int]:
+    """The locks of a folder, which no other server has: of its file `lock`, and of the folder, if that file is removed.
+
+    A network's file system may lock no folders. Raises BadFolder and OSError.
+    """
     lock = os.open(folder / "lock", os.O_RDWR | os.O_CREAT, 0o600)
-    try:
-        fcntl.flock(lock, fcntl.LOCK_EX | fcntl.LOCK_NB)
-    except BlockingIOError:
+    locks = [lock, os.open(folder, os.O_RDONLY | os.O_DIRECTORY)]
+    for file in locks:
+        try:
+            fcntl.flock(file, fcntl.LOCK_EX | fcntl.LOCK_NB)
+        except BlockingIOError:
+            _unlock(locks)
+            raise BadFolder(f"{folder} is served by another server") from None
+        except OSError:
+            if file == lock:
+                _unlock(locks)
+                raise
+    return locks
+
+
+def _unlock(locks: list[int]) -> None:
+    for lock in locks:
         os.close(lock)
-        raise BadFolder(f"{folder} is served by another server") from None
-    return lock
 
 
 def _is_of_class(name: str) -> bool:

@@ -6,8 +6,9 @@ import io
 import os
 import pathlib
 import sys
+import time
 import zipfile
-from collections.abc import Sequence
+from collections.abc import Mapping, Sequence
 from dataclasses import replace
 
 from .. import LabError
@@ -28,6 +29,7 @@ from .store import Store
 from .work_file import work_file
 
 MAX_FRAMES, MAX_ENTRIES = 500, 200  # of a lesson; and of a frame's log
+FIRST_DATE, LAST_DATE = (1980, 1, 1, 0, 0, 0), (2107, 12, 31, 23, 59, 58)  # of a ZIP archive
 
 
 def steps_of(lines: Sequence[str]) -> list[Step]:
@@ -62,10 +64,18 @@ def archive(store: Store, seat: str) -> bytes:
     if not files:
         raise LabError(f"nothing was done at seat {seat}")
     files["playground.json"] = work_file(store, seat, lines)
+    return zipped({f"{seat}/{name}": content for name, content in files.items()}, time.time())
+
+
+def zipped(files: Mapping[str, str | bytes], seconds: float) -> bytes:
+    """A ZIP archive of files by name, of a time in seconds since 1970. A clock that isn't set may say what no archive can have."""
+    date = time.localtime(seconds)[:6]
     data = io.BytesIO()
-    with zipfile.ZipFile(data, "w", zipfile.ZIP_DEFLATED) as packed:
+    with zipfile.ZipFile(data, "w") as packed:
         for name, content in files.items():
-            packed.writestr(f"{seat}/{name}", content)
+            entry = zipfile.ZipInfo(name, min(max(date, FIRST_DATE), LAST_DATE))
+            entry.external_attr = 0o600 << 16
+            packed.writestr(entry, content, zipfile.ZIP_DEFLATED)
     return data.getvalue()
 
 

@@ -95,6 +95,7 @@ class Class:
         self._stuck: Sequence[str] = ()  # seats whose students were stuck at the last save
         self.warning = ""  # why something isn't saved, as pages have it
         self._seat_warnings = dict[str, str]()  # the same by seat, of its own files
+        self._room_warnings = dict[str, str]()  # of the machines, by letter, as pages have them
         makers, self._packers, self._packing = WorkerPool(1), WorkerPool(2), set[str]()
         try:
             self.checks = Checks(store, exercises, self.tell, self.builds)
@@ -130,6 +131,12 @@ class Class:
             room.end()
         self.store.close()
 
+    def unsaved(self) -> list[str]:
+        """Sentences on what isn't saved; after `end`, on what is lost."""
+        files = {letter: room.scripts.file for letter, room in self.rooms.items()}
+        scripts = [f"machine {letter}: {file.warning}" for letter, file in files.items() if file.warning]
+        return [*scripts, *self.store.unsaved()]
+
     def save(self, with_counts: bool = True) -> None:
         """Save the changed notes of each script, and write scripts again where the disk was full.
 
@@ -141,9 +148,9 @@ class Class:
         for room in self.rooms.values():
             if room.is_busy():
                 continue
-            before = room.warning
             room.scripts.file.catch_up()
-            if room.warning != before:
+            if room.warning != self._room_warnings.get(room.letter, ""):
+                self._room_warnings[room.letter] = room.warning
                 self.tell(room.seats.names())
             notes = room.notes()
             if room.scripts.file.is_saved and self._are_due(room.letter, notes, with_counts):
