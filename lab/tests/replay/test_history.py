@@ -110,6 +110,23 @@ def test_search_does_not_pass_over_lines_that_write(played: Played) -> None:
     assert [x5(history, count) for count in (70, 80)] == [35, 40]
 
 
+def test_search_is_not_repeated_until_its_state_is_there(played: Played) -> None:
+    """As a page asks, in parts of half a million instructions: the search takes two million, and so does the state before the halt.
+
+    The halt is where a line of 256 steps ends, so the search ends there.
+    """
+    history = played.load("1", [*SUM[:2], "addi x7, x7, 1", "ebreak"], x6=1 << 20)
+    played.do("1 go", *["* slices 1000"] * 21)
+    assert history.count(never) == (1 << 21) + 1
+    history.run.saved.states.clear()
+    executed, halts, instant = history.run.executed, Halts(frozenset([0x10008])), None
+    while not instant:
+        parts = iter([False, False, False, True] * 2)
+        count = history.next_halt(0, halts, lambda: next(parts))
+        instant = history.at(count - 1, lambda: next(parts)) if count else None
+    assert instant.count == (1 << 21) - 1 and history.run.executed - executed < 5_000_000
+
+
 def test_user_history_finds_last_breakpoint(played: Played) -> None:
     """The branch is next after odd numbers of instructions, the addition after even ones, and the EBREAK is the present."""
     history = played.load("1", SUM, x6=5000)

@@ -103,6 +103,7 @@ class History(Generic[State]):
         self._work: Generator[None, None, object] | None = None
         self._wanted: object = None
         self._number = 0  # of the run that the work belongs to
+        self._found: tuple[object, int] | None = None  # the last halt that `next_halt` has found, with what it was for
 
     @property
     def end(self) -> int | None:
@@ -125,9 +126,15 @@ class History(Generic[State]):
     def next_halt(self, count: int, halts: Halts, is_due: IsDue) -> int | None:
         """Return the next number of instructions after one at which the program halts, or the end.
 
-        A breakpoint or a watched place halts before its instruction. None if it is due before. Raises as `at`.
+        A breakpoint or a watched place halts before its instruction. None if it is due before. The last number that was found is returned
+        again at once. Raises as `at`.
         """
-        return self._drive(("next", count, halts), partial(self._next_halt, count, halts), is_due)
+        if self._found and self._found[0] == (count, halts, self._run.number, self.end):
+            return self._found[1]
+        found = self._drive(("next", count, halts), partial(self._next_halt, count, halts), is_due)
+        if found is not None:
+            self._found = (count, halts, self._run.number, self.end), found
+        return found
 
     def last_halt(self, halts: Halts, is_due: IsDue) -> Found[State] | None:
         """Return the last state before the present that is at a breakpoint, or after an instruction that does what is watched for.
