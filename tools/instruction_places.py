@@ -1,7 +1,8 @@
-"""The places that name each instruction, for `tools/instructions.py`.
+"""The places by hand, or by other tools, that name each instruction, for `tools/instructions`.
 
-The names are those of the assembler's table, `crates/rv_model/src/assembler/mnemonics.rt`. `missing` lists the names that each place
-lacks, so that one run shows every place that a new instruction still needs (docs/ADDING.md, "An instruction").
+The names are those of the assembler's table, `crates/rv_model/src/assembler/mnemonics.rt`, which is written from the records. `missing`
+lists the names that each place lacks, so that one run shows every place that a new instruction still needs (docs/ADDING.md, "An
+instruction").
 """
 
 import lzma
@@ -10,7 +11,6 @@ from collections.abc import Iterable, Iterator, Set
 from itertools import chain
 from pathlib import Path
 
-from vecmon_lab.instructions.table import instruction_table
 from vecmon_lab.instructions.words import CONTROL_REGISTERS, OP_V, SYSTEM, VECTOR_ACCESSES, NoInstruction, decode
 from vecmon_lab.meanings.describe import examples
 from vecmon_lab.meanings.record import Record, records
@@ -80,10 +80,7 @@ def crate_places(encoded: dict[str, int]) -> Iterator[Place]:
     """The places in tests of crates."""
     without = {name for name in encoded if re.fullmatch(WITHOUT_KERNEL, name)}
     kernels = of_families(encoded, re.findall(r'"(v\w+)', text_of("crates/test_kernels/src/**/*.rt")))
-    yield "add it to the kernels of its family in crates/test_kernels/src", without | kernels
-    stepped = re.findall(r"^(\S+)", text_of("crates/test_faults/data/vector_instructions"), re.MULTILINE)
-    scalars = {name for name, word in encoded.items() if word & 0x7F not in (OP_V, *VECTOR_ACCESSES)}
-    yield "add it to crates/test_faults/data/vector_instructions", scalars | {*stepped}
+    yield "name the array of its kernel in crates/test_kernels/src by the record's key `test`", without | kernels
     spelled = re.findall(r"^[0-9a-f]{8} (\S+)", text_of("crates/test_assembler/data/spellings"), re.MULTILINE)
     yield "add words and texts to encodings and spellings in crates/test_assembler/data", {*spelled}
     rows = re.findall(r"^\| `([a-z][^ `]*)", text_of("crates/test_assembler/stdout"), re.MULTILINE)
@@ -91,21 +88,13 @@ def crate_places(encoded: dict[str, int]) -> Iterator[Place]:
 
 
 def table_places(encoded: dict[str, int]) -> Iterator[Place]:
-    """The tables of formulas, operations and records."""
-    rules = [re.compile(line.split(",", 1)[1]) for line in text_of("docs/instructions.csv").split()[1:]]
-    ruled = {name for name in encoded if sum(bool(it.fullmatch(name)) for it in rules) == 1}
-    yield "add it to one line of docs/instructions.csv", ruled
+    """The table of words, whose rows of other opcodes than those of the records are written by hand."""
     decoded = {name for name, word in encoded.items() if has_operation(word)}
-    yield "add its row to operations.txt or words.txt in lab/vecmon_lab/tables", decoded
-    recorded = {name for name in encoded if len(records_of(name, {"instruction"})) == 1}
-    yield "add its record to lab/vecmon_lab/tables/meanings", recorded
-    absent = {name for name in encoded if records_of(name, {"absent"})}
-    yield "remove it from lab/vecmon_lab/tables/meanings/absent.toml", encoded.keys() - absent
+    yield "add its row to words.txt in lab/vecmon_lab/tables", decoded
 
 
 def generated_places(encoded: dict[str, int]) -> Iterator[Place]:
     """The files that tools write from these tables, in the order of the tools."""
-    yield "run tools/pages, which adds it to lab/vecmon_lab/tables/instructions.txt", {*instruction_table()}
     shown = {name for name in encoded if any(it.name in examples() for it in records_of(name, {"instruction"}))}
     yield (
         "run `python3 -m support.meaning_examples` in lab, which adds its family to the table instruction_examples.txt",
@@ -115,12 +104,9 @@ def generated_places(encoded: dict[str, int]) -> Iterator[Place]:
     yield "run `.venv/bin/python lab/tools/stock_records.py`, which adds it to lab/tests/data/stock", {*stock}
 
 
-def other_places(encoded: dict[str, int]) -> Iterator[Place]:
-    """The golden vectors and docs/COMMANDS.md."""
+def other_places(_encoded: dict[str, int]) -> Iterator[Place]:
+    """The golden vectors."""
     yield "add results of another machine to lab/tests/data/golden_vectors", golden_names() | WITHOUT_GOLDEN_VECTORS
-    section = text_of("docs/COMMANDS.md").partition("\n### Instructions\n")[2].partition("\n### ")[0]
-    listed = of_families(encoded, re.findall(r"\bv\w+", section))
-    yield "add it to the table of the section Instructions in docs/COMMANDS.md", listed
 
 
 def missing() -> list[str]:

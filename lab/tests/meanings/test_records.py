@@ -11,6 +11,7 @@ from support.meaning_examples import made
 from vecmon_lab.assembler.source import DIRECTIVES, read_source
 from vecmon_lab.compilers.compiler import Compiler
 from vecmon_lab.instructions.table import instruction_table
+from vecmon_lab.meanings import record as record_module
 from vecmon_lab.meanings.describe import EXAMPLES, describe, encoding_fields, expansions, found
 from vecmon_lab.meanings.help import help_lines
 from vecmon_lab.meanings.record import instruction_records, record_of, records
@@ -152,7 +153,7 @@ def test_search_lists_signed_before_unsigned() -> None:
 
 
 def test_other_extension_name_is_explained() -> None:
-    for name, reason in {
+    reasons = {
         "vfadd.vv": "Floating point isn't supported",
         "vfmacc.vf": "Floating point isn't supported",
         "fadd.d": "Floating point isn't supported",
@@ -163,12 +164,27 @@ def test_other_extension_name_is_explained() -> None:
         "sh1add": "Zba isn't supported",
         "clz": "Zbb isn't supported",
         "mret": "Privileged instructions",
-    }.items():
+    }
+    absent = {name: reason for name, reason in reasons.items() if name not in instruction_table()}
+    assert len(absent) > 6
+    for name, reason in absent.items():
         assert describe(name)[0].startswith(f"{name}: {reason}"), name
-        assert name not in instruction_table()
     assert not any(
         re.fullmatch(it.names, name) for it in records().values() if it.kind == "absent" for name in instruction_table()
     )
+
+
+def test_absent_names_leave_out_instructions(tmp_path: pathlib.Path, monkeypatch: pytest.MonkeyPatch) -> None:
+    """The pattern of an extension may still fit an instruction that the machine has by now."""
+    (tmp_path / "absent.toml").write_text(
+        "[Zvkb]\nnames = 'vadd\\.v[vx]|vandn\\.v[vx]'\ndoes = \"It isn't there.\"\n", "ascii"
+    )
+    monkeypatch.setattr(record_module, "FOLDER", tmp_path)
+    found = record_module.records.__wrapped__()["Zvkb"]
+    assert [name for name in ("vadd.vv", "vadd.vx", "vandn.vv", "vandn.vx") if re.fullmatch(found.names, name)] == [
+        "vandn.vv",
+        "vandn.vx",
+    ]
 
 
 def test_help_describes_instruction() -> None:

@@ -127,8 +127,15 @@ def _record(name: str, file: str, cells: Mapping[str, object]) -> Record:
         formulas[""] = texts.pop("formula")
     kept, see = texts.pop("kept", None), tuple(texts.pop("see", "").split())
     names = texts.pop("names", rf"{re.escape(name)}(\.\w+)?" if "." not in name else rf"{re.escape(name)}(\.?[vxi])?")
+    names = _without_instructions(names) if kind == "absent" else names
     own = {key: texts[key] for key in texts if key in Record.__dataclass_fields__}
     if unknown := texts.keys() - own.keys():
         raise LabError(f"{file}.toml: the record {name} has the unknown keys {', '.join(sorted(unknown))}")
     own |= {"file": file, "kept_text": kept or "", "template": texts["does"], "does": re.sub("[{}]", "", texts["does"])}
     return Record(name, kind, names, formulas=formulas, kept=condition(kept) if kept else None, see=see, **own)
+
+
+def _without_instructions(names: str) -> str:
+    """A pattern of names of other extensions, without the instructions that the machine has of these."""
+    here = [re.escape(name) for name in instruction_table() if re.fullmatch(names, name)]
+    return rf"(?!({'|'.join(here)})$)({names})" if here else names

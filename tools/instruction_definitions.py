@@ -1,18 +1,14 @@
-#!/usr/bin/env python3
-"""Compares docs/INSTRUCTIONS.md and the lab with the definitions: `tools/instructions.py [write]`, in the top folder.
+"""Compares docs/INSTRUCTIONS.md and the lab with the definitions, for `tools/instructions`.
 
 First it prints each place that lacks an instruction (`instruction_places.py`). Then it compares
 
 - the page: it starts with what each instruction does, by the lab's records (`support/instruction_page.py`). The list that `test_assembler`
-  prints follows, with three more columns: the formula of docs/instructions.csv, on which the instruction's own line of a step has to rest;
+  prints follows, with three more columns: the formula that the record names, on which the instruction's own line of a step has to rest;
   the legality by the definitions; and the section of the manual by the records;
 - the elements that the lab has for each vector operation (`body_of`, `elements_of`) with `elements/Bodies` of the definitions;
 - the operands, scalar registers and accesses that the lab has for each instruction with the operands in the list.
-
-It prints each difference, and the exit status is then 1. With `write` it writes the page.
 """
 
-import csv
 import re
 import sys
 from collections.abc import Callable, Iterator
@@ -24,6 +20,7 @@ import definitions as counted
 
 sys.path[:0] = ["lab"]
 from instruction_places import missing
+from instruction_records import FOLDER, read_records
 from support.elements import elements_of
 from support.instruction_page import records_text
 from vecmon_lab import LabError
@@ -36,7 +33,7 @@ from vecmon_lab.meanings.record import record_of
 from vecmon_lab.page.operands import shown_operands
 from vecmon_lab.runs.dataflow import scalars_read
 
-PAGE, RULES, PRINTED = Path("docs/INSTRUCTIONS.md"), Path("docs/instructions.csv"), Path("crates/test_assembler/stdout")
+PAGE, PRINTED = Path("docs/INSTRUCTIONS.md"), Path("crates/test_assembler/stdout")
 ROW = re.compile(r"^(\| `(\S+)[^`]*` \| `[01 -]+`) \|$", re.MULTILINE)
 COLUMNS = """
 `Formula` is the definition in `crates/rv_model/specs` of the computation or move; where it has a line for each
@@ -177,10 +174,9 @@ def asks(name: str, variants: frozenset[str]) -> bool:
 
 
 @cache
-def rules() -> list[tuple[re.Pattern[str], str]]:
-    """The names and the formula of each line of docs/instructions.csv."""
-    with RULES.open(encoding="ascii", newline="") as file:
-        return [(re.compile(it["names"]), it["formula"]) for it in csv.DictReader(file)]
+def formulas() -> dict[str, tuple[str, str]]:
+    """The definition that each name's record has, with the place of the record."""
+    return {it.name: (record.cells["definition"], record.place) for record in read_records() for it in record.mnemonics}
 
 
 def cells_of(name: str) -> list[str]:
@@ -188,14 +184,16 @@ def cells_of(name: str) -> list[str]:
     if name.startswith("."):
         return ["", "", ""]
     variants = variants_of(name)
-    found = [formula for names, formula in rules() if names.fullmatch(name)]
-    if len(found) != 1 or found[0] not in rests_on(variants):
-        sys.exit(f"{RULES}: {name} needs one line, with a formula that its step rests on; it has {found or 'none'}")
+    if name not in formulas():
+        raise LabError(f"{name} has no record in {FOLDER}")
+    formula, place = formulas()[name]
+    if formula not in rests_on(variants):
+        raise LabError(f"{place} has the definition {formula}, on which its step doesn't rest")
     legal = ", ".join(f"`{it}`" for it in legality(variants))
-    return [f"`{formula_of(found[0], variants)}`", legal, record_of(name).section]
+    return [f"`{formula_of(formula, variants)}`", legal, record_of(name).section]
 
 
-def with_rules(printed: str) -> str:
+def with_definitions(printed: str) -> str:
     """The page, of the list that `test_assembler` prints."""
     title, _, head = printed.partition("\n")
     head, _, rest = head.partition("\n## ")
@@ -309,29 +307,23 @@ def list_in(output: str) -> str:
     return re.split("^[0-9a-f]{8} ", output, maxsplit=1, flags=re.MULTILINE)[0]
 
 
-def main() -> int:
+def compare(writes_page: bool) -> int:
+    """Compare the places of each name, the page and the lab with the definitions; print differences, and return the status."""
     lacking = missing()
     for line in lacking:
         print(line)
     printed = list_in(PRINTED.read_text(encoding="latin-1"))
     try:
-        actual = with_rules(printed)
+        actual = with_definitions(printed)
     except LabError as error:
-        sys.exit(f"{PAGE} can't be made{' before these changes' if lacking else ''}: {error}")
-    if sys.argv[1:] == ["write"]:
+        print(f"{PAGE} can't be made{' before these changes' if lacking else ''}: {error}")
+        return 1
+    if writes_page:
         PAGE.write_text(actual, encoding="ascii")
     page = PAGE.read_text(encoding="ascii")
-    names = [name for _, name in ROW.findall(printed)]
-    unused = [it.pattern for it, _ in rules() if not any(map(it.fullmatch, names))]
-    for it in unused:
-        print(f"{RULES}: no instruction has the name {it}")
     for line in sorted({*page.splitlines()} ^ {*actual.splitlines()}):
         print(f"{PAGE} {'lacks' if line in actual else 'has wrongly'}: {line}")
     different = [*elements_differ(printed), *operands_differ()]
     for line in different:
         print(line)
-    return 1 if lacking or unused or different or page != actual else 0
-
-
-if __name__ == "__main__":
-    sys.exit(main())
+    return 1 if lacking or different or page != actual else 0

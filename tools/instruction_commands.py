@@ -1,0 +1,69 @@
+"""The table of vector instructions in docs/COMMANDS.md, for `tools/instructions`."""
+
+import re
+from collections.abc import Iterator, Sequence
+
+from instruction_lists import ListError
+from instruction_parts import Between, Part
+from instruction_records import ACCESSES, Record
+
+PAGE = "docs/COMMANDS.md"
+LAST_ACCESS = "| `vl1r` to `vl8r`, `vs1r` to `vs8r` | 7.9 |"
+"""The last row of loads and stores, whose rows are written by hand: they have names with numbers."""
+ROWS = {
+    "11.1": "{11.1}",
+    "11.2": "{11.2}, also with a wide first source",
+    "11.3": "{11.3}, of a half, a quarter and an eighth",
+    "11.4": "{11.4}",
+    "11.5, 11.6": "{11.5}; {11.6}",
+    "11.7": "{11.7}",
+    "11.8": "{11.8}",
+    "11.9": "{11.9}",
+    "11.10, 11.11": "{11.10}; {11.11}",
+    "11.12": "{11.12}",
+    "11.13": "{11.13}",
+    "11.14": "{11.14}",
+    "11.15, 11.16": "{11.15}; {11.16}",
+    "12.1, 12.2": "{12.1}; {12.2}",
+    "12.3, 12.4, 12.5": "{12.3}; {12.4}; {12.5}",
+    "14.1": "{14.1}",
+    "14.2": "{14.2}",
+    "15.1": "{15.1}",
+    "15.2 to 15.6": "{15.2 15.3}; {15.4 15.5 15.6}",
+    "15.8, 15.9": "{15.8 15.9}",
+    "16.1": "{16.1}",
+    "16.3": "{16.3.1 16.3.2 16.3.3 16.3.5}",
+    "16.4, 16.5": "{16.4}; {16.5}",
+    "16.6": "{16.6}",
+}
+"""The text of a row by the sections of the manual in its second column; `{11.1}` is the names of a section."""
+
+
+def command_parts(records: Sequence[Record]) -> Iterator[Part]:
+    """The rows of the table after loads and stores. Raises ListError."""
+    names = dict[str, list[str]]()
+    for record in records:
+        if record.shapes and record.family not in ACCESSES:
+            found = names.setdefault(record.cells["section"], [])
+            found += [name for name in shown_names(record) if name not in found]
+    left = {*names} - {
+        section for text in ROWS.values() for places in re.findall(r"\{(.*?)\}", text) for section in places.split()
+    }
+    if left:
+        record = next(it for it in records if it.cells["section"] in left)
+        raise ListError(
+            f"{record.place} has the section {record.cells['section']}, which no row of {PAGE} has; add it to ROWS"
+        )
+
+    def listed(sections: re.Match[str]) -> str:
+        return f"`{' '.join(name for section in sections[1].split() for name in names.get(section, []))}`"
+
+    rows = [f"| {re.sub(r'[{](.*?)[}]', listed, text)} | {sections} |" for sections, text in ROWS.items()]
+    yield Between(PAGE, [LAST_ACCESS], "", rows)
+
+
+def shown_names(record: Record) -> list[str]:
+    """The names of a record up to the dot of its forms."""
+    if "mnemonics" in record.cells:
+        return [it.name.partition(".")[0] for it in record.mnemonics]
+    return [it.name for it in record.mnemonics] if "." in record.base else [record.base]
