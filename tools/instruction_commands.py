@@ -1,9 +1,8 @@
 """The table of vector instructions in docs/COMMANDS.md, for `tools/instructions`."""
 
 import re
-from collections.abc import Iterator, Sequence
+from collections.abc import Iterator, Mapping, Sequence
 
-from instruction_lists import ListError
 from instruction_parts import Between, Part
 from instruction_records import ACCESSES, Record
 
@@ -37,29 +36,26 @@ ROWS = {
     "16.6": "{16.6}",
 }
 """The text of a row by the sections of the manual in its second column; `{11.1}` is the names of a section."""
+PLACE = re.compile(r"\{(.*?)\}")
 
 
 def command_parts(records: Sequence[Record]) -> Iterator[Part]:
-    """The rows of the table after loads and stores. Raises ListError."""
+    """The rows of the table after loads and stores; a section that no row has gets its own one at the end."""
     names = dict[str, list[str]]()
     for record in records:
         if record.shapes and record.family not in ACCESSES:
             found = names.setdefault(record.cells["section"], [])
             found += [name for name in shown_names(record) if name not in found]
-    left = {*names} - {
-        section for text in ROWS.values() for places in re.findall(r"\{(.*?)\}", text) for section in places.split()
-    }
-    if left:
-        record = next(it for it in records if it.cells["section"] in left)
-        raise ListError(
-            f"{record.place} has the section {record.cells['section']}, which no row of {PAGE} has; add it to ROWS"
-        )
+    known = {section for text in ROWS.values() for place in PLACE.findall(text) for section in place.split()}
+    rows = ROWS | {section: f"{{{section}}}" for section in names if section not in known}
+    lines = [f"| {PLACE.sub(lambda it: _listed(names, it[1]), text)} | {manual} |" for manual, text in rows.items()]
+    yield Between(PAGE, [LAST_ACCESS], "", lines)
 
-    def listed(sections: re.Match[str]) -> str:
-        return f"`{' '.join(name for section in sections[1].split() for name in names.get(section, []))}`"
 
-    rows = [f"| {re.sub(r'[{](.*?)[}]', listed, text)} | {sections} |" for sections, text in ROWS.items()]
-    yield Between(PAGE, [LAST_ACCESS], "", rows)
+def _listed(names: Mapping[str, Sequence[str]], place: str) -> str:
+    """The names of one section or of several, as code."""
+    sections = [place] if place in names else place.split()
+    return f"`{' '.join(name for section in sections for name in names.get(section, []))}`"
 
 
 def shown_names(record: Record) -> list[str]:

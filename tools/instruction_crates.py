@@ -43,6 +43,20 @@ TABLE_ROWS = {
 }
 """The instruction of each row of a family in the table."""
 
+USES = {
+    "elements/FixedPoint": ("clip", "fixed_point"),
+    "elements/Formulas": (
+        *("binary", "carry", "carry_out", "compare", "narrow_shift", "widen_multiply_add", "multiply_add"),
+    ),
+    "elements/Masks": ("mask_logic", "mask_scan", "mask_to_scalar"),
+    "elements/Reductions": ("reduce", "widen_reduce"),
+    "scalar/Arithmetic": ("upper", "register", "immediate", "shift_immediate", "shift_immediate_word"),
+    "scalar/ControlTransfer": ("branch",),
+    "scalar/LoadsAndStores": ("load", "store"),
+    "vector/Control": ("csr", "csr_immediate"),
+}
+"""The definitions of results with a line for each operation of a family, whose `use` lines name all variants."""
+
 
 @dataclass(frozen=True)
 class Operation:
@@ -154,6 +168,9 @@ def crate_parts(records: Sequence[Record]) -> Iterator[Part]:
     for family in FIXED:
         if family != "mask_scan":
             yield from fixed_parts(records, family)
+    for module, families in USES.items():
+        for family in families:
+            yield _names_in_use(f"crates/rv_model/specs/{module}.antt", operations(records, family))
     yield from decoder_parts(records)
 
 

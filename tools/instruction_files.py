@@ -11,7 +11,7 @@ from instruction_lists import ListError, list_parts
 from instruction_parts import Part, PartError, first_difference, replaced
 from instruction_records import Record, RecordError, read_records
 from instruction_tables import table_texts
-from instruction_tests import STEPPED, kernel_parts, stepped_text
+from instruction_tests import STEPPED, kernel_parts, listed_parts, stepped_text
 
 FILE_ERRORS = (RecordError, PartError, ListError)
 """Why the files can't be written: each has a text of one line with the file."""
@@ -25,15 +25,24 @@ class Change:
     has: str
     text: str
 
+    def write(self) -> None:
+        """Write the file."""
+        self.path.write_text(self.text, "utf-8", errors="surrogateescape")
+
     def difference(self) -> str:
         """The file, the line and the texts of the first difference, as a line."""
         return first_difference(self.path, self.has, self.text)
 
 
+def read(path: Path) -> str:
+    """The text of a file; bytes that aren't UTF-8, as printed ones of a test, stay as they are."""
+    return path.read_text("utf-8", errors="surrogateescape")
+
+
 def parts_by_file(records: Sequence[Record]) -> dict[str, list[Part]]:
     """The generated parts of files, by file."""
     found = dict[str, list[Part]]()
-    writers = (crate_parts, access_parts, list_parts, kernel_parts, command_parts)
+    writers = (crate_parts, access_parts, list_parts, listed_parts, kernel_parts, command_parts)
     for part in (part for writer in writers for part in writer(records)):
         found.setdefault(part.path, []).append(part)
     return found
@@ -42,7 +51,7 @@ def parts_by_file(records: Sequence[Record]) -> dict[str, list[Part]]:
 def _texts(records: Sequence[Record]) -> Iterator[tuple[Path, str]]:
     """The files with their texts by the records. Raises `FILE_ERRORS`."""
     for name, parts in parts_by_file(records).items():
-        yield Path(name), replaced(Path(name).read_text("utf-8"), parts)
+        yield Path(name), replaced(read(Path(name)), parts)
     yield Path(STEPPED), stepped_text(records)
     yield from table_texts(records)
 
@@ -51,7 +60,7 @@ def changes() -> list[Change]:
     """The files that differ from the records. Raises `FILE_ERRORS`."""
     found = list[Change]()
     for path, text in _texts(read_records()):
-        has = path.read_text("utf-8") if path.is_file() else ""
+        has = read(path) if path.is_file() else ""
         if has != text:
             found.append(Change(path, has, text))
     return found
@@ -62,7 +71,7 @@ def part_lines() -> list[str]:
     records = read_records()
     lines = list[str]()
     for name, parts in parts_by_file(records).items():
-        text = Path(name).read_text("utf-8")
+        text = read(Path(name))
         places = sorted((it.start, it.end) for it in (part.place_in(text) for part in parts))
         numbers = [(text.count("\n", 0, start) + 1, text.count("\n", 0, end - 1) + 1) for start, end in places]
         lines.append(

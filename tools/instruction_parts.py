@@ -53,7 +53,7 @@ class Run:
 class Between:
     """The lines between a line, which follows others in the file, and the next equal to `before`.
 
-    after: lines of the file in this order, of which the last is the one before the part
+    after: lines of the file in this order; the last one is before the part
     """
 
     path: str

@@ -83,8 +83,6 @@ def crate_places(encoded: dict[str, int]) -> Iterator[Place]:
     yield "name the array of its kernel in crates/test_kernels/src by the record's key `test`", without | kernels
     spelled = re.findall(r"^[0-9a-f]{8} (\S+)", text_of("crates/test_assembler/data/spellings"), re.MULTILINE)
     yield "add words and texts to encodings and spellings in crates/test_assembler/data", {*spelled}
-    rows = re.findall(r"^\| `([a-z][^ `]*)", text_of("crates/test_assembler/stdout"), re.MULTILINE)
-    yield "add its row to the list in crates/test_assembler/stdout", {*rows}
 
 
 def table_places(encoded: dict[str, int]) -> Iterator[Place]:

@@ -24,7 +24,7 @@ FIXED = (
     *("upper", "branch", "load", "store", "immediate", "shift_immediate", "shift_immediate_word", "register"),
     *("system", "csr", "csr_immediate", "mask_logic", "mask_to_scalar", "extend", "mask_scan", "mask_unary"),
 )
-"""Families of operations with one layout of operands, each with a word of its own."""
+"""Families of operations with one layout of operands, where each fixes its word."""
 SINGLE = (
     *("jump", "jump_register", "fence", "set_vli", "set_ivli", "set_vl", "move", "whole_move", "compress"),
     *("element_index", "move_to_scalar", "move_to_vector"),

@@ -4,11 +4,19 @@ import re
 from collections.abc import Iterator, Sequence
 
 from instruction_crates import Operation, operations
-from instruction_lists import listed
+from instruction_lists import BASE, SECTIONS, listed, sections
 from instruction_parts import Between, Part, Run
 from instruction_records import FIXED, FUNCT6, Mnemonic, Record
 
 STEPPED = "crates/test_faults/data/vector_instructions"
+PRINTED = "crates/test_assembler/stdout"
+HEADINGS = {title: title for title in (*SECTIONS, "Vector loads and stores", "Vector segment loads and stores")} | {
+    BASE: f'{BASE} (Unprivileged ISA, "RV32I" and "RV64I")',
+    "M": 'M (Unprivileged ISA, "Integer Multiplication and Division")',
+    "Zicsr": 'Zicsr (Unprivileged ISA, "Control and Status Register Instructions")',
+    "Configuration": 'Vector configuration (V extension, "Configuration-Setting Instructions")',
+}
+"""The headings of sections in `crates/test_assembler/data/titles`."""
 KERNELS = "crates/test_kernels/src"
 TESTS_BY_RECORDS = ("mask_results.SCANS",)
 """Arrays of `test_kernels` with the order of the records; others have that of the enum."""
@@ -36,6 +44,21 @@ def _stepped_lines(record: Record, mnemonic: Mnemonic) -> list[str]:
     text = f"{mnemonic.name} {operands}".rstrip()
     kind = STEP_TYPES.get(shape)
     return [f"vsetivli x6, 4, {kind}, ta, ma", text, STEP_HEAD[0]] if kind else [text]
+
+
+def listed_parts(records: Sequence[Record]) -> Iterator[Part]:
+    """The rows of the list that `test_assembler` prints; those of a section without heading follow the section before it."""
+    rows, heading = dict[str, list[str]](), ""
+    for title, named in sections(records).items():
+        heading = HEADINGS.get(title, heading)
+        rows.setdefault(heading, []).extend(_listed_row(mnemonic) for _, mnemonic in named)
+    for heading, lines in rows.items():
+        yield Between(PRINTED, [f"## {heading}", "", "| Text | Encoding |", "|---|---|"], "", lines)
+
+
+def _listed_row(mnemonic: Mnemonic) -> str:
+    """The row of a name with its operands and its bits."""
+    return f"| `{mnemonic.name} {mnemonic.operands}".rstrip() + f"` | `{' '.join(mnemonic.fields)}` |"
 
 
 def kernel_parts(records: Sequence[Record]) -> Iterator[Part]:
