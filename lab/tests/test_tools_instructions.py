@@ -74,6 +74,7 @@ def test_changed_bit_of_record_is_found_in_each_file(copy: pathlib.Path) -> None
         "crates/rv_decode/src/lines.rt",
         "crates/rv_decode/src/vector_operations.rt",
         "crates/rv_model/src/assembler/mnemonics.rt",
+        "crates/test_assembler/stdout",
         "lab/vecmon_lab/tables/instructions.txt",
         "lab/vecmon_lab/tables/operations.txt",
     ]
@@ -113,7 +114,7 @@ def test_added_record_gets_a_line_in_each_file(copy: pathlib.Path) -> None:
         file.write(VANDN)
     added = dict[str, list[str]]()
     for change in changes():
-        lines = change.has.splitlines()
+        lines = {*change.has.splitlines()}
         added[change.path.name] = [line.strip() for line in change.text.splitlines() if line not in lines]
     assert added["operations.rt"] == ["Vandn,"]
     assert 'vector_entry (Binary Vandn) = opi (codes "vandn") 0x01 Vx' in added["Operations.antt"]
