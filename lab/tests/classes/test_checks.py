@@ -15,6 +15,7 @@ import pytest_asyncio
 
 from support.class_tabs import SECONDS, Message, Served, Tab, passed, process, served
 from vecmon_lab import LabError
+from vecmon_lab.classes import checks as class_checks
 from vecmon_lab.classes.builds import Builds
 from vecmon_lab.classes.checks import Checks
 from vecmon_lab.classes.languages import LANGUAGES, C
@@ -474,3 +475,21 @@ async def test_check_under_way_at_end_is_taken_up_again(
         tab = await room.sit("A1")
         assert tab.view["exercises"]["square"]["tries"] == 1 and not tab.view["exercises"]["square"]["checking"]
     assert not (folder / "checking" / "A1.json").exists()
+
+
+async def test_chosen_exercise_is_settled_in_another_process(
+    tmp_path: pathlib.Path, program: pathlib.Path, square: pathlib.Path, monkeypatch: pytest.MonkeyPatch
+) -> None:
+    """Its reference may take long: a thread would keep the server from ending."""
+    Class(Store(tmp_path / "class", program), SECONDS, exercises=[pathlib.Path("doubles"), square]).end()
+    members = Class(Store(tmp_path / "class", program), SECONDS, exercises=[pathlib.Path("doubles")])
+
+    def settled_here(*_: object) -> None:
+        raise LabError("the server settles the exercise itself")
+
+    monkeypatch.setattr(class_checks, "settled", settled_here)
+    await members.choose_exercises(["square", "doubles"])
+    assert [*members.checks.exercises.by_name] == ["square", "doubles"]
+    expected = [case.expected.registers["x10"] for case in members.checks.exercises.exercise("square").cases]
+    assert expected == [36, 0x5EC4E7**2]
+    members.end()

@@ -134,7 +134,9 @@ class Checks:
             raise BadRequest(f"this class offers no exercise '{unknown[0]}'")
         async with self._choosing:
             try:
-                found = await asyncio.to_thread(self._settle, names)
+                missing = [name for name in names if name not in self._settled]
+                self._settled |= zip(missing, await asyncio.gather(*map(self._settle_apart, missing)))
+                found = self._settle(names)
                 self.exercises.choose(found, {name: starts_of(exercise) for name, exercise in found.items()})
             except (LabError, OSError) as error:
                 raise BadRequest(f"{error}") from error
@@ -205,6 +207,13 @@ class Checks:
             if name not in self._settled:
                 self._settled[name] = settled(self._store.program, self._offered[name])
         return {name: self._settled[name] for name in names}
+
+    async def _settle_apart(self, name: str) -> Exercise:
+        """The exercise of a name with what it expects, from a process that the end of the server ends. Raises LabError."""
+        given = pickle.dumps((self._offered[name], "", None, None))
+        found = await self._workers.run("exercises.check", str(self._store.program), "settle", script=given)
+        exercise: Exercise = pickle.loads(found)
+        return exercise
 
     def _minutes(self, name: str) -> int:
         """The minutes that an exercise of the course takes; 0 for another one."""

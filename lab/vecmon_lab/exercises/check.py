@@ -1,7 +1,7 @@
 """The result of an answer in a class, and a lesson of it in a case: each is made in a separate process.
 
-The words are the program and what is asked for: `check`, the number of a case for a lesson of it, or `before` for the
-lesson before the exercise. The exercise with its expected results, the answer's source, its compiled form, if that is
+The words are the program and what is asked for: `check`, the number of a case for a lesson of it, `before` for the
+lesson before the exercise, or `settle` for the exercise with its expected results, pickled. The exercise with its expected results, the answer's source, its compiled form, if that is
 in C, and what a good answer takes, if that is known, come pickled on standard input.
 """
 
@@ -24,7 +24,7 @@ from ..compilers.compiled import CompiledProgram
 from ..compilers.failures import ToolError, without_folders
 from ..lessons.script import Script, Step, read_assembled
 from ..machine.process import Vecmon
-from .answer import inputs, read_answer, source_answer
+from .answer import inputs, read_answer, settled, source_answer
 from .exercise import ADDRESSES, Case, Exercise, Results
 from .outcome import outcome
 from .cause import Cause, cause
@@ -254,7 +254,7 @@ def _strips(results: Results, with_addresses: bool = False) -> list[_Strip]:
 
 
 def main(program: str, what: str) -> None:
-    """Write the result, in JSON, or a lesson, to standard output."""
+    """Write the result, in JSON, or a lesson, or a pickled exercise, to standard output."""
     import resource  # which the synchronous core does without
 
     os.nice(10)
@@ -262,12 +262,14 @@ def main(program: str, what: str) -> None:
     (exercise, text, compiled, good), vecmon = pickle.load(sys.stdin.buffer), pathlib.Path(program)
     match what:
         case "check":
-            reply = json.dumps(check_or_failure(vecmon, exercise, text, compiled, good))
+            reply = json.dumps(check_or_failure(vecmon, exercise, text, compiled, good)).encode()
         case "before":
-            reply = lesson_before(vecmon, exercise)
+            reply = lesson_before(vecmon, exercise).encode("utf-8", "replace")
+        case "settle":
+            reply = pickle.dumps(settled(vecmon, exercise))
         case number:
-            reply = lesson(vecmon, exercise, int(number), text, compiled)
-    sys.stdout.buffer.write(reply.encode("utf-8", "replace"))
+            reply = lesson(vecmon, exercise, int(number), text, compiled).encode("utf-8", "replace")
+    sys.stdout.buffer.write(reply)
 
 
 if __name__ == "__main__":
