@@ -7,6 +7,7 @@ import pytest
 
 from support.commands import Lab
 from vecmon_lab import LabError
+from vecmon_lab.exercises.check import script_before
 from vecmon_lab.exercises.exercise import read_exercise
 
 CASES = "[[cases]]\nname = 'one'\nexpected.registers = { a0 = 1 }\n"
@@ -113,3 +114,28 @@ def test_commands_refuse_in_one_line(lab: Lab, folder: pathlib.Path) -> None:
             status, output, errors = lab(*words)
             assert (status, output, errors.count("\n")) == (2, b"", 1) and reason in errors
             assert SECRET not in errors and "\x1b" not in errors and "\u202e" not in errors
+
+
+@pytest.mark.by_command("exercise")
+def test_wrong_answers_elsewhere_are_refused(lab: Lab, folder: pathlib.Path) -> None:
+    """A link to a folder of the teacher's: its files aren't read, and their names aren't printed."""
+    (folder / "exercise.toml").write_text(CASES)
+    (folder / "wrong").symlink_to(folder.parent)
+    refused = f"vecmon-lab: {folder}/wrong is outside the exercise's folder: copy its files\n"
+    assert lab("exercise", "try", folder) == (2, b"", refused)
+
+
+def test_changed_lesson_is_not_read(folder: pathlib.Path) -> None:
+    """The page of a lesson is made when it is opened: students see neither another file nor a path."""
+    lesson = folder / "lesson.s"
+    lesson.write_text("ret\n")
+    (folder / "exercise.toml").write_text(f"lesson = 'lesson.s'\n{CASES}")
+    exercise = read_exercise(folder)
+    assert script_before(exercise).source == "lesson.s"
+    lesson.unlink()
+    for change in (lambda: None, lambda: lesson.symlink_to(folder.parent / "secret.s"), lambda: os.mkfifo(lesson)):
+        change()
+        with pytest.raises(LabError) as raised:
+            script_before(exercise)
+        assert str(raised.value) == "the file of this lesson was changed or removed since the exercise was read"
+        lesson.unlink(missing_ok=True)

@@ -12,10 +12,12 @@ from ..machine.program import find_program
 from .answer import C_SUFFIX, settled, source_answer
 from .exercise import OURS, Exercise, read_exercise
 from .grade import grade
+from .named_files import check_folder
 from .outcome import outcome
 from .reports import reason_shown
 
 SKELETON = OURS / "doubles"
+WRONG = "wrong"  # the folder of answers that fail
 
 
 def add_arguments(parser: argparse.ArgumentParser) -> None:
@@ -61,11 +63,15 @@ def _check_sandbox() -> None:
 
 
 def _answers(exercise: Exercise) -> Iterator[tuple[pathlib.Path, bool]]:
-    """The answers that an exercise has, and whether each shall pass; the reference's results are expected anyway."""
+    """The answers that an exercise has, and whether each shall pass; the reference's results are expected anyway.
+
+    Raises LabError if the folder of wrong ones is elsewhere.
+    """
     for key, should_pass in (("good", True), ("start", False), ("start_c", False)):
         if key in exercise.files:
             yield exercise.files[key], should_pass
-    for path in sorted((exercise.folder / "wrong").glob("*")):
+    check_folder(exercise.folder, WRONG)
+    for path in sorted((exercise.folder / WRONG).glob("*")):
         yield path, False
 
 

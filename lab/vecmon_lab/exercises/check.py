@@ -26,6 +26,7 @@ from ..lessons.script import Script, Step, read_assembled
 from ..machine.process import Vecmon
 from .answer import inputs, read_answer, settled, source_answer
 from .exercise import ADDRESSES, Case, Exercise, Results
+from .named_files import SOURCE_BYTES, named_file
 from .outcome import outcome
 from .cause import Cause, cause
 from .answer_cost import AnswerCost, answer_cost
@@ -172,9 +173,13 @@ def lesson(program: Vecmon, exercise: Exercise, number: int, text: str, compiled
 
 
 def script_before(exercise: Exercise) -> Script:
-    """The script of the lesson before an exercise."""
+    """The script of the lesson before an exercise. Raises LabError, without a path, if its file isn't as it was."""
     file = exercise.files["lesson"]
-    return read_assembled(file.read_text("utf-8"), file.name)
+    try:
+        text = named_file(exercise.folder, str(file), SOURCE_BYTES).read_text("utf-8")
+    except (LabError, OSError, UnicodeDecodeError) as error:
+        raise LabError("the file of this lesson was changed or removed since the exercise was read") from error
+    return read_assembled(text, file.name)
 
 
 def lesson_before(program: Vecmon, exercise: Exercise) -> str:

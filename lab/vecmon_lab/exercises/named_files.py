@@ -66,6 +66,12 @@ def named_file(folder: pathlib.Path, name: str, limit: int) -> pathlib.Path:
     return inside
 
 
+def check_folder(folder: pathlib.Path, name: str) -> None:
+    """Raise LabError if a folder in an exercise's folder, which needn't exist, is a link to one elsewhere."""
+    if not pathlib.Path(os.path.realpath(folder / name)).is_relative_to(os.path.realpath(folder)):
+        raise LabError(f"{folder / name} is outside the exercise's folder: copy its files")
+
+
 def check_source(file: pathlib.Path) -> None:
     """Raise LabError if a source for students is no text in UTF-8, or has characters that control what is shown. Raises OSError."""
     try:
