@@ -8,6 +8,7 @@ from typing import NoReturn
 
 from . import LabError
 from .output import terminal_text
+from .places import IS_PYTHON_PACKAGE, install_command
 from .tables.table import read_table
 
 COMMANDS = {name: (module, sentence) for name, module, sentence in read_table("lab_commands")}
@@ -52,8 +53,10 @@ def _missing(module: str) -> str:
     """What is said of a library that isn't installed: its name for pip and Debian's, and how the launcher finds one."""
     package = module.partition(".")[0]
     name = {"elftools": "pyelftools"}.get(package, package)
+    if IS_PYTHON_PACKAGE:
+        return f"this needs the Python library {name}: `{install_command(name)}`"
     own = f"`python3 -m venv ~/.vecmon && ~/.vecmon/bin/pip install {name}`, and VECMON_PYTHON=~/.vecmon/bin/python"
-    return f"this needs the Python library {name}: `sudo apt install python3-{name.replace('_', '-')}`; or else {own}"
+    return f"this needs the Python library {name}: `{install_command(name)}`; or else {own}"
 
 
 def arguments_of(words: list[str]) -> argparse.Namespace:

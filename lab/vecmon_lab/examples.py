@@ -5,13 +5,9 @@ import pathlib
 import shutil
 
 from . import LabError
+from .places import EXAMPLE_IMAGES, EXAMPLES, LAB
 
-TOP = pathlib.Path(__file__).resolve().parents[2]
-PLACES = {
-    TOP / "lab" / "examples": ".",
-    TOP / "tests" / "command_lines" / "data" / "images": ".",  # of COMPILING.md
-    TOP / "lab" / "vecmon_lab" / "lessons" / "tours": "tour",
-}
+PLACES = {EXAMPLES: ".", EXAMPLE_IMAGES: ".", LAB / "lessons" / "tours": "tour"}
 """The folders of the examples, and where their copies go in the new folder."""
 
 OTHERS = ("good", "short")  # images of tests alone, which no package has

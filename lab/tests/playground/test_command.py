@@ -11,7 +11,7 @@ from vecmon_lab.playground import command
 @pytest.mark.by_command("site")
 def test_the_built_site_is_copied(lab: Lab, tmp_path: pathlib.Path, monkeypatch: pytest.MonkeyPatch) -> None:
     ready, out = tmp_path / "ready", tmp_path / "out"
-    monkeypatch.setattr(command, "READY", ready)
+    monkeypatch.setattr(command, "SITE", ready)
     status, _, told = lab("site", out)
     assert status == 2 and f"there is no built site here: in a clone, run tools/site {out}" in told and not out.exists()
     (ready / "play").mkdir(parents=True)

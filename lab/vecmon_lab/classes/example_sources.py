@@ -7,10 +7,10 @@ from typing import TypedDict
 
 from ..exercises.exercise import OURS
 from ..page.texts import page_text
+from ..places import EXAMPLES
 from ..tables.table import read_table
 from .languages import C
 
-EXAMPLES = pathlib.Path(__file__).parents[2] / "examples"
 LESSON = "lesson.s"  # in the folder of an exercise
 _OF_LESSONS = re.compile(r"^#> *(?:step|go)\b.*\n", re.MULTILINE)  # lines that pages don't take
 

@@ -8,11 +8,12 @@ import struct
 from collections.abc import Iterator
 
 from .. import LabError
+from ..places import PROGRAMS, TOP
 from ..tables.table import read_table
 from .image import rights_of
 from .target import report_target
 
-_CRATES = pathlib.Path(__file__).resolve().parents[3] / "crates"
+_CRATES = TOP / "crates"
 BUILT, BUILT_RECORDER = _CRATES / "vecmon" / "out" / "vecmon", _CRATES / "vecmon_record" / "out" / "vecmon_record"
 # Built by tools/run: a folder for each state of the sources; `current` names one.
 UNPROVED = _CRATES.parent / "build" / "unproved"
@@ -27,7 +28,7 @@ class NoProgram(LabError):
 
 
 def find_program() -> pathlib.Path:
-    """Return the path of vecmon: `$VECMON`, else the first of crates/vecmon/out, build/unproved and PATH that has it.
+    """Return the path of vecmon: `$VECMON`, else that in a Python package, else the first of crates/vecmon/out, build/unproved and PATH.
 
     Raises NoProgram."""
     named = os.environ.get("VECMON")
@@ -59,8 +60,9 @@ def find_recorder() -> pathlib.Path:
 
 
 def _first_built(built: pathlib.Path, name: str) -> str | None:
-    """Return the program that rt built, else the one of this name that tools/run built, else the one on PATH."""
-    return shutil.which(str(built)) or shutil.which(str(_unproved(name))) or shutil.which(name)
+    """Return the program in a Python package, else the one that rt built, that tools/run built, or that is on PATH."""
+    places = (PROGRAMS / name, built, _unproved(name), name)
+    return next((found for found in (shutil.which(str(place)) for place in places) if found), None)
 
 
 def _is_building() -> bool:

@@ -1,4 +1,4 @@
-"""CodeMirror 5, the library of the pages' editor: its script and its style from the files that Debian's libjs-codemirror installs.
+"""CodeMirror 5, the library of the pages' editor: its script and its style from the files of Debian's libjs-codemirror.
 
 `python -m vecmon_lab.page.codemirror` prints the names of the files, for tools/site.
 """
@@ -8,6 +8,7 @@ import os
 import pathlib
 
 from .. import LabError
+from ..places import CODEMIRROR
 
 MODULE = "codemirror.js"
 DEBIAN = pathlib.Path("/usr/share/javascript/codemirror")
@@ -27,8 +28,10 @@ STYLES = ("lib/codemirror.css", "addon/dialog/dialog.css", "addon/hint/show-hint
 
 
 def folder() -> pathlib.Path:
-    """The folder of CodeMirror 5: the one that the variable CODEMIRROR names, else Debian's. Raises LabError if it isn't there."""
-    path = pathlib.Path(os.environ.get("CODEMIRROR") or DEBIAN)
+    """The folder of CodeMirror 5: the one that the variable CODEMIRROR names, else that of a Python package, else Debian's.
+
+    Raises LabError if it isn't there."""
+    path = pathlib.Path(os.environ.get("CODEMIRROR") or (CODEMIRROR if CODEMIRROR.is_dir() else DEBIAN))
     if missing := [name for name in (LIBRARY, *ADDONS, *STYLES) if not (path / name).is_file()]:
         raise LabError(
             f"{path / missing[0]} not found: install Debian's libjs-codemirror, or unpack CodeMirror 5 "

@@ -16,7 +16,7 @@ from collections.abc import Mapping
 from itertools import pairwise
 
 from .. import LabError
-from ..classes.example_sources import EXAMPLES, ExampleSource, example_sources
+from ..classes.example_sources import ExampleSource, example_sources
 from ..lessons.frames import make_frames
 from ..lessons.script import read_assembled
 from ..machine.process import Vecmon
@@ -26,6 +26,7 @@ from ..page.pages import Page, merge_patch, page_file
 from ..page.reference import reference_text
 from ..page.state import State
 from ..page.texts import page_text
+from ..places import EXAMPLES
 
 WEB = pathlib.Path(__file__).with_name("web")
 DIGEST_BYTES = 32

@@ -5,8 +5,8 @@ import pathlib
 import shutil
 
 from .. import LabError
+from ..places import SITE
 
-READY = pathlib.Path(__file__).resolve().parents[3] / "site"  # of the package: share/vecmon/site
 FIRST = ("index.html", "playground.html")  # by which a site is known
 
 
@@ -18,12 +18,12 @@ def add_arguments(parser: argparse.ArgumentParser) -> None:
 def run(arguments: argparse.Namespace) -> int:
     """Copies the site, and prints its first pages. Raises LabError and OSError."""
     folder = arguments.folder
-    if not (READY / FIRST[0]).is_file():
+    if not (SITE / FIRST[0]).is_file():
         raise LabError(f"there is no built site here: in a clone, run tools/site {folder}")
     if folder.exists() and any(folder.iterdir()) and not all((folder / name).is_file() for name in FIRST):
         raise LabError(f"{folder} has other files: name a new or empty folder, or an earlier site")
     shutil.rmtree(folder, ignore_errors=True)
-    shutil.copytree(READY, folder)
+    shutil.copytree(SITE, folder)
     for name in FIRST:
         print(folder / name)
     return 0

@@ -1,0 +1,29 @@
+"""Files outside of the lab's own folder: those of a clone or a Debian package around it, or those inside a Python package."""
+
+import pathlib
+
+LAB = pathlib.Path(__file__).resolve().parent
+IN_PACKAGE = LAB / "packaged"
+"""In a Python package, whose builder is tools/wheels: what a Debian package has in share/vecmon, the programs and CodeMirror."""
+
+IS_PYTHON_PACKAGE = IN_PACKAGE.is_dir()
+TOP = IN_PACKAGE if IS_PYTHON_PACKAGE else LAB.parents[1]
+"""The top of the clone; share/vecmon in a Debian package; the folder in a Python package."""
+
+PROGRAMS = TOP / "bin"
+"""The programs in a Python package; a clone and a Debian package have no such folder."""
+
+EXAMPLES = TOP / "lab" / "examples"
+EXAMPLE_IMAGES = TOP / "tests" / "command_lines" / "data" / "images"  # of COMPILING.md
+SITE = TOP / "site"
+PROVENANCE = TOP / "PROVENANCE"
+"""In a package: its version, the SHA-256 of both programs, and the proofs."""
+
+CODEMIRROR = TOP / "codemirror"
+
+
+def install_command(library: str) -> str:
+    """Return the command that installs a Python library, by its name for pip."""
+    if IS_PYTHON_PACKAGE:
+        return f"python3 -m pip install {library}"
+    return f"sudo apt install python3-{library.replace('_', '-')}"
