@@ -256,6 +256,17 @@ uint128_t __lshrti3(uint128_t number, int32_t count)
     return shifted.whole;
 }
 
+uint128_t __ashrti3(uint128_t number, int32_t count)
+{
+    halves of = {number}, shifted;
+    int64_t high = (int64_t)of.half.high;
+    shifted.half.high = (uint64_t)(count >= 64 ? high >> 63 : high >> count);
+    shifted.half.low = count >= 64 ? (uint64_t)(high >> (count - 64))
+                       : count     ? of.half.low >> count | of.half.high << (64 - count)
+                                   : of.half.low;
+    return shifted.whole;
+}
+
 uint128_t __multi3(uint128_t left, uint128_t right)
 {
     halves x = {left}, y = {right}, product;

@@ -13,7 +13,8 @@ from tests.program import TOP
 from tests.webassembly.tools import load
 
 SEED, CASES = 7, 2_000
-FUNCTIONS = ("__ashlti3", "__lshrti3", "__multi3")
+SHIFTS = ("__ashlti3", "__lshrti3", "__ashrti3")
+FUNCTIONS = (*SHIFTS, "__multi3")
 WORDS = (0, 1, 2, 0x7FFF_FFFF, 0xFFFF_FFFF, 1 << 32, 1 << 63, (1 << 64) - 1)
 MASK = (1 << 128) - 1
 LINKER = "wasm-ld-19"
@@ -51,7 +52,7 @@ def operands() -> Iterator[tuple[str, int, int]]:
     for left in edges:
         yield "__multi3", left, draws.choice(edges)
     for count in range(128):
-        for name in FUNCTIONS[:2]:
+        for name in SHIFTS:
             yield name, draws.choice(edges), count
             yield name, draws.getrandbits(128), count
     for _ in range(CASES):
@@ -62,6 +63,8 @@ def expected(name: str, left: int, right: int) -> int:
     """The result by Python's integers."""
     if name == "__multi3":
         return left * right & MASK
+    if name == "__ashrti3":
+        return (left - (left >> 127 << 128)) >> right & MASK
     return left >> right if name == "__lshrti3" else left << right & MASK
 
 
@@ -94,6 +97,7 @@ def test_shifts_and_products_equal_those_of_python(tmp_path: Path) -> None:
         ("(middle >> 32) + (other >> 32)", "(middle >> 32)"),
         ("of.half.low >> (64 - count)", "of.half.low >> (63 - count)"),
         ("of.half.high >> (count - 64)", "of.half.high >> (count - 63)"),
+        ("high >> 63", "0"),
     ],
 )
 def test_planted_mistake_is_found(tmp_path: Path, right: str, wrong: str) -> None:
