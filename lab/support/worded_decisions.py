@@ -11,9 +11,14 @@ _STORED = {"sentence", "message", "reason", "warning", "cause", "lost", "trouble
 _ANSWERS = {"answer", "answers", "part", "latest", "stop"}
 _LINES = {*_ANSWERS, "line", "done", "entry"}
 _JS_TEXT = r"\b(?:stop|message|error|reason|warning|sentence|trouble|said)\b"
+_JS_WORDS = r"enter|entered|loaded|setpc|stepped|granted|e\??break|outfull|fault|exit"  # of the monitor's lines
 _JS_TESTS = (
     re.compile(rf"\.(?:test|exec)\([^;{{}}()]*?{_JS_TEXT}(?!\()"),
     re.compile(rf"{_JS_TEXT}[^;,{{}}&|=]*?\.(?:startsWith|endsWith|includes|match|search|split)\("),
+    re.compile(
+        r"\.(?:test|exec)\([^;{}()]*?\b(?:entry|entries)\b(?!\.)|\bentry\b[^;,{}&|=]*?\.(?:startsWith|includes|match|search)\("
+    ),
+    re.compile(rf"/(?![/* ])[^/]*(?:\^v\\w|\b(?:{_JS_WORDS})\b)[^/]*/[a-z]*(?:\.(?:test|exec)\(|[;,)])"),
 )
 
 
@@ -102,7 +107,11 @@ def decisions_in(text: str) -> Iterator[tuple[int, str]]:
 
 
 def decisions_in_javascript(text: str) -> Iterator[tuple[int, str]]:
-    """The lines of a JavaScript source that test the text of a stop, a message or an error, with their numbers."""
+    """The lines of a JavaScript source that test words, with their numbers.
+
+    Those are the text of a stop, a message, an error or an entry of the log, and regular expressions with words of the monitor's lines, or
+    for names that begin with v.
+    """
     for number, line in enumerate(text.split("\n"), 1):
         code = line.partition(" // ")[0].strip()
         if not code.startswith(("*", "/*", "//")) and any(it.search(code) for it in _JS_TESTS):

@@ -84,10 +84,21 @@ def test_value_is_no_decision_by_words(line: str) -> None:
 
 
 def test_decision_in_javascript_is_found() -> None:
-    wrong = ['const isIllegal = /illegal/i.test(state.stop ?? "");', 'if (answer.error?.startsWith("line")) return;']
+    wrong = [
+        'const isIllegal = /illegal/i.test(state.stop ?? "");',
+        'if (answer.error?.startsWith("line")) return;',
+        r"const start = entries.findLast((entry) => /^<. (entered|loaded)\b/.test(entry));",
+        "const isNew = entries.some((entry) => /^>. enter$/.test(entry));",
+        "const isSetUp = entries.some((each) => /^>. setpc /.test(each));",
+        "export const STOP_LINE = /^[1-8] (e?break|exit|outfull|fault) /;",
+        r'return { text, alias: isOther && /^v\w+(\.\w+)* /.test(own) ? own : "" };',
+    ]
     right = [
-        'const stop = STOP_LINE.test(text) ? state.stop : "";',
+        'const stop = log[place][0] === STOP ? state.stop : "";',
         "// /illegal/.test(state.stop)",
         "stop.cause === 2",
+        r"const way = /^(back|forth)(?: +([1-9][0-9]{0,8}))?$/.exec(lines.join(''));",
+        "if (!/[^0]/.test(own)) return;",
     ]
-    assert [number for number, _ in decisions_in_javascript("\n".join([*right, *wrong]))] == [4, 5]
+    found = [number for number, _ in decisions_in_javascript("\n".join([*right, *wrong]))]
+    assert found == [*range(len(right) + 1, len(right) + len(wrong) + 1)]

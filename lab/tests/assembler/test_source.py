@@ -400,3 +400,26 @@ def test_complement_has_64_bits() -> None:
 
 def test_byte_order_mark_is_skipped() -> None:
     assert assemble("\ufeff_start: nop").labels == {"_start": 0x10000}
+
+
+def test_aliases_are_the_pseudo_instructions_of_vector_instructions() -> None:
+    """Each with the spaces of an instruction's text, at the address of its first instruction, in macros too; others have none."""
+    text = r"""
+        li      a0, 0x12345678
+start:  VNEG.V  v8,v4  # -v4
+        vadd.vv v1, v2, v3; vnot.v v2 , v2
+        .macro  negate register
+        vneg.v  \register, \register
+        .endm
+        negate  v3
+        vmsge.vx v0, v4, a1
+        mv      a1, a0
+        vle1.v  v0, (a0)
+    """
+    assert assemble(text).aliases() == {
+        "10008": "vneg.v v8, v4",
+        "10010": "vnot.v v2, v2",
+        "10014": "vneg.v v3, v3",
+        "10018": "vmsge.vx v0, v4, a1",
+        "10024": "vle1.v v0, (a0)",
+    }

@@ -116,3 +116,24 @@ def test_desk_equals_server_for_random_requests(tmp_path: pathlib.Path) -> None:
     answer = desk[place][0]["look"][0]
     answer[0] = answer[0][:-1] + chr(ord(answer[0][-1]) ^ 1)
     assert differences(server, desk) == [place]
+
+
+def test_state_has_how_its_machine_began(program: pathlib.Path) -> None:
+    """`prepared` until the program executes something, or lines change registers; looking changes nothing."""
+    desk, view = Desk(program, {}, LIMIT), dict[str, Any]()
+
+    def state_after(*lines: str, look: str = "regs") -> tuple[Any, Any]:
+        nonlocal view
+        answer: Any = desk.answer(json.dumps({"id": 1, "ask": "lines", "do": lines, "look": [look]}))
+        view = patched(view, answer.get("patch", {}))
+        return view["state"].get("began"), view["state"].get("prepared")
+
+    assert state_after() == (None, None)
+    assert state_after("enter", "map 10000 1 rwx", "asm 10000 addi x5, x5, 1") == (1, None)
+    assert state_after("setpc 10000") == (1, True)
+    assert state_after() == state_after("break 10000") == (1, True)
+    assert state_after("set x6 1") == (1, None)
+    assert state_after("setpc 10000", "step 1") == state_after("setpc fffffffffffffffff") == (1, None)
+    assert state_after("leave") == (None, None)
+    assert state_after("enter", "setpc 10000") == (3, True)
+    desk.close()

@@ -34,7 +34,7 @@ def test_history_restores_seats_from_blocks(session: Session, size: int) -> None
     pairs = [[">1 step 1", f"<1 stepped 1 pc=00000000000{place}"] for place in ("10004", "10000")]
     assert list(one.log) == (LOG_ENTRIES // 4) * [entry for pair in pairs for entry in pair]
     assert list(two.log)[-5:-1] == [">2 break 10004", "<2 ok", ">2 go", "<2 running pc=0000000000010000"]
-    assert two.log[-1].startswith("<2 break pc=0000000000010004") and two.stop == "break pc=0000000000010004"
+    assert two.log[-1].startswith("*2 break pc=0000000000010004") and two.stop == "break pc=0000000000010004"
     assert (one.watch_set.breaks, two.watch_set.breaks) == (set(), {0x10004})
     assert one.used == sum(len(line) + 1 for line in lines if line[0] == "1" and line != "1 out ")
     assert two.used == sum(len(line) + 1 for line in lines if line[0] == "2") + len("* run 2\n")

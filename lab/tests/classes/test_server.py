@@ -289,7 +289,7 @@ async def test_stop_is_sent_without_request(room: Served) -> None:
     await teacher.ask("clock", machine="A", on=True, slices=4, ms=10)
     await tab.until(lambda view: view["state"]["run"] == "stopped")
     assert tab.view["stop"] == "break pc=0000000000010004" and tab.view["clock"]
-    assert tab.logs["A2"][-1] == "<2 break pc=0000000000010004"
+    assert tab.logs["A2"][-1] == "*2 break pc=0000000000010004"
     assert tab.view["state"]["stop"] == "Stopped at the breakpoint at 0x10004; its instruction is the next one."
     await teacher.until(lambda view: view["machines"]["A"]["seats"]["2"]["status"]["kind"] == "breakpoint")
     assert teacher.view["machines"]["A"]["seats"]["3"]["run"] == "running"

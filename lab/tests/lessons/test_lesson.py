@@ -35,9 +35,9 @@ def transcript(program: pathlib.Path, script: str) -> list[str]:
     return completed.stdout.decode("ascii").splitlines()
 
 
-def logged(frames: list[Frame], mark: str) -> list[str]:
-    """The entries of a kind in the log of a lesson, without what refusals mean."""
-    return [entry[1:].split("\n")[0] for frame in frames for entry in frame.log if entry[0] == mark]
+def logged(frames: list[Frame], marks: str) -> list[str]:
+    """The entries of these kinds in the log of a lesson, without what refusals mean."""
+    return [entry[1:].split("\n")[0] for frame in frames for entry in frame.log if entry[0] in marks]
 
 
 def lab(*arguments: str, **variables: str) -> subprocess.CompletedProcess[str]:
@@ -69,7 +69,7 @@ def test_tour_log_equals_transcript(program: pathlib.Path, name: str) -> None:
     script = script_of(name)
     made = make_frames(tours()[name], program)
     assert logged(made, ">") == script.splitlines()
-    assert logged(made, "<") == transcript(program, script)
+    assert logged(made, "<*") == transcript(program, script)
     check_first_frame(made[0], has_program=name != "registers_and_memory")
 
 
@@ -127,7 +127,7 @@ def test_step_has_frame_per_instruction_up_to_breakpoint(program: pathlib.Path) 
         "1 setpc 10000\n1 break 10004\n1 step 5\n1 step 5\n1 step 1\n"
     )
     made = make_frames(read_script(script), program)
-    assert logged(made, "<") == transcript(program, script)
+    assert logged(made, "<*") == transcript(program, script)
     stepped = [frame for frame in made if " step " in frame.line]
     assert [frame.line for frame in stepped] == [
         "1 step 5: instruction 1",
@@ -155,7 +155,7 @@ def test_read_only_lines_join_preceding_frame(program: pathlib.Path) -> None:
 def test_refusals_are_shown(program: pathlib.Path) -> None:
     script = "1 dance\n1 enter\n1 enter\n1 asm 0 nop\n* run 9\n1 step 1\n2 regs\n"
     made = make_frames(read_script(script + "9 enter\n1 \tregs\n1 poke 0 é\n"), program)
-    assert logged(made, "<") == transcript(program, script)
+    assert logged(made, "<*") == transcript(program, script)
     assert len(logged(made, "!")) == 3
     words = [entry.partition("\n")[2] for frame in made for entry in frame.log if entry[0] == "<"]
     assert list(filter(None, words)) == [
@@ -222,7 +222,7 @@ def test_source_without_lines_runs_to_end(program: pathlib.Path) -> None:
 def test_source_set_up_names_labels(program: pathlib.Path) -> None:
     source = "#> break end\n#> go\n#> * run 1\n nop\nend: nop\n"
     made = make_frames(read_assembled(source, "x.s"), program)
-    assert logged(made, "<")[-2:] == ["1 break pc=0000000000010004", "* granted 1"]
+    assert logged(made, "<*")[-2:] == ["1 break pc=0000000000010004", "* granted 1"]
     assert made[-1].states["1"]["instruction"] == "10000"
 
 
@@ -231,8 +231,8 @@ def test_manual_example_is_reproduced(program: pathlib.Path) -> None:
     section = text.partition("## Scripts with comments\n")[2]
     script = read_script(section.partition("```text\n")[2].partition("```")[0])
     made = make_frames(script, program)
-    assert script.title == "Doubles" and not re.search("E[0-9]{2}", " ".join(logged(made, "<")))
-    assert logged(made, "<")[-1].startswith("1 v2 00000000 00000002 00000004 ")
+    assert script.title == "Doubles" and not re.search("E[0-9]{2}", " ".join(logged(made, "<*")))
+    assert logged(made, "<*")[-1].startswith("1 v2 00000000 00000002 00000004 ")
 
 
 def test_sixty_frames_make_small_page(program: pathlib.Path) -> None:

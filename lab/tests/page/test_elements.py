@@ -181,14 +181,18 @@ def test_sources_after_several_steps(tmp_path: pathlib.Path) -> None:
     assert [cells_of(each["rows"][2])[1] for each in shown[1:]] == ["0", "1"]
 
 
-def test_card_has_another_name_of_the_source_only(tmp_path: pathlib.Path) -> None:
-    """Another spelling of an operand isn't another name: the names of scalar registers are those that the page's setting says."""
+def test_card_has_the_pseudo_instruction_of_the_source(tmp_path: pathlib.Path) -> None:
+    """The core sends it; the text of the line decides nothing."""
     state = stored()["multiply and add, masked"]["state"]
-    lines = ["vmacc.vx v8, x11, v4, v0.t", "vmacc.vx v8,a1,v4,v0.t # a1", "vother.vx v8, v4, x11, v0.t"]
-    views = [{"state": state | {"lines": {state["instruction"]: line}}} for line in lines]
+    at = state["instruction"]
+    lines = {"lines": {at: "vother.vx v8, v4, x11, v0.t"}}
+    views = [
+        {"state": state | lines},
+        {"state": state | lines | {"aliases": {at: "vmine.vx v8, a1", "1": "vneg.v v1, v2"}}},
+    ]
     cards = [each["card"] for each in shown_columns(views, tmp_path)]
     assert {card["text"] for card in cards} == {"vmacc.vx v8, a1, v4, v0.t"}
-    assert [card["alias"] for card in cards] == ["", "", "vother.vx v8, v4, x11, v0.t"]
+    assert [card["alias"] for card in cards] == ["", "vmine.vx v8, a1"]
 
 
 def test_card_of_a_load_that_was_cut_has_its_start(tmp_path: pathlib.Path) -> None:
@@ -310,8 +314,6 @@ def test_columns_equal_golden_results(tmp_path: pathlib.Path) -> None:
                 assert (case, kind, [cell["text"] for cell in row["cells"]]) == (case, kind, values)
         execution = Execution(before)
         outcomes = [OUTCOMES[execution.outcome(at)] for at in range(len(found["results"]))]
-        if execution.record.layout == "compress":
-            outcomes = ["tail" if each == "kept" else each for each in outcomes]
         assert (case, found["results"]) == (case, outcomes)
         reasons = Explanation(before)
         for form, equations in zip(FORMS, found["equations"], strict=True):

@@ -104,7 +104,8 @@ def test_past_keeps_grounds_of_panes(stepped: Tab) -> None:
 
 def test_step_is_announced_and_cells_have_names(stepped: Tab) -> None:
     """With all that changed since the state before, and the reason of the chosen cell, which the line below the elements has."""
-    stepped.wait("id('announced').textContent === 'Executed vle32.v v8, (a1): a1 = 69632, 4 elements changed in v8.'")
+    several = "Executed several instructions, vle32.v v8, (a1) as the last one: a1 = 69632, v8 changed."
+    stepped.wait("id('announced').textContent === arguments[0]", several)
     stepped.wait("one('#elements .after td:nth-of-type(3)')?.ariaLabel === 'element 2 of v8, after: −2, changed'")
     stepped.wait("one('#elements td[tabindex]').getAttribute('aria-describedby') === 'detail'")
     stepped.click("#one")

@@ -64,9 +64,21 @@ def test_run_and_step_build_a_changed_source(sit: Sit) -> None:
     assert tab.run("one('#listing .breakpoint').closest('tr').dataset.address") == "1000c"
     write(tab, "li a0, 6\nvadd v1\n")
     tab.click("#one")
-    tab.wait("all('#mistakes li').length === 1")
-    assert tab.run("code().getSelection()") == "vadd"
+    tab.wait("all('#mistakes li').length === 1 && code().getSelection() === 'vadd'")
     assert tab.run(A0) == "5" and tab.text("#run") == "Paused" and tab.text("#problems-count") == "1"
+
+
+def test_stop_of_the_program_before_is_gone_while_another_is_built(sit: Sit) -> None:
+    """Requests stay in the browser, so that the next program isn't built yet."""
+    tab = sit("A2")
+    write(tab, "ebreak\n")
+    tab.click("#one")
+    tab.wait("id('stop').textContent.includes('ebreak')")
+    tab.run("WebSocket.prototype.send = () => {}")
+    write(tab, "nop\n")
+    tab.click("#one")
+    tab.wait("id('run').dataset.condition === 'Assembling'")
+    assert tab.text("#stop") == ""
 
 
 def test_step_over_and_out_of_a_function(sit: Sit) -> None:
@@ -208,6 +220,17 @@ def test_new_machine_is_compared_with_no_earlier_one(sit: Sit) -> None:
     tab.click("#again")
     tab.wait(f"{CONDITION} === 'Ready' && {A0} === '0'")
     assert tab.run(marked) == []
+
+
+def test_registers_in_use_are_those_of_a_long_program(sit: Sit) -> None:
+    """Its load takes several turns at the machine, whose messages come one by one; the program before used another register."""
+    tab = sit("A6")
+    for lines, register, other in ((0, 7, 1), (400, 1, 7)):
+        write(tab, f"vsetivli zero, 8, e32, m1, ta, ma\nvid.v v{register}\nebreak\n" + "nop\n" * lines)
+        tab.run("id('number').value = 3")
+        tab.click("#many")
+        tab.wait(f"{CONDITION} === 'Ended' && id('vectors').textContent.includes('v{register}')")
+        assert not tab.run(f"id('vectors').textContent.includes('v{other}')")
 
 
 def test_loaded_image_opens_its_listing(sit: Sit) -> None:

@@ -270,12 +270,16 @@ def test_an_image_is_loaded_and_comes_back(program: pathlib.Path, tmp_path: path
     page = Page(program, tmp_path)
     news: Any = page.desk.drop("my sum.elf", SUM.read_bytes())
     assert "my-sum" in str(news["patch"]["images"]) and page.desk.seat.state["run"] == "stopped"
+    assert news["patch"]["state"]["image"] is True
     assert "> load" not in json.dumps(news) and ">1 load my-sum" in news["logs"]["A1"]
     assert any("The image my-sum has" in entry for entry in news["logs"]["A1"])
     page.do("step 5")
     registers = page.do("regs")
     again = Page(program, tmp_path, page.close())
     assert again.do("regs") == registers and again.view["images"] == ["my-sum"] and again.desk.lost == []
+    assert again.view["state"]["image"] is True
+    again.do("leave", "enter", "setpc 10000")
+    assert "image" not in again.desk.seat.shown
     again.close()
 
 

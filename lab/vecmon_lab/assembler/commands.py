@@ -6,7 +6,7 @@ import re
 from collections.abc import Sequence
 from dataclasses import dataclass
 
-from ..machine.answers import Refused, is_refusal, read
+from ..machine.answers import Refused, is_refusal, is_stop, read
 from ..machine.lines import words_of
 from ..tables.table import read_table
 from .instruction import Statement, refusal
@@ -92,6 +92,9 @@ def refusal_on_pages(line: str, answer: Sequence[str]) -> str:
 
 
 def log_entries(line: str, answer: Sequence[str]) -> list[str]:
-    """The lines of an answer as entries of a log. A refusal is followed by a newline and its meaning."""
+    """The lines of an answer as entries of a log: behind `*` if a program stopped, else behind `<`.
+
+    A refusal is followed by a newline and its meaning.
+    """
     words = refusal_on_pages(line, answer)
-    return [f"<{part}\n{words}".rstrip("\n") for part in answer]
+    return [f"{'*' if is_stop(part) else '<'}{part}\n{words}".rstrip("\n") for part in answer]

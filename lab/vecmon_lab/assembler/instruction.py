@@ -25,6 +25,7 @@ class Statement:
 
     line: that executes it; column: in that line, where the instruction begins
     places: one more than the text has characters, for its end; within: the calls and files that it comes from, innermost first
+    alias: what the source has, if that is a pseudo-instruction with another name, and this is its first instruction; or ""
     """
 
     address: int
@@ -33,6 +34,7 @@ class Statement:
     text: str
     places: tuple[Place, ...]
     within: tuple[str, ...] = ()
+    alias: str = ""
 
     @property
     def command(self) -> str:
@@ -141,7 +143,14 @@ class Instruction:
                 places = [place for piece, place in pieces for _ in piece]
                 places.append((last.line, last.column + len(last.text)))
                 address = self.place.resolved() + 4 * index
-                yield Statement(address, self.line, self.column, text, tuple(places), self.name.within)
+                alias = "" if index or text.split()[0] == self.name.text else self._written
+                yield Statement(address, self.line, self.column, text, tuple(places), self.name.within, alias)
+
+    @property
+    def _written(self) -> str:
+        """The name and the operands as the source has them, with a space after each comma."""
+        operands = ("".join(token.text for token in operand) for operand in self.operands)
+        return f"{self.name.text} {', '.join(operands)}".rstrip()
 
     def _template_pieces(self, symbols: Symbols, template: str, errors: list[SourceError]) -> _Pieces:
         """The text of a template, with its operands in its holes. errors: takes up their mistakes"""

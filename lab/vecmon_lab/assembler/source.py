@@ -8,6 +8,8 @@ from collections.abc import Iterable, Iterator, Mapping, Sequence
 from dataclasses import dataclass, field, replace
 
 from ..instructions.accesses import PAGE_BYTES
+from ..instructions.table import instruction_table
+from ..instructions.words import LOAD_FP, OP_V, STORE_FP
 from ..machine.start_state import start_lines
 from .assembly import Assembly, FileReader
 from .blocks import BLOCK_DIRECTIVES, Blocks
@@ -89,6 +91,15 @@ class Program:
             is_alone = above.startswith(("#", "//")) and "#" not in own and "//" not in own
             comments[f"{statement.address:x}"] = f"{own}  {above}" if is_alone else own
         return comments
+
+    def aliases(self) -> dict[str, str]:
+        """The pseudo-instructions that the source has for vector instructions, by their addresses in hexadecimal digits."""
+        table = instruction_table()
+        return {
+            f"{statement.address:x}": statement.alias
+            for statement in self.statements
+            if statement.alias and table[statement.text.split()[0]].opcode in (OP_V, LOAD_FP, STORE_FP)
+        }
 
     @property
     def size(self) -> int:

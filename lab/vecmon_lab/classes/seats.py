@@ -75,6 +75,7 @@ class Seat:
     status, since: that of its program, and since when it is so, in seconds since 1970
     active: when a tab of it made its last request, in seconds since 1970; 0 without one
     stepped: the state before the last line, if that stepped one instruction
+    began, is_image: how often its machine began anew, and whether it began with an image the last time
     used: the bytes of the script that are the seat's
     slices, seen: how many were granted to the program, about, since it stopped last or its student let it go; and when
         somebody looked at it last while it ran, in seconds of the event loop, or 0
@@ -101,6 +102,8 @@ class Seat:
     since: float = field(default_factory=time.time)
     active: float = 0.0
     stepped: State | None = None
+    began: int = 0
+    is_image: bool = False
     used: int = 0
     slices: float = 0.0
     seen: float = 0.0
@@ -134,6 +137,10 @@ class Seat:
     def follow(self, state: State, shown: State) -> None:
         """Set a state, and the program's status in it."""
         before, self.state, self.shown = self.state, state, shown
+        if state["run"] != "absent":
+            shown["began"] = self.began
+        if self.is_image:
+            shown["image"] = True
         self.is_started = self.is_started or state["run"] == "running" or "instruction" in state or "stop" in state
         status = status_of(state, self.stop)
         has_moved = state["run"] == "stopped" and before.get("pc") != state["pc"]
@@ -163,6 +170,7 @@ class Seat:
         self.named = {"labels": program.names(), "lines": program.source_lines(source.text)}
         if not isinstance(program, CompiledProgram):
             self.named["line_numbers"], self.named["stops"] = program.line_numbers(), program.line_stops()
+            self.named["aliases"] = program.aliases()
         if program.data:
             self.named["data"] = {f"{at:x}": {"type": run.type, "count": run.count} for at, run in program.data.items()}
         if isinstance(program, CompiledProgram) and program.rows:
@@ -256,6 +264,8 @@ class Seats:
             elif is_done and "faulted" not in state:
                 state.pop("instruction", None)
                 state.pop("executed", None)  # registers have changed since, as by the lines that set up a case
+            if state["run"] == "stopped" and "instruction" not in state and _sets_counter(done, digit):
+                state["prepared"] = True
             seat.rows.add(state)
             states[digit] = state, with_rows(state, seat.rows.rows(seat.watch_set, 1 + seat.watch_set.is_compiled))
         return states
@@ -295,6 +305,7 @@ class Seats:
         if _restarts(line, answer):
             asker.stop, asker.is_started, asker.written, asker.program = "", False, SourceText(), None
             asker.case, asker.named, asker.output = None, UNNAMED.copy(), {}
+            asker.began, asker.is_image = asker.began + 1, words[0] == "load"
         elif words == ["go"] and not is_refusal(answer):
             asker.stop, asker.slices, asker.seen = "", 0.0, 0.0
         for part, entry in zip(answer, log_entries(line, answer)):
@@ -322,6 +333,11 @@ def _ends_executing(done: Sequence[Done], digit: str) -> bool:
     own = [line for line, answer in done if line[0] in (digit, "*") and may_change(line, answer)]
     commands = [words_of(line)[0] for line in own if words_of(line) != ["out"]]
     return commands[-1:] != [] and commands[-1] in _EXECUTING
+
+
+def _sets_counter(done: Iterable[Done], digit: str) -> bool:
+    """Whether any of a user's lines set the program counter."""
+    return any(line[0] == digit and words_of(line)[:1] == ["setpc"] and not is_refusal(answer) for line, answer in done)
 
 
 def _is_repeatable(entry: str) -> bool:

@@ -30,7 +30,7 @@ class Frame:
     user: the digit of the user whose state is shown
     line: the command, and the number of further lines
     note: the author's sentence
-    log: lines behind `>`, their answers behind `<` (`log_entries`), and why a line wasn't sent behind `!`
+    log: lines behind `>`, their answers behind `<` or `*` (`log_entries`), and why a line wasn't sent behind `!`
     states: the state of each user after it, by the user's digit
     used: the registers that the whole lesson uses, by the user's digit
     """

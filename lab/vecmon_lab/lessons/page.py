@@ -65,6 +65,8 @@ def lesson_page(
         data["text"] = script.text
     if script.program and not isinstance(script.program, CompiledProgram):
         data["line_numbers"] = script.program.line_numbers()
+        if aliases := script.program.aliases():
+            data["aliases"] = aliases
     if script.program and script.program.data:
         runs = script.program.data.items()
         data["data"] = {f"{address:x}": {"type": run.type, "count": run.count} for address, run in runs}

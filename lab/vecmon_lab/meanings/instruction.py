@@ -15,7 +15,7 @@ from .executed import Before, Elements, Execution, element_of, execution_of
 from .formula import Assignment, evaluate_each
 
 Outcome = Literal["active", "masked", "tail", "prestart", "fault", "pending", "kept", "idle"]
-"""How an element takes part. kept: the formula doesn't count for it, as below a slide's offset;
+"""How an element takes part. kept: the formula doesn't count for it, as below a slide's offset, or after the elements that vcompress packs;
 pending: not reached, since the access of an element before it wasn't possible; idle: the instruction doesn't read it."""
 
 Role = Literal["destination", "data", "element", "single", "moved", "index"]
@@ -288,7 +288,7 @@ class _Instruction:
             others: list[Outcome] = ["tail"] * (len(outcomes) - 1)
             return (first, *others)
         if self.layout == "compress":
-            return tuple("tail" if each == "active" and at >= count else each for at, each in enumerate(outcomes))
+            return tuple("kept" if each == "active" and at >= count else each for at, each in enumerate(outcomes))
         if not (kept := self._kept(outcomes)):
             return outcomes
         return tuple("kept" if at in kept else each for at, each in enumerate(outcomes))

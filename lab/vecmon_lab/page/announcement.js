@@ -21,8 +21,9 @@ const vectorChanges = (state, before) =>
   Object.keys(state.v).filter((number) => state.v[number] !== before.v[number]).map((number) => `v${number}`);
 
 /**
- * Returns the instruction that executed last, and what differs from the state before it; "" without an instruction.
- * elements: the number of elements that changed
+ * Returns the instruction that executed last, and what differs from the state before; "" without an instruction. After several
+ * instructions all of them have made the difference.
+ * elements: the number of elements that the last instruction changed
  * @type {(state: MachineState, before: MachineState, elements: number, hasAbiNames: boolean) => string}
  */
 export function announcementOf(state, before, elements, hasAbiNames) {
@@ -30,8 +31,11 @@ export function announcementOf(state, before, elements, hasAbiNames) {
   if (!text) return "";
   const vectors = vectorChanges(state, before);
   const scalars = scalarChanges(state, before, hasAbiNames);
-  const listed = vectors.length ? [textOf("step.changed-elements", { registers: vectors.join(", "), count: elements })] : [];
-  const changes = [...scalars.slice(0, MOST), ...listed];
+  const isStep = before.pc === state.instruction;
+  const registers = vectors.join(", ");
+  const vectorText = isStep ? textOf("step.changed-elements", { registers, count: elements }) : textOf("step.changed-vectors", { registers });
+  const listed = vectors.length ? [vectorText] : [];
+  const changes = [...scalars.slice(0, MOST), ...listed].join(", ") || textOf("step.changed-nothing");
   const instruction = withNames(text, hasAbiNames);
-  return textOf("step.announced", { instruction, changes: changes.join(", ") || textOf("step.changed-nothing") });
+  return isStep ? textOf("step.announced", { instruction, changes }) : textOf("step.announced-several", { instruction, changes });
 }

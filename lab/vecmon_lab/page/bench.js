@@ -133,17 +133,18 @@ export class Bench {
 
   /** @type {(view: View, entries: string[], isAnew: boolean) => void} */
   show(view, entries, isAnew) {
-    const { state: { run, instruction }, source: { stands, text } } = view;
+    const { state: { run, instruction, began, image = false }, source: { stands, text } } = view;
     const wasAbsent = (this.bar.view?.state.run ?? "absent") === "absent";
-    const start = entries.findLast((entry) => /^<. (entered|loaded)\b/.test(entry));
-    if (start) Object.assign(this, { isEdited: false, isImage: start.slice(3).startsWith("load") });
+    const isNew = run !== "absent" && began !== this.desk.state.began;
+    if (isNew) this.isEdited = false;
+    this.isImage = image;
     if (instruction) this.panes.makeRoom();
     this.desk.show(view.seat, view.state, view.history, entries, isAnew);
     if (run === "stopped" && view.history.end === undefined) this.countSteps(view.state);
     this.askForRead(view.state);
     if (run === "absent" && !wasAbsent) this.panes.select(part(this.root, "show-source")); // in a pane that may be out of sight
     if (run !== "absent" && wasAbsent) this.panes.show(text && (stands || isAnew) ? "editor" : "listing");
-    if (start && this.isImage && !isAnew) this.panes.show("listing"); // an image has no source
+    if (isNew && image && !isAnew) this.panes.show("listing"); // an image has no source
     offerLanguages(this.editor.language, view);
     offer(this.parts.images, textOf("run.load-image"), view.images);
     offer(this.parts.against, textOf("source.side-by-side"), view.against);

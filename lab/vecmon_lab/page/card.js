@@ -10,7 +10,7 @@ import { ROUNDING, scalarName, typeText, typeWords, vectorType, withNames } from
 /** @typedef {import("./instruction.js").View} View */
 /** @typedef {import("./columns.js").Columns} Columns */
 /**
- * text: the instruction; alias: another text of the source for it; meaning: sentences, with backquotes around code;
+ * text: the instruction; alias: the source's pseudo-instruction for it, or ""; meaning: sentences, with backquotes around code;
  * formula, scalars: with the instruction's operands; counts: classes of elements with their numbers in words
  * @typedef {{ text: string, alias: string, meaning: string, formula: string, scalars: string[], counts: [string, string][] }} Card
  */
@@ -33,24 +33,12 @@ export function cardOf(view, columns) {
   if (!executed) return { text, alias: "", meaning, formula: "", scalars: [], counts: [] };
   const does = operandsText(executed.does, hasAbiNames);
   return {
-    ...aliasOf(state, text),
+    text, alias: state.aliases?.[state.instruction ?? ""] ?? "",
     meaning: [does, maskSentence(state, executed), ...stopSentences(view, executed)].filter(Boolean).join(" "),
     formula: operandsText(executed.formula, hasAbiNames),
     scalars: scalarTexts(view, executed),
     counts: countsOf(columns, view),
   };
-}
-
-/**
- * Returns the text of an instruction, and the one in the source, where that is another name for it.
- * @param {import("./instruction.js").State} state
- * @param {string} text
- */
-function aliasOf(state, text) {
-  const line = state.lines?.[state.instruction ?? ""] ?? "";
-  const own = line.replace(/#.*/, "").replace(/^\s*\w+:/, "").trim().replace(/\s+/g, " ").replace(/ ?, ?/g, ", ");
-  const isOther = own.split(" ")[0] !== text.split(" ")[0]; // operands may be written in several ways
-  return { text, alias: isOther && /^v\w+(\.\w+)* /.test(own) ? own : "" };
 }
 
 /**

@@ -29,6 +29,7 @@ export class Desk {
   /** @type {Set<number>} */ used = new Set(); // vector registers that weren't zero since the machine began
   refusal = ""; // of what was sent last, until a program stops
   notice = ""; // in place of a refusal, until the state changes
+  isBuilding = false; // whether another program is being built, which the reason for the stop isn't about
   frame = 0; // in which it is painted
   /** @type {State | undefined} */ said; // whose step was announced
 
@@ -55,9 +56,8 @@ export class Desk {
     // once, for all messages before it
     if (entries.length || state !== this.state) this.frame ||= requestAnimationFrame(() => this.paint());
     if (state === this.state) return;
-    const isNew = entries.some((entry) => /^>. enter$/.test(entry));
-    const isSetUp = !state.instruction && entries.some((entry) => /^>. setpc /.test(entry)); // as by a case
-    if (isAnew || isSetUp) this.before = state;
+    const isNew = state.began !== undefined && state.began !== this.state.began;
+    if (isAnew || state.prepared) this.before = state;
     else if (isNew || !isAlike(state, this.state)) this.before = isNew ? newMachine(state) : this.state;
     if (state.stop && state.stop !== this.state.stop) this.refusal = ""; // the stop is newer
     Object.assign(this, { state, notice: "" });
@@ -89,10 +89,18 @@ export class Desk {
     put(this.announced, announcementOf(now, then, elements, hasAbiNames));
   }
 
-  /** Shows the newest of a notice, a refusal and the reason for the stop; the reason is in the status line if another one is newer. */
+  /**
+   * Shows the newest of a notice, a refusal and the reason for the stop; the reason is in the status line if another one is newer. Shows
+   * none while another program is being built.
+   */
   showStage() {
     const state = this.past.moment?.state ?? this.state;
     const newer = this.notice || this.past.why || (this.past.moment ? "" : this.refusal);
+    if (this.isBuilding) {
+      this.view.showStep(state);
+      this.view.showStop("");
+      return;
+    }
     const absent = state.run === "absent" ? [make("small", "", textOf("step.no-machine"))] : [];
     const stop = newer && state.stop ? [make("span", "", ...prose(state.stop))] : [];
     this.view.showStep(state, ...absent, ...stop);

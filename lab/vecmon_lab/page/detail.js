@@ -80,7 +80,7 @@ function sentenceOf({ state }, columns, element) {
     prestart: state.faulted ? textOf("detail.done", { where }) : textOf("detail.prestart", { vstart: executed.vstart }),
     fault: textOf("detail.fault", { where }),
     pending: OUTCOMES.pending,
-    kept: textOf("detail.kept", { element }),
+    kept: executed.layout === "compress" ? textOf("detail.kept.packed") : textOf("detail.kept", { element }),
   };
   return [sentences[outcome] ?? where, was].filter(Boolean).join("; ") || (executed.destination ? "" : OUTCOMES[outcome]);
 }

@@ -6,7 +6,7 @@ import { afterEach } from "./patches.js";
 import { keepRead, markRead } from "./progress.js";
 import { lineBegins } from "./source_lines.js";
 import { textOf } from "./texts.js";
-import { STOP_LINE, entryParts, logEntry } from "./transcript.js";
+import { STOP, entryParts, logEntry } from "./transcript.js";
 import { MachineView, usedIn } from "./view.js";
 import { WrittenSource } from "./written.js";
 
@@ -165,7 +165,7 @@ class Lesson {
     const [text, refusal] = entryParts(log[place]);
     if (log[place][0] === "!") return text;
     if (log[place][0] === ">") return "";
-    const stop = STOP_LINE.test(text) ? (states[text[0]]?.stop ?? "") : "";
+    const stop = log[place][0] === STOP ? (states[text[0]]?.stop ?? "") : "";
     if (stop) return this.users.length > 1 ? textOf("lesson.user-stop", { user: text[0], stop }) : stop;
     const isFirst = place < 2; // then its line is next to it
     return refusal && !isFirst ? `\`${log[place - 1].slice(1)}\`:${refusal.includes("\n") ? "\n" : " "}${refusal}` : refusal;

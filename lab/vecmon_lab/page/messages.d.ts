@@ -347,6 +347,7 @@ export interface LessonData {
   labels: { [name: string]: string[] };
   lines: { [name: string]: string };
   line_numbers?: { [name: string]: number };
+  aliases?: { [name: string]: string };
   starts?: { [name: string]: number };
   stops?: { [name: string]: string[] };
   variables?: ShownVariable[];
@@ -1003,7 +1004,9 @@ export interface Start {
  *     program reached; without one there is no such key
  * output: the bytes that answers to `out` have shown
  * outputs: in a class in place of it, the last 64 KB of them, in blocks by number
- * labels, lines, line_numbers, starts, stops, variables, data: in a class, those of `SourceNames`
+ * began, image: in a class, how often the user's machine began anew, and whether it began with an image
+ * prepared: whether lines of what was just done set the program counter, and nothing was executed after them, as before a case
+ * labels, lines, line_numbers, aliases, starts, stops, variables, data: in a class, those of `SourceNames`
  */
 export interface State {
   run: "absent" | "stopped" | "running";
@@ -1031,9 +1034,13 @@ export interface State {
   calls?: { [name: string]: string };
   output?: string;
   outputs?: { [name: string]: string };
+  began?: number;
+  image?: boolean;
+  prepared?: boolean;
   labels?: { [name: string]: string[] };
   lines?: { [name: string]: string };
   line_numbers?: { [name: string]: number };
+  aliases?: { [name: string]: string };
   starts?: { [name: string]: number };
   stops?: { [name: string]: string[] };
   variables?: ShownVariable[];

@@ -12,7 +12,7 @@ import { textOf } from "./texts.js";
 /** @typedef {(request: { ask: "past", at: number, to_break?: boolean }) => Promise<Message | null>} Ask */
 
 /** @type {readonly (keyof State)[]} */
-const OF_SOURCE = ["breaks", "labels", "lines", "line_numbers", "starts", "stops", "variables", "data"];
+const OF_SOURCE = ["breaks", "labels", "lines", "line_numbers", "aliases", "starts", "stops", "variables", "data"];
 const MOST_PARTS = 25; // of a replay that counts
 const PRESENT = 2 ** 52; // more instructions than any program has executed
 // parts of a state that change while the machine's values don't

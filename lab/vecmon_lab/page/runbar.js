@@ -36,7 +36,10 @@ export class RunBar {
   /** Shows while `work` goes on that a source is being built. */
   /** @type {<Result>(work: Promise<Result>) => Promise<Result>} */
   building(work) {
-    const paint = (/** @type {boolean} */ isBuilding) => Object.assign(this, { isBuilding }).paint();
+    const paint = (/** @type {boolean} */ isBuilding) => {
+      Object.assign(this, { isBuilding }).paint();
+      Object.assign(this.bench.desk, { isBuilding }).showStage();
+    };
     paint(true);
     return work.finally(() => paint(false));
   }

@@ -55,6 +55,7 @@ class SourceNames(TypedDict):
     labels, lines: names, and lines with their comments, by address
     data: numbers and texts of an assembler source's directives, by address
     line_numbers: of an assembler source: the line number of each instruction, by address
+    aliases: of an assembler source: its pseudo-instructions for vector instructions, by address
     stops: the addresses of a line's breakpoints by line number
     starts, variables: of a compiled source (`compilers/compiled.py`): the line number, or 0, by start address; and those of the debug data
     """
@@ -62,6 +63,7 @@ class SourceNames(TypedDict):
     labels: dict[str, list[str]]
     lines: dict[str, str]
     line_numbers: NotRequired[Mapping[str, int]]
+    aliases: NotRequired[Mapping[str, str]]
     starts: NotRequired[Mapping[str, int]]
     stops: NotRequired[Mapping[str, Sequence[str]]]
     variables: NotRequired[Sequence[ShownVariable]]
@@ -86,7 +88,9 @@ class State(TypedDict):
         program reached; without one there is no such key
     output: the bytes that answers to `out` have shown
     outputs: in a class in place of it, the last 64 KB of them, in blocks by number
-    labels, lines, line_numbers, starts, stops, variables, data: in a class, those of `SourceNames`
+    began, image: in a class, how often the user's machine began anew, and whether it began with an image
+    prepared: whether lines of what was just done set the program counter, and nothing was executed after them, as before a case
+    labels, lines, line_numbers, aliases, starts, stops, variables, data: in a class, those of `SourceNames`
     """
 
     run: Run
@@ -114,9 +118,13 @@ class State(TypedDict):
     calls: NotRequired[Mapping[str, str]]
     output: NotRequired[str]
     outputs: NotRequired[Mapping[str, str]]
+    began: NotRequired[int]
+    image: NotRequired[bool]
+    prepared: NotRequired[bool]
     labels: NotRequired[dict[str, list[str]]]
     lines: NotRequired[dict[str, str]]
     line_numbers: NotRequired[Mapping[str, int]]
+    aliases: NotRequired[Mapping[str, str]]
     starts: NotRequired[Mapping[str, int]]
     stops: NotRequired[Mapping[str, Sequence[str]]]
     variables: NotRequired[Sequence[ShownVariable]]
@@ -252,6 +260,7 @@ def _forget_last(state: State) -> None:
     state.pop("faulted", None)
     state.pop("illegal", None)
     state.pop("stop", None)
+    state.pop("prepared", None)
 
 
 def _set_position(state: State, place: Position, answers: Sequence[Answer]) -> None:
@@ -466,6 +475,7 @@ def _memory(guest: Guest, watch_set: WatchSet) -> dict[str, str]:
     """The rows of all pages that are watched and mapped."""
     rows = dict[str, str]()
     for page in sorted(watch_set.pages):
-        data = guest.peek(page, PAGE_BYTES)
-        rows |= {f"{page + at:x}": data[at : at + ROW_BYTES].hex() for at in range(0, len(data), ROW_BYTES)}
+        digits = guest.peek(page, PAGE_BYTES).hex()
+        starts = range(0, len(digits), 2 * ROW_BYTES)
+        rows |= {f"{page + start // 2:x}": digits[start : start + 2 * ROW_BYTES] for start in starts}
     return rows

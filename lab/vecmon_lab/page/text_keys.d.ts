@@ -114,6 +114,8 @@ export interface Places {
   "step.stopped": never;
   "step.executed": never;
   "step.announced": "changes" | "instruction";
+  "step.announced-several": "changes" | "instruction";
+  "step.changed-vectors": "registers";
   "step.changed-elements": "count" | "registers";
   "step.changed-nothing": never;
   "step.no-machine": never;
@@ -381,6 +383,7 @@ export interface Places {
   "detail.prestart": "vstart";
   "detail.fault": "where";
   "detail.kept": "element";
+  "detail.kept.packed": never;
   "equation.and": never;
   "equation.since": "causes" | "equation";
   "equation.true": "condition";

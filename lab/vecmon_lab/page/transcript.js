@@ -4,8 +4,8 @@ import { make, prose } from "./elements.js";
 
 const LOG_LENGTH = 500;
 /** @type {Record<string, string>} */
-const KINDS = { ">": "asked", "<": "answered", "=": "served", "!": "unsent" };
-export const STOP_LINE = /^[1-8] (e?break|exit|outfull|fault) /;
+const KINDS = { ">": "asked", "<": "answered", "*": "answered", "=": "served", "!": "unsent" };
+export const STOP = "*"; // starts an entry that reports the stop of a program
 
 /** The text of an entry, and what it means where it refuses a line, which may have several lines; "" where it doesn't. */
 /** @type {(entry: string) => [text: string, words: string]} */
@@ -15,13 +15,13 @@ export function entryParts(entry) {
 }
 
 /**
- * A line or an answer in the transcript: lines begin with `>`, answers with `<`, those to the server's own lines with `=`,
- * and other sentences with `!`.
+ * A line or an answer in the transcript: lines begin with `>`, answers with `<`, or with `*` if they report a stop, those to the server's
+ * own lines with `=`, and other sentences with `!`.
  * Of an only user's entries the digit is left out; `place` comes before all.
  */
 export function logEntry(/** @type {string} */ entry, isOnly = false, place = "") {
   const [text, words] = entryParts(entry);
-  const stopped = entry[0] === "!" || (entry[0] === "<" && (STOP_LINE.test(text) || words));
+  const stopped = entry[0] === "!" || entry[0] === STOP || (entry[0] === "<" && words);
   const kind = KINDS[entry[0]];
   const shown = isOnly && entry[0] !== "!" ? text.slice(2) : text;
   return make("li", stopped ? `${kind} stopped` : kind, `${place}${entry[0] === ">" ? "> " : ""}${shown}`);

@@ -10,10 +10,18 @@ const state = (own) => ({ code: { 10000: "00a00513 addi x10, x0, 10" }, x: regis
 
 test("a step's announcement has the instruction and the registers that it changed", () => {
   const after = state({ instruction: "10000", x: registers({ 10: "a", 11: "ffffffffffffffff" }) });
-  assert.equal(announcementOf(after, state({}), 0, true), "Executed addi a0, zero, 10: a0 = 10, a1 = -1.");
-  assert.equal(announcementOf(after, state({}), 0, false), "Executed addi x10, x0, 10: x10 = 10, x11 = -1.");
-  assert.equal(announcementOf(state({ instruction: "10000" }), state({}), 0, true), "Executed addi a0, zero, 10: no register changed.");
+  const first = state({ pc: "10000" });
+  assert.equal(announcementOf(after, first, 0, true), "Executed addi a0, zero, 10: a0 = 10, a1 = -1.");
+  assert.equal(announcementOf(after, first, 0, false), "Executed addi x10, x0, 10: x10 = 10, x11 = -1.");
+  assert.equal(announcementOf(state({ instruction: "10000" }), first, 0, true), "Executed addi a0, zero, 10: no register changed.");
   const vector = state({ code: { 4: "5208a157 vid.v v1" }, instruction: "4", v: { 0: "00", 1: "01" } });
-  assert.equal(announcementOf(vector, state({}), 8, true), "Executed vid.v v1: 8 elements changed in v1.");
+  assert.equal(announcementOf(vector, state({ pc: "4" }), 8, true), "Executed vid.v v1: 8 elements changed in v1.");
   assert.equal(announcementOf(state({}), state({}), 0, true), "");
+});
+
+test("after a run the changes aren't those of the last instruction", () => {
+  const last = { code: { 8: "00008067 jalr x0, 0(x1)" }, instruction: "8" };
+  const after = state({ ...last, x: registers({ 10: "a" }), v: { 0: "01", 1: "01" } });
+  const words = "Executed several instructions, jalr zero, 0(ra) as the last one: a0 = 10, v0, v1 changed.";
+  assert.equal(announcementOf(after, state({ pc: "10000" }), 8, true), words);
 });
