@@ -6,6 +6,7 @@ import pytest
 
 from vecmon_lab.assembler.inputs import with_inputs
 from vecmon_lab.assembler.source import read_source
+from vecmon_lab.assembler.trial import read_tried_source
 from vecmon_lab.lessons.frames import make_frames
 from vecmon_lab.lessons.script import read_assembled
 
@@ -79,3 +80,11 @@ def test_mistake_has_place(line: str, column: int, message: str) -> None:
 def test_line_of_lesson_is_a_warning(line: str) -> None:
     program = with_inputs(read_source("nop"), f"nop\n{line}")
     assert [(it.line, it.column) for it in program.warnings] == [(2, 1)] and not program.set_up
+
+
+def test_refused_commands_are_mistakes_before_the_machine_has_the_source(program: pathlib.Path) -> None:
+    """The monitor's registers are x1 to x31, and a page that it writes is mapped, once: docs/REFUSALS.md has the codes."""
+    text = "#> set a1 ff\n#> set x11 ff\n#> map 10000 1 rw\n#> break start\n#> poke 90000 01\nstart: ret\n"
+    mistakes = read_tried_source(text, program).mistakes
+    assert [(each.line, each.message[:3]) for each in mistakes] == [(1, "E04"), (3, "E16"), (5, "E11")]
+    assert read_tried_source("#> set x11 ff\n#> break start\nstart: ret\n", program).mistakes == []

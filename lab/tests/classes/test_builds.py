@@ -52,7 +52,9 @@ async def test_c_source_builds_and_class_restores_it_without_compiler(tmp_path: 
         tab, teacher = await room.sit("A3"), await room.sit("teacher")
         assert tab.view["languages"] == [each.name for each in LANGUAGES] and not tab.view["no_c"]
         reply = await tab.ask("source", text=PLAIN_SUM, language=C)
-        assert (reply["mistakes"], reply["warnings"]) == ([], [])
+        lines = [number for number, line in enumerate(PLAIN_SUM.split("\n"), 1) if line.startswith("//>")]
+        assert (reply["mistakes"], [each["line"] for each in reply["warnings"]]) == ([], lines) and len(lines) == 3
+        assert reply["warnings"][0]["message"].startswith("//> lines are for lessons")
         state = tab.view["state"]
         assert any("total += from[i];" in line for line in state["lines"].values())
         assert any("vredsum" in text for text in state["code"].values()), "all of it is listed"

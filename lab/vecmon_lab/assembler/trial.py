@@ -8,6 +8,7 @@ from ..machine.answers import Refused, read
 from ..machine.process import Vecmon
 from ..machine.session import TOGETHER, Session
 from .assembly import FileReader
+from .commands import explain_refusal
 from .inputs import with_inputs
 from .instruction import with_fitting_operand
 from .source import Program, SourceError, Statement, in_order, read_source, refusal
@@ -24,7 +25,24 @@ def read_whole_source(text: str, vecmon: Vecmon, files: FileReader | None = None
 def read_tried_source(text: str, vecmon: Vecmon, files: FileReader | None = None) -> Program:
     """The program of a source, with all its mistakes, also those that only the machine refuses."""
     program = with_inputs(read_source(text, files=files), text)
-    return replace(program, mistakes=all_mistakes(program, vecmon))
+    return replace(program, mistakes=all_mistakes(program, vecmon) or refused_set_up(program, vecmon))
+
+
+def refused_set_up(program: Program, vecmon: Vecmon) -> list[SourceError]:
+    """A mistake for each command of `#>` lines that a new machine with the program refuses."""
+    if not program.set_up:
+        return []
+    lines = [
+        f"1 {command}" for command in ("enter", *program.load_lines(), *(command for _, command in program.set_up))
+    ]
+    with Session(vecmon) as trial:
+        answers = list(
+            itertools.chain(*(trial.do_all(lines[at : at + TOGETHER]) for at in range(0, len(lines), TOGETHER)))
+        )
+    first = len(lines) - len(program.set_up)
+    parsed = zip(program.set_up, lines[first:], map(read, answers[first:]))
+    refused = ((number, line, answer) for (number, _), line, answer in parsed if isinstance(answer, Refused))
+    return in_order(SourceError(number, 1, explain_refusal(line, answer)[-1]) for number, line, answer in refused)
 
 
 def all_mistakes(source: Program, vecmon: Vecmon) -> list[SourceError]:

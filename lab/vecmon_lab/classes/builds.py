@@ -4,8 +4,10 @@ import asyncio
 import os
 import sys
 from collections.abc import Sequence
+from dataclasses import replace
 
 from .. import LabError
+from ..assembler.line import SourceError
 from ..compilers.account import OWN, Account
 from ..compilers.compiled import IMAGE_BYTES, CompiledProgram, read_compiled_program
 from ..compilers.compiler import Compiler
@@ -51,7 +53,21 @@ class Builds:
             words = words_for(text, compiler, choice, is_answer)
             async with self._places:
                 answer = await run_in_sandbox_async(words, text, self._account)
-            return await asyncio.to_thread(read_compiled_program, answer, self._limit)
+            program = await asyncio.to_thread(read_compiled_program, answer, self._limit)
+        return replace(program, warnings=[*lesson_lines(text), *program.warnings])
+
+
+def lesson_lines(text: str) -> list[SourceError]:
+    """A warning for each line of a compiled source that only a lesson executes: `//> step 5`, or `#> step 5`."""
+    found = [(number, line, line.lstrip()[:3]) for number, line in enumerate(text.split("\n"), 1)]
+    return [
+        SourceError(
+            number, line.index(">") - len(mark) + 2, f"{mark} lines are for lessons: set values in the source itself"
+        )
+        for number, line, start in found
+        for mark in ("//>", "#>")
+        if start.startswith(mark)
+    ]
 
 
 def builds_by(name: str | None, limit: int = IMAGE_BYTES, is_needed: bool = False, account: Account = OWN) -> Builds:

@@ -12,7 +12,7 @@ from ..tables.table import read_table
 from .languages import C
 
 LESSON = "lesson.s"  # in the folder of an exercise
-_OF_LESSONS = re.compile(r"^#> *(?:step|go)\b.*\n", re.MULTILINE)  # lines that pages don't take
+_OF_LESSONS = re.compile(r"^(?:#|//)> *(?:step|go|out)\b.*\n", re.MULTILINE)  # lines that pages don't take
 
 
 class ExampleSource(TypedDict):
