@@ -10,8 +10,9 @@ import pytest
 from support.browser import CONTRAST
 from support.class_pages import SIGNS, Served, Tab, look_at
 from support.layouts import SIZES, reset, resize
+from vecmon_lab.classes.progress import is_unsigned
 from vecmon_lab.compilers.compiler import Compiler
-from vecmon_lab.exercises.exercise import OURS
+from vecmon_lab.exercises.exercise import OURS, read_exercise
 from vecmon_lab.tables.table import read_table
 
 if TYPE_CHECKING:
@@ -83,6 +84,19 @@ def test_first_visit_starts_with_a_step(tabs: "Chrome", course: Served) -> None:
     assert tab.run(OPENED) == ["doubles"], "the server counts the time at it from now on"
     tab.click("#one")
     tab.wait("!id('welcome').checkVisibility() && id('step').textContent.includes('ret')")
+
+
+def test_numbers_have_the_sign_of_the_cases(tabs: "Chrome", course: Served) -> None:
+    """Those of an exercise whose cases have unsigned numbers only, and those of another one; a chosen form stays."""
+    signs = {name: is_unsigned(read_exercise(OURS / name)) for name in COURSE}
+    signed, unsigned = ([name for name in COURSE if signs[name] == wanted][0] for wanted in (False, True))
+    tab = Tab(tabs, course, "B5")
+    for name, form in ((unsigned, "unsigned"), (signed, "signed"), (unsigned, "unsigned")):
+        choose(tab, name)
+        tab.wait(f"id('form').value === '{form}'")
+    tab.choose("#form", "hexadecimal")
+    choose(tab, signed)
+    assert tab.run("id('form').value") == "hexadecimal"
 
 
 def test_other_exercise_leaves_machine(tabs: "Chrome", course: Served) -> None:

@@ -1,6 +1,7 @@
 """Lessons in C, in Chromium: the tour's kernel from line to line, and its variables; and listings side by side."""
 
 import pathlib
+from dataclasses import replace
 from typing import TYPE_CHECKING
 
 import pytest
@@ -44,6 +45,16 @@ def line_shown(browser: "Chrome") -> int:
     """The number of the line that is marked."""
     text: str = browser.execute_script("return document.querySelector('#listing .here .source').textContent")
     return int(text.split()[0])
+
+
+def test_numbers_have_the_sign_of_the_c_types(browser: "Chrome", program: pathlib.Path, tmp_path: pathlib.Path) -> None:
+    """Those of the kernel, int32_t, and others in their place."""
+    script = tours()[KERNEL]
+    page = lesson_page("x", make_frames(replace(script, steps=script.steps[:2]), program), script)
+    assert '"element":"i32"' in page
+    for element, form in (("i32", "signed"), ("u32", "unsigned")):
+        opened(browser, tmp_path, page.replace('"element":"i32"', f'"element":"{element}"'))
+        assert browser.execute_script("return document.querySelector('#form').value") == form
 
 
 def test_kernel_steps_by_line(kernel: "Chrome") -> None:

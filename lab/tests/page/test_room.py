@@ -131,3 +131,37 @@ def test_focus_stays_where_one_works(stepped: Tab) -> None:
     stepped.run("code().focus()")
     stepped.type(Keys.CONTROL, Keys.ENTER)
     stepped.wait("id('editor').hidden && document.activeElement.id === 'listing'")
+
+
+def test_forced_colors_mark_lines_tabs_and_changes(stepped: Tab) -> None:
+    """Grounds and shadows, which mark them otherwise, are none then."""
+    browser = stepped.activate()
+    forced = {"features": [{"name": "forced-colors", "value": "active"}]}
+    browser.execute_cdp_cmd("Emulation.setEmulatedMedia", forced)
+    try:
+        stepped.wait("matchMedia('(forced-colors: active)').matches")
+        styles = "['.lines .executed', '.lines .next'].map((each) => getComputedStyle(one(each)).outlineStyle)"
+        assert stepped.run(styles) == ["solid", "dotted"]
+        tabs = (
+            "[true, false].map((each) => getComputedStyle(one(`[role=tab][aria-selected=${each}]`)).borderBottomColor)"
+        )
+        assert len(set(stepped.run(tabs))) == 2
+        changed = "all('.lanes .changed, #registers .changed').map((each) => getComputedStyle(each).textDecorationLine)"
+        assert set(stepped.run(changed)) == {"underline"}
+    finally:
+        browser.execute_cdp_cmd("Emulation.setEmulatedMedia", {"features": []})
+
+
+CUT = """all('button, [role=tab], label, summary, select, dt, h2, small')
+    .filter((each) => each.checkVisibility({ visibilityProperty: true }) && each.scrollWidth > each.clientWidth + 1 && each.clientWidth)
+    .map((each) => each.id || each.textContent)"""
+
+
+def test_no_label_is_cut_at_360_pixels(stepped: Tab) -> None:
+    browser = stepped.activate()
+    resize(browser, Size(360, 740))
+    for pane in ("show-source", "show-listing", "show-memory", "show-reference"):
+        stepped.run("id(arguments[0]).click()", pane)
+        assert stepped.run(CUT) == [] and stepped.run("document.documentElement.scrollWidth") <= 360
+    stepped.run("Object.assign(id('show-source').style, { width: '20px', overflow: 'hidden' })")
+    assert stepped.run(CUT) == ["show-source"], "the check finds a label that is cut"
