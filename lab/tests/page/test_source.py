@@ -85,6 +85,16 @@ def test_tab_indents_and_undo_survives_write(sit: Sit) -> None:
     assert tab.run(TEXT).startswith("# Doubles")
 
 
+def test_label_goes_to_the_start_of_its_line(sit: Sit) -> None:
+    """Once it has its colon; the next line is indented again."""
+    from selenium.webdriver.common.keys import Keys
+
+    tab = sit("A7")
+    empty(tab)
+    tab.type("a: .word 1", Keys.ENTER, "b:", " .word 2", Keys.ENTER, "nop")
+    assert tab.run(TEXT) == "a: .word 1\nb: .word 2\n        nop"
+
+
 def test_every_paste_is_undone_separately(sit: Sit) -> None:
     from selenium.webdriver.common.keys import Keys
 

@@ -142,9 +142,10 @@ def test_back_after_run_stays_in_the_program(sit: Sit) -> None:
     tab.click("#backward")
     tab.wait("id('moment-count').textContent === 'step 11 of 12'")
     texts = "all('.CodeMirror').filter((each) => each.checkVisibility()).map((each) => each.CodeMirror.getValue())"
-    assert tab.run(texts) == [FAULTING]
+    note = "one('.of-built').checkVisibility()"
+    assert tab.run(texts) == [FAULTING] and tab.run(note)
     tab.click("#now")
-    tab.wait(f"{texts}[0] === 'nop'")
+    tab.wait(f"{texts}[0] === 'nop' && !{note}")
 
 
 def test_restart_warns_about_lost_state(sit: Sit) -> None:

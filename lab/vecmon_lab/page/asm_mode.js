@@ -67,7 +67,8 @@ CodeMirror.defineMode("riscv", ({ indentUnit }) => ({
   startState: () => ({ isFirst: true, indent: 0, hasLabel: false, isComment: false, macros: [] }),
   token,
   blankLine: (/** @type {State} */ state) => void Object.assign(state, { hasLabel: false, indent: 0 }),
-  indent: ({ indent, hasLabel }) => (hasLabel && !indent ? indentUnit : indent),
+  indent: ({ indent, hasLabel }, after) => (LABEL.test(after) ? 0 : hasLabel && !indent ? indentUnit : indent),
+  electricInput: /^\s+[\w.$]+:$/, // indents a label once it has its colon
   lineComment: "#",
   closeBrackets: '()""',
 }));

@@ -48,6 +48,7 @@ export class Bench {
   /** @type {State["read"]} */ askedRead; // that lacked registers, which were asked for
   /** @type {State | undefined} */ counted; // whose instructions were asked for
   /** @type {Editor | undefined} */ built; // has the source that is in the machine, if another one is shown in the past
+  builtNote = make("p", "of-built", textOf("past.built.note"));
 
   /** @param {HTMLElement} root @param {import("./types").Connection} connection */
   constructor(root, connection) {
@@ -345,9 +346,10 @@ export class Bench {
     const box = this.editor.box;
     if (source && !this.built) {
       const field = Object.assign(make("textarea", ""), { readOnly: true, ariaLabel: textOf("past.built") });
-      box.after(field);
+      box.after(this.builtNote, field);
       this.built = new Editor(field);
     }
+    this.builtNote.hidden = !source;
     if (source && this.built?.code.getValue() !== source.text) this.built?.code.setValue(source.text);
     const wasShown = box.hidden;
     box.hidden = Boolean(source);

@@ -22,6 +22,7 @@ export interface Mode<State> {
   token(stream: Stream, state: State): string | null;
   blankLine?(state: State): void;
   indent?(state: State, textAfter: string): number;
+  electricInput?: RegExp;
   lineComment?: string;
   closeBrackets?: string;
 }

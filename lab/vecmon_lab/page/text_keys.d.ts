@@ -116,6 +116,7 @@ export interface Places {
   "step.announced": "changes" | "instruction";
   "step.announced-several": "changes" | "instruction";
   "step.changed-vectors": "registers";
+  "step.changed-element": "registers";
   "step.changed-elements": "count" | "registers";
   "step.changed-nothing": never;
   "step.no-machine": never;
@@ -127,6 +128,7 @@ export interface Places {
   "past.no-back": never;
   "past.no-forth": never;
   "past.built": never;
+  "past.built.note": never;
   "past.label": never;
   "past.back-arrow": never;
   "past.back.title": never;

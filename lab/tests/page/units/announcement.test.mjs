@@ -16,6 +16,7 @@ test("a step's announcement has the instruction and the registers that it change
   assert.equal(announcementOf(state({ instruction: "10000" }), first, 0, true), "Executed addi a0, zero, 10: no register changed.");
   const vector = state({ code: { 4: "5208a157 vid.v v1" }, instruction: "4", v: { 0: "00", 1: "01" } });
   assert.equal(announcementOf(vector, state({ pc: "4" }), 8, true), "Executed vid.v v1: 8 elements changed in v1.");
+  assert.equal(announcementOf(vector, state({ pc: "4" }), 1, true), "Executed vid.v v1: 1 element changed in v1.");
   assert.equal(announcementOf(state({}), state({}), 0, true), "");
 });
 
