@@ -77,6 +77,14 @@ def test_run_profile_compare(lab: Lab, tmp_path: pathlib.Path, text: str, senten
     assert lab("compare", path)[0] == 0
 
 
+def test_source_for_a_stock_assembler_ends_by_ret(lab: Lab, clang: Compiler, tmp_path: pathlib.Path) -> None:
+    """Also one with data, whose image has more segments."""
+    path = tmp_path / "own.s"
+    path.write_text(f"{CALLS}.data\nnumbers: .word 1, 2\n", "ascii")
+    done = lab("run", "--options", "stock", path)
+    assert (done[0], BY_RET in done[2]) == (0, True)
+
+
 @pytest.mark.parametrize("text, sentence, value", SENTENCES)
 def test_gdb(tmp_path: pathlib.Path, text: str, sentence: str, value: int) -> None:
     path = tmp_path / "own.s"

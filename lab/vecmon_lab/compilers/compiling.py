@@ -2,15 +2,23 @@
 
 import atexit
 import pathlib
+import struct
 import tempfile
 
 from .. import LabError, mistakes_in
+from ..instructions.accesses import PAGE_BYTES
+from ..machine.start_state import EBREAK, RETURN
 from .compiled import CompiledProgram, Isolation, read_compiled_program
-from .compiler import FUNCTION, IMAGE, PREPROCESSED_SOURCE, Compiler, find_compiler, source_of
+from .compiler import ASSEMBLER_SOURCE, FUNCTION, IMAGE, PREPROCESSED_SOURCE, Compiler, find_compiler, source_of
 from .sandbox import answer_of_own, answer_sandboxed
 
 SOURCE_BYTES = 1 << 16
 ENTRY_AT = 24  # the offset of e_entry in an image
+_TABLE_AT, _COUNT_AT = 32, 56  # those of e_phoff and e_phnum
+_LOADED = struct.Struct(
+    "<IIQQQQQQ"
+)  # a row of that table: p_type, p_flags, p_offset, p_vaddr, p_paddr, p_filesz, p_memsz, p_align
+_PT_LOAD, _READ_EXECUTE = 1, 5
 
 
 def read_own_source(path: pathlib.Path) -> str:
@@ -64,7 +72,20 @@ def compiled_image(path: pathlib.Path, compiler: str | None = None, choice: int 
     with image.open("r+b") as file:  # an assembler source is linked without an entry
         file.seek(ENTRY_AT)
         file.write(program.entry.to_bytes(8, "little"))
+    if source_of(choice) == ASSEMBLER_SOURCE:
+        image.write_bytes(with_return_page(image.read_bytes()))
     return image
+
+
+def with_return_page(image: bytes) -> bytes:
+    """An image of an assembler source with the page that it returns to, as the lab's assembler makes it. The table of segments moves."""
+    (table,), (count,) = struct.unpack_from("<Q", image, _TABLE_AT), struct.unpack_from("<H", image, _COUNT_AT)
+    place = -(-len(image) // PAGE_BYTES) * PAGE_BYTES
+    row = _LOADED.pack(_PT_LOAD, _READ_EXECUTE, place, RETURN, RETURN, len(EBREAK), PAGE_BYTES, PAGE_BYTES)
+    made = bytearray(image.ljust(place, b"\0") + EBREAK.ljust(_LOADED.size, b"\0"))
+    struct.pack_into("<Q", made, _TABLE_AT, len(made))
+    struct.pack_into("<H", made, _COUNT_AT, count + 1)
+    return bytes(made) + image[table : table + count * _LOADED.size] + row
 
 
 def words_for(text: str, compiler: Compiler, choice: int, is_answer: bool = False) -> list[str]:
