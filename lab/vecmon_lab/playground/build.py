@@ -57,8 +57,10 @@ def parts_of(folder: pathlib.Path) -> dict[str, bytes]:
         )
     module = without_data(python)
     lessons = {f"lessons/{path.name}": path.read_text("utf-8") for path in sorted((folder / "lessons").iterdir())}
-    tables = (path for path in sorted((LAB / "tables").rglob("*")) if path.suffix in (".txt", ".toml"))
-    lessons |= {f"lab/{path.relative_to(LAB.parent)}": path.read_text("utf-8") for path in tables}
+    tables = (path for path in sorted((LAB / "tables").glob("*.txt")) if not path.name.startswith("texts."))
+    lessons |= {
+        f"lab/{path.relative_to(LAB.parent)}": path.read_text("utf-8") for path in tables
+    }  # the others are in the snapshot
     return {
         "python": module,
         "memory": memory[DIGEST_BYTES:],

@@ -23,6 +23,8 @@ import _host  # of webassembly/python.c
 from .. import LabError
 from ..lessons.page import lesson_page
 from ..lessons.script import Script
+from ..meanings.record import records
+from ..tables.absent import absent
 from .in_page import PageProgram, put_file
 from .kept_texts import KeptTexts
 from .page_desk import PageDesk
@@ -42,10 +44,12 @@ _exercises: dict[str, Any] = {STARTS: {}, BY_NAME: {}}
 
 
 def prepare() -> None:
-    """Read all files, before the snapshot: later there are none."""
+    """Read all files, before the snapshot: later there are none but lessons, and tables that aren't read here."""
     if EXERCISES.exists():
         _exercises.update(pickle.loads(EXERCISES.read_bytes()))
-    lesson_page("", [], Script("", []))  # reads the files of pages
+    lesson_page("", [], Script("", []))  # reads the files of pages, and texts
+    records()
+    absent()
     for name, functions in STAND_INS.items():
         sys.modules[name] = types.ModuleType(name)
         for function in functions:

@@ -2,14 +2,15 @@
 
 LIBRARY is the folder of CPython's library, as /usr/lib/python3.11.
 
-OUT/lib.zip   the standard library, compiled, without docstrings
-OUT/lab/      the lab, compiled, without docstrings, and its texts
+OUT/lib.zip   the standard library, compiled, without docstrings and line numbers
+OUT/lab/      the lab, compiled in the same way, and its texts
 OUT/later.zip pyelftools, and what it alone imports
 
 The same sources give the same bytes.
 """
 
 import ast
+import functools
 import importlib.util
 import marshal
 import pathlib
@@ -29,7 +30,14 @@ HEADER = importlib.util.MAGIC_NUMBER + bytes(12)  # of a compiled module without
 
 
 class Stripper(ast.NodeTransformer):
-    """Removes docstrings, and annotations of functions; those of classes stay, which dataclasses read."""
+    """Removes docstrings, annotations of functions, and types of dictionaries; annotations of other classes stay, which dataclasses read."""
+
+    def visit_ClassDef(self, node: ast.ClassDef) -> ast.AST:
+        """Put `dict` in place of a TypedDict, whose fields only type checkers read."""
+        if any(isinstance(base, ast.Name) and base.id in typed_dicts() for base in node.bases):
+            made = ast.Assign([ast.Name(node.name, ast.Store())], ast.Name("dict", ast.Load()))
+            return ast.fix_missing_locations(ast.copy_location(made, node))
+        return self.generic_visit(node)
 
     def generic_visit(self, node: ast.AST) -> ast.AST:
         """Strip a node and those in it."""
@@ -48,17 +56,35 @@ class Stripper(ast.NodeTransformer):
         return super().generic_visit(node)
 
 
+@functools.cache
+def typed_dicts() -> frozenset[str]:
+    """The names of the lab's classes that are a TypedDict, with TypedDict itself; none that another class has, too."""
+    classes = [
+        each
+        for _, path in modules(LAB)
+        for each in ast.walk(ast.parse(path.read_bytes()))
+        if isinstance(each, ast.ClassDef)
+    ]
+    bases: dict[str, list[set[str]]] = {}
+    for each in classes:
+        bases.setdefault(each.name, []).append({ast.unparse(base) for base in each.bases})
+    found = {"TypedDict"}
+    while new := {name for name, sets in bases.items() if all(each & found for each in sets)} - found:
+        found |= new
+    return frozenset(found)
+
+
 def without_lines(code: types.CodeType) -> types.CodeType:
     """A code object without its table of line numbers, and those in it."""
     constants = (without_lines(it) if isinstance(it, types.CodeType) else it for it in code.co_consts)
     return code.replace(co_linetable=b"", co_consts=tuple(constants))
 
 
-def compiled(path: pathlib.Path, name: str, has_lines: bool = False) -> bytes:
-    """A module as a .pyc file, without docstrings; asserts stay. has_lines: whether it has line numbers, for tracebacks."""
+def compiled(path: pathlib.Path, name: str) -> bytes:
+    """A module as a .pyc file, without docstrings and line numbers; asserts stay, and tracebacks have names of functions."""
     tree = Stripper().visit(ast.parse(path.read_bytes()))
     code: types.CodeType = compile(tree, name, "exec", dont_inherit=True, optimize=0)
-    return HEADER + marshal.dumps(code if has_lines else without_lines(code))
+    return HEADER + marshal.dumps(without_lines(code))
 
 
 def modules(folder: pathlib.Path) -> Iterator[tuple[str, pathlib.Path]]:
@@ -85,7 +111,7 @@ def pack(library: pathlib.Path, out: pathlib.Path) -> None:
         target = out / "lab" / name
         if path.suffix == ".py":
             target.parent.mkdir(parents=True, exist_ok=True)
-            target.with_suffix(".pyc").write_bytes(compiled(path, f"/lab/{name}", has_lines=True))
+            target.with_suffix(".pyc").write_bytes(compiled(path, f"/lab/{name}"))
         elif path.suffix in TEXTS:
             target.parent.mkdir(parents=True, exist_ok=True)
             target.write_bytes(path.read_bytes())

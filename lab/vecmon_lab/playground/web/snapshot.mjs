@@ -11,18 +11,22 @@ import { Python } from "./python.js";
 
 const TIME = 1.7e12; // ms since 1970
 const PROGRAM = `
-import logging, sys, types
+import functools, logging, sys, types
 logging.disable(logging.CRITICAL)  # of hashes that this Python doesn't have
 UNUSED = {  # large modules that others import, and the lab in a page doesn't use; with the names that these take
+    "datetime": dict.fromkeys(["date", "datetime", "time", "timedelta", "timezone", "tzinfo"], object),  # tomllib
     "decimal": {"Decimal": type("Decimal", (), {})},  # fractions
     "html.entities": {"html5": {}},  # html
     "inspect": {"signature": lambda it: ""},  # dataclasses
-    "ipaddress": {},  # urllib.parse
+    "ntpath": {},  # pathlib
     "shutil": {},  # modules of the lab that look for programs
+    "urllib.parse": {"quote_from_bytes": None},  # pathlib
 }
 for name, values in UNUSED.items():
     sys.modules[name] = types.ModuleType(name)
     vars(sys.modules[name]).update(values)
+import dataclasses
+dataclasses.dataclass = functools.partial(dataclasses.dataclass, repr=False)  # texts of objects are for developers
 sys.path.append("/lab")
 from vecmon_lab.playground.main import answer, prepare
 prepare()
