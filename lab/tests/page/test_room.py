@@ -152,6 +152,19 @@ def test_forced_colors_mark_lines_tabs_and_changes(stepped: Tab) -> None:
         browser.execute_cdp_cmd("Emulation.setEmulatedMedia", {"features": []})
 
 
+def test_selected_text_has_the_colours_of_the_dark(stepped: Tab) -> None:
+    """CodeMirror's own ground of a selection is light: #d7d4f0."""
+    browser = stepped.activate()
+    browser.execute_cdp_cmd(
+        "Emulation.setEmulatedMedia", {"features": [{"name": "prefers-color-scheme", "value": "dark"}]}
+    )
+    try:
+        ground = "getComputedStyle(one('.lines .CodeMirror-line > span'), '::selection').backgroundColor"
+        stepped.wait(f"{ground} === 'rgb(58, 90, 128)'")  # #3a5a80, as in tokens.css
+    finally:
+        browser.execute_cdp_cmd("Emulation.setEmulatedMedia", {"features": []})
+
+
 CUT = """all('button, [role=tab], label, summary, select, dt, h2, small')
     .filter((each) => each.checkVisibility({ visibilityProperty: true }) && each.scrollWidth > each.clientWidth + 1 && each.clientWidth)
     .map((each) => each.id || each.textContent)"""
