@@ -97,6 +97,42 @@ def test_state_has_elements_of_last_instruction(desk: Desk) -> None:
     assert desk.seat.state["illegal"] and desk.seat.state["executed"]["end"] == "illegal"
 
 
+@pytest.mark.parametrize(
+    "types, text, outcomes",
+    [
+        ("e32, m2", "vmv.x.s x10, v4", [("active", 1)]),
+        ("e32, m2", "vmv.s.x v4, x10", [("active", 1), ("tail", 7)]),
+        ("e32, mf2", "vmv.s.x v4, x10", [("active", 1), ("tail", 7)]),
+        ("e8, mf8", "vmv1r.v v4, v5", [("active", 32)]),
+        ("e64, m1", "vadd.vv v4, v5, v6, v0.t", [("masked", 1), ("active", 1), ("masked", 1), ("tail", 1)]),
+    ],
+)
+def test_element_0_of_a_register_has_no_group(
+    desk: Desk, types: str, text: str, outcomes: list[tuple[str, int]]
+) -> None:
+    """vl is 3. Element 0 is read or written alone, and LMUL doesn't count for vmv.x.s and vmv.s.x (section 16.1)."""
+    code = [f"asm 10000 vsetivli x0, 3, {types}, ta, ma", f"asm 10004 {text}", "vset v0 02" + "00" * 31]
+    ask(desk, ask="lines", do=["leave", "enter", "map 10000 1 rwx", *code, "setpc 10000"])
+    step(desk, 2)
+    assert [(each["outcome"], each["count"]) for each in desk.seat.state["executed"]["outcomes"]] == outcomes
+
+
+def test_vmv_x_s_reads_element_0_without_a_body(desk: Desk) -> None:
+    """Under vl = 0, as section 16.1 says."""
+    code = ["asm 10000 vsetivli x0, 0, e32, m1, ta, ma", "asm 10004 vmv.x.s x10, v4", "vset v4 05" + "00" * 31]
+    ask(desk, ask="lines", do=["leave", "enter", "map 10000 1 rwx", *code, "setpc 10000"])
+    step(desk, 2)
+    assert desk.seat.state["x"]["10"] == "5"
+    assert desk.seat.state["executed"]["outcomes"] == [{"outcome": "active", "count": 1}]
+
+
+def test_illegal_instruction_has_no_tail(desk: Desk) -> None:
+    """Before any vset there is no element width, and so no body and no tail."""
+    ask(desk, ask="lines", do=["leave", "enter", "map 10000 1 rwx", "asm 10000 vid.v v16", "setpc 10000"])
+    step(desk, 1)
+    assert {each["outcome"] for each in desk.seat.state["executed"]["outcomes"]} == {"pending"}
+
+
 @pytest.mark.parametrize("text", ["vzext.vf2 v1, v2", "vsext.vf8 v1, v2"])
 def test_sources_without_elements_have_no_row(desk: Desk, text: str) -> None:
     """At e8 their sources would have 4 bits and 1 bit: both are illegal."""
