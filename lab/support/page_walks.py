@@ -239,7 +239,7 @@ class PageWalk:
         self._place = place if place < self._end else None
 
     def _expected(self) -> Mapping[str, Any]:
-        """What the page shows."""
+        """The values that the page should show."""
         if not self._states:
             return {"condition": "absent"}
         at = self._end if self._place is None else self._place
