@@ -109,7 +109,7 @@ def decisions_in(text: str) -> Iterator[tuple[int, str]]:
 def decisions_in_javascript(text: str) -> Iterator[tuple[int, str]]:
     """The lines of a JavaScript source that test words, with their numbers.
 
-    Those are the text of a stop, a message, an error or an entry of the log, and regular expressions with words of the monitor's lines, or
+    Those are the text of a stop, a message, an error or an entry of the log, and regular expressions with names of the monitor's lines, or
     for names that begin with v.
     """
     for number, line in enumerate(text.split("\n"), 1):

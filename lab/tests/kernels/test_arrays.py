@@ -148,7 +148,7 @@ def test_array_of_absent_numpy(kernel: Kernel, monkeypatch: pytest.MonkeyPatch) 
         dtype, shape = "int32", (2, 1)
 
     class Made(list[str]):
-        """What happens to an array that is made."""
+        """The calls on an array that is made."""
 
         def reshape(self, shape: tuple[int, ...]) -> "Made":
             return Made([*self, f"{shape}"])

@@ -256,7 +256,7 @@ def test_stripped_image_has_no_symbols(tmp_path: pathlib.Path) -> None:
 
 
 def test_kernel_keeps_image_that_it_opened(tmp_path: pathlib.Path) -> None:
-    """The file is removed before the calls, each of which has another session."""
+    """The file is removed before the calls, and each of them has another session."""
     path = pathlib.Path(shutil.copy(SQUARES_DWARF5, tmp_path))
     with Kernel(path) as kernel:
         path.unlink()

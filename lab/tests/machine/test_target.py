@@ -36,7 +36,7 @@ def longer(clang: Compiler, tmp_path_factory: pytest.TempPathFactory) -> pathlib
 
 @pytest.fixture(scope="module")
 def floats(clang: Compiler, tmp_path_factory: pytest.TempPathFactory) -> pathlib.Path:
-    """An image for atomic, floating-point and Zvbb instructions, of which it has none."""
+    """An image for atomic, floating-point and Zvbb instructions; it has none of them."""
     return assembled(clang, tmp_path_factory.mktemp("target") / "floats", "-march=rv64imafdv_zvbb_zvl256b_zifencei")
 
 

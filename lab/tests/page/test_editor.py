@@ -79,7 +79,7 @@ def test_breakpoints_wait_for_the_program(sit: Sit) -> None:
     tab.type(Keys.F9)  # which takes one back
     tab.run("code().replaceRange('# More.\\n', { line: 3, ch: 0 })")
     assert tab.run(SIGNS) == "○1,○6"
-    tab.click("#many")  # ten instructions, of which the breakpoint lets three execute
+    tab.click("#many")  # ten instructions; the breakpoint lets three of them execute
     tab.wait(f"{SIGNS} === '●2,●▶6' && id('run').textContent === 'Paused'")
     tab.run("code().replaceRange(' ', { line: 0, ch: 0 })")
     tab.run("(code().focus(), code().setCursor(2, 0))")
