@@ -12,6 +12,7 @@ from .statements import statements, without_comments
 
 MAX_DEPTH = 50  # of calls and repetitions inside each other
 MAX_STATEMENTS = 20_000  # of all calls and repetitions
+MAX_CHARACTERS = 400_000  # of these statements
 _HEAD = re.compile(r"\s*((?:[\w.$]+\s*:\s*)*)([A-Za-z_.$][\w.$]*)?", re.ASCII)
 _REPETITIONS = (".rept", ".rep", ".irp", ".irpc")
 _RARS_END = ".end_macro"
@@ -54,7 +55,7 @@ class Blocks:
         self._assembly = assembly
         self.macros: dict[str, Macro] = {}
         self._conditions: list[_Condition] = []
-        self._depth = self._count = self._calls = 0
+        self._depth = self._count = self._calls = self._characters = 0
         self._is_leaving = False
         self._handlers: dict[str, Callable[[str, Line, Iterator[Line]], Iterable[Line]]] = {
             ".macro": self._define,
@@ -121,9 +122,13 @@ class Blocks:
         self._is_leaving = False
 
     def _counted(self, lines: Iterator[Line], opening: Line) -> Iterator[Line]:
-        """The lines, of which each counts. Raises SourceError after MAX_STATEMENTS."""
+        """The lines, of which each counts. Raises SourceError after MAX_STATEMENTS or MAX_CHARACTERS."""
         for line in lines:
             self._count_one(opening)
+            self._characters += len(line.text)
+            if self._characters > MAX_CHARACTERS:
+                self._assembly.is_ended = True
+                raise opening.error(0, f"calls and repetitions make more than {MAX_CHARACTERS:,} characters")
             yield line
 
     def _count_one(self, opening: Line) -> None:

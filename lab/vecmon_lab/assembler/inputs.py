@@ -49,13 +49,14 @@ class Inputs:
     """What the `#>` lines of a source say.
 
     commands: of the monitor, each with the number of its line; mistakes, warnings: of the lines
-    data: the numbers and texts of arrays, by address
+    data: the numbers and texts of arrays, by address; size: of all of them, in bytes
     """
 
     commands: list[tuple[int, str]] = field(default_factory=list)
     mistakes: list[SourceError] = field(default_factory=list)
     warnings: list[SourceError] = field(default_factory=list)
     data: dict[int, DataRun] = field(default_factory=dict)
+    size: int = 0
 
 
 def is_input(line: str) -> bool:
@@ -131,7 +132,8 @@ def _read_input(inputs: Inputs, number: int, line: str, labels: Mapping[str, int
             raise SourceError(number, column, message)
         inputs.commands.append((number, f"set {register} {_scalar(number, found.end() + 1, rest, labels):x}"))
         return place
-    data = _data(number, found.end() + 1, kind, int(found["count"] or 0), rest)
+    data = _data(number, found.end() + 1, kind, int(found["count"] or 0), rest, USER_PAGES * PAGE_BYTES - inputs.size)
+    inputs.size += len(data)
     pages = -(-len(data) // PAGE_BYTES)
     address = labels[name] if register is None else place + pages * PAGE_BYTES - len(data)
     if register is not None:
@@ -162,28 +164,35 @@ def _scalar(number: int, column: int, text: str, labels: Mapping[str, int]) -> i
     return value % (1 << 64)
 
 
-def _data(number: int, column: int, kind: str, count: int, text: str) -> bytes:
-    """The bytes of an array. count: of its numbers, of which the last ones are 0; 0 for those that the text has. Raises SourceError."""
+def _data(number: int, column: int, kind: str, count: int, text: str, room: int) -> bytes:
+    """The bytes of an array, at most `room`. Raises SourceError.
+
+    count: of its numbers, of which the last ones are 0; 0 for those that the text has
+    """
+    too_large = SourceError(
+        number, column, f"with this one, arrays are larger than the {USER_PAGES} pages that a user has"
+    )
     if kind == "text":
         found = re.fullmatch(r'"((?:[^"\\]|\\.)*)"', text)
         if not found:
             raise SourceError(number, column, 'a text is between quotation marks, as #> a0 = text "abc"')
         escapes = {"n": "\n", "t": "\t", "0": "\0", "r": "\r"}
         plain = re.sub(r"\\(.)", lambda escape: escapes.get(escape[1], escape[1]), found[1])
-        return plain.encode("utf-8") + b"\0"
+        data = plain.encode("utf-8") + b"\0"
+        if len(data) > room:
+            raise too_large
+        return data
     size = struct.calcsize(_LETTERS[kind])
-    values = [
-        _element(number, column + part.start(), kind, part[0])
-        for part in re.finditer(r"[^\s,][^,]*?(?=\s*(?:,|$))", text)
-    ]
+    parts = [(part.end() - len(part[0].lstrip()), part[0].strip()) for part in re.finditer("[^,]+", text)]
+    values = [_element(number, column + start, kind, part) for start, part in parts if part]
     if not values and not count:
         raise SourceError(
             number, column, f"an array has a number at least, as #> a0 = {kind} 1, 2, or zeros, as #> a0 = {kind}[8]"
         )
     if count and len(values) > count:
         raise SourceError(number, column, f"{len(values)} numbers are more than {count}")
-    if max(count, len(values)) * size > USER_PAGES * PAGE_BYTES:
-        raise SourceError(number, column, f"the array is larger than the {USER_PAGES} pages that a user has")
+    if max(count, len(values)) * size > room:
+        raise too_large
     return struct.pack(f"<{len(values)}{_LETTERS[kind]}", *values).ljust(count * size, b"\0")
 
 

@@ -96,8 +96,9 @@ class Sections:
     def pages(self) -> int:
         """How many pages the sections take, without the room that alignment takes between two of them."""
         sizes = dict.fromkeys(_ORDER, 0)
-        for each in self.filled():
-            sizes[each.permissions, each.zeros] += each.size
+        for each in (*self._sections.values(), self._common):
+            if each.permissions:
+                sizes[each.permissions, each.zeros] += each.size
         return sum(-(-size // PAGE_BYTES) for size in sizes.values())
 
     def place(self, origin: int) -> Iterator[str]:

@@ -134,7 +134,7 @@ def read_source(text: str, origin: int = 0x10000, files: FileReader | None = Non
     assembler = _Assembler(files)
     for line in assembler.lines(text):
         if len(assembler.assembly.mistakes) >= MAX_MISTAKES:
-            return Program([], {}, [], origin, in_order(assembler.assembly.mistakes.values()))
+            return Program([], {}, [], origin, assembler.mistakes())
         assembler.read(line)
     return assembler.finish(origin)
 
@@ -239,6 +239,11 @@ class _Assembler:
         self._sections.enter(self._sections.named(TEXT))
         self._symbols.move(before, self.assembly.here())
 
+    def mistakes(self) -> list[SourceError]:
+        """The first mistakes, in order, with what may replace missing names."""
+        noted = self.assembly.mistakes.values()
+        return self._symbols.suggest(in_order(self._symbols.explained(each) for each in noted))
+
     def finish(self, origin: int) -> Program:
         """The program, with its text at the origin, or what is wrong with it."""
         assembly = self.assembly
@@ -254,7 +259,7 @@ class _Assembler:
         if loop := self._symbols.loop():
             assembly.note(loop)
         labels = self._symbols.addresses()
-        mistakes = in_order(self._symbols.explained(each) for each in assembly.mistakes.values())
+        mistakes = self.mistakes()
         lines += [statement.command for statement in made]
         lines += [] if mistakes else [line for section in filled for line in section.pokes()]
         entry = _entry(labels, made, self._sections.named(".text").base)

@@ -4,6 +4,7 @@ from collections import Counter
 from collections.abc import Sequence
 from dataclasses import dataclass, replace
 from difflib import get_close_matches
+from heapq import nsmallest
 
 from ..tables.table import read_table
 from .expression import Expression, signed
@@ -17,14 +18,18 @@ _NO_FUNCTIONS = {
     "": "those of this assembler are %hi, %lo, %pcrel_hi and %pcrel_lo",
 }
 MAX_DEPTH = 50  # of constants that are defined by later ones
+MAX_EVALUATED = (
+    100_000  # tokens of such constants, each time that their value is needed before sections have their bases
+)
+MAX_COMPARED = 200  # names that a missing one is compared with
 _CONTROL_REGISTERS = dict(read_table("keywords"))[r"csr\w*"].split()
 
 
 class UnknownName(SourceError):
     """A name that has no value here."""
 
-    def __init__(self, token: Token, message: str, fix: Sequence[str] = ()) -> None:
-        super().__init__(token.line, token.column, message + chain(token.within), fix=fix)
+    def __init__(self, token: Token, message: str) -> None:
+        super().__init__(token.line, token.column, message + chain(token.within))
         self.token, self.name = token, "" if token.symbol else token.text
 
 
@@ -56,10 +61,12 @@ class Symbols:
         self._numeric = Counter[int]()
         self._highs: dict[Value, tuple[Operand, Value]] = {}  # operands of %pcrel_hi by the instruction's address
         self._pending: set[str] = set()
-        self._found: dict[str, Value] = {}  # values of constants that were evaluated, once sections have their bases
+        self._found: dict[str, Value] = {}  # values of constants that were evaluated since the last definition
+        self._evaluated = 0  # tokens of constants that are defined by later ones
 
     def define(self, name: Token, here: Value) -> None:
         """Defines a label, which may be a number. Raises SourceError if a name is defined already."""
+        self._found.clear()
         if name.kind is Kind.NUMBER:
             self._numeric[int(name.text)] += 1
             self._values[f"{int(name.text)}\n{self._numeric[int(name.text)]}"] = here
@@ -82,16 +89,19 @@ class Symbols:
         except SourceError:
             self.assume(name.text)
             raise
+        self._found.clear()
         version = f"{name.text}\n={len(self._values)}"
         self._values[version] = self._values[name.text] = value
         self._versions[name.text], self._lines[name.text] = version, name.line
 
     def move(self, place: Value, destination: Value) -> None:
         """Moves the labels at a place to another one."""
+        self._found.clear()
         self._values |= {name: destination for name, value in self._values.items() if value == place}
 
     def assume(self, name: str) -> None:
         """Gives a name a value, whose definition is refused, so that what uses it isn't refused too."""
+        self._found.clear()
         self._values.setdefault(name, Value(0))
         self._lines.setdefault(name, 0)
 
@@ -166,13 +176,17 @@ class Symbols:
             raise DefinitionLoop(error.line, error.column, error.message)
         if len(self._pending) == MAX_DEPTH:
             raise token.error(f"{token.text} is defined by more than {MAX_DEPTH} constants, each by the next one")
+        self._evaluated += 0 if self.is_placed else len(value.operand)
+        if self._evaluated > MAX_EVALUATED:
+            raise token.error(
+                f"{token.text} takes too long to evaluate: define its constants before those that use them"
+            )
         self._pending.add(name)
         try:
             found = self.evaluate(value.operand, value.here)
         finally:
             self._pending.discard(name)
-        if self.is_placed:
-            self._found[name] = found
+        self._found[name] = found
         return found
 
     def loop(self) -> DefinitionLoop | None:
@@ -187,6 +201,18 @@ class Symbols:
                 continue
         return None
 
+    def suggest(self, mistakes: Sequence[SourceError]) -> list[SourceError]:
+        """Mistakes, of which those with a missing name get the nearest names that have a value as fixes.
+
+        A name is compared with MAX_COMPARED others, those of the most similar lengths with the same first letter.
+        """
+        words = [name for name in self._values if _is_word(name)]
+        for error in mistakes:
+            if isinstance(error, UnknownName) and error.name:
+                nearest = nsmallest(MAX_COMPARED, words, key=lambda word, of=error.name: _difference(word, of))  # type: ignore[misc]
+                error.fix = get_close_matches(error.name, nearest)
+        return [*mistakes]
+
     def explained(self, error: SourceError) -> SourceError:
         """A mistake; of a name that is missing there, with the line that defines it later."""
         line = self._lines.get(error.name, 0)
@@ -196,13 +222,12 @@ class Symbols:
         return error.token.error(problem)
 
     def _unknown(self, token: Token) -> SourceError:
-        near = () if token.symbol else get_close_matches(token.text, [name for name in self._values if _is_word(name)])
         if token.symbol:
             side = "after" if token.text.endswith("f") else "before"
             message = f"there is no label {token.text[:-1]}: {side} here, where {token.text} looks for one"
         else:
             message = f"{token.text} is no register that fits here, and no label or constant known here"
-        return UnknownName(token, message, near)
+        return UnknownName(token, message)
 
     def _function(self, name: Token, inner: Operand, here: Value) -> Value:
         """The value of %hi, %lo, %pcrel_hi and %pcrel_lo of a symbol. Raises SourceError."""
@@ -223,6 +248,11 @@ class Symbols:
             number -= here.resolved()
         high = number + 0x800 >> 12
         return Value(high % (1 << 20) if function.endswith("hi") else signed(number - (high << 12)))
+
+
+def _difference(word: str, other: str) -> tuple[bool, int]:
+    """Whether the first letters of two names differ, and by how much their lengths do."""
+    return word[:1] != other[:1], abs(len(word) - len(other))
 
 
 def _is_word(name: str) -> bool:
