@@ -2,8 +2,11 @@
 
 import asyncio
 import contextlib
+import logging
 import pathlib
+import re
 import socket
+import zlib
 from collections.abc import AsyncIterator, Sequence
 from types import SimpleNamespace
 from typing import Any
@@ -11,6 +14,7 @@ from typing import Any
 import aiohttp
 import pytest
 import pytest_asyncio
+from aiohttp import http_parser
 
 from support.class_tabs import SECONDS, Served, served
 from vecmon_lab.classes import connections
@@ -134,3 +138,43 @@ async def test_connection_with_requests_ahead_is_closed(room: Served) -> None:
             await asyncio.wait_for(loop.sock_sendall(own, request(room) * 1000), SECONDS)
     own.close()
     await room.sit("A1")
+
+
+async def answers(room: Served, data: bytes) -> list[bytes]:
+    """The status lines of the answers to what a connection sends, up to its end."""
+    reader, writer = await asyncio.open_connection("127.0.0.1", room.port)
+    writer.write(data)
+    received = await asyncio.wait_for(reader.read(), SECONDS)
+    writer.close()
+    return re.findall(rb"HTTP/1\.1 [^\r]*", received)
+
+
+async def test_body_is_not_decompressed(room: Served, monkeypatch: pytest.MonkeyPatch) -> None:
+    """A few bytes could become gigabytes."""
+    decompressed = list[object]()
+
+    def decompressobj(**words: Any) -> Any:
+        decompressed.append(words)
+        return zlib.decompressobj(**words)
+
+    monkeypatch.setattr(http_parser, "zlib", SimpleNamespace(decompressobj=decompressobj, MAX_WBITS=zlib.MAX_WBITS))
+    body = zlib.compress(bytes(1000))
+    head = f"GET /nowhere HTTP/1.1\r\nHost: 127.0.0.1:{room.port}\r\nConnection: close\r\nContent-Encoding: deflate\r\n"
+    sent = f"{head}Content-Length: {len(body)}\r\n\r\n".encode("ascii") + body
+    assert await answers(room, sent) == [b"HTTP/1.1 404 Not Found"] and not decompressed
+
+
+async def test_nothing_is_read_after_an_upgrade_to_nothing(room: Served) -> None:
+    """Only the WebSocket's path is upgraded. Elsewhere aiohttp stores all that comes until the answer, and parses it then."""
+    asked = request(room).replace(b"GET / ", b"GET /nowhere ")
+    upgrade = asked.replace(b"\r\n\r\n", b"\r\nConnection: Upgrade\r\nUpgrade: websocket\r\n\r\n")
+    last = asked.replace(b"\r\n\r\n", b"\r\nConnection: close\r\n\r\n")
+    assert await answers(room, asked + last) == [b"HTTP/1.1 404 Not Found"] * 2
+    assert await answers(room, upgrade + asked * 3 + last) == [b"HTTP/1.1 404 Not Found"]
+
+
+async def test_lost_connection_is_no_fault_in_the_log() -> None:
+    """Anyone can end a connection while an answer is sent: its traceback would fill the log."""
+    for error, is_logged in ((ConnectionResetError("Cannot write to closing transport"), False), (KeyError("x"), True)):
+        record = logging.LogRecord("aiohttp.server", logging.ERROR, "", 0, "", (), (type(error), error, None))
+        assert class_server._is_ours(record) == is_logged

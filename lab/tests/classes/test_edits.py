@@ -6,7 +6,7 @@ import pathlib
 import pytest
 
 from support.desk import Desk, ask
-from vecmon_lab.classes.edits import breakpoint_lines, edit_line
+from vecmon_lab.classes.edits import breakpoint_lines, edit_line, setting_lines
 from vecmon_lab.classes.requests import BadRequest
 from vecmon_lab.exercises.exercise import OURS, read_exercise
 
@@ -47,7 +47,16 @@ def test_value_that_does_not_fit_is_refused(edit: str, text: str, kind: str) -> 
 
 
 @pytest.mark.parametrize(
-    "edit", ["go", "set v1", "vset v1 8 32 signed", "vset v2 8 0 signed", "vset v1 512 0 signed", "setpc 0"]
+    "edit",
+    [
+        "go",
+        "set v1",
+        "vset v1 8 32 signed",
+        "vset v2 8 0 signed",
+        "vset v1 512 0 signed",
+        f"vset v1 {10**30} 0 signed",  # no number has so many bits
+        "setpc 0",
+    ],
 )
 def test_unknown_place_is_refused(edit: str) -> None:
     with pytest.raises(BadRequest, match="there is no such"):
@@ -71,6 +80,23 @@ def test_line_gets_all_its_breakpoints_or_loses_them() -> None:
     assert str(raised.value) == "Line 3 needs 1 breakpoint, and none of 16 is left: none was set."
     with pytest.raises(BadRequest, match="Line 5 has no instruction to stop at, and no line after it has one."):
         breakpoint_lines(STOPS, [], 5)
+
+
+class CountedStops(dict[str, list[str]]):
+    """The addresses of lines, and how often all of them were looked at."""
+
+    looks = 0
+
+    def __iter__(self) -> Iterator[str]:
+        self.looks += 1
+        return super().__iter__()
+
+
+def test_lines_are_looked_at_once_for_all_breakpoints() -> None:
+    stops = CountedStops({f"{number}": [f"{0x10000 + 4 * number:x}"] for number in range(2, 100)})
+    lines, refusals = setting_lines(stops, [], [*range(1, 120)])
+    assert lines == [f"break {0x10000 + 4 * number:x}" for number in range(2, 18)] and stops.looks == 1
+    assert [each.split(",")[0] for each in refusals] == ["Lines 100", "Lines 18"]
 
 
 def test_line_without_instruction_takes_the_next_one() -> None:

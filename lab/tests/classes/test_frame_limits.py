@@ -16,6 +16,7 @@ from support.class_tabs import LOOP, SECONDS, Served, served
 from vecmon_lab.classes.connections import OF_ADDRESS, excess, network_of
 from vecmon_lab.classes.frame_limits import FrameLimits, Rate
 from vecmon_lab.classes.seat_budget import SeatBudget
+from vecmon_lab.classes.tab_socket import BEAT
 
 TEXT, CONTINUATION, PING = 0x1, 0x0, 0x9
 FINAL = 0x80
@@ -122,6 +123,25 @@ async def test_seat_pays_for_its_requests() -> None:
 async def _waited(budget: SeatBudget, work: Coroutine[Any, Any, str]) -> str:
     """The result of metered work."""
     return await budget.metered(work)
+
+
+@pytest.mark.asyncio
+async def test_seat_pays_for_greetings_news_and_beats(room: Served, monkeypatch: pytest.MonkeyPatch) -> None:
+    """Each tab of a seat gets them, so one request may cost as much as eight."""
+    paid = list[str]()
+
+    def metered(budget: SeatBudget, work: Coroutine[Any, Any, None]) -> Coroutine[Any, Any, None]:
+        paid.append(work.__name__)
+        return work
+
+    monkeypatch.setattr(SeatBudget, "metered", metered)
+    tab, other = await room.sit("A1"), await room.sit("A1")
+    await tab.ask("name", name="Ada")
+    await other.until(lambda view: view["name"] == "Ada")
+    await tab.socket.send_str(BEAT)
+    while (await tab.receive())["kind"] != "beat":
+        pass
+    assert {"_greet", "_execute", "_send_news", "_send"} <= {*paid} and paid.count("_greet") == 2
 
 
 def test_oldest_of_largest_address_ends() -> None:

@@ -1,12 +1,13 @@
 """A student's changes on the page as lines of the monitor: typed values, and breakpoints at lines of the source."""
 
 import re
+from bisect import bisect_left
 from collections.abc import Mapping, Sequence
 
 from .moved_breakpoints import MAX_BREAKPOINTS
 from .requests import BadRequest
 
-_EDIT = re.compile(r"setpc|poke [0-9a-f]+|set x\d+|vset v(\d+) (\d+) (\d+) (\w+)")
+_EDIT = re.compile(r"setpc|poke [0-9a-f]+|set x[0-9]{1,2}|vset v([0-9]{1,2}) (1|8|16|32|64) ([0-9]{1,4}) (\w+)")
 _DECIMAL, _HEXADECIMAL = re.compile(r"-?[0-9]{1,20}"), re.compile(r"(0x)?[0-9A-Fa-f]{1,16}")
 
 
@@ -55,7 +56,8 @@ def breakpoint_lines(
     is_only_set: whether those that are there stay
     Raises BadRequest if neither the line nor one after it has an instruction, and if not all of its breakpoints can be set.
     """
-    there = [address for address in stops.get(f"{_place(stops, line)}", []) if address in breaks]
+    place = _place(sorted(map(int, stops)), line)
+    there = [address for address in stops.get(f"{place}", []) if address in breaks]
     if there and not is_only_set:
         return [f"unbreak {address}" for address in there]
     lines, refusals = setting_lines(stops, breaks, [line])
@@ -71,28 +73,29 @@ def setting_lines(
 
     stops, breaks: as for `breakpoint_lines`
     """
-    there, missing, crowded, needed = set(breaks), list[int](), list[int](), set[str]()
-    added = list[str]()
+    there, missing, crowded, needed = set(breaks), list[int](), dict[int, None](), set[str]()
+    added, places = list[str](), sorted(map(int, stops))
     for number in numbers:
-        place = _place(stops, number)
+        place = _place(places, number)
         new = [address for address in stops.get(f"{place}", []) if address not in there]
         if not place:
             missing.append(number)
         elif len(there) + len(new) > MAX_BREAKPOINTS:
-            crowded += [place] if place not in crowded else []
+            crowded[place] = None
             needed.update(new)
         else:
             there.update(new)
             added += new
     refusals = [_no_instruction(missing)] if missing else []
     if crowded:
-        refusals.append(_no_room(crowded, len(needed), MAX_BREAKPOINTS - len(there)))
+        refusals.append(_no_room([*crowded], len(needed), MAX_BREAKPOINTS - len(there)))
     return [f"break {address}" for address in added], refusals
 
 
-def _place(stops: Mapping[str, Sequence[str]], line: int) -> int:
-    """The number of a line, or of the next one that has an instruction; 0 if none has."""
-    return min((number for number in map(int, stops) if number >= line), default=0)
+def _place(places: Sequence[int], line: int) -> int:
+    """The number of a line, or of the next one that has an instruction; 0 if none has. places: those of lines that have, in rising order"""
+    at = bisect_left(places, line)
+    return places[at] if at < len(places) else 0
 
 
 def _no_instruction(lines: Sequence[int]) -> str:

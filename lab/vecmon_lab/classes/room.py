@@ -69,6 +69,7 @@ class Room:
         self.replays = asyncio.Semaphore(REPLAYS)
         self.machine.budgets = {digit: Budget() for digit in DIGITS}
         self._assembler = concurrent.futures.ThreadPoolExecutor(1)  # which needs no machine
+        self._assembling = {digit: asyncio.Lock() for digit in DIGITS}  # one source of a seat waits for it at a time
 
     @property
     def session(self) -> Session:
@@ -185,7 +186,7 @@ class Room:
         """Ends the machine, whatever it does."""
         self.thread.end()
         self.machine.histories.close()
-        self._assembler.shutdown()
+        self._assembler.shutdown(cancel_futures=True)
         self.scripts.end()
 
     async def _make(self, seat: Seat, step: MakeProgram) -> Program:
@@ -197,7 +198,8 @@ class Room:
             pathlib.Path(self.session.command[0]),
             read_tried_source if step.is_tried else read_whole_source,
         )
-        return await loop.run_in_executor(self._assembler, read_program, source.text, vecmon, self.files)
+        async with self._assembling[seat.digit]:
+            return await loop.run_in_executor(self._assembler, read_program, source.text, vecmon, self.files)
 
     async def _stop_unattended(self, seat: Seat) -> None:
         """Shows a program that runs, if somebody looks at it. One that runs in vain is stopped, with a sentence."""

@@ -41,6 +41,7 @@ from .tls import LAST_SECONDS, TlsSite
 from .view import Class, Tab
 
 MESSAGE_BYTES = 400_000
+SOCKET = "/socket"  # the path of the WebSocket, the only one that a connection is upgraded at
 PATIENCE = 10.0  # seconds for a first request, and for a tab's code
 UNKNOWN = 500  # connections without a whole request, and sockets without a code
 TEACHERS_SHARE = 1.0  # of a core; a seat's is smaller
@@ -67,6 +68,7 @@ class Server:
         self.members, self.names = members, {"localhost", *names}
         self._requests, self._pages = TabRequests(members), OpenPages()
         self._page, self._lesson, self._listings = Page("class"), Page("lesson"), Page("listings")
+        self._page_data = b""  # of the class's page, once it was asked for
         self.connections = Connections(UNKNOWN, PATIENCE, READ_SECONDS)
         self._budgets = defaultdict[str, SeatBudget](SeatBudget)
         self._budgets[TEACHER] = SeatBudget(TEACHERS_SHARE)
@@ -79,7 +81,7 @@ class Server:
         application = web.Application(middlewares=[self._check], client_max_size=MESSAGE_BYTES)
         application.on_response_prepare.append(self._add_headers)
         application.router.add_get("/", self._get_page)
-        application.router.add_get("/socket", self._socket)
+        application.router.add_get(SOCKET, self._socket)
         application.router.add_get("/{machine:[A-L]}/{what:script|transcript}", self._get_file)
         application.router.add_get("/{seat:[A-L][1-8]}/home", self._get_home)
         application.router.add_get("/{table:seats|exercises}.csv", self._get_table)
@@ -112,6 +114,9 @@ class Server:
         self, request: web.Request, handler: Callable[[web.Request], Awaitable[web.StreamResponse]]
     ) -> web.StreamResponse:
         self.connections.spoken.add(request.protocol)
+        if request._message.upgrade and request.path != SOCKET:
+            request.protocol._message_tail = b""  # aiohttp would store all that comes before the answer
+            request.protocol.close()  # after the answer
         if not self.is_ours(request.headers.get("Host", ""), request.headers.get("Origin")):
             raise web.HTTPForbidden
         return await handler(request)
@@ -123,7 +128,9 @@ class Server:
         response.headers.update({"Content-Security-Policy": own + sockets} | HEADERS)
 
     async def _get_page(self, request: web.Request) -> web.Response:
-        return web.Response(text=self._page.text(page_text("join.class"), reference_text()), content_type="text/html")
+        if not self._page_data:
+            self._page_data = self._page.text(page_text("join.class"), reference_text()).encode("utf-8")
+        return web.Response(body=self._page_data, content_type="text/html", charset="utf-8")
 
     async def _room(self, request: web.Request, *names: str) -> Room:
         """The machine that a request names, or the first one. Raises HTTPNotFound unless it has somebody's code of these."""
@@ -253,7 +260,8 @@ async def served(
     logging.getLogger("aiohttp.server").addFilter(_is_ours)
     asyncio.get_running_loop().set_exception_handler(_report)
     server = Server(members, {socket.gethostname(), *names})
-    runner = web.AppRunner(server.application(), access_log=None, keepalive_timeout=15.0, lingering_time=2.0)
+    limits = {"keepalive_timeout": 15.0, "lingering_time": 2.0, "auto_decompress": False}
+    runner = web.AppRunner(server.application(), access_log=None, **limits)
     await runner.setup()
     tasks = []
     try:
@@ -329,8 +337,8 @@ def _abort(request: web.Request) -> None:
 
 
 def _is_ours(record: logging.LogRecord) -> bool:
-    """Whether a log is about a fault of the server; a malformed request, such as TLS here, gets status 400."""
-    return not (record.exc_info and isinstance(record.exc_info[1], HttpProcessingError))
+    """Whether a log is about a fault of the server: no malformed request, such as TLS here, and no connection that went away."""
+    return not (record.exc_info and isinstance(record.exc_info[1], (HttpProcessingError, ConnectionError)))
 
 
 async def _keep(members: Class) -> None:

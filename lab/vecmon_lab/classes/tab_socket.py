@@ -50,10 +50,8 @@ class TabSocket:
     async def serve(self, is_ending: Callable[[], bool]) -> None:
         """Greets the tab, and serves it until its socket is closed and nothing waits, or the server ends."""
         try:
-            hello = self._tabs.hello(self._tab)
-            if self._is_resumed:
-                hello["resumed"] = True
-            await self._send(hello)
+            await self._budget.ready()
+            await self._budget.metered(self._greet())
             async with asyncio.TaskGroup() as tasks:
                 pusher, _ = tasks.create_task(self._push()), tasks.create_task(self._answer())
                 with contextlib.suppress(ConnectionError):
@@ -68,6 +66,13 @@ class TabSocket:
         finally:
             self._tabs.leave(self._tab)
 
+    async def _greet(self) -> None:
+        """Send the tab all that it shows."""
+        hello = self._tabs.hello(self._tab)
+        if self._is_resumed:
+            hello["resumed"] = True
+        await self._send(hello)
+
     async def _read(self) -> None:
         """Takes up requests until the socket is closed."""
         async for message in self._socket:
@@ -75,7 +80,7 @@ class TabSocket:
                 return
             await self._budget.ready()
             if message.data == BEAT:
-                await self._send(Beat(kind="beat"))
+                await self._budget.metered(self._send(Beat(kind="beat")))
             elif len(self._waiting) < MAX_WAITING and sum(map(len, self._waiting)) + len(message.data) <= WAITING_BYTES:
                 self._waiting.append(message.data)
                 self._has_come.set()
@@ -105,12 +110,19 @@ class TabSocket:
         """Send news as they come; changes meanwhile go together."""
         while self._tab.is_open:
             await self._tab.changed.wait()
+            if self._tab.is_open:
+                await self._budget.ready()
             # an answer may have sent all of it meanwhile
-            if self._tab.is_open and self._tab.changed.is_set() and (changes := self._tabs.news(self._tab)):
-                await self._send(with_changes(News(kind="news"), changes))
+            if self._tab.is_open and self._tab.changed.is_set():
+                await self._budget.metered(self._send_news())
             await asyncio.sleep(0.1 if self._tab.who == TEACHER else 0.02)
         with contextlib.suppress(ConnectionError):
             await self._socket.close(code=CLOSED, message=b"another code")
+
+    async def _send_news(self) -> None:
+        """Send what has changed since the last message, if anything has."""
+        if changes := self._tabs.news(self._tab):
+            await self._send(with_changes(News(kind="news"), changes))
 
     async def _send(self, message: Message) -> None:
         """Sends a message to the tab, which may be gone. The connection of one that doesn't take it is ended."""
