@@ -1,4 +1,4 @@
-"""Sources that would keep the assembler busy: what they may ask for is limited, and they have a mistake."""
+"""Limits of the assembler's work: a source beyond one of them has a mistake."""
 
 import difflib
 import signal

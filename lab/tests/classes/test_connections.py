@@ -27,6 +27,7 @@ TABLE = pathlib.Path("/proc/self/net/tcp")
 @pytest_asyncio.fixture  # type: ignore[misc]
 async def room(tmp_path: pathlib.Path, monkeypatch: pytest.MonkeyPatch) -> AsyncIterator[Served]:
     monkeypatch.setattr(class_server, "UNKNOWN", 3)
+    monkeypatch.setattr(class_server, "IDLE_SECONDS", SECONDS)
     async with served(tmp_path / "class") as room:
         yield room
 
@@ -99,6 +100,24 @@ async def test_oldest_connection_with_unread_answers_makes_room(room: Served) ->
         each.close()
 
 
+async def test_oldest_connection_between_requests_makes_room(room: Served) -> None:
+    """Three are kept open, for the next request of each."""
+    asked = request(room).replace(b"GET / ", b"GET /nowhere ")
+    streams = list[tuple[asyncio.StreamReader, asyncio.StreamWriter]]()
+    for _ in range(4):  # each asks before the next one connects: three without a whole request are the most, too
+        reader, writer = await asyncio.open_connection("127.0.0.1", room.port)
+        writer.write(asked)
+        await asyncio.wait_for(reader.readuntil(b"404: Not Found"), SECONDS)
+        streams.append((reader, writer))
+    oldest, *others = streams
+    with contextlib.suppress(ConnectionError):
+        assert await asyncio.wait_for(oldest[0].read(), SECONDS) == b""
+    for reader, writer in others:
+        writer.write(asked)
+        await asyncio.wait_for(reader.readuntil(b"404: Not Found"), SECONDS)
+        writer.close()
+
+
 class SilentConnection:
     """A connection without a request, and its own transport. A set has the later ones first."""
 
@@ -165,7 +184,7 @@ async def test_body_is_not_decompressed(room: Served, monkeypatch: pytest.Monkey
 
 
 async def test_nothing_is_read_after_an_upgrade_to_nothing(room: Served) -> None:
-    """Only the WebSocket's path is upgraded. Elsewhere aiohttp stores all that comes until the answer, and parses it then."""
+    """Only the WebSocket's path is upgraded. Elsewhere aiohttp stores later data until the answer."""
     asked = request(room).replace(b"GET / ", b"GET /nowhere ")
     upgrade = asked.replace(b"\r\n\r\n", b"\r\nConnection: Upgrade\r\nUpgrade: websocket\r\n\r\n")
     last = asked.replace(b"\r\n\r\n", b"\r\nConnection: close\r\n\r\n")

@@ -21,7 +21,7 @@ def test_breakpoints_follow_their_lines() -> None:
 
 
 def test_few_of_many_equal_lines_are_compared(monkeypatch: pytest.MonkeyPatch) -> None:
-    """What is equal at both ends isn't compared, nor are too many equal lines between two changes: they count as replaced."""
+    """Equal lines at both ends aren't compared. Too many equal lines between two changes count as replaced."""
 
     class FewLines(SequenceMatcher[str]):
         def __init__(self, junk: None, before: list[str], after: list[str], autojunk: bool) -> None:

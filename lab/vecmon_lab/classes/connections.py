@@ -62,14 +62,15 @@ class Connections:
     """
 
     def __init__(self, limit: int, silent_seconds: float, unread_seconds: float) -> None:
-        """limit: number of connections without a whole request, and number of others that leave answers unread; OF_ADDRESS limits
-        those of an address
+        """limit: number of connections without a whole request, of those between two requests, and of those that leave answers
+        unread; OF_ADDRESS limits those of an address
 
         silent_seconds, unread_seconds: how long a connection may send nothing, and how long it may take nothing
         """
         self.spoken, self.tabs = set[web.RequestHandler](), set[web.RequestHandler]()
         self._limit, self._silent_seconds, self._unread_seconds = limit, silent_seconds, unread_seconds
         self._silent: dict[web.RequestHandler, float] = {}  # since when
+        self._idle: dict[web.RequestHandler, float] = {}  # since when they are between two requests
         self._unread: dict[web.RequestHandler, int] = {}  # bytes that wait to be sent
         self._unread_since: dict[web.RequestHandler, float] = {}  # since when there are some
         self._stalled_since: dict[web.RequestHandler, float] = {}  # and since when the same number
@@ -84,7 +85,8 @@ class Connections:
             self.spoken &= set(there)
             self.tabs &= set(there)
             ahead, now = {it for it in there if len(it._messages) > AHEAD}, loop.time()
-            for handler in ahead | self._silent_too_long(there, now) | self._unread_too_long(there, now):
+            ended = ahead | self._silent_too_long(there, now) | self._idle_too_many(there, now)
+            for handler in ended | self._unread_too_long(there, now):
                 handler._messages.clear()
                 if handler.transport:
                     handler.transport.abort()
@@ -93,6 +95,12 @@ class Connections:
         """Connections that have made no request in time, and the oldest such if there are too many."""
         self._silent = {it: self._silent.get(it, now) for it in there if it not in self.spoken}
         return _before(self._silent, now - self._silent_seconds) | _excess(self._silent, self._limit)
+
+    def _idle_too_many(self, there: Sequence[web.RequestHandler], now: float) -> set[web.RequestHandler]:
+        """The oldest connections between two requests if there are too many; clients connect again for the next one."""
+        idle = (it for it in there if it in self.spoken and it not in self.tabs and it._current_request is None)
+        self._idle = {it: self._idle.get(it, now) for it in idle}
+        return _excess(self._idle, self._limit)
 
     def _unread_too_long(self, there: Sequence[web.RequestHandler], now: float) -> set[web.RequestHandler]:
         """Connections that have taken no part of an answer in time, and the oldest ones with unread answers if there are too many."""

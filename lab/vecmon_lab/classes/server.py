@@ -41,9 +41,10 @@ from .tls import LAST_SECONDS, TlsSite
 from .view import Class, Tab
 
 MESSAGE_BYTES = 400_000
-SOCKET = "/socket"  # the path of the WebSocket, the only one that a connection is upgraded at
+SOCKET = "/socket"  # the path of the WebSocket; requests to upgrade at other paths are ignored
 PATIENCE = 10.0  # seconds for a first request, and for a tab's code
-UNKNOWN = 500  # connections without a whole request, and sockets without a code
+IDLE_SECONDS = 15.0  # of a connection between two requests
+UNKNOWN = 500  # connections without a whole request, connections between two requests, and sockets without a code
 TEACHERS_SHARE = 1.0  # of a core; a seat's is smaller
 SOCKETS = 8  # of a seat; of the teacher twice as many
 WRONG_CODE_SECONDS = 0.5
@@ -115,7 +116,7 @@ class Server:
     ) -> web.StreamResponse:
         self.connections.spoken.add(request.protocol)
         if request._message.upgrade and request.path != SOCKET:
-            request.protocol._message_tail = b""  # aiohttp would store all that comes before the answer
+            request.protocol._message_tail = b""  # aiohttp would store later data without a limit
             request.protocol.close()  # after the answer
         if not self.is_ours(request.headers.get("Host", ""), request.headers.get("Origin")):
             raise web.HTTPForbidden
@@ -260,8 +261,13 @@ async def served(
     logging.getLogger("aiohttp.server").addFilter(_is_ours)
     asyncio.get_running_loop().set_exception_handler(_report)
     server = Server(members, {socket.gethostname(), *names})
-    limits = {"keepalive_timeout": 15.0, "lingering_time": 2.0, "auto_decompress": False}
-    runner = web.AppRunner(server.application(), access_log=None, **limits)
+    runner = web.AppRunner(
+        server.application(),
+        access_log=None,
+        auto_decompress=False,
+        keepalive_timeout=IDLE_SECONDS,
+        lingering_time=2.0,
+    )
     await runner.setup()
     tasks = []
     try:
@@ -337,7 +343,7 @@ def _abort(request: web.Request) -> None:
 
 
 def _is_ours(record: logging.LogRecord) -> bool:
-    """Whether a log is about a fault of the server: no malformed request, such as TLS here, and no connection that went away."""
+    """Whether a log is about a fault of the server, not a malformed request, such as TLS here, or a lost connection."""
     return not (record.exc_info and isinstance(record.exc_info[1], (HttpProcessingError, ConnectionError)))
 
 
