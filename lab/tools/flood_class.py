@@ -1,8 +1,9 @@
 """Flood a class's server, and measure how long a student waits meanwhile.
 
 `VECMON=PATH .venv/bin/python lab/tools/flood_class.py [SECONDS]`, by default 20. Of clients without a code two send empty fragments and
-pings without end, and others open sockets, 1,200 at once. The status is 1 unless each student sits down within a second,
-and the median of `state` is below 50 ms: limits for four idle cores.
+pings without end, and others open sockets, 1,200 at once, all from the students' address. A student whose connection ends connects again
+after a pause, as a page does. The status is 1 unless each student sits down within a second, and the median of `state` is below 50 ms:
+limits for four idle cores.
 """
 
 import asyncio
@@ -13,10 +14,11 @@ import tempfile
 import time
 from multiprocessing import Process
 
-from support.class_tabs import Served, process
+from support.class_tabs import Served, Tab, process
 
 SECONDS, SOCKETS, STUDENTS = 20.0, 1200, 12
 SIT_SECONDS, MEDIAN_SECONDS = 1.0, 0.050
+FIRST_PAUSE = 0.5  # seconds; of a page after its connection has ended (page/connection.js)
 FRAGMENTS = b"\x01\x80\0\0\0\0" + b"\x00\x80\0\0\0\0" * 10_000
 PINGS = b"\x89\x80\0\0\0\0" * 10_000
 
@@ -63,13 +65,22 @@ def flood_apart(port: int) -> None:
     asyncio.run(flood(port))
 
 
+async def sit_down(room: Served, seat: str) -> Tab:
+    """The tab of a student who sits down, with a new connection as often as the server ends one."""
+    while True:
+        try:
+            return await room.sit(seat)
+        except (EOFError, OSError):
+            await asyncio.sleep(FIRST_PAUSE)
+
+
 async def measure(room: Served, seconds: float) -> tuple[list[float], list[float]]:
     """How long students take to sit down, and how long `state` takes, in seconds."""
     sits, states, end = list[float](), list[float](), time.monotonic() + seconds
     seats = [f"{machine}{digit}" for machine in "AB" for digit in range(1, 9)][:STUDENTS]
     while time.monotonic() < end:
         start = time.monotonic()
-        tab = await room.sit(seats[len(sits) % STUDENTS])
+        tab = await sit_down(room, seats[len(sits) % STUDENTS])
         sits.append(time.monotonic() - start)
         await tab.do("enter")
         for _ in range(10):

@@ -56,7 +56,7 @@ HEADERS = {
     "Cross-Origin-Opener-Policy": "same-origin",
 }
 HOST = re.compile(r"(?:\[([0-9a-fA-F:.]+)\]|([A-Za-z0-9.-]+))(?::[0-9]+)?")
-# the header `Server` without versions, also in answers of which no hook is told
+# the header `Server` without versions, also in answers that have no hook
 vars(web_response)["SERVER_SOFTWARE"] = "vecmon-lab"
 CROWDED = 4429  # why a socket is closed: the seat has too many
 
