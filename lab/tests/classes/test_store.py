@@ -15,7 +15,7 @@ import pytest
 from support.class_tabs import LOOP, SECONDS, served
 from support.places import SUM
 from vecmon_lab.__main__ import main
-from vecmon_lab.classes import durable
+from vecmon_lab.classes import durable, journal
 from vecmon_lab.classes import server as class_server
 from vecmon_lab.classes.folder_report import folder_report
 from vecmon_lab.classes.stored_files import attempt
@@ -83,7 +83,7 @@ def test_unsaved_files_are_reported_at_the_end(
     async def serve(members: Class, _: str, listeners: list[socket.socket], *__: object, **___: object) -> None:
         for listener in listeners:
             listener.close()
-        monkeypatch.setattr(durable.Journal, "append", refuse)
+        monkeypatch.setattr(journal.Journal, "append", refuse)
         monkeypatch.setattr(durable, "replace_file", refuse)
         members.set_name("A1", "Ada")
         members.save()

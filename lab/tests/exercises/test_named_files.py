@@ -2,6 +2,7 @@
 
 import os
 import pathlib
+from collections.abc import Callable
 
 import pytest
 
@@ -132,8 +133,12 @@ def test_changed_lesson_is_not_read(folder: pathlib.Path) -> None:
     (folder / "exercise.toml").write_text(f"lesson = 'lesson.s'\n{CASES}")
     exercise = read_exercise(folder)
     assert script_before(exercise).source == "lesson.s"
-    lesson.unlink()
-    for change in (lambda: None, lambda: lesson.symlink_to(folder.parent / "secret.s"), lambda: os.mkfifo(lesson)):
+    changes: list[Callable[[], None]] = [
+        lesson.unlink,
+        lambda: lesson.symlink_to(folder.parent / "secret.s"),
+        lambda: os.mkfifo(lesson),
+    ]
+    for change in changes:
         change()
         with pytest.raises(LabError) as raised:
             script_before(exercise)
