@@ -25,7 +25,7 @@ def write_exercises(program: pathlib.Path, out: pathlib.Path, folder: pathlib.Pa
         lesson = exercise.files["lesson"]
         (folder / f"{home.name}{lesson.suffix}").write_bytes(lesson.read_bytes())
         files = {"lesson": LESSONS / f"{home.name}{lesson.suffix}"}
-        exercises[home.name] = replace(exercise, files=files, folder=pathlib.Path(home.name))
+        exercises[home.name] = replace(exercise, files=files, folder=LESSONS)
         starts[home.name] = starts_of(exercise)
     out.write_bytes(pickle.dumps({"exercises": exercises, "starts": starts}, 4))
 
