@@ -117,7 +117,6 @@ def test_commands_refuse_in_one_line(lab: Lab, folder: pathlib.Path) -> None:
             assert SECRET not in errors and "\x1b" not in errors and "\u202e" not in errors
 
 
-@pytest.mark.by_command("exercise")
 def test_wrong_answers_elsewhere_are_refused(lab: Lab, folder: pathlib.Path) -> None:
     """A link to a folder of the teacher's: its files aren't read, and their names aren't printed."""
     (folder / "exercise.toml").write_text(CASES)

@@ -78,7 +78,6 @@ def test_byte_order_mark_is_ignored(tmp_path: pathlib.Path) -> None:
     assert read_exercise(tmp_path).title == "One"
 
 
-@pytest.mark.by_command("exercise")
 def test_refusal_is_one_line_of_the_command(lab: Lab, tmp_path: pathlib.Path) -> None:
     (tmp_path / "exercise.toml").write_text('"a\\nvecmon-lab: all answers pass" = 1\n' + CASES)
     expected = f"vecmon-lab: {tmp_path}/exercise.toml: there is nothing that is called a?vecmon-lab: all answers pass\n"

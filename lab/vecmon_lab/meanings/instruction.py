@@ -152,12 +152,9 @@ class _Form:
         self.destination = operands[0] if operands[0].noun == "destination" else None
         is_register = operands[0].is_whole and operands[0].eew > 1 and not self.is_access and self.layout != "reduce"
         self.is_single = is_register and not self.is_whole
-        if self.is_single and not self.destination:
-            self.elements = 1
-        elif self.is_single or self.is_whole:
+        self.elements = max(1, execution.before.control.vlmax)
+        if self.is_single or self.is_whole:
             self.elements = len(operands[0].registers) * REGISTER_BITS // operands[0].eew
-        else:
-            self.elements = max(1, execution.before.control.vlmax)
         self.mask: Mask = "mask" if instruction.leaves_out else "bits" if instruction.is_masked else ""
         self.groups = tuple(self._group(at, operand) for at, operand in enumerate(operands) if _has_elements(operand))
         guard = ("if v0.mask[i]: ",) if instruction.leaves_out and self.layout != "reduce" else ()
@@ -274,16 +271,14 @@ class _Instruction:
             return self.elements
         if self.is_access and self.instruction.operands[0].eew == 1:
             return min(self.elements, (vl + 7) // 8 * 8)  # masks are loaded and stored by bytes
-        if self.form.is_single:
-            return min(1, vl) if self.destination else 1  # element 0 is read also under vl = 0
-        return vl
+        return min(1, vl) if self.form.is_single else vl
 
     def _outcomes(self) -> tuple[Outcome, ...]:
         """How each element took part."""
+        if self.form.is_single and not self.destination and self.end == "ran":
+            return ("active", *["idle"] * (self.elements - 1))  # for each vl and vstart
         stop = self._stop()
         start = (self.after if self.end == "fault" else self.before.control).vstart
-        if self.form.is_single and not self.destination:
-            start = 0  # element 0 is read also if vstart is above it
         end = self.after.vl if self.execution.is_fault_only_first else stop
         mask = self.before.v[:REGISTER_BYTES] if self.instruction.leaves_out else b""
         return _outcomes_of(self.elements, start, end, stop, self.end, mask)
