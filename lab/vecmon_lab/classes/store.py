@@ -62,7 +62,7 @@ class ScriptFile:
     ) -> None:
         """Opens a machine's script of this number, and cuts off what no session recorded; `kept` has the lines before.
 
-        notes: the name of the file with the number of its lines
+        notes: the name of the file with the number of its lines; failures: how many writes and flushes failed
         flusher: calls `sync` after changes; without one nothing does but `close`
         new_program: the program, if another one answered the lines before
         """
@@ -73,6 +73,7 @@ class ScriptFile:
         self._file = os.open(path, os.O_RDWR | os.O_CREAT, 0o600)
         self.kept = recorded_lines(path.read_bytes())
         self._path, self._write_trouble, self._sync_trouble = path, "", ""
+        self.failures = 0
         self.notes = f"{machine}.json"
         self._waiting = bytearray()
         self._saved = len(self.kept)
@@ -156,6 +157,7 @@ class ScriptFile:
                 self._is_named, self._sync_trouble = True, ""
             except OSError as error:
                 self._sync_trouble = f"the script isn't saved: {error.strerror}"
+                self.failures += 1
                 raise
 
     def close(self) -> None:
@@ -177,6 +179,7 @@ class ScriptFile:
             self._write_trouble = ""
         except OSError as error:
             self._write_trouble = f"the script isn't saved: {error.strerror}"
+            self.failures += 1
 
     def _flush_soon(self) -> None:
         if self._flusher:

@@ -95,7 +95,7 @@ class Class:
         self._stuck: Sequence[str] = ()  # seats whose students were stuck at the last save
         self.warning = ""  # why something isn't saved, as pages have it
         self._seat_warnings = dict[str, str]()  # the same by seat, of its own files
-        self._room_warnings = dict[str, str]()  # of the machines, by letter, as pages have them
+        self._room_troubles = dict[str, tuple[str, int]]()  # of the machines, by letter, as pages have them
         makers, self._packers, self._packing = WorkerPool(1), WorkerPool(2), set[str]()
         try:
             self.checks = Checks(store, exercises, self.tell, self.builds)
@@ -149,8 +149,10 @@ class Class:
             if room.is_busy():
                 continue
             room.scripts.file.catch_up()
-            if room.warning != self._room_warnings.get(room.letter, ""):
-                self._room_warnings[room.letter] = room.warning
+            # the number of failures tells of a trouble that came and went since the last look
+            trouble = (room.warning, room.scripts.file.failures)
+            if trouble != self._room_troubles.get(room.letter, ("", 0)):
+                self._room_troubles[room.letter] = trouble
                 self.tell(room.seats.names())
             notes = room.notes()
             if room.scripts.file.is_saved and self._are_due(room.letter, notes, with_counts):

@@ -276,7 +276,8 @@ class _Instruction:
     def _outcomes(self) -> tuple[Outcome, ...]:
         """How each element took part."""
         if self.form.is_single and not self.destination and self.end == "ran":
-            return ("active", *["idle"] * (self.elements - 1))  # for each vl and vstart
+            others: list[Outcome] = ["idle"] * (self.elements - 1)
+            return ("active", *others)  # for each vl and vstart
         stop = self._stop()
         start = (self.after if self.end == "fault" else self.before.control).vstart
         end = self.after.vl if self.execution.is_fault_only_first else stop
