@@ -10,7 +10,7 @@ def raise_limits() -> None:
     """Raise the limits of this process. A test of a limit sets it, with `monkeypatch`."""
     sandbox.SECONDS = PATIENCE
     checks.SECONDS = explore.PATIENCE = solo.PATIENCE = PATIENCE
-    server.PATIENCE = PATIENCE
+    server.PATIENCE = server.CODE_SECONDS = PATIENCE
     for module in (tab_socket, server):  # which imports it
         setattr(module, "READ_SECONDS", PATIENCE)
     scripts.MAX_BEHIND = 1e9  # a slow process doesn't delay slices

@@ -125,7 +125,8 @@ class Served:
 
     async def open(self, code: Any, **headers: str) -> Tab:
         """A socket that has sent a code and waits for what comes."""
-        socket = await self.session.ws_connect(self.url + "socket", headers=headers, max_msg_size=0)
+        shown = ("vecmon", f"vecmon-code.{code}") if re.fullmatch("[a-z0-9]+", f"{code}") else ()
+        socket = await self.session.ws_connect(self.url + "socket", protocols=shown, headers=headers, max_msg_size=0)
         await socket.send_json({"code": code})
         return Tab(socket)
 
@@ -193,9 +194,9 @@ async def served(
         yield room
 
 
-def command(folder: pathlib.Path, *words: str, makes_checkpoints: bool = True) -> list[str]:
-    """The command that serves a class."""
-    limits = "from support.busy_host import raise_limits; raise_limits(); "
+def command(folder: pathlib.Path, *words: str, makes_checkpoints: bool = True, raises_limits: bool = True) -> list[str]:
+    """The command that serves a class. raises_limits: with the limits by the clock for tests"""
+    limits = "from support.busy_host import raise_limits; raise_limits(); " if raises_limits else ""
     spares = "" if makes_checkpoints else "from vecmon_lab.classes import scripts; scripts.SHORTEN_SECONDS = 1e9; "
     start = f"{limits}{spares}import vecmon_lab.__main__ as lab; raise SystemExit(lab.main())"
     return [sys.executable, "-c", start, "class", str(folder), *words, "--port", "0", "--no-clock"]
@@ -203,10 +204,10 @@ def command(folder: pathlib.Path, *words: str, makes_checkpoints: bool = True) -
 
 @asynccontextmanager
 async def process(
-    folder: pathlib.Path, *words: str, makes_checkpoints: bool = True, **options: Any
+    folder: pathlib.Path, *words: str, makes_checkpoints: bool = True, raises_limits: bool = True, **options: Any
 ) -> AsyncIterator[Served]:
     """A class that a process of its own serves; `server` in it. What is still there at the end is killed."""
-    call = command(folder, *words, makes_checkpoints=makes_checkpoints)
+    call = command(folder, *words, makes_checkpoints=makes_checkpoints, raises_limits=raises_limits)
     server = await asyncio.create_subprocess_exec(*call, cwd=TOP, stdout=subprocess.PIPE, **options)
     assert server.stdout
     try:

@@ -1,12 +1,16 @@
 """Flood a class's server, and measure how long a student waits meanwhile.
 
 `VECMON=PATH .venv/bin/python lab/tools/flood_class.py [SECONDS]`, by default 20. Of clients without a code two send empty fragments and
-pings without end, and others open sockets, 1,200 at once, all from the students' address. A student whose connection ends connects again
-after a pause, as a page does. The status is 1 unless each student sits down within a second, and the median of `state` is below 50 ms:
-limits for four idle cores.
+pings without end, and others open sockets, 1,200 at once (`--sockets N`), all from the students' address. With `--churn` the others close
+each socket themselves after its handshake, and open another one. A student whose connection ends connects again after a pause, as a page
+does. The server has the limits that users have. The status is 1 unless each student sits down within a second, and the median of `state` is
+below 50 ms: limits for four idle cores. The server's share of a core, while flooded, is printed for hosts that aren't idle.
 """
 
+import argparse
 import asyncio
+import contextlib
+import os
 import pathlib
 import statistics
 import sys
@@ -19,6 +23,8 @@ from support.class_tabs import Served, Tab, process
 SECONDS, SOCKETS, STUDENTS = 20.0, 1200, 12
 SIT_SECONDS, MEDIAN_SECONDS = 1.0, 0.050
 FIRST_PAUSE = 0.5  # seconds; of a page after its connection has ended (page/connection.js)
+RELOAD_SECONDS = 5.0
+CLOSE = {"Connection": "close"}
 FRAGMENTS = b"\x01\x80\0\0\0\0" + b"\x00\x80\0\0\0\0" * 10_000
 PINGS = b"\x89\x80\0\0\0\0" * 10_000
 
@@ -44,25 +50,27 @@ async def send_without_end(port: int, frames: bytes) -> None:
             await asyncio.sleep(0.01)
 
 
-async def occupy(port: int) -> None:
-    """Keep one socket open without a code, and open another one once it is closed."""
+async def occupy(port: int, churn: bool) -> None:
+    """Keep one socket open without a code, and open another one once it is closed. churn: close it after the handshake"""
     while True:
         try:
-            reader, _ = await open_socket(port)
+            reader, writer = await open_socket(port)
+            if churn:
+                writer.transport.abort()
             await reader.read()
         except (OSError, asyncio.IncompleteReadError):
             await asyncio.sleep(0.01)
 
 
-async def flood(port: int) -> None:
+async def flood(port: int, sockets: int, churn: bool) -> None:
     """Do all of it until the process is killed."""
     floods = [send_without_end(port, frames) for frames in (FRAGMENTS, PINGS)]
-    await asyncio.gather(*floods, *(occupy(port) for _ in range(SOCKETS)))
+    await asyncio.gather(*floods, *(occupy(port, churn) for _ in range(sockets)))
 
 
-def flood_apart(port: int) -> None:
+def flood_apart(port: int, sockets: int, churn: bool) -> None:
     """As `flood`, in a process of its own."""
-    asyncio.run(flood(port))
+    asyncio.run(flood(port, sockets, churn))
 
 
 async def sit_down(room: Served, seat: str) -> Tab:
@@ -74,9 +82,19 @@ async def sit_down(room: Served, seat: str) -> Tab:
             await asyncio.sleep(FIRST_PAUSE)
 
 
-async def measure(room: Served, seconds: float) -> tuple[list[float], list[float]]:
-    """How long students take to sit down, and how long `state` takes, in seconds."""
-    sits, states, end = list[float](), list[float](), time.monotonic() + seconds
+async def load_page(room: Served) -> None:
+    """Load the page, again as often as it doesn't come in time, as a student who reloads it."""
+    while True:
+        with contextlib.suppress(asyncio.TimeoutError):
+            async with asyncio.timeout(RELOAD_SECONDS), room.session.get(room.url, headers=CLOSE) as page:
+                await page.read()
+                return
+
+
+async def measure(room: Served, seconds: float) -> tuple[list[float], list[float], list[float]]:
+    """How long students take to sit down, how long `state` takes, and how long the page, in seconds."""
+    sits, states, pages = list[float](), list[float](), list[float]()
+    end = time.monotonic() + seconds
     seats = [f"{machine}{digit}" for machine in "AB" for digit in range(1, 9)][:STUDENTS]
     while time.monotonic() < end:
         start = time.monotonic()
@@ -88,28 +106,48 @@ async def measure(room: Served, seconds: float) -> tuple[list[float], list[float
             await tab.ask("lines", look=["state"])
             states.append(time.monotonic() - start)
         await tab.socket.close()
-    return sits, states
+        if len(sits) % 10 == 1:
+            start = time.monotonic()
+            await load_page(room)
+            pages.append(time.monotonic() - start)
+    return sits, states, pages
 
 
-async def main(seconds: float) -> int:
+def processor_seconds(room: Served) -> float:
+    """The processor time of the server's process, without those of its children."""
+    assert room.server
+    fields = pathlib.Path(f"/proc/{room.server.pid}/stat").read_text().rpartition(")")[2].split()
+    return (int(fields[11]) + int(fields[12])) / os.sysconf("SC_CLK_TCK")
+
+
+async def main(seconds: float, sockets: int, churn: bool) -> int:
     """Print the times without a flood and with it; return the exit status."""
     with tempfile.TemporaryDirectory() as folder:
-        async with process(pathlib.Path(folder, "class"), "--machines", "2") as room:
-            flooder = Process(target=flood_apart, args=(room.port,))
+        async with process(pathlib.Path(folder, "class"), "--machines", "2", raises_limits=False) as room:
+            flooder = Process(target=flood_apart, args=(room.port, sockets, churn))
             times = [await measure(room, seconds / 4)]
             flooder.start()
             try:
+                start, spent = time.monotonic(), processor_seconds(room)
                 times.append(await measure(room, seconds))
+                share = (processor_seconds(room) - spent) / (time.monotonic() - start)
             finally:
                 flooder.kill()
                 flooder.join()
             await room.end()
-    for name, (sits, states) in zip(("idle", "flooded"), times):
-        values = (statistics.median(sits), max(sits), statistics.median(states), max(states))
-        print("{:8} sit down {:.3f} s, at most {:.3f} s; state {:.4f} s, at most {:.4f} s".format(name, *values))
-    sits, states = times[1]
+    print(f"server   {share:.2f} of a core while flooded, {len(times[1][0])} students")
+    for name, kinds in zip(("idle", "flooded"), times):
+        values = [value for kind in kinds for value in (statistics.median(kind), max(kind))]
+        form = "{:8} sit down {:.3f} s, at most {:.3f} s; state {:.4f} s, at most {:.4f} s; page {:.3f} s, at most {:.3f} s"
+        print(form.format(name, *values))
+    sits, states, _ = times[1]
     return int(max(sits) > SIT_SECONDS or statistics.median(states) > MEDIAN_SECONDS)
 
 
 if __name__ == "__main__":
-    sys.exit(asyncio.run(main(float(sys.argv[1]) if len(sys.argv) > 1 else SECONDS)))
+    parser = argparse.ArgumentParser()
+    parser.add_argument("seconds", nargs="?", type=float, default=SECONDS)
+    parser.add_argument("--sockets", type=int, default=SOCKETS)
+    parser.add_argument("--churn", action="store_true")
+    arguments = parser.parse_args()
+    sys.exit(asyncio.run(main(arguments.seconds, arguments.sockets, arguments.churn)))

@@ -63,7 +63,7 @@ def request(room: Served) -> bytes:
 
 
 async def test_pings_prolong_no_wait_for_code(room: Served, monkeypatch: pytest.MonkeyPatch) -> None:
-    monkeypatch.setattr(class_server, "PATIENCE", 2.0)
+    monkeypatch.setattr(class_server, "CODE_SECONDS", 2.0)
     silent = await room.session.ws_connect(room.url + "socket")
     end, start = asyncio.create_task(silent.receive()), asyncio.get_running_loop().time()
     while not end.done():

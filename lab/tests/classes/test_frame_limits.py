@@ -13,7 +13,7 @@ import pytest_asyncio
 from aiohttp.http import WebSocketError
 
 from support.class_tabs import LOOP, SECONDS, Served, served
-from vecmon_lab.classes.connections import OF_ADDRESS, excess, network_of
+from vecmon_lab.classes.connections import excess, network_of
 from vecmon_lab.classes.frame_limits import FrameLimits, Rate
 from vecmon_lab.classes.seat_budget import SeatBudget
 from vecmon_lab.classes.tab_socket import BEAT
@@ -145,13 +145,11 @@ async def test_seat_pays_for_greetings_news_and_beats(room: Served, monkeypatch:
 
 
 def test_oldest_of_largest_address_ends() -> None:
-    """Others keep theirs, however old they are; an address has 128, a network of IPv6 counts as one address."""
+    """Others keep theirs, however old they are; a network of IPv6 counts as one address."""
     old = [("school", number) for number in range(3)]
     flood = [("flood", number) for number in range(10)]
     assert excess([*old, *flood], lambda it: it[0], 12) == {("flood", 0)}
     assert excess([*old, *flood], lambda it: it[0], 13) == set()
-    many = [("flood", number) for number in range(OF_ADDRESS + 2)]
-    assert OF_ADDRESS >= 128 and excess([*old, *many], lambda it: it[0], 1000) == {("flood", 0), ("flood", 1)}
     assert network_of("192.168.1.20") == "192.168.1.20"
     assert network_of("2001:db8:1:2:3::4") == network_of("2001:db8:1:2:ffff::") != network_of("2001:db8:1:3::")
     assert network_of("fe80::1%eth0") == network_of("fe80::2")

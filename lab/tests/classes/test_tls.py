@@ -78,20 +78,34 @@ async def test_seat_connects_over_https(tmp_path: pathlib.Path, pair: Pair) -> N
                 assert plain.status == 400
 
 
+async def test_silent_connections_make_room(
+    tmp_path: pathlib.Path, pair: Pair, monkeypatch: pytest.MonkeyPatch
+) -> None:
+    """Of 12 that begin no handshake 7 are closed if 5 are the most; the page is served."""
+    monkeypatch.setattr(server, "UNKNOWN", 5)
+    monkeypatch.setattr(server, "PATIENCE", SECONDS)
+    async with served(tmp_path / "class", pair) as (port, session):
+        silent = [await asyncio.open_connection("127.0.0.1", port) for _ in range(12)]
+        ends = [asyncio.create_task(reader.read()) for reader, _ in silent]
+        while sum(end.done() for end in ends) < 7:
+            done, _ = await asyncio.wait(
+                [end for end in ends if not end.done()], timeout=SECONDS, return_when="FIRST_COMPLETED"
+            )
+            assert done
+        async with session.get(f"https://127.0.0.1:{port}/") as page:
+            assert page.status == 200
+        assert sum(end.done() for end in ends) <= 8
+        for _, writer in silent:
+            writer.close()
+        await asyncio.gather(*ends)
+
+
 async def test_silent_connections_are_closed(
     tmp_path: pathlib.Path, pair: Pair, monkeypatch: pytest.MonkeyPatch
 ) -> None:
-    """Of too many the oldest, and all in time; meanwhile the page is served."""
-    monkeypatch.setattr(server, "UNKNOWN", 5)
-    monkeypatch.setattr(server, "PATIENCE", 3.0)
-    async with served(tmp_path / "class", pair) as (port, session):
-        silent = [await asyncio.open_connection("127.0.0.1", port) for _ in range(12)]
-        for reader, _ in silent[:6]:
-            assert await asyncio.wait_for(reader.read(), SECONDS) == b""
-        assert not silent[-1][0].at_eof()
-        async with session.get(f"https://127.0.0.1:{port}/") as page:
-            assert page.status == 200
-        for reader, writer in silent:
+    monkeypatch.setattr(server, "PATIENCE", 2.0)
+    async with served(tmp_path / "class", pair) as (port, _):
+        for reader, writer in [await asyncio.open_connection("127.0.0.1", port) for _ in range(3)]:
             assert await asyncio.wait_for(reader.read(), SECONDS) == b""
             writer.close()
 

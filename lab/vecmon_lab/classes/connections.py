@@ -5,14 +5,14 @@ A client may send nothing, take no answer, or send requests without end before i
 
 import asyncio
 import ipaddress
-from collections import deque
-from collections.abc import Callable, Iterable, Mapping, Sequence
-from typing import TypeVar
+from collections import OrderedDict, deque
+from collections.abc import Callable, Iterable, Iterator, Mapping, Sequence
+from functools import lru_cache
+from typing import Generic, TypeVar
 
 from aiohttp import web
 
 SWEEP_SECONDS = 0.5
-OF_ADDRESS = 128  # connections of one address, which a school may share, that are in an early state, as without a code
 V6_PREFIX = 64  # bits of an address by IPv6 that a client can't choose
 AHEAD = 16  # requests of a connection that wait for the answer to an earlier one; browsers send none ahead
 
@@ -26,6 +26,7 @@ def address_of(transport: asyncio.BaseTransport | None) -> str:
     return network_of(peer[0]) if peer else ""
 
 
+@lru_cache(1024)
 def network_of(address: str) -> str:
     """An address as limits count it: of IPv6 the network, since a client has all addresses of one."""
     host = ipaddress.ip_address(address.partition("%")[0])
@@ -35,15 +36,13 @@ def network_of(address: str) -> str:
 
 
 def excess(connections: Iterable[Connection], address: Callable[[Connection], str], limit: int) -> set[Connection]:
-    """The connections to end, of those given, the oldest first, so that there are `limit`, and OF_ADDRESS of each address.
+    """The connections to end, of those given, the oldest first, so that there are `limit`.
 
     The oldest of the address that has the most ends, so that other addresses keep theirs.
     """
     by_address, ended = _by_address(connections, address), set[Connection]()
-    count = sum(map(len, by_address))
-    while by_address and (count > limit or max(map(len, by_address)) > OF_ADDRESS):
+    for _ in range(sum(map(len, by_address)) - limit):
         ended.add(max(by_address, key=len).popleft())
-        count -= 1
     return ended
 
 
@@ -55,6 +54,53 @@ def _by_address(connections: Iterable[Connection], address: Callable[[Connection
     return list(found.values())
 
 
+class Crowd(Generic[Connection]):
+    """Connections by their addresses. Of too many the oldest one of the address that has the most is ended."""
+
+    def __init__(self, limit: int, end: Callable[[Connection], object]) -> None:
+        """end: ends a connection, which is no longer in the crowd"""
+        self._limit, self._end = limit, end
+        self._addresses: dict[Connection, str] = {}
+        self._by_address: OrderedDict[str, OrderedDict[Connection, None]] = OrderedDict()  # the oldest first
+
+    def __len__(self) -> int:
+        """The number of connections."""
+        return len(self._addresses)
+
+    def __iter__(self) -> Iterator[Connection]:
+        """The connections that are there now."""
+        return iter(list(self._addresses))
+
+    def add(self, connection: Connection, address: str) -> None:
+        """Add a connection, and end one if that is too many."""
+        self._addresses[connection] = address
+        self._by_address.setdefault(address, OrderedDict())[connection] = None
+        if len(self) > self._limit:
+            largest = max(self._by_address.values(), key=len)
+            oldest = next(iter(largest))
+            self.discard(oldest)
+            self._end(oldest)
+
+    def discard(self, connection: Connection) -> None:
+        """Remove a connection, if it is there."""
+        if (address := self._addresses.pop(connection, None)) is not None:
+            of_address = self._by_address[address]
+            del of_address[connection]
+            if not of_address:
+                del self._by_address[address]
+
+    def pop_newest(self) -> tuple[Connection, str]:
+        """Remove a connection, and return it with its address: addresses take turns, and the newest one of each is first.
+
+        Raises StopIteration if there is none.
+        """
+        address, of_address = next(iter(self._by_address.items()))
+        self._by_address.move_to_end(address)
+        connection = next(reversed(of_address))
+        self.discard(connection)
+        return connection, address
+
+
 class Connections:
     """The connections of a server, and what is known of them.
 
@@ -63,7 +109,7 @@ class Connections:
 
     def __init__(self, limit: int, silent_seconds: float, unread_seconds: float) -> None:
         """limit: number of connections without a whole request, of those between two requests, and of those that leave answers
-        unread; OF_ADDRESS limits those of an address
+        unread
 
         silent_seconds, unread_seconds: how long a connection may send nothing, and how long it may take nothing
         """
@@ -121,4 +167,6 @@ def _before(since: Mapping[web.RequestHandler, float], time: float) -> set[web.R
 
 def _excess(since: Mapping[web.RequestHandler, float], limit: int) -> set[web.RequestHandler]:
     """The oldest ones of the addresses that have too many, by their times; of those since the same time the first ones."""
+    if len(since) <= limit:
+        return set()
     return excess(sorted(since, key=since.__getitem__), lambda it: address_of(it.transport), limit)

@@ -29,7 +29,8 @@ from ..page.pages import Page
 from ..page.texts import page_text
 from ..page.reference import reference_text
 from .codes import TEACHER
-from .connections import Connections, address_of, excess
+from .connections import Connections, Crowd, address_of
+from .door import Door, DoorSite
 from .frame_limits import LimitedSocket
 from .resumed_pages import OpenPages
 from .room import Room
@@ -37,14 +38,17 @@ from .seat_budget import SeatBudget
 from .store import BadFolder, script_name
 from .tab_requests import TabRequests
 from .tab_socket import CLOSED, READ_SECONDS, TabSocket
-from .tls import LAST_SECONDS, TlsSite
+from .tls import Handshake
 from .view import Class, Tab
 
 MESSAGE_BYTES = 400_000
 SOCKET = "/socket"  # the path of the WebSocket; requests to upgrade at other paths are ignored
-PATIENCE = 10.0  # seconds for a first request, and for a tab's code
+PATIENCE = 10.0  # seconds for a first request
+CODE_SECONDS = 60.0  # for a tab's code; of a flood of sockets few are closed in a second, whose clients connect again
 IDLE_SECONDS = 15.0  # of a connection between two requests
-UNKNOWN = 500  # connections without a whole request, connections between two requests, and sockets without a code
+UNKNOWN = 1500  # connections without a whole request, connections between two requests, and sockets without a code
+WAITING = 8000  # connections at the door
+FILES = 20_000  # that a process has for all of these limits; with fewer, they are smaller
 TEACHERS_SHARE = 1.0  # of a core; a seat's is smaller
 SOCKETS = 8  # of a seat; of the teacher twice as many
 WRONG_CODE_SECONDS = 0.5
@@ -55,6 +59,8 @@ HEADERS = {
     "X-Content-Type-Options": "nosniff",
     "Cross-Origin-Opener-Policy": "same-origin",
 }
+SHOWN_PROTOCOL = "vecmon"  # of a WebSocket; a page asks for it, and for one that is its code, which the door recognizes
+SHOWN_CODE = re.compile(rb"\r\nSec-WebSocket-Protocol:[^\r\n]*\bvecmon-code\.([a-z0-9]{1,64})\b", re.IGNORECASE)
 HOST = re.compile(r"(?:\[([0-9a-fA-F:.]+)\]|([A-Za-z0-9.-]+))(?::[0-9]+)?")
 # the header `Server` without versions, also in answers that have no hook
 vars(web_response)["SERVER_SOFTWARE"] = "vecmon-lab"
@@ -70,11 +76,11 @@ class Server:
         self._requests, self._pages = TabRequests(members), OpenPages()
         self._page, self._lesson, self._listings = Page("class"), Page("lesson"), Page("listings")
         self._page_data = b""  # of the class's page, once it was asked for
-        self.connections = Connections(UNKNOWN, PATIENCE, READ_SECONDS)
+        self.connections = Connections(_share_of_files(UNKNOWN), PATIENCE, READ_SECONDS)
         self._budgets = defaultdict[str, SeatBudget](SeatBudget)
         self._budgets[TEACHER] = SeatBudget(TEACHERS_SHARE)
         self._is_ending = False
-        self._nameless: dict[web.WebSocketResponse, web.Request] = {}  # sockets without a code, the oldest first
+        self._nameless = Crowd[web.RequestHandler](_share_of_files(UNKNOWN), _abort)  # of sockets without a code
         self._sockets: weakref.WeakSet[web.WebSocketResponse] = weakref.WeakSet()
 
     def application(self) -> web.Application:
@@ -104,6 +110,11 @@ class Server:
         except ValueError:
             return parts[2] in self.names
         return True
+
+    def owner(self, head: bytes) -> str | None:
+        """The owner of the code that the first bytes of a tab's request show, if they show one."""
+        found = SHOWN_CODE.search(head)
+        return self.members.codes.owner(found[1].decode("ascii")) if found else None
 
     async def close(self) -> None:
         """Tells all tabs that the server ends."""
@@ -187,7 +198,9 @@ class Server:
             raise web.HTTPServiceUnavailable(text=str(error)) from error
 
     async def _socket(self, request: web.Request) -> web.WebSocketResponse:
-        own = LimitedSocket(heartbeat=READ_SECONDS, max_msg_size=MESSAGE_BYTES, compress=False, timeout=2)
+        own = LimitedSocket(
+            heartbeat=READ_SECONDS, max_msg_size=MESSAGE_BYTES, compress=False, timeout=2, protocols=(SHOWN_PROTOCOL,)
+        )
         await own.prepare(request)
         self._sockets.add(own)
         role, name = await self._who(request, own)
@@ -199,7 +212,7 @@ class Server:
         else:
             own.limits.has_code = True
             self.connections.tabs.add(request.protocol)
-            page, abort, budget = self._pages.open(role, name), partial(_abort, request), self._budgets[role]
+            page, abort, budget = self._pages.open(role, name), partial(_abort, request.protocol), self._budgets[role]
             tab = Tab(role)
             tab.page = page[0]
             await TabSocket(self._requests, own, tab, page, abort, budget).serve(lambda: self._is_ending)
@@ -210,11 +223,9 @@ class Server:
 
         Of too many sockets without a code the oldest of the address that has the most is closed, so that new ones are served.
         """
-        self._nameless[own] = request
-        for each in excess(self._nameless, lambda it: address_of(self._nameless[it].transport), UNKNOWN):
-            _abort(self._nameless.pop(each))
+        self._nameless.add(request.protocol, address_of(request.transport))
         try:
-            async with asyncio.timeout(PATIENCE):  # pings would prolong the time limit of `receive_str`
+            async with asyncio.timeout(CODE_SECONDS):  # pings would prolong the time limit of `receive_str`
                 message = json.loads(await own.receive_str())
             first = message if isinstance(message, dict) else {}
             role = self.members.codes.owner(first.get("code"))
@@ -224,7 +235,7 @@ class Server:
         except (TypeError, ValueError, RecursionError, asyncio.TimeoutError):
             return None, None
         finally:
-            self._nameless.pop(own, None)
+            self._nameless.discard(request.protocol)
 
 
 def listening(host: str, port: int) -> list[socket.socket]:
@@ -259,6 +270,7 @@ async def served(
 ) -> AsyncIterator[int]:
     """Serves a class at sockets that listen, by HTTPS if there is a context for it; the port of the first. Ends it behind."""
     logging.getLogger("aiohttp.server").addFilter(_is_ours)
+    logging.getLogger("aiohttp.websocket").setLevel(logging.ERROR)  # its warning quotes what a client asks for
     asyncio.get_running_loop().set_exception_handler(_report)
     server = Server(members, {socket.gethostname(), *names})
     runner = web.AppRunner(
@@ -273,8 +285,7 @@ async def served(
     try:
         members.checks.resume()
         for listener in listeners:
-            plain = web.SockSite(runner, listener, shutdown_timeout=LAST_SECONDS)
-            await (TlsSite(runner, listener, tls, UNKNOWN, PATIENCE) if tls else plain).start()
+            await DoorSite(runner, listener, partial(_door, server, tls)).start()
         rooms = members.rooms.values()
         work = [
             server.connections.sweep(runner),
@@ -292,6 +303,19 @@ async def served(
         members.end()
         await asyncio.gather(*tasks, return_exceptions=True)
         await runner.cleanup()
+
+
+def _share_of_files(most: int) -> int:
+    """How many connections of a kind there may be: each needs a file, of which the process has a limited number."""
+    return min(most, resource.getrlimit(resource.RLIMIT_NOFILE)[0] * most // FILES)
+
+
+def _door(server: Server, tls: ssl.SSLContext | None, make: web.Server, listener: socket.socket) -> Door:
+    """The door at a socket that listens, by HTTPS if there is a context for it. make: returns a connection's protocol"""
+    limits = _share_of_files(WAITING), _share_of_files(UNKNOWN)
+    if tls:
+        return Door(listener, Handshake(make, tls, PATIENCE), None, *limits)
+    return Door(listener, partial(asyncio.get_running_loop().connect_accepted_socket, make), server.owner, *limits)
 
 
 def end_signals() -> list[signal.Signals]:
@@ -336,10 +360,10 @@ async def serve(
                 await asyncio.wait_for(ended.wait(), 1)
 
 
-def _abort(request: web.Request) -> None:
+def _abort(connection: web.RequestHandler) -> None:
     """Ends a connection without a word."""
-    if request.transport:
-        request.transport.abort()
+    if connection.transport:
+        connection.transport.abort()
 
 
 def _is_ours(record: logging.LogRecord) -> bool:

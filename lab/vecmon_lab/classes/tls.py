@@ -1,4 +1,4 @@
-"""HTTPS for a class: its certificate and key are checked before anything is served, and TLS handshakes are limited."""
+"""HTTPS for a class: its certificate and key are checked before anything is served, and the time of handshakes is limited."""
 
 import asyncio
 import contextlib
@@ -8,16 +8,10 @@ import socket
 import ssl
 import stat
 from collections.abc import Callable
-from typing import cast
-
-from aiohttp import web
 
 from .. import LabError
-from .connections import excess, network_of
 
-LAST_SECONDS = 2.0  # of connections once the server ends
 FLIGHTS = 20  # more than a handshake has, of both sides
-ACCEPT_PAUSE = 1.0  # seconds, where the process may have no more files
 PEM_BYTES = 1 << 20  # of a certificate with its issuers', or a key
 PLAIN_BYTES = 1 << 16  # of a plain request that are read before its connection is closed
 METHOD_STARTS = [bytes([letter]) for letter in b"ABCDEFGHIJKLMNOPQRSTUVWXYZ"]  # of plain requests; TLS starts with 0x16
@@ -91,56 +85,24 @@ def _check_validity(context: ssl.SSLContext, certificate: pathlib.Path) -> None:
         raise LabError(f"{certificate} can't be used: {error}") from error
 
 
-class HandshakeServer:
-    """Accepts connections at a socket, and serves each after its TLS handshake, as a site's server does."""
+class Handshake:
+    """The TLS handshakes of a server, each with a time limit."""
 
-    def __init__(
-        self,
-        listener: socket.socket,
-        make: Callable[[], asyncio.Protocol],
-        context: ssl.SSLContext,
-        limit: int,
-        seconds: float,
-    ) -> None:
-        """make: returns the protocol of a connection; limit: number of handshakes at once; seconds: time limit of each"""
-        self.sockets = (listener,)
-        self._make, self._context, self._limit, self._seconds = make, context, limit, seconds
-        self._handshakes: dict[asyncio.Task[None], str] = {}  # with addresses, the oldest first; some have ended
-        self._accepting = asyncio.create_task(self._accept(listener))
+    def __init__(self, make: Callable[[], asyncio.Protocol], context: ssl.SSLContext, seconds: float) -> None:
+        """make: returns the protocol of a connection; seconds: time limit of a handshake"""
+        self._make, self._context, self._seconds = make, context, seconds
 
-    def close(self) -> None:
-        """Accepts nothing more, and gives up the handshakes under way."""
-        for task in (self._accepting, *self._handshakes):
-            task.cancel()
+    async def __call__(self, connection: socket.socket) -> None:
+        """Have a connection served after its handshake, for which memory is allocated once the client has sent something.
 
-    async def wait_closed(self) -> None:
-        """Returns when all of that has ended, and closes the socket."""
-        await asyncio.gather(self._accepting, *self._handshakes, return_exceptions=True)
-        self.sockets[0].close()
-
-    async def _accept(self, listener: socket.socket) -> None:
-        """Accepts connections for ever. Of too many handshakes the oldest of the address that has the most is given up."""
-        listener.setblocking(False)
-        while True:
-            try:
-                connection, peer = await asyncio.get_running_loop().sock_accept(listener)
-            except OSError:
-                await asyncio.sleep(ACCEPT_PAUSE)
-                continue
-            self._handshakes = {task: its for task, its in self._handshakes.items() if not task.done()}
-            self._handshakes[asyncio.create_task(self._shake(connection))] = network_of(peer[0])
-            for task in excess(self._handshakes, self._handshakes.__getitem__, self._limit):
-                task.cancel()
-
-    async def _shake(self, connection: socket.socket) -> None:
-        """Has a connection served after its handshake, for which memory is allocated once the client has sent something."""
-        with contextlib.suppress(OSError):  # of a client that sends nothing, speaks no TLS, or goes away
-            async with asyncio.timeout(self._seconds):
-                await _readable(connection)
-                if _is_plain(connection):
-                    await _refuse_plain(connection)
-                    return
-                await asyncio.get_running_loop().connect_accepted_socket(self._make, connection, ssl=self._context)
+        Raises OSError if the client sends nothing, speaks no TLS, or goes away.
+        """
+        async with asyncio.timeout(self._seconds):
+            await _readable(connection)
+            if _is_plain(connection):
+                await _refuse_plain(connection)
+                return
+            await asyncio.get_running_loop().connect_accepted_socket(self._make, connection, ssl=self._context)
 
 
 async def _readable(connection: socket.socket) -> None:
@@ -172,23 +134,3 @@ async def _refuse_plain(connection: socket.socket) -> None:
         connection.shutdown(socket.SHUT_WR)
         while left > 0 and (data := await loop.sock_recv(connection, left)):
             left -= len(data)
-
-
-class TlsSite(web.SockSite):
-    """A site by HTTPS, whose handshakes are limited; aiohttp limits neither their number nor their time."""
-
-    __slots__ = ("_limits",)
-
-    def __init__(
-        self, runner: web.BaseRunner, listener: socket.socket, context: ssl.SSLContext, limit: int, seconds: float
-    ) -> None:
-        """limit: number of handshakes at once; seconds: time limit of each"""
-        super().__init__(runner, listener, ssl_context=context, shutdown_timeout=LAST_SECONDS)
-        self._limits = limit, seconds
-
-    async def start(self) -> None:
-        """Begins to serve."""
-        await web.BaseSite.start(self)
-        assert self._runner.server and self._ssl_context
-        server = HandshakeServer(self._sock, self._runner.server, self._ssl_context, *self._limits)
-        self._server = cast(asyncio.AbstractServer, server)

@@ -12,6 +12,7 @@ import { textOf } from "./texts.js";
 const [FIRST_PAUSE, LONGEST_PAUSE] = [500, 15000]; // ms
 const BEAT = 1500; // ms between questions whether the connection works
 const [MOST_UNANSWERED, MOST_OPENING] = [2, 7]; // beats until a connection counts as broken, and until one that opens does
+const CODE = /^[a-z0-9]{1,64}$/; // all codes that the name of a protocol takes
 /** @type {Record<string, string>} */
 const NAMES = {
   again: textOf("request.source"), answer: textOf("request.answer"), check: textOf("request.check"), lines: textOf("request.slices"),
@@ -52,7 +53,8 @@ export class Connection {
   }
 
   open() {
-    const socket = new WebSocket(`${location.protocol.replace("http", "ws")}//${location.host}/socket`);
+    const shown = CODE.test(this.code) ? ["vecmon", `vecmon-code.${this.code}`] : []; // a flooded server serves it first
+    const socket = new WebSocket(`${location.protocol.replace("http", "ws")}//${location.host}/socket`, shown);
     Object.assign(this, { socket, unanswered: 0 });
     socket.addEventListener("open", () => this.send({ code: this.code, page: this.page }));
     socket.addEventListener("message", ({ data }) => this.socket === socket && this.hear(JSON.parse(data)));

@@ -6,15 +6,16 @@ import { Connection } from "../../../vecmon_lab/page/connection.js";
 const HELLO = { kind: "hello", who: "A1", time: 0 };
 
 /** A connection whose sockets, timers and listener are kept in lists. */
-function begin() {
+function begin(code = "code") {
   const [sockets, timers, banners] = [[], [], []];
   globalThis.location = { protocol: "http:", host: "here" };
   globalThis.WebSocket = class WebSocket extends EventTarget {
     static OPEN = 1;
     readyState = WebSocket.OPEN;
     sent = [];
-    constructor() {
+    constructor(_, protocols) {
       super();
+      this.protocols = protocols;
       sockets.push(this);
     }
     send(text) {
@@ -27,9 +28,15 @@ function begin() {
   };
   globalThis.setTimeout = (again) => timers.push(again);
   globalThis.setInterval = (beat, ms) => timers.push({ beat, ms });
-  const connection = new Connection("code", { told: () => {}, gone: (words) => banners.push(words), ended: () => {} });
+  const connection = new Connection(code, { told: () => {}, gone: (words) => banners.push(words), ended: () => {} });
   return { connection, sockets, timers, banners };
 }
+
+test("the request of a socket shows the code, unless that isn't the name of a protocol", () => {
+  const { sockets: [shown] } = begin("wj4kq8ht2mznd3");
+  assert.deepEqual(shown.protocols, ["vecmon", "vecmon-code.wj4kq8ht2mznd3"]);
+  for (const code of ["", "a b", "é", "a".repeat(65)]) assert.deepEqual(begin(code).sockets[0].protocols, []);
+});
 
 const isRequest = ({ ask }) => ask && ask !== "beat";
 
