@@ -4,6 +4,7 @@ The strictest reading of POSIX: until a file is flushed, any of its writes may b
 is flushed, any of its new names, renames and removals may be missing. Flushed data is there.
 """
 
+import errno
 import os
 import pathlib
 import random
@@ -63,10 +64,12 @@ class Disk:
     """The functions of `os` that write below a folder, recorded: it takes the place of `os` in the modules that write there.
 
     operations: their number so far; `before_each` is called before each one; flushes: whether `fsync` does anything
+    failing: whether the flush of a file fails; as on Linux its data isn't on the disk then, and later flushes don't write it
     """
 
     def __init__(self, folder: pathlib.Path, flushes: bool = True) -> None:
         self.operations, self._flushes = 0, flushes
+        self.failing: Callable[[str], bool] = lambda name: False
         self.before_each: Callable[[], object] = lambda: None
         self._folder = folder.resolve()
         self._names: dict[str, Inode] = {}  # that are on the disk
@@ -128,6 +131,9 @@ class Disk:
                 self._changes.remove(change)
             return
         inode = self._files[file]
+        if any(self.failing(name) for name, named in self._now().items() if named is inode):
+            inode.changes = []
+            raise OSError(errno.EIO, os.strerror(errno.EIO))
         inode.flushed, inode.changes = inode.contents(every), []
 
     def replace(self, old: pathlib.Path, new: pathlib.Path) -> None:

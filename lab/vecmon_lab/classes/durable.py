@@ -104,10 +104,12 @@ class Flusher:
             self._journal.switch()
             generations = list(self._journal.generations)
         for generation in generations:
-            self._check_folder()
+            with self._turn:
+                self.check_folder()
+                self._journal.write_again(generation)
             self._journal.flush_files(generation)
             with self._turn:
-                self._check_folder()
+                self.check_folder()
                 self._journal.drop(generation)
 
     def unsaved(self) -> list[str]:
@@ -115,6 +117,11 @@ class Flusher:
         with self._lock:
             names = [name for name, data in self._waiting.items() if data is not None]
         return [self.failures.get(name, f"{name} isn't saved") for name in names]
+
+    def check_folder(self) -> None:
+        """Raise OSError if another folder has the path now, or none: files by that path aren't the class's."""
+        if _identity_of(self._folder) != self._identity:
+            raise FileNotFoundError(errno.ENOENT, "the class's folder was moved or removed")
 
     def end(self) -> None:
         """Flushes, and ends the threads. A journal is left where the disk takes no more."""
@@ -127,11 +134,6 @@ class Flusher:
         with contextlib.suppress(OSError):
             self.shorten()
 
-    def _check_folder(self) -> None:
-        """Raise OSError if another folder has the path now, or none: files by that path aren't the class's."""
-        if _identity_of(self._folder) != self._identity:
-            raise FileNotFoundError(errno.ENOENT, "the class's folder was moved or removed")
-
     def _put(self, name: str, data: bytes | None) -> None:
         with self._lock:
             self._waiting.pop(name, None)
@@ -141,7 +143,7 @@ class Flusher:
     def _save(self, changes: Changes) -> None:
         """Bring changes to the disk by a record of the journal, or each by itself if there is no room for the record."""
         try:
-            self._check_folder()
+            self.check_folder()
         except OSError as error:
             self.failures |= {name: f"{name} isn't saved: {error.strerror}" for name in changes}
             return
@@ -166,6 +168,7 @@ class Flusher:
         self._journal.switch()
         try:
             for generation in list(self._journal.generations):
+                self._journal.write_again(generation)
                 self._journal.flush_files(generation)
                 self._journal.drop(generation)
         except OSError as error:

@@ -9,6 +9,7 @@ can be torn, since each is flushed before the next one.
 """
 
 import contextlib
+import errno
 import json
 import os
 import pathlib
@@ -28,11 +29,12 @@ Changes = Mapping[str, bytes | None]
 
 @dataclass
 class Generation:
-    """A journal, the names of the files in its records, and its bytes."""
+    """A journal, the names of the files in its records, and its bytes. doubtful: of files whose flush failed"""
 
     path: pathlib.Path
     names: set[str] = field(default_factory=set)
     size: int = 0
+    doubtful: set[str] = field(default_factory=set)
 
 
 class Journal:
@@ -76,15 +78,44 @@ class Journal:
                 os.close(file)
 
     def flush_files(self, generation: Generation) -> None:
-        """Flush the files of a journal to which no record is appended any more. Raises OSError."""
-        folders = set[pathlib.Path]()
-        for path in (self._folder / name for name in sorted(generation.names)):
-            with contextlib.suppress(FileNotFoundError):  # it was removed since
+        """Flush the files of a journal to which no record is appended any more. Raises OSError.
+
+        After a flush that failed the system counts the data as flushed, though it isn't: `write_again` is called before
+        the next flush.
+        """
+        by_folder: dict[pathlib.Path, set[str]] = {}
+        failure: OSError | None = None
+        for name in sorted(generation.names):
+            path = self._folder / name
+            try:
                 _flush_file(path)
+            except FileNotFoundError:  # it was removed since
+                pass
+            except OSError as error:
+                failure = error
+                generation.doubtful.add(name)
             if path.parent.is_dir():
-                folders.add(path.parent)
-        for folder in sorted(folders):
-            sync_folder(folder)
+                by_folder.setdefault(path.parent, set()).add(name)
+        for folder, names in sorted(by_folder.items()):
+            try:
+                sync_folder(folder)
+            except OSError as error:
+                failure = error
+                generation.doubtful |= names
+        if failure:
+            raise failure
+
+    def write_again(self, generation: Generation) -> None:
+        """Replace and flush the files of a journal whose flush failed, by what the journals have. Raises OSError."""
+        if generation.doubtful:
+            changes, damaged = journaled(self._folder)
+            if damaged:
+                raise OSError(errno.EIO, next(iter(damaged.values())))
+            for name in sorted(generation.doubtful):
+                data = changes.get(name)
+                if data is not None:
+                    replace_file(self._folder / name, data)
+            generation.doubtful.clear()
 
     def drop(self, generation: Generation) -> None:
         """Remove a journal whose files are flushed, as is the removal of earlier ones. Raises OSError."""

@@ -30,7 +30,7 @@ from .. import LabError
 from ..machine.program import digest_of
 from ..machine.session import BadLine, Block, OutOfStep, Session, recorded_lines
 from .codes import LETTERS, TEACHER, Codes, new_code
-from .disk_files import aside_of, asides_of, replace_file, sync_folder
+from .disk_files import aside_of, asides_of, replace_file, sync_folder, write_all
 from .durable import Flusher
 from .journal import JOURNAL, journaled, journals, recover
 from .stored_files import SCRIPT_NAME, Facts, Notes, codes
@@ -69,6 +69,7 @@ class ScriptFile:
         self._folder, self._machine, self._flusher = folder, machine, flusher
         self._new_program = new_program
         self._sync_turn, self._is_open, self._is_named = threading.Lock(), True, False
+        self._writing = threading.Lock()  # of what was written, which `sync` looks at
         path = folder / script_name(machine, number)
         self._file = os.open(path, os.O_RDWR | os.O_CREAT, 0o600)
         self.kept = recorded_lines(path.read_bytes())
@@ -77,6 +78,11 @@ class ScriptFile:
         self.notes = f"{machine}.json"
         self._waiting = bytearray()
         self._saved = len(self.kept)
+        self._unflushed, self._flushing = (
+            bytearray(),
+            0,
+        )  # written since the last flush; the end of what is being flushed
+        self._is_doubtful = False  # whether a flush failed since then
         os.ftruncate(self._file, self._saved)
 
     def replay(self, session: Session, notes: Notes, lose: Callable[[str], object]) -> Iterator[Block]:
@@ -111,7 +117,12 @@ class ScriptFile:
             raise BadFolder(f"machine {self._machine} doesn't take its script: {error}") from error
 
     def successor(self, number: int, script: bytes) -> "ScriptFile":
-        """The file of the machine's script of this number, which is on the disk as a whole then. Raises OSError."""
+        """The file of the machine's script of this number, which is on the disk as a whole then.
+
+        Raises OSError, also if the folder was moved: this script goes on there, and a file at the old path would be lost.
+        """
+        if self._flusher:
+            self._flusher.check_folder()
         replace_file(self._folder / script_name(self._machine, number), script)
         sync_folder(self._folder)
         return ScriptFile(self._folder, self._machine, number, self._flusher)
@@ -142,28 +153,48 @@ class ScriptFile:
         del self._waiting[max(0, size - self._saved) :]
         if size < self._saved:
             os.ftruncate(self._file, size)
-            self._saved = size
+            with self._writing:
+                del self._unflushed[max(0, len(self._unflushed) - (self._saved - size)) :]
+                self._saved, self._flushing = size, min(self._flushing, size)
             self._flush_soon()
 
     def sync(self) -> None:
-        """Flushes to the disk what was appended, and the file's name at first. Raises OSError; `warning` reports it too."""
+        """Flushes to the disk what was appended, and the file's name at first. Raises OSError; `warning` reports it too.
+
+        After a flush that failed the system counts the data as flushed, though it isn't: so it is written once more.
+        """
         with self._sync_turn:
             if not self._is_open:
                 return
+            with self._writing:
+                self._flushing = self._saved
             try:
+                if self._is_doubtful:
+                    self._write_again()
                 os.fsync(self._file)
                 if not self._is_named:
                     sync_folder(self._folder)
-                self._is_named, self._sync_trouble = True, ""
+                self._is_named, self._is_doubtful, self._sync_trouble = True, False, ""
             except OSError as error:
+                self._is_doubtful = True
                 self._sync_trouble = f"the script isn't saved: {error.strerror}"
                 self.failures += 1
                 raise
+            with self._writing:
+                start = self._saved - len(self._unflushed)
+                del self._unflushed[: max(0, self._flushing - start)]
+
+    def _write_again(self) -> None:
+        """Write again what isn't flushed. Raises OSError."""
+        with self._writing:
+            write_all(self._file, bytes(self._unflushed), self._saved - len(self._unflushed))
 
     def close(self) -> None:
         """Flushes and closes the file."""
-        with contextlib.suppress(OSError):
-            self.sync()
+        for _ in range(2):  # after a failure all is written again
+            with contextlib.suppress(OSError):
+                self.sync()
+                break
         with self._sync_turn:
             self._is_open = False
             os.close(self._file)
@@ -172,8 +203,10 @@ class ScriptFile:
         """Writes what waits, if the disk takes it."""
         try:
             while self._waiting:
-                written = os.pwrite(self._file, self._waiting, self._saved)
-                self._saved += written
+                with self._writing:
+                    written = os.pwrite(self._file, self._waiting, self._saved)
+                    self._saved += written
+                    self._unflushed += self._waiting[:written]
                 del self._waiting[:written]
                 self._flush_soon()
             self._write_trouble = ""
