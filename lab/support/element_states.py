@@ -73,7 +73,7 @@ PROGRAMS = {
 }
 """Programs by name, whose last instruction is the one that is shown."""
 BEFORE = ("pc", "x", "v", "vtype", "vl", "vstart", "vxrm", "vxsat", "policy", "memory")
-AFTER = (*BEFORE, "instruction", "faulted", "illegal", "stop")
+AFTER = (*BEFORE, "groups", "instruction", "faulted", "illegal", "stop")
 
 
 def captured(name: str, program: pathlib.Path) -> dict[str, dict[str, Any]]:

@@ -17,6 +17,7 @@ const picture = () => {
   for (const row of rows) {
     const rest = folded ? folded[2] - folded[1] + 1 : 0;
     const group = (groups[row.dataset.register] ??= {cells: rest, tail: rest, masked: 0, prestart: 0, active: 0});
+    group.isResult = row.matches(".after");
     for (const cell of row.querySelectorAll("td[data-element]")) {
       group.cells += 1;
       group.active += cell.matches(".active, .kept, .fault, .pending");

@@ -66,8 +66,8 @@ def test_lesson_steps_forwards_and_backwards(
         reply = follower.state_after(frame)
         if reply:
             for register, group in groups.items() if not reply.is_partial else []:
-                assert group["cells"] >= reply.vlmax
-                assert group["tail"] == group["cells"] - reply.vl
+                assert group["cells"] >= reply.vlmax or not group["isResult"]  # others are as an earlier type has them
+                assert group["tail"] == max(0, group["cells"] - reply.vl)
                 assert group["prestart"] == min(reply.vstart, reply.vl)
                 assert group["masked"] == reply.masked.get(int(register), 0)
                 assert group["active"] == group["cells"] - group["tail"] - group["prestart"] - group["masked"]

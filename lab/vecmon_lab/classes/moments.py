@@ -6,6 +6,7 @@ from collections.abc import Callable, Sequence
 from typing import NotRequired, TypedDict
 
 from ..machine.answers import Answer, Position
+from ..page.register_groups import RegisterGroups
 from ..page.state import State, WatchSet, add_last_instruction, look_at, with_rows
 from ..replay.histories import UserHistory
 from ..replay.history import IsDue
@@ -94,6 +95,7 @@ def moment_at(seat: Seat, history: UserHistory, at: int, is_due: IsDue) -> PastR
     if earlier is None:
         return {"number": number, "percent": history.run.percent}
     watch_set = copy.deepcopy(seat.watch_set)
+    watch_set.groups = RegisterGroups()  # of the present program counter
     before = _state_of(earlier, watch_set, {"run": "absent"})
     state = before
     instant: Instant | None = earlier

@@ -5,6 +5,7 @@ from itertools import pairwise
 from typing import TypedDict
 
 from ..page.html_elements import Html, content_of, element
+from ..page.register_groups import element_width
 from ..page.state import ABSENT, State
 from ..page.texts import page_text
 from .frames import Frame
@@ -63,15 +64,15 @@ def _changes(data: str, before: str) -> int:
 
 
 def _strip(state: State, number: int) -> Strip:
-    """The first elements of a register, as wide as the instruction writes them, else as the vector type says.
+    """The first elements of a register, as wide as the instruction writes them; as the vector type says if no instruction takes it.
 
     Elements of a mask are bits.
     """
     vtype, address = int(state["vtype"], 16), state.get("instruction", "")
-    is_set, sew = vtype >> 63 == 0, 8 << (vtype >> 3 & 7)
+    is_set = vtype >> 63 == 0
     writes = [it for it in state["operands"].get(address, ()) if it["written"] and it["register"] == number]
-    bits, part, is_masked = (writes[0]["bits"], writes[0]["part"], writes[0]["masked"]) if writes else (0, 1, False)
-    width = (1 if bits == 1 else min(64, max(8, int(bits or part * sew)))) if is_set else 8
+    is_masked = any(it["masked"] for it in writes)
+    width = element_width(state["groups"], number) or (8 << (vtype >> 3 & 7) if is_set else 8)
     register = int.from_bytes(bytes.fromhex(state["v"][f"{number}"]), "little")
     cells = []
     for place in range(min(MAX_CELLS, VLEN // width)):

@@ -43,53 +43,30 @@ export function columnsOf(view) {
   return { executed, rows, elements, outcomes, changed, pairs, longest, vl: (executed ?? view.state).vl };
 }
 
+/** @type {(first: number, count: number) => number[]} */
+const numbersFrom = (first, count) => Array.from({ length: count }, (_, place) => first + place);
+
 /**
- * Returns a row for each register group in use, as the program's instructions take it; or all registers, if the view has their width.
+ * Returns a row for each register group in use, as the instruction took it that wrote it last, and for other registers that aren't zero
+ * as the vector type has them; or for all registers, if the view has their width.
  * @param {View} view
  * @returns {Row[]}
  */
 function registerRows(view) {
   const { state, used = new Set(), width } = view;
-  if (width) return Array.from({ length: 32 }, (_, register) => plainRow(view, { register, width, size: 1 }));
-  const type = vectorType(state.vtype);
-  const plain = { width: type.sew, size: Math.max(1, type.lmul) };
-  const shapes = registerShapes(state, type, plain);
+  if (width) return numbersFrom(0, 32).map((register) => plainRow(view, { register, width, size: 1 }));
+  const { groups = {} } = state;
+  const { sew, lmul } = vectorType(state.vtype);
   const rows = [];
   for (let register = 0; register < 32; ) {
-    const shape = shapes.get(register) ?? plain;
-    const size = register % shape.size ? 1 : shape.size;
-    const numbers = Array.from({ length: size }, (_, place) => register + place);
-    if (numbers.some((each) => used.has(each) || shapes.has(each))) rows.push(plainRow(view, { ...shape, register, size }));
-    register += size;
+    const most = register % Math.max(1, lmul) ? 1 : Math.max(1, lmul);
+    const isFree = numbersFrom(register, most).every((each) => !(each in groups));
+    const group = groups[register] ?? { width: sew, size: isFree ? most : 1 };
+    const isUsed = register in groups || numbersFrom(register, group.size).some((each) => used.has(each));
+    if (isUsed) rows.push(plainRow(view, { ...group, register }));
+    register += group.size;
   }
   return rows;
-}
-
-/**
- * Returns an operand's groups under a vector type. size: registers of a group; width: in bits
- * @param {import("./messages").ShownOperand} operand
- * @param {{ sew: number, lmul: number }} type
- */
-export function shapeOf({ register, groups, bits, part, whole }, type) {
-  const width = bits || Math.min(64, Math.max(8, part * type.sew));
-  return { register, groups, width, size: whole ? 1 : Math.max(1, (type.lmul * width) / type.sew) };
-}
-
-/**
- * Returns the width of elements and the number of registers of each group that a program's instructions name: plain ones where they
- * don't agree.
- * @param {import("./instruction.js").State} state
- * @param {import("./words.js").VectorType} type
- * @param {{ width: number, size: number }} plain
- */
-function registerShapes({ operands }, type, plain) {
-  /** @type {Map<number, { width: number, size: number }>} */
-  const shapes = new Map();
-  for (const { register, size, groups, width } of Object.values(operands).flat().map((each) => shapeOf(each, type))) {
-    const shape = shapes.get(register)?.width === width || !shapes.has(register) ? { width, size } : plain;
-    Array.from({ length: groups }, (_, place) => shapes.set(register + place * size, shape));
-  }
-  return shapes;
 }
 
 /**
@@ -99,13 +76,14 @@ function registerShapes({ operands }, type, plain) {
  * @returns {Row}
  */
 function plainRow({ state, before, form, width: chosen }, { register, size, width }) {
-  const { vill, most } = vectorType(state.vtype);
+  const { vill, most, sew } = vectorType(state.vtype);
   const isMask = width === 1 && !chosen;
+  const words = isMask ? textOf("row.mask") : width === sew || chosen ? "" : textOf("row.width", { width });
   const count = isMask ? Math.max(1, Math.floor(most)) : countOf({ size, width });
   const outcomes = Array.from({ length: count }, (_, element) =>
     vill || chosen ? "" : element >= state.vl ? "tail" : element < state.vstart ? "prestart" : "active");
   const values = { registers: state.v, olds: before.v ?? state.v, outcomes, form };
-  return registerRow("plain", isMask ? textOf("row.mask") : "", { register, width, count }, values);
+  return registerRow("plain", words, { register, width, count }, values);
 }
 
 /**

@@ -114,7 +114,7 @@ export class Lanes {
    * @param {number[]} places of its elements
    */
   row(view, { kind, register, width, words, cells }, head, places) {
-    const what = make("small", /\d$/.test(words) ? "field" : "", words);
+    const what = make("small", kind !== "plain" && /\d$/.test(words) ? "field" : "", words);
     const made = places.filter((element) => cells[element]).map((element) => {
       const cell = cells[element];
       const where = [textOf("lanes.cell", { element, head }), words].filter(Boolean).join(", ");

@@ -872,20 +872,22 @@ export interface ShownLocation {
 /**
  * A vector register operand of an instruction.
  *
- * register, groups: the number of the first register, and the number of register groups that follow one another from it
- * bits, part: the width of elements in bits, 1 in a mask; or the part or multiple of SEW that it is; the other one is 0
- * whole: whether each group is one register, under all vector types
+ * register: the number of the first register
+ * bits: whether it is a mask, with a bit for each element
  * written: whether it is the result
  * masked: whether elements whose bit in v0 is 0 are masked off, and v0 still has the mask
  */
 export interface ShownOperand {
   register: number;
-  groups: number;
-  bits: number;
-  part: number;
-  whole: boolean;
+  bits: boolean;
   written: boolean;
   masked: boolean;
+}
+
+/** A vector register group. width: of its elements in bits, 1 in a mask; size: the number of its registers */
+export interface ShownRegisterGroup {
+  width: number;
+  size: number;
 }
 
 /**
@@ -993,6 +995,7 @@ export interface Start {
  * pc, and all up to `memory`: where the program was stopped at least once; a program that runs has them as they were before, but pc
  * x: 32 values by number; v: 32 times 32 bytes by number; policy: `keep` or `ones`
  * code, operands: the program's words with their texts, and their vector operands, by address
+ * groups: the vector register groups in use, by their first registers: as the instruction took them that wrote them last
  * targets: the address to which a branch or `jal` of the code may go, by its own
  * memory: rows of 16 bytes by address
  * instruction: the address of the instruction that the last lines executed last, or that faulted
@@ -1022,6 +1025,7 @@ export interface State {
   v?: { [name: string]: string };
   code?: { [name: string]: string };
   operands?: { [name: string]: ShownOperand[] };
+  groups?: { [name: string]: ShownRegisterGroup };
   targets?: { [name: string]: string };
   memory?: { [name: string]: string };
   instruction?: string;

@@ -11,23 +11,19 @@ from ..instructions.words import Operand
 class ShownOperand(TypedDict):
     """A vector register operand of an instruction.
 
-    register, groups: the number of the first register, and the number of register groups that follow one another from it
-    bits, part: the width of elements in bits, 1 in a mask; or the part or multiple of SEW that it is; the other one is 0
-    whole: whether each group is one register, under all vector types
+    register: the number of the first register
+    bits: whether it is a mask, with a bit for each element
     written: whether it is the result
     masked: whether elements whose bit in v0 is 0 are masked off, and v0 still has the mask
     """
 
     register: int
-    groups: int
-    bits: int
-    part: float
-    whole: bool
+    bits: bool
     written: bool
     masked: bool
 
 
-MASK = ShownOperand(register=0, groups=1, bits=1, part=0, whole=True, written=False, masked=False)
+MASK = ShownOperand(register=0, bits=True, written=False, masked=False)
 """The mask v0 of a masked instruction."""
 
 
@@ -45,15 +41,10 @@ def shown_operands(word: int) -> Sequence[ShownOperand]:
 
 
 def _shown(operand: Operand, is_masked: bool) -> ShownOperand:
-    bits, part = (0, float(operand.part)) if operand.part else (operand.eew, 0)
-    groups = len(operand.registers) // (1 if operand.is_whole else operand.group)
     is_written = operand.noun == "destination"
     return {
         "register": operand.registers.start,
-        "groups": groups,
-        "bits": bits,
-        "part": part,
-        "whole": operand.is_whole,
+        "bits": operand.eew == 1,
         "written": is_written,
         "masked": is_masked,
     }

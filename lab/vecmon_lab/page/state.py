@@ -39,6 +39,7 @@ from .last_instruction import (
     scalar_accesses,
 )
 from .operands import ShownOperand, shown_operands
+from .register_groups import RegisterGroups, ShownRegisterGroup
 from .variables import ShownVariable
 
 
@@ -77,6 +78,7 @@ class State(TypedDict):
     pc, and all up to `memory`: where the program was stopped at least once; a program that runs has them as they were before, but pc
     x: 32 values by number; v: 32 times 32 bytes by number; policy: `keep` or `ones`
     code, operands: the program's words with their texts, and their vector operands, by address
+    groups: the vector register groups in use, by their first registers: as the instruction took them that wrote them last
     targets: the address to which a branch or `jal` of the code may go, by its own
     memory: rows of 16 bytes by address
     instruction: the address of the instruction that the last lines executed last, or that faulted
@@ -106,6 +108,7 @@ class State(TypedDict):
     v: NotRequired[dict[str, str]]
     code: NotRequired[dict[str, str]]
     operands: NotRequired[dict[str, Sequence[ShownOperand]]]
+    groups: NotRequired[Mapping[str, ShownRegisterGroup]]
     targets: NotRequired[Mapping[str, str]]
     memory: NotRequired[dict[str, str]]
     instruction: NotRequired[str]
@@ -154,6 +157,7 @@ class WatchSet:
         self.is_compiled = False  # whether a compiler made the program in memory
         self.end = 0  # the address of the ebreak after the last instruction of a source; 0 without one
         self.trace: Sequence[int] = []  # as it was when it was looked at last
+        self.groups = RegisterGroups()
         # First addresses of listings, in memory that hasn't changed since.
         self.followed: set[int] = set()
 
@@ -172,6 +176,7 @@ class WatchSet:
                     places.clear()
                 self.accessed.clear()
                 self.is_compiled, self.end = False, 0
+                self.groups = RegisterGroups()
             case ["map", address, pages, _]:
                 self._add_pages(int(address, 16), int(pages) * PAGE_BYTES, MAPPED_PAGES)
             case ["poke", address, digits]:
@@ -239,12 +244,15 @@ def look_at(
     if has_vectors:
         set_vectors(state, [each for each in vectors if isinstance(each, VectorRegister)])
     trace, may_store = traced.addresses, opcode in (None, STORE, STORE_FP)
-    stepped = any(isinstance(answer, Position) and answer.kind == "stepped" for answer in answers)
+    counts = [answer.number for answer in answers if isinstance(answer, Position) and answer.kind == "stepped"]
+    stepped = min(1, sum(counts)) if executed else sum(counts)
     _set_code(state, _code(guest, watch_set, place.pc, trace, {} if may_store else state["code"]))
     _take_calls(state)
+    watch_set.groups.follow(state["code"], trace, stepped, control.vtype)
+    state["groups"] = watch_set.groups.shown(place.pc)
     text = state["code"].get(state["pc"], "")
     _set_memory(guest, watch_set, state, scalar, text, may_store)
-    if trace and trace[-1] != SET_UP_ADDRESS and (stepped or trace != watch_set.trace):
+    if trace and trace[-1] != SET_UP_ADDRESS and (counts or trace != watch_set.trace):
         state["instruction"] = f"{trace[-1]:x}"
     _set_stop(state, answers, text, control, watch_set.end)
     watch_set.trace = trace

@@ -394,6 +394,7 @@ export interface Places {
   "equation.unsigned": "result" | "stored";
   "equation.lowest": "result" | "stored" | "width";
   "row.mask": never;
+  "row.width": "width";
   "row.bits": never;
   "row.from": never;
   "row.now": never;

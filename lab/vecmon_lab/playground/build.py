@@ -105,7 +105,7 @@ def stepped_example(program: Vecmon) -> dict[str, object]:
 def _writes_masked(state: State) -> bool:
     """Whether the executed instruction is masked, and writes elements of a register."""
     operands = state["operands"].get(state.get("instruction", ""), ())
-    return any(it["written"] and it["masked"] and it["bits"] != 1 for it in operands)
+    return any(it["written"] and it["masked"] and not it["bits"] for it in operands)
 
 
 def playground(page: Page, entries: Mapping[str, object], words: str, connect: str) -> str:
