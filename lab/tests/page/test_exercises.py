@@ -225,6 +225,23 @@ def test_exercise_is_solved(tabs: "Chrome", course: Served) -> None:
     lesson.switch_to.window(tab.handle)
 
 
+def test_problem_is_in_sight_after_check(tabs: "Chrome", course: Served) -> None:
+    """On a tablet, which shows either the source or the list of problems."""
+    tab = Tab(tabs, course, "B3")
+    choose(tab, "doubles")
+    try:
+        resize(tab.activate(), SIZES["tablet"])
+        tab.run(TYPE, "ret\n" * 40 + "vadd.vv v1, v2")
+        tab.run("code().setCursor(0, 0), id('check').click()")
+        tab.wait("one('.problems-below')?.checkVisibility()")
+        assert "an operand is missing at the end; the form is vadd.vv vd" in tab.text(".problems-below")
+        bottoms = "all('#editor .CodeMirror, .problems-below').map((each) => each.getBoundingClientRect().bottom)"
+        editor, message = tab.run(bottoms)
+        assert message <= editor
+    finally:
+        reset(tab.activate())
+
+
 def test_exercise_is_solved_in_c(tabs: "Chrome", course: Served, sandboxed_clang: Compiler) -> None:
     """A choice of C gives another source to begin with; a mistake, a wrong answer at the desk, and a right one."""
     tab = Tab(tabs, course, "A6")

@@ -138,13 +138,13 @@ export class Exercises {
     });
   }
 
-  /** Brings the last result into sight: the panel, and in it the result. */
+  /** Brings the last result into sight: the panel, and in it the result; or the source's first problem, below its line. */
   tell(/** @type {ExerciseView["told"]} */ { mistakes, warnings }) {
     this.awaited = "";
     this.bench.panes.show("exercise");
     byId("reading").scrollTop = byId("verdict").offsetTop - 8;
     this.bench.showMistakes(mistakes, warnings);
-    if (mistakes) this.bench.panes.show("editor");
+    if (mistakes?.length) this.bench.problems.goOn(1);
   }
 
   /** Sends the source in the editor. */

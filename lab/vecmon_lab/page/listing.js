@@ -27,7 +27,7 @@ export class ListingPanel {
 
   paint(/** @type {MachineState} */ state, /** @type {MachineState} */ before) {
     if (state.code !== this.code || state.labels !== this.labels) {
-      const places = placesOf(Object.keys(state.code), 4, state.labels);
+      const places = placesOf(Object.keys(state.code), () => 4, state.labels);
       Object.assign(this, { code: state.code, labels: state.labels, places });
     }
     const { instruction } = state;

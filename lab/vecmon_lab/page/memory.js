@@ -72,16 +72,21 @@ export class MemoryPanel {
     const arrays = [...placed.filter(({ element }) => element && element !== "c8"), ...arraysOf(state)];
     const letters = Math.max(4.4, ...[...arrays.map(({ element }) => element), this.kind].map((kind) => ROOM[kind] ?? 0));
     const bytes = [ROW, ROW / 2].find((each) => HEAD + letters * each <= this.letters) ?? ROW / 4;
-    const [now, then] = [state.memory, before.memory].map((rows) => (bytes === ROW ? rows : cut(rows, bytes)));
-    const places = placesOf(Object.keys(now), bytes, { ...state.labels, ...Object.fromEntries(labels) });
+    /** @type {Record<string, string[]>} */
+    const named = { ...state.labels, ...Object.fromEntries(labels) };
+    const [now, then] = [state.memory, before.memory].map((rows) => cutRows(rows, bytes, Object.keys(named)));
+    const bytesOf = (/** @type {string} */ address) => now[address].length / 2;
+    const places = placesOf(Object.keys(now), bytesOf, named);
     const { kind } = this;
     /** @type {KindAt} */
     const kindAt = (place, most) => (kind ? [kind, Number(kind.slice(1)) / 8] : elementAt(place, arrays, most));
-    const row = (/** @type {string} */ address) => memoryRow(address, now[address], then[address], kindAt, state.accessed ?? []);
+    const row = (/** @type {string} */ address) =>
+      memoryRow(address, now[address], then[address], { columns: bytes / 4, kindAt, accessed: state.accessed ?? [] });
     const isOther = ({ address = "" }) => ![undefined, now[address]].includes(then[address]);
     const changed = places.find(isOther)?.address;
     if (changed) this.goal = "";
-    const isGoal = ({ address = "" }) => this.goal && address && isWithin(BigInt(`0x${this.goal}`), BigInt(`0x${address}`), bytes);
+    const isGoal = ({ address = "" }) =>
+      this.goal && address && isWithin(BigInt(`0x${this.goal}`), BigInt(`0x${address}`), bytesOf(address));
     this.rows.show(places, row, changed ?? places.find(isGoal)?.address);
   }
 }
@@ -95,11 +100,28 @@ function addressOf(text, { labels = {}, x }) {
   return labelled ?? (register >= 0 ? x[register] : digits ? BigInt(`0x${digits}`).toString(16) : "");
 }
 
-/** Rows of a state cut into shorter ones. */
-/** @type {(rows: Record<string, string>, bytes: number) => Record<string, string>} */
-const cut = (rows, bytes) => Object.fromEntries(Object.entries(rows).flatMap(([address, digits]) =>
-  Array.from({ length: ROW / bytes }, (_, place) =>
-    [(BigInt(`0x${address}`) + BigInt(place * bytes)).toString(16), digits.slice(2 * place * bytes, 2 * (place + 1) * bytes)])));
+/**
+ * Rows of a state cut into shorter ones, and at labels, so that each label is above the row that starts at its address.
+ * labels: addresses, as the rows have them
+ * @type {(rows: Record<string, string>, bytes: number, labels: string[]) => Record<string, string>}
+ */
+export function cutRows(rows, bytes, labels) {
+  /** @type {Map<string, number[]>} */
+  const offsets = new Map(); // of the labels in each row
+  for (const at of labels.map((label) => BigInt(`0x${label}`))) {
+    const offset = at % BigInt(ROW);
+    const row = (at - offset).toString(16);
+    offsets.set(row, [...(offsets.get(row) ?? []), Number(offset)]);
+  }
+  const regular = Array.from({ length: ROW / bytes }, (_, place) => place * bytes);
+  return Object.fromEntries(Object.entries(rows).flatMap(([address, digits]) => {
+    const starts = [...new Set([...regular, ...(offsets.get(address) ?? [])])].sort((one, other) => one - other);
+    return starts.map((start, place) => {
+      const own = digits.slice(2 * start, 2 * (starts[place + 1] ?? ROW));
+      return [(BigInt(`0x${address}`) + BigInt(start)).toString(16), own];
+    });
+  }));
+}
 
 /** The numbers that a source in assembler has at its labels. */
 const arraysOf = (/** @type {MachineState} */ { data = {} }) =>
@@ -176,10 +198,9 @@ function elementAt(place, arrays, most) {
  * @param {string} address
  * @param {string} digits
  * @param {string | undefined} digitsBefore
- * @param {KindAt} kindAt
- * @param {import("./messages").Access[]} accessed
+ * @param {{ columns: number, kindAt: KindAt, accessed: import("./messages").Access[] }} how columns: of four bytes that the table has
  */
-function memoryRow(address, digits, digitsBefore, kindAt, accessed) {
+function memoryRow(address, digits, digitsBefore, { columns, kindAt, accessed }) {
   const bytes = digits.length / 2;
   const cells = Array.from({ length: Math.ceil(bytes / 4) }, () => make("td", ""));
   for (let place = 0, size = 1; place < bytes; place += size) {
@@ -198,7 +219,10 @@ function memoryRow(address, digits, digitsBefore, kindAt, accessed) {
     cell.colSpan = Math.max(1, size / 4);
   }
   const text = (digits.match(/../g) ?? []).map(letterOf);
-  const row = make("tr", "", header("row", `0x${address}`), ...cells.filter((cell) => cell.firstChild), make("td", "text", text.join("")));
+  const filled = cells.filter((cell) => cell.firstChild);
+  const missing = columns - filled.reduce((sum, { colSpan }) => sum + colSpan, 0);
+  const rest = missing > 0 ? [Object.assign(make("td", ""), { colSpan: missing })] : [];
+  const row = make("tr", "", header("row", `0x${address}`), ...filled, ...rest, make("td", "text", text.join("")));
   row.dataset.address = address;
   return row;
 }

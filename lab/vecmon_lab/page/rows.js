@@ -14,23 +14,23 @@ export const inOrder = (/** @type {string[]} */ addresses) =>
   addresses.sort((one, other) => one.length - other.length || (one < other ? -1 : 1));
 
 /**
- * The content of a table of rows by address, of equal sizes: { address } for a row, { text, kind } for a gap where
- * one doesn't follow the one before, and for a label.
- * @type {(addresses: string[], bytes: number, labels?: Record<string, string[]>) => Place[]}
+ * The content of a table of rows by address: { address } for a row, { text, kind } for a gap where one doesn't follow the one before, and
+ * for a label above the row in which its address is. bytesOf: the number of bytes of a row
+ * @type {(addresses: string[], bytesOf: (address: string) => number, labels?: Record<string, string[]>) => Place[]}
  */
-export function placesOf(addresses, bytes, labels = {}) {
-  const size = BigInt(bytes);
-  /** @type {Map<bigint, Place[]>} */
-  const named = new Map(); // by their rows
-  for (const address of inOrder(Object.keys(labels))) {
-    const row = (BigInt(`0x${address}`) / size) * size;
-    named.set(row, [...(named.get(row) ?? []), ...labels[address].map((name) => ({ text: `${name}:`, kind: "label" }))]);
-  }
-  return inOrder(addresses).flatMap((address, place, all) => {
-    const [row, before] = [address, all[place - 1] ?? address].map((each) => BigInt(`0x${each}`));
+export function placesOf(addresses, bytesOf, labels = {}) {
+  const named = inOrder(Object.keys(labels)).map((address) => ({ at: BigInt(`0x${address}`), names: labels[address] }));
+  let [next, end] = [0, -1n]; // of the labels; of the row before
+  return inOrder(addresses).flatMap((address) => {
+    const start = BigInt(`0x${address}`);
     /** @type {Place[]} */
-    const gap = row - before > size ? [{ text: "⋯", kind: "gap" }] : [];
-    return [...gap, ...(named.get(row) ?? []), { address }];
+    const places = end >= 0n && start > end ? [{ text: "⋯", kind: "gap" }] : [];
+    end = start + BigInt(bytesOf(address));
+    for (; next < named.length && named[next].at < end; next += 1) {
+      const names = named[next].at < start ? [] : named[next].names;
+      places.push(...names.map((name) => ({ text: `${name}:`, kind: "label" })));
+    }
+    return [...places, { address }];
   });
 }
 

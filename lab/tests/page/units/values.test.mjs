@@ -5,6 +5,7 @@ import { titleOf } from "../../../vecmon_lab/page/edits.js";
 import { isLink, languageOf, linkOf, sourceOf, suffixOf } from "../../../vecmon_lab/page/links.js";
 import { inOrder, placesOf } from "../../../vecmon_lab/page/rows.js";
 import { lineBegins, startOf, stoppedLines } from "../../../vecmon_lab/page/source_lines.js";
+import { cutRows } from "../../../vecmon_lab/page/memory.js";
 import { littleEndian } from "../../../vecmon_lab/page/numbers.js";
 import { numberText } from "../../../vecmon_lab/page/variables.js";
 import { saysMore, signedText, typeText, typeWords, vectorType, withNames } from "../../../vecmon_lab/page/words.js";
@@ -34,9 +35,23 @@ test("registers have their ABI names, and of a source line is shown what the mac
 
 test("addresses rise by their numbers, and rows have labels and gaps between them", () => {
   assert.deepEqual(inOrder(["1000", "fff", "20"]), ["20", "fff", "1000"]);
-  const places = placesOf(["10000", "10010", "10004"], 4, { 10004: ["loop"], 20000: ["data"] });
+  const places = placesOf(["10000", "10010", "10004"], () => 4, { 10004: ["loop"], 20000: ["data"] });
   const texts = places.map(({ address, text }) => address ?? text);
   assert.deepEqual(texts, ["10000", "loop:", "10004", "⋯", "10010"]);
+});
+
+test("each label in memory is above the row that starts at its address", () => {
+  const digits = "00112233445566778899aabbccddeeff";
+  const rows = cutRows({ 11000: digits, 11010: digits, 12000: digits }, 8, ["11000", "11004", "1101e", "20000"]);
+  assert.deepEqual(rows, {
+    11000: "00112233", 11004: "44556677", 11008: "8899aabbccddeeff",
+    11010: "0011223344556677", 11018: "8899aabbccdd", "1101e": "eeff", 12000: "0011223344556677", 12008: "8899aabbccddeeff",
+  });
+  const labels = { 11000: ["first"], 11004: ["words"], "1101e": ["text", "end"], 20000: ["elsewhere"] };
+  const places = placesOf(Object.keys(rows), (address) => rows[address].length / 2, labels);
+  const texts = places.map(({ address, text }) => address ?? text);
+  const expected = "first: 11000 words: 11004 11008 11010 11018 text: end: 1101e ⋯ 12000 12008";
+  assert.equal(texts.join(" "), expected);
 });
 
 test("an instruction belongs to the line that starts last before it", () => {
