@@ -253,6 +253,12 @@ class Checker:
             holds = int(found[1]) == index and not bits_of(self._state.before.v, index, 1) and not self._word >> 25 & 1
         elif found := re.fullmatch(r"tail, since (\d+) >= (?:vl = (\d+)|(\d+)(?:, .*)?)", cause):
             holds = int(found[1]) == index >= int(found[2] or found[3]) and found[2] in (None, f"{control.vl}")
+            if cause.endswith(", the number of packed elements"):
+                vs1 = self._word >> 15 & 31
+                holds = (
+                    holds
+                    and int(found[3]) == bits_of(self._state.before.v, vs1 * REGISTER_BITS, control.vl).bit_count()
+                )
         elif found := re.fullmatch(r"before vstart = (\d+)", cause):
             holds = index < int(found[1]) == control.vstart
         elif found := re.fullmatch(r"no element is written, since vstart = (\d+) >= (\d+), the end of the body", cause):

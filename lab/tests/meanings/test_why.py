@@ -89,6 +89,15 @@ def explained(word: int, name: str, element: int | None, **other: int | bool) ->
         ),
         (0x3A41B457, "v8", 1, {}, "v8[1] kept its value 101: not written, since 1 < 3"),  # vslideup.vi v8, v4, 3
         (0x3A41B457, "v8", 4, {}, "v8[4] = v4[1] = -20"),
+        # vcompress.vm v8, v4, v0 packs five elements, and the next one is the tail (section 16.5), which nothing fills below vl
+        (0x5E402457, "v8", 4, {}, "v8[4] = v4[4] = 50"),
+        (
+            0x5E402457,
+            "v8",
+            5,
+            {"vtype": E32 | TA, "ones": True},
+            "v8[5] kept its value 105: tail, since 5 >= 5, the number of packed elements",
+        ),
         (0x00B50533, "x10", None, {}, "x10 = x10 + x11 = 0 + 3 = 3"),  # add x10, x10, x11
         (0x00B50533, "a1", None, {}, "x11 kept its value 3: add doesn't write it"),
     ],

@@ -15,8 +15,8 @@ from .executed import Before, Elements, Execution, element_of, execution_of
 from .formula import Assignment, evaluate_each
 
 Outcome = Literal["active", "masked", "tail", "prestart", "fault", "pending", "kept", "idle"]
-"""How an element takes part. kept: the formula doesn't count for it, as below a slide's offset, or after the elements that vcompress packs;
-pending: not reached, since the access of an element before it wasn't possible; idle: the instruction doesn't read it."""
+"""How an element takes part. tail: also after the elements that vcompress packs; kept: the formula doesn't count for it, as below a slide's
+offset; pending: not reached, since the access of an element before it wasn't possible; idle: the instruction doesn't read it."""
 
 Role = Literal["destination", "data", "element", "single", "moved", "index"]
 """The purpose of an operand. data: stored; element: read element by element; single: read at element 0; moved: its elements go to other
@@ -293,7 +293,7 @@ class _Instruction:
             others: list[Outcome] = ["tail"] * (len(outcomes) - 1)
             return (first, *others)
         if self.layout == "compress":
-            return tuple("kept" if each == "active" and at >= count else each for at, each in enumerate(outcomes))
+            return tuple("tail" if each == "active" and at >= count else each for at, each in enumerate(outcomes))
         if not (kept := self._kept(outcomes)):
             return outcomes
         return tuple("kept" if at in kept else each for at, each in enumerate(outcomes))

@@ -1,5 +1,6 @@
 """Why a register has its value after an instruction: the formula with the numbers in it, or why an element kept its value."""
 
+import ast
 import re
 from dataclasses import dataclass
 
@@ -10,6 +11,7 @@ from ..instructions.table import REGISTERS
 from .calculation import Calculation, Kept, Notation, Sign, Term, numbers_text
 from .equation import Reader, calculation_of
 from .executed import WORD, After, Before, ElementOutcome, Execution, agnostic, element_of, execute
+from .formula import evaluate
 
 NO_STEP = "no instruction was executed by a single step: step first"
 _NAME = re.compile(r"(\w+)(?:\[(\d+)\]|\s+(\d+))?")
@@ -138,11 +140,15 @@ def _cause(execution: Execution, outcome: ElementOutcome, index: int) -> str:
         ElementOutcome.TAIL: f"tail, since {index} >= {stop}",
         ElementOutcome.BEFORE_START: f"before vstart = {control.vstart}",
         ElementOutcome.NO_ELEMENTS: f"no element is written, since vstart = {control.vstart} >= {body.stop}, the end of the body",
-        ElementOutcome.KEPT: f"not written, since {_kept_condition(execution)}",
+        ElementOutcome.KEPT: _kept_cause(execution),
     }[outcome]
 
 
-def _kept_condition(execution: Execution) -> str:
-    """The condition under which an element isn't written, with numbers; "" if there is none."""
+def _kept_cause(execution: Execution) -> str:
+    """Why an element isn't written, by the record's condition with numbers; after the packed ones of vcompress is the tail (section 16.5)."""
     kept = execution.record.kept
-    return numbers_text(Reader(execution, kept, 0).parts(kept), Notation("unsigned")) if kept else ""
+    if execution.record.layout == "compress" and isinstance(kept, ast.Compare):
+        packed = evaluate(kept.comparators[0], execution.names)
+        return f"tail, since {execution.element} >= {packed}, the number of packed elements"
+    condition = numbers_text(Reader(execution, kept, 0).parts(kept), Notation("unsigned")) if kept else ""
+    return f"not written, since {condition}"

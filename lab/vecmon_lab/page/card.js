@@ -34,7 +34,7 @@ export function cardOf(view, columns) {
   const does = operandsText(executed.does, hasAbiNames);
   return {
     text, alias: state.aliases?.[state.instruction ?? ""] ?? "",
-    meaning: [does, maskSentence(state, executed), ...stopSentences(view, executed)].filter(Boolean).join(" "),
+    meaning: [does, maskSentence(state, executed), tailSentence(state, executed), ...stopSentences(view, executed)].filter(Boolean).join(" "),
     formula: operandsText(executed.formula, hasAbiNames),
     scalars: scalarTexts(view, executed),
     counts: countsOf(columns, view),
@@ -63,6 +63,16 @@ function maskSentence(state, { mask, access, destination, layout }) {
   if (!destination || layout === "reduce") return textOf("card.mask.not-counted");
   if (!vectorType(state.vtype).mask || destination.width === 1) return textOf("card.mask.undisturbed");
   return state.policy === "ones" ? textOf("card.mask.ones") : textOf("card.mask.keep");
+}
+
+/**
+ * Returns what happens to the tail of an instruction that packs elements, which starts below vl.
+ * @param {import("./instruction.js").State} state
+ * @param {import("./instruction.js").Executed} executed
+ */
+function tailSentence(state, { layout }) {
+  if (layout !== "compress") return "";
+  return vectorType(state.vtype).tail ? textOf("card.packed.agnostic") : textOf("card.packed.undisturbed");
 }
 
 /**

@@ -73,14 +73,15 @@ function sentenceOf({ state }, columns, element) {
   const where = address && (executed.access?.store ? textOf("detail.to", { address }) : textOf("detail.from", { address }));
   const [before, after] = ["before", "after"].map((kind) => rows.find((row) => row.kind === kind)?.cells[element]?.text);
   const was = before === undefined ? "" : before === after ? textOf("detail.unchanged", { value: before }) : `${before} → ${after}`;
+  const isPacked = executed.layout === "compress";
   /** @type {Record<string, string>} */
   const sentences = {
     masked: textOf("detail.masked", { element }),
-    tail: element >= vl ? textOf("detail.tail", { element, vl }) : textOf("detail.unwritten"),
+    tail: element >= vl ? textOf("detail.tail", { element, vl }) : isPacked ? textOf("detail.tail.packed") : textOf("detail.unwritten"),
     prestart: state.faulted ? textOf("detail.done", { where }) : textOf("detail.prestart", { vstart: executed.vstart }),
     fault: textOf("detail.fault", { where }),
     pending: OUTCOMES.pending,
-    kept: executed.layout === "compress" ? textOf("detail.kept.packed") : textOf("detail.kept", { element }),
+    kept: textOf("detail.kept", { element }),
   };
   return [sentences[outcome] ?? where, was].filter(Boolean).join("; ") || (executed.destination ? "" : OUTCOMES[outcome]);
 }

@@ -381,11 +381,11 @@ export interface Places {
   "detail.masked": "element";
   "detail.tail": "element" | "vl";
   "detail.unwritten": never;
+  "detail.tail.packed": never;
   "detail.done": "where";
   "detail.prestart": "vstart";
   "detail.fault": "where";
   "detail.kept": "element";
-  "detail.kept.packed": never;
   "equation.and": never;
   "equation.since": "causes" | "equation";
   "equation.true": "condition";
@@ -411,6 +411,8 @@ export interface Places {
   "card.mask.undisturbed": never;
   "card.mask.ones": never;
   "card.mask.keep": never;
+  "card.packed.undisturbed": never;
+  "card.packed.agnostic": never;
   "card.unknown": never;
   "card.several": never;
   "card.several.unknown": never;
