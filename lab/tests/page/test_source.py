@@ -17,6 +17,7 @@ PASTE = """((data) => (data.setData("text/plain", arguments[0]), code().getInput
     new ClipboardEvent("paste", { clipboardData: data, bubbles: true, cancelable: true }))))(new DataTransfer())"""
 TYPE_ON = """(window.later = setTimeout, window.setTimeout = (call, pause) => pause === 700 ? 0 : later(call, pause),
     code().replaceRange(' behind', { line: 1e9, ch: 0 }))"""  # which isn't sent before `later` is there again
+SILENT = "(WebSocket.prototype.send = () => {}, 0)"  # what is typed isn't sent
 AHEAD = "code().replaceRange(' ahead', { line: 1e9, ch: 0 })"  # at once, so that it is sent as a whole
 TYPED = "loop: vadd.vx v1, v2, x5\n        j loop\n        nop     # it's an add\n        fro"
 
@@ -151,6 +152,25 @@ def test_source_is_shared_by_tabs_of_seat(sit: Sit) -> None:
     assert "mine" not in outsider.run(TEXT)
     teacher.type("x")
     assert teacher.run(f"{TEXT}.endsWith('# mine')")
+
+
+def test_text_that_was_not_sent_survives_reload(sit: Sit) -> None:
+    """The tab keeps it. If another window has changed the source meanwhile, it becomes a version."""
+    tab = sit("A4")
+    tab.run(SILENT)
+    tab.run("code().replaceRange('# unsent', { line: 1e9, ch: 0 })")
+    tab.activate().refresh()
+    tab.wait(f"id('who').textContent === 'Seat A4' && {TEXT}.endsWith('# unsent')")
+    other = sit("A4")
+    other.wait(f"{TEXT}.endsWith('# unsent')")  # so that the server has it
+    versions = tab.run("[...id('versions').options].length")
+    tab.run(SILENT)
+    tab.run("code().replaceRange(' of this window', { line: 1e9, ch: 0 })")
+    other.run("code().replaceRange(' of the other', { line: 1e9, ch: 0 })")
+    tab.wait(f"id('versions').options.length > {versions} || !id('use-own').hidden")
+    tab.activate().refresh()
+    tab.wait(f"id('who').textContent === 'Seat A4' && {TEXT}.endsWith('# unsent of the other')")
+    tab.wait(f"[...id('versions').options].length > {versions}")
 
 
 def test_two_windows_of_a_seat_type_at_once(sit: Sit) -> None:

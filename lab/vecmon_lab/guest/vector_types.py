@@ -55,7 +55,7 @@ def _next_places(address: int, words: Mapping[int, int]) -> Iterator[tuple[int, 
     is_jump = word & 0x7F in _JUMPS
     is_call = is_jump and word >> 7 & 31 != 0
     target = jump_target(address, word)
-    if target in words:
+    if target is not None and target in words:
         yield target, True
     if address + 4 in words and (is_call or not is_jump):
         yield address + 4, not is_call

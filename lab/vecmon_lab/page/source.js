@@ -16,6 +16,7 @@ import { textOf } from "./texts.js";
 
 export const MOST_LETTERS = 65536;
 const PAUSE = 700; // ms in which nothing is typed, and then it is sent
+const UNSENT = "unsent"; // the key of a text in the tab's storage that the server hadn't got as the page was closed or reloaded
 /** @type {Record<string, string>} */
 const REASONS = { typed: textOf("source.typed"), written: textOf("source.assembled"), given: textOf("source.given") };
 
@@ -54,6 +55,7 @@ export class Source {
     showOther.addEventListener("click", () => this.showOther());
     document.addEventListener("visibilitychange", () => (this.keepUnsaved(), this.send()));
     addEventListener("pagehide", () => this.keepUnsaved());
+    addEventListener("beforeunload", (event) => this.leave(event));
     versions.addEventListener("change", () => this.showVersion(versions.selectedIndex));
     part(root, "save").addEventListener("click", () => this.save());
     part(root, "open-file").addEventListener("click", () => this.file.click());
@@ -91,10 +93,38 @@ export class Source {
     else await this.bringOwn({ line: this.editor.caretLine });
   }
 
-  /** Hands the typed text to a page that keeps it in the browser, since the page may be closed before the text is sent. */
+  /** Whether the server hasn't confirmed yet what was typed. */
+  get isUnsent() {
+    const { editor, told } = this;
+    return Boolean(told) && this.isTyped && !editor.isReadOnly && !this.isTooLong && keyOf(editor.source) !== keyOf(told);
+  }
+
+  /** Keeps what was typed in the browser, since the page may be closed before the text is sent: in a class, for a reload of this tab. */
   keepUnsaved() {
-    const exercise = this.told?.exercise;
-    if (exercise !== undefined && this.isTyped && !this.isTooLong) this.connection.keepUnsaved?.({ ...this.editor.source, exercise });
+    const { connection, editor, number, seat, told } = this;
+    if (!told || !this.isTyped || this.isTooLong) return;
+    const own = { ...editor.source, exercise: told.exercise };
+    if (connection.keepUnsaved) connection.keepUnsaved(own);
+    else if (this.isUnsent) sessionStorage.setItem(UNSENT, JSON.stringify({ ...own, number, seat, sent: [...this.sent] }));
+    else sessionStorage.removeItem(UNSENT);
+  }
+
+  /** Sends what was typed before the page is closed. Without a connection the browser asks whether to close it. */
+  leave(/** @type {BeforeUnloadEvent} */ event) {
+    this.send();
+    if (this.isUnsent && !this.connection.isReady && !this.connection.keepUnsaved) event.preventDefault();
+  }
+
+  /** Takes back what this tab kept of the seat before a reload; it becomes a version if another window has changed the source since. */
+  takeUnsent(/** @type {SourceView} */ source) {
+    const { seat = "", sent = [], ...kept } = JSON.parse(sessionStorage.getItem(UNSENT) ?? "{}");
+    sessionStorage.removeItem(UNSENT);
+    if (seat !== this.seat || keyOf(kept) === keyOf(source) || this.editor.isReadOnly) return;
+    const isCurrent = kept.number === source.number || sent.includes(keyOf(source));
+    if (isCurrent && kept.exercise === source.exercise) {
+      this.editor.put(kept);
+      this.typed();
+    } else this.connection.ask({ ask: "draft", ...kept });
   }
 
   /** Does what brings a source to the server; the answer. */
@@ -192,6 +222,7 @@ export class Source {
     }
     if (isNew || editor.isReadOnly) {
       if (isNew ? source.text || editor.isReadOnly : keyOf(source) !== keyOf(told)) editor.put(source);
+      if (isNew) this.takeUnsent(source);
     } else if (isOther) {
       const { number, exercise } = told;
       if (this.isTyped && !isOwn(editor.source)) this.connection.ask({ ask: "draft", ...editor.source, number, exercise }); // a version
