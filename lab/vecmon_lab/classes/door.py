@@ -18,9 +18,7 @@ from .frame_limits import Rate
 
 A_SECOND, AT_ONCE = 100, 1000  # connections that are served; a class of 96 opens some 200 after a restart of the server
 BREATH = 0.001  # seconds between two, in which other work is done
-BACKLOG = (
-    4096  # connections that the kernel holds until they are accepted; if it drops one, its client waits for seconds
-)
+BACKLOG = 4096  # connections that the kernel holds until they are accepted; a client whose is dropped waits for seconds
 ACCEPTED = 256  # connections in a row, at most
 OF_CODE_A_SECOND, OF_CODE_AT_ONCE = 4, 32  # connections with a seat's code that go ahead of others
 PAGE = b"GET / "  # the start of a request of the page

@@ -78,10 +78,8 @@ class ScriptFile:
         self.notes = f"{machine}.json"
         self._waiting = bytearray()
         self._saved = len(self.kept)
-        self._unflushed, self._flushing = (
-            bytearray(),
-            0,
-        )  # written since the last flush; the end of what is being flushed
+        self._unflushed = bytearray()  # written since the last flush
+        self._flushing = 0  # the end of what is being flushed
         self._is_doubtful = False  # whether a flush failed since then
         os.ftruncate(self._file, self._saved)
 
