@@ -6,6 +6,7 @@ import os
 import pathlib
 import re
 import shutil
+import signal
 import subprocess
 import sys
 import xml.etree.ElementTree as ElementTree
@@ -17,6 +18,7 @@ from support.commands import Lab
 from support.images import MARCH, make_image
 from support.places import DATA, DOCS, EXAMPLES, SUM
 from vecmon_lab import LabError
+from vecmon_lab.assembler import apart
 from vecmon_lab.compilers.compiler import Compiler
 from vecmon_lab.exercises.answer import ready, settled, source_answer
 from vecmon_lab.exercises.exercise import OURS, read_exercise, with_course
@@ -250,6 +252,17 @@ def test_first_difference_is_reported(echo: Echo, change: tuple[str, str], reaso
 )
 def test_unusable_answer_fails_with_reason(echo: Echo, content: str | bytes, name: str, reason: str) -> None:
     assert echo(content, name) == reason
+
+
+def test_answer_that_takes_long_to_assemble_fails(echo: Echo, monkeypatch: pytest.MonkeyPatch) -> None:
+    """Its process is ended at the limit of processor."""
+    repeated = ".rept 300\nnop\n.endr\n"
+    assert echo(f"{repeated}ebreak\n", "answer.s") != apart.TOO_LONG
+    assert "there is no instruction ad" in echo(f"{repeated}ad a0\n", "answer.s")
+    monkeypatch.setattr(
+        apart.subprocess, "run", lambda *_, **words: subprocess.CompletedProcess([], -signal.SIGXCPU, b"", b"")
+    )
+    assert echo(repeated, "answer.s") == apart.TOO_LONG
 
 
 def test_unreadable_answer_has_row(tmp_path: pathlib.Path) -> None:

@@ -13,6 +13,7 @@ from .statements import statements, without_comments
 MAX_DEPTH = 50  # of calls and repetitions inside each other
 MAX_STATEMENTS = 20_000  # of all calls and repetitions
 MAX_CHARACTERS = 400_000  # of these statements
+STATEMENT_CHARACTERS = 16  # that each statement counts for besides its own, if fewer are allowed
 _HEAD = re.compile(r"\s*((?:[\w.$]+\s*:\s*)*)([A-Za-z_.$][\w.$]*)?", re.ASCII)
 _REPETITIONS = (".rept", ".rep", ".irp", ".irpc")
 _RARS_END = ".end_macro"
@@ -48,11 +49,16 @@ class _Condition:
     has_else: bool = False
 
 
+class TooMuchMade(Exception):
+    """Calls and repetitions make more than they may where a source is assembled; elsewhere it may be right."""
+
+
 class Blocks:
     """The statements of a source after its blocks. The statements so far decide its conditions."""
 
-    def __init__(self, assembly: Assembly) -> None:
-        self._assembly = assembly
+    def __init__(self, assembly: Assembly, most: int = MAX_CHARACTERS) -> None:
+        """most: characters of statements that calls and repetitions make, before TooMuchMade is raised"""
+        self._assembly, self._most = assembly, most
         self.macros: dict[str, Macro] = {}
         self._conditions: list[_Condition] = []
         self._depth = self._count = self._calls = self._characters = 0
@@ -133,6 +139,8 @@ class Blocks:
 
     def _count_one(self, opening: Line) -> None:
         self._count += 1
+        if self._characters + STATEMENT_CHARACTERS * self._count > self._most < MAX_CHARACTERS:
+            raise TooMuchMade
         if self._count > MAX_STATEMENTS:
             self._assembly.is_ended = True
             raise opening.error(0, f"calls and repetitions make more than {MAX_STATEMENTS:,} statements")

@@ -12,7 +12,7 @@ from ..instructions.table import instruction_table
 from ..instructions.words import LOAD_FP, OP_V, STORE_FP
 from ..machine.start_state import start_lines
 from .assembly import Assembly, FileReader
-from .blocks import BLOCK_DIRECTIVES, Blocks
+from .blocks import BLOCK_DIRECTIVES, MAX_CHARACTERS, Blocks
 from .data_runs import DataRun, data_runs
 from .directives import IGNORED, Directives
 from .instruction import Statement, refusal
@@ -124,14 +124,17 @@ def assemble(text: str, origin: int = 0x10000, files: FileReader | None = None) 
     return program
 
 
-def read_source(text: str, origin: int = 0x10000, files: FileReader | None = None) -> Program:
+def read_source(
+    text: str, origin: int = 0x10000, files: FileReader | None = None, most_made: int = MAX_CHARACTERS
+) -> Program:
     """Assembles a source that may have mistakes; what is right in it has its statements.
 
     files: reads the files of .include and .incbin, which are refused without it
+    most_made: characters that calls and repetitions may make; raises TooMuchMade if they make more
     """
     if origin % PAGE_BYTES or not 0 <= origin <= (1 << 48) - USER_PAGES * PAGE_BYTES:
         raise ValueError(f"{origin:#x} is no multiple of {PAGE_BYTES} with room for {USER_PAGES} pages below 2^48")
-    assembler = _Assembler(files)
+    assembler = _Assembler(files, most_made)
     for line in assembler.lines(text):
         if len(assembler.assembly.mistakes) >= MAX_MISTAKES:
             return Program([], {}, [], origin, assembler.mistakes())
@@ -152,9 +155,9 @@ def in_order(mistakes: Iterable[SourceError]) -> list[SourceError]:
 class _Assembler:
     """Reads the statements of a source, and then gives the program. Parts that need addresses are made at the end."""
 
-    def __init__(self, files: FileReader | None = None) -> None:
+    def __init__(self, files: FileReader | None, most_made: int) -> None:
         self.assembly = Assembly(files)
-        self._directives, self._blocks = Directives(self.assembly), Blocks(self.assembly)
+        self._directives, self._blocks = Directives(self.assembly), Blocks(self.assembly, most_made)
         self._symbols, self._sections = self.assembly.symbols, self.assembly.sections
 
     def lines(self, text: str) -> Iterator[Line]:

@@ -8,6 +8,7 @@ from ..machine.answers import Refused, read
 from ..machine.process import Vecmon
 from ..machine.session import TOGETHER, Session
 from .assembly import FileReader
+from .blocks import MAX_CHARACTERS
 from .commands import explain_refusal
 from .inputs import with_inputs
 from .instruction import with_fitting_operand
@@ -16,15 +17,19 @@ from .source import Program, SourceError, Statement, in_order, read_source, refu
 MAX_OPERANDS = 5  # of an instruction
 
 
-def read_whole_source(text: str, vecmon: Vecmon, files: FileReader | None = None) -> Program:
-    """The program of a source; where that has mistakes of form, with all its mistakes. files: as in `read_source`"""
-    program = with_inputs(read_source(text, files=files), text)
+def read_whole_source(
+    text: str, vecmon: Vecmon, files: FileReader | None = None, most_made: int = MAX_CHARACTERS
+) -> Program:
+    """The program of a source; where that has mistakes of form, with all its mistakes. files, most_made: as in `read_source`"""
+    program = with_inputs(read_source(text, files=files, most_made=most_made), text)
     return replace(program, mistakes=all_mistakes(program, vecmon)) if program.mistakes else program
 
 
-def read_tried_source(text: str, vecmon: Vecmon, files: FileReader | None = None) -> Program:
+def read_tried_source(
+    text: str, vecmon: Vecmon, files: FileReader | None = None, most_made: int = MAX_CHARACTERS
+) -> Program:
     """The program of a source, with all its mistakes, also those that only the machine refuses."""
-    program = with_inputs(read_source(text, files=files), text)
+    program = with_inputs(read_source(text, files=files, most_made=most_made), text)
     return replace(program, mistakes=all_mistakes(program, vecmon) or refused_set_up(program, vecmon))
 
 

@@ -11,10 +11,11 @@ from functools import partial
 from .. import LabError
 from ..assembler.assembly import FileReader
 from ..assembler.source import Program
+from ..assembler import apart
 from ..assembler.trial import read_tried_source, read_whole_source
 from ..machine.lines import DIGITS, is_look
 from ..machine.session import Session
-from .worker_pool import WorkerPool
+from .worker_pool import WorkerEnded, WorkerPool
 from .builds import Builds
 from .clock import Clock
 from .languages import SourceText
@@ -59,6 +60,7 @@ class Room:
         self.save: Callable[[Notes], bool] = lambda notes: False
         self.watched: Callable[[], Container[str]] = set
         self.compile = Builds().compile
+        self.assemblers = WorkerPool(1)  # in which sources are assembled that may take long
         self.files: FileReader | None = None  # reads what a source includes, if that is your own
         self.thread = MachineThread(self.machine, self._change_all, lambda: self.set_clock({"on": False}))
         self.scripts = Scripts(self.thread, file, makers, lambda *it: self.save(self._notes(*it)))
@@ -194,12 +196,21 @@ class Room:
         source, loop = step.source, asyncio.get_running_loop()
         if source.choice is not None:
             return await self.compile(seat.name, source.text, source.choice, is_answer=step.is_answer)
-        vecmon, read_program = (
-            pathlib.Path(self.session.command[0]),
-            read_tried_source if step.is_tried else read_whole_source,
-        )
+        vecmon, reader = pathlib.Path(self.session.command[0]), "tried" if step.is_tried else "whole"
         async with self._assembling[seat.digit]:
-            return await loop.run_in_executor(self._assembler, read_program, source.text, vecmon, self.files)
+            if self.files:  # your own source
+                read_program = read_tried_source if step.is_tried else read_whole_source
+                return await loop.run_in_executor(self._assembler, read_program, source.text, vecmon, self.files)
+            small = await loop.run_in_executor(self._assembler, apart.read_small, reader, source.text, vecmon)
+            return small or await self._make_apart(reader, source.text, vecmon)
+
+    async def _make_apart(self, reader: str, text: str, vecmon: pathlib.Path) -> Program:
+        """The program of a source that may take long. Raises LabError if it takes too much."""
+        try:
+            output = await self.assemblers.run(apart.MODULE, reader, str(vecmon), script=apart.encoded(text))
+        except WorkerEnded as error:
+            raise LabError(apart.TOO_LONG) from error
+        return await asyncio.to_thread(apart.decoded, output)
 
     async def _stop_unattended(self, seat: Seat) -> None:
         """Shows a program that runs, if somebody looks at it. One that runs in vain is stopped, with a sentence."""

@@ -1,6 +1,8 @@
 """Requests of a class's tabs are answered, and news of the class collected for them (docs/CLASS_PROTOCOL.md)."""
 
+import logging
 import time
+import traceback
 from collections.abc import Mapping
 
 from .. import LabError
@@ -40,12 +42,15 @@ from .teacher import execute_teachers
 from .teacher_view import teacher_view, wall_view
 from .view import Class, Tab
 
+LOGGER = logging.getLogger("vecmon_lab")
+
 
 class TabRequests:
     """Executes the requests of a class's tabs."""
 
     def __init__(self, members: Class) -> None:
         self._members = members
+        self._faults = set[tuple[str, int | None]]()  # where exceptions were raised that the log has
 
     def hello(self, tab: Tab) -> Hello:
         """The first message to a tab, which joins the class; news follow it."""
@@ -75,8 +80,18 @@ class TabRequests:
             result = await self._execute(tab, read_request(message, tab.who == TEACHER), done)
         except (LabError, ValueError, RecursionError) as error:
             result = {"error": str(error), "done": done}
+        except Exception as error:
+            self._log_fault(error)
+            result = {"error": f"this is a fault of the lab: {type(error).__name__}: {error}", "done": done}
         result = explain_refusals(result, "*" if tab.who == TEACHER else tab.who[-1], message, done)
         return answer_to(number, result, self.news(tab))
+
+    def _log_fault(self, error: Exception) -> None:
+        """Log an exception that is a fault of the lab with its traceback: once for each place, since clients may repeat it."""
+        place = [(frame.filename, frame.lineno) for frame in traceback.extract_tb(error.__traceback__)][-1]
+        if place not in self._faults:
+            self._faults.add(place)
+            LOGGER.error("a request of a tab failed, which is a fault of the lab", exc_info=error)
 
     def news(self, tab: Tab) -> Changes:
         """The changes for a tab: a patch of its view, and entries of logs."""

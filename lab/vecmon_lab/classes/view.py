@@ -2,6 +2,7 @@
 
 import asyncio
 import math
+import os
 import pathlib
 import time
 from collections import defaultdict
@@ -97,6 +98,7 @@ class Class:
         self._seat_warnings = dict[str, str]()  # the same by seat, of its own files
         self._room_troubles = dict[str, tuple[str, int]]()  # of the machines, by letter, as pages have them
         makers, self._packers, self._packing = WorkerPool(1), WorkerPool(2), set[str]()
+        self._assemblers = WorkerPool(max(1, (os.cpu_count() or 1) - 1))
         try:
             self.checks = Checks(store, exercises, self.tell, self.builds)
             for letter in store.machines:
@@ -115,6 +117,7 @@ class Class:
         self.rooms[letter] = room = Room(letter, self.store.session(patience), file, makers)
         room.changed, room.watched, room.save = self.tell, self._watched, partial(self._keep, letter)
         room.compile = self.builds.compile
+        room.assemblers = self._assemblers
         room.set_clock({"on": clock})
         name = script_name(letter, len(notes.scripts))
         room.restore(notes, progress, lambda sentence: self.store.lose(f"{name}: {sentence}"))

@@ -15,6 +15,10 @@ from ..compilers.failures import ToolError
 LAB = pathlib.Path(__file__).resolve().parents[2]
 
 
+class WorkerEnded(ToolError):
+    """A process was ended by a signal, as beyond a limit of its own, or took too long."""
+
+
 @contextlib.contextmanager
 def exclusive(seat: str, busy: set[str], refusal: LabError) -> Iterator[None]:
     """A seat is busy as long as its context lasts. Raises the refusal where it is already."""
@@ -52,13 +56,15 @@ class WorkerPool:
                 async with asyncio.timeout(self._seconds):
                     output, errors = await child.communicate(script)
             except TimeoutError as error:
-                raise ToolError(f"it took more than {self._seconds:g} s") from error
+                raise WorkerEnded(f"it took more than {self._seconds:g} s") from error
             finally:
                 with contextlib.suppress(ProcessLookupError):
                     child.kill()
                 await child.wait()
         if child.returncode and child.returncode < 0:
-            raise ToolError(f"the process of {module} was ended by the signal {signal.Signals(-child.returncode).name}")
+            raise WorkerEnded(
+                f"the process of {module} was ended by the signal {signal.Signals(-child.returncode).name}"
+            )
         if child.returncode:
             last = errors.decode("utf-8", "replace").strip().rpartition("\n")[2]
             raise LabError(last.partition("Error: ")[2] or last)

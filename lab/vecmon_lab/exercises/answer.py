@@ -11,6 +11,7 @@ from dataclasses import dataclass, replace
 from random import Random
 
 from .. import LabError, mistakes_in
+from ..assembler.source import Program, read_source
 from ..compilers.compiled import CompiledProgram, Isolation
 from ..compilers.compiler import find_compiler, refuse_cxx
 from ..guest.entries import printable
@@ -97,16 +98,27 @@ def read_answer(
         headers = path.parent if is_own else None
         compiled = compile_c(text, find_compiler(None), 0, headers, is_answer=True, isolation=isolation)
         return source_answer(text, path, compiled)
-    return source_answer(text, path) if path.suffix in (".s", ".S") else Answer(path, _script_commands(text))
+    if path.suffix not in (".s", ".S"):
+        return Answer(path, _script_commands(text))
+    if is_own:
+        return source_answer(text, path)
+    from ..assembler.apart import read_limited  # which needs subprocesses
+
+    return source_answer(text, path, read=lambda it: read_limited("source", it, pathlib.Path()))
 
 
-def source_answer(text: str, path: pathlib.Path, compiled: CompiledProgram | None = None) -> Answer:
+def source_answer(
+    text: str,
+    path: pathlib.Path,
+    compiled: CompiledProgram | None = None,
+    read: Callable[[str], Program] = read_source,
+) -> Answer:
     """The answer that a source is, which has this text, and is called so. Raises LabError where it has mistakes.
 
-    compiled: of a C answer, its compiled form
+    compiled: of a C answer, its compiled form; read: assembles the source
     """
     name = printable(path.name)
-    source = read_compiled(text, name, compiled, True) if compiled else read_assembled(text, name)
+    source = read_compiled(text, name, compiled, True) if compiled else read_assembled(text, name, read=read)
     if not (source.statements or compiled):
         raise LabError("there is no instruction in the source")
     return Answer(path, [line[2:] for line in source.steps[0].lines[1:]], source)

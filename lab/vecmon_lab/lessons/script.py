@@ -1,7 +1,7 @@
 """The file of a lesson: the lines for the monitor, and the author's sentences, which begin with `#`."""
 
 import sys
-from collections.abc import Iterator, Sequence
+from collections.abc import Callable, Iterator, Sequence
 from dataclasses import dataclass, field, replace
 
 from .. import LabError, SourceMistakes
@@ -79,16 +79,19 @@ def add_line(steps: list[Step], line: str, note: str = "") -> None:
         steps.append(Step([line], note))
 
 
-def read_assembled(text: str, name: str, files: FileReader | None = None) -> Script:
+def read_assembled(
+    text: str, name: str, files: FileReader | None = None, read: Callable[[str], Program] | None = None
+) -> Script:
     """The lesson of an assembler source, for user 1. Raises SourceMistakes, with a line for each of the first MAX_LISTED ones.
 
     name: of its file; a source of the suffix .S has no line for the preprocessor
     files: reads what it includes; without it that is refused
+    read: assembles the source, instead of `read_source`
     """
     try:
         if name.endswith(".S"):
             refuse_preprocessor_lines(text)
-        program = read_source(text, files=files)
+        program = read(text) if read else read_source(text, files=files)
     except SourceError as error:
         raise SourceMistakes(error.diagnostic(name)) from error
     if program.mistakes:

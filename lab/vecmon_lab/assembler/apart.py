@@ -1,0 +1,103 @@
+"""Others' sources, assembled with limits of processor and memory: small ones here, others in a separate process.
+
+As a module it assembles the source on standard input, and prints its program, pickled. The arguments are the name of a
+reader, and the path of `vecmon`.
+"""
+
+import os
+import pathlib
+import pickle
+import resource
+import subprocess
+import sys
+from collections.abc import Callable
+from dataclasses import replace
+
+from .. import LabError
+from .blocks import MAX_CHARACTERS, TooMuchMade
+from .source import Program, SourceError, read_source
+from .statements import without_comments
+from .trial import read_tried_source, read_whole_source
+
+LAB = pathlib.Path(__file__).resolve().parents[2]
+MODULE = "assembler.apart"
+SMALL = 4096  # characters of a source without comments and blanks, and characters that its macros may make
+CPU_SECONDS, MEMORY_BYTES = 10, 1 << 30
+TOO_LONG = f"assembling this source takes more than {CPU_SECONDS} s of processor: shorten its repetitions and lists"
+TOO_LARGE = (
+    f"assembling this source takes more than {MEMORY_BYTES >> 20} MB of memory: shorten its repetitions and lists"
+)
+
+Reader = Callable[[str, pathlib.Path, int], Program]
+"""Reads a source, whose macros may make a number of characters. Raises TooMuchMade if they make more."""
+
+READERS: dict[str, Reader] = {
+    "source": lambda text, vecmon, most: read_source(text, most_made=most),
+    "whole": lambda text, vecmon, most: read_whole_source(text, vecmon, most_made=most),
+    "tried": lambda text, vecmon, most: read_tried_source(text, vecmon, most_made=most),
+}
+
+
+def read_small(reader: str, text: str, vecmon: pathlib.Path) -> Program | None:
+    """Read a source here if that takes little; else return None."""
+    if len("".join(without_comments(text)[0].split())) > SMALL:
+        return None
+    try:
+        return READERS[reader](text, vecmon, SMALL)
+    except TooMuchMade:
+        return None
+
+
+def read_limited(reader: str, text: str, vecmon: pathlib.Path) -> Program:
+    """Read a source, in a separate process if that may take long. Raises LabError if it takes too much."""
+    if (program := read_small(reader, text, vecmon)) is not None:
+        return program
+    command = [sys.executable, "-PB", "-m", f"vecmon_lab.{MODULE}", reader, str(vecmon)]
+    environment = os.environ | {"PYTHONPATH": str(LAB)}
+    completed = subprocess.run(command, input=encoded(text), capture_output=True, env=environment)
+    if completed.returncode < 0:
+        raise LabError(TOO_LONG)
+    if completed.returncode:
+        raise LabError(completed.stderr.decode("utf-8", "replace").strip().rpartition("\n")[2])
+    return decoded(completed.stdout)
+
+
+def encoded(text: str) -> bytes:
+    """The input of the module."""
+    return text.encode("utf-8", "surrogatepass")
+
+
+def decoded(output: bytes) -> Program:
+    """The program that the module has printed."""
+    program: Program = pickle.loads(output)
+    return program
+
+
+def _plain(mistake: SourceError) -> SourceError:
+    """A mistake, or a warning, without what its kind has for the assembler."""
+    return SourceError(mistake.line, mistake.column, mistake.message, mistake.code, list(mistake.fix))
+
+
+def main() -> int:
+    """Assemble the source on standard input within the limits."""
+    reader, vecmon = sys.argv[1:]
+    resource.setrlimit(resource.RLIMIT_CPU, (CPU_SECONDS, CPU_SECONDS + 1))
+    resource.setrlimit(resource.RLIMIT_AS, (MEMORY_BYTES, MEMORY_BYTES))
+    resource.setrlimit(resource.RLIMIT_CORE, (0, 0))
+    text = sys.stdin.buffer.read().decode("utf-8", "surrogatepass")
+    try:
+        program = READERS[reader](text, pathlib.Path(vecmon), MAX_CHARACTERS)
+        mistakes, warnings = ([*map(_plain, each)] for each in (program.mistakes, program.warnings))
+        output = pickle.dumps(replace(program, mistakes=mistakes, warnings=warnings))
+    except MemoryError:
+        print(TOO_LARGE, file=sys.stderr)
+        return 1
+    except (LabError, ValueError, RecursionError) as error:
+        print(error, file=sys.stderr)
+        return 1
+    sys.stdout.buffer.write(output)
+    return 0
+
+
+if __name__ == "__main__":
+    sys.exit(main())
