@@ -226,6 +226,8 @@ ERRORS = [
     (" vmsge.vx v0, v2, a0, v0.t", 1, 11, "into v0 this needs one more operand"),
     (" vmsge.vx v1, v2, a0, v0.t, v1", 1, 29, "must be neither v0 nor the destination"),
     (" vmsge.vx v1, v2, a0, v3", 1, 2, "vmsge.vx takes vd, vs2, rs1"),
+    (" csrrwi t", 1, 9, "t is no register that fits here"),
+    (" csrr a0, t", 1, 11, "t isn't a control register"),
     (" vmsge.vx v1, v2, a0, v0.t, v3, v0.t", 1, 2, "vmsge.vx takes vd, vs2, rs1"),
 ]
 

@@ -26,6 +26,7 @@ class Assembly:
         self.instructions: list[Instruction] = []
         self.items: list[DataItem] = []
         self.locals: set[str] = set()
+        self.exported: set[str] = set()
         self.is_ended = False
         self.line = Line("", 0)  # that is read
         self.mistakes: dict[tuple[int, int], SourceError] = {}

@@ -16,6 +16,9 @@ _ROWS = [(treatment, names.split()) for treatment, names in read_table("directiv
 IGNORED = frozenset(name for treatment, names in _ROWS if treatment == "none" for name in names)
 """Directives of stock assemblers that have no effect here."""
 
+EXPORTING = frozenset([".globl", ".global", ".weak"])
+"""Those of them that name symbols for other sources."""
+
 REFUSED = {name: reason for reason, names in _ROWS if reason != "none" for name in names}
 """Why other directives of stock assemblers are refused."""
 

@@ -44,6 +44,10 @@ _NUMBER = re.compile(r"[+-]?(?:0x[0-9a-fA-F]+|0b[01]+|[0-9]+)")
 _REGISTERS = {**REGISTERS, **{f"x{number}": f"x{number}" for number in range(32)}}
 
 
+class LessonCommand(SourceError):
+    """A `#>` line with a command that lessons execute, and nothing else does."""
+
+
 @dataclass
 class Inputs:
     """What the `#>` lines of a source say.
@@ -108,7 +112,7 @@ def _read_command(inputs: Inputs, number: int, line: str, labels: Mapping[str, i
         inputs.commands.append((number, named))
     elif name == "*" or name in COMMANDS:
         message = f"{name} is for lessons: elsewhere a `#>` line gives inputs, as {FORM}, or a command of {', '.join(_SET_UP)}"
-        inputs.warnings.append(SourceError(number, column, message))
+        inputs.warnings.append(LessonCommand(number, column, message))
     else:
         near = get_close_matches(name, _SET_UP, 1)
         what = f"there is no command {name}" if name else "there is no input"

@@ -1,5 +1,6 @@
 """An instruction of a source as the machine takes it, and the places in the source that its text comes from."""
 
+import functools
 import re
 from collections.abc import Callable, Iterator, Sequence
 from dataclasses import dataclass, replace
@@ -113,6 +114,12 @@ def number_range(row: Row, before: str) -> str:
     return f", with {form} from {ranges[form][0]} to {ranges[form][1]}" if form in ranges else ""
 
 
+@functools.lru_cache(maxsize=1024)
+def _holes(template: str) -> Sequence[tuple[str, str | None, str | None]]:
+    """The texts of a template, each with the number and the kind of the hole after it, if there is one."""
+    return [(literal, hole, what) for literal, hole, what, _ in Formatter().parse(template)]
+
+
 @dataclass(frozen=True)
 class Instruction:
     """An instruction or pseudo-instruction, and its expansion; its operands wait for addresses.
@@ -155,7 +162,7 @@ class Instruction:
     def _template_pieces(self, symbols: Symbols, template: str, errors: list[SourceError]) -> _Pieces:
         """The text of a template, with its operands in its holes. errors: takes up their mistakes"""
         pieces = _Pieces()
-        for literal, hole, what, _ in Formatter().parse(template):
+        for literal, hole, what in _holes(template):
             operand = [] if hole is None else self.operands[int(hole)]
             pieces.append((literal, _place(operand[0] if operand and pieces else self.name)))
             try:
@@ -180,7 +187,8 @@ class Instruction:
         try:
             number = symbols.constant(expression, self.place) if expression else 0
         except UnknownName:
-            if self.name.text.startswith("csr") and operand is self.operands[self.name.text.startswith("csrr")]:
+            place_of_csr = int(self.name.text.startswith("csrr"))
+            if self.name.text.startswith("csr") and any(it is operand for it in self.operands[place_of_csr:][:1]):
                 raise control_register_error(first) from None
             raise
         return self._number_pieces(operand, register, signed(number) if number >> 63 == 1 else number, what)

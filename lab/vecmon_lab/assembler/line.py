@@ -1,6 +1,7 @@
 """Lines of assembler source in tokens and operands. Lines, and columns in characters, begin with 1."""
 
 import enum
+import functools
 import re
 from collections.abc import Sequence
 from dataclasses import dataclass, replace
@@ -187,8 +188,21 @@ Operand = list[Token]
 """The tokens of an operand, one or more."""
 
 
+_KINDS = {**Kind.__members__}
+
+
 def tokens_of(line: Line) -> list[Token]:
     """The tokens of a statement. Raises SourceError."""
+    return [*_tokens_typed_here(line)] if not line.places and not line.within else _tokens(line)
+
+
+@functools.lru_cache(maxsize=4096)
+def _tokens_typed_here(line: Line) -> Sequence[Token]:
+    """The tokens of a statement that isn't from a macro. An editor's source is read again and again, nearly as before."""
+    return _tokens(line)
+
+
+def _tokens(line: Line) -> list[Token]:
     tokens = []
     for match in _TOKEN.finditer(line.text):
         kind = match.lastgroup or ""
@@ -196,8 +210,8 @@ def tokens_of(line: Line) -> list[Token]:
             raise line.error(match.start(), "this string doesn't end on its line")
         if kind == "MARK" and not " " < match[0] <= "~":
             raise line.error(match.start(), _problem_of(match[0]), _replacement_of(match[0]))
-        if kind in Kind.__members__:
-            tokens.append(Token(Kind[kind], match[0], *line.place(match.start()), line.within))
+        if kind in _KINDS:
+            tokens.append(Token(_KINDS[kind], match[0], *line.place(match.start()), line.within))
     return tokens
 
 

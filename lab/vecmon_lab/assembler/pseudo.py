@@ -4,6 +4,7 @@ A hole is {N:WHAT}, where N is the number of an operand. It is the operand uncha
 distance to it; `label.high` and `label.low`, the parts of that distance for auipc and addi; or `imm-1`, one less.
 """
 
+import functools
 import re
 from collections.abc import Callable
 
@@ -39,7 +40,7 @@ def templates(name: Token, operands: list[Operand], constant: Callable[[Operand]
             if texts[0].startswith("error at "):
                 place = int(texts[0].removeprefix("error at "))
                 raise (operands[place - 1][0] if place else name).error(texts[1])
-            first, *others = [_filled(text, form) for text in texts]
+            first, *others = [_filled(text, tuple(form)) for text in texts]
             return [first + (f", {{{len(form)}:v0.t}}" if len(operands) > len(form) else ""), *others]
     if forms and name.text not in INSTRUCTION_NAMES:
         check_count(name, [operand for operand in operands if operand[0].text != "v0.t"], len(forms[-1][0]))
@@ -76,7 +77,8 @@ def _fence(name: Token, operands: list[Operand]) -> str:
     return f".word {word:#010x}"
 
 
-def _filled(text: str, form: list[str]) -> str:
+@functools.lru_cache(maxsize=1024)
+def _filled(text: str, form: tuple[str, ...]) -> str:
     """An instruction with holes for the operands of a form."""
     for place, operand in enumerate(form):
         text = re.sub(rf"(?<!{{)\b{operand}\b(?:\.\w+|-1)?", rf"{{{place}:\g<0>}}", text)

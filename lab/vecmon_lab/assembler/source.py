@@ -14,7 +14,7 @@ from ..machine.start_state import start_lines
 from .assembly import Assembly, FileReader
 from .blocks import BLOCK_DIRECTIVES, MAX_CHARACTERS, Blocks
 from .data_runs import DataRun, data_runs
-from .directives import IGNORED, Directives
+from .directives import EXPORTING, IGNORED, Directives
 from .instruction import Statement, refusal
 from .line import Kind, Line, Operand, SourceError, Token, split_operands, tokens_of
 from .names import SOURCE_NAMES, near_names, no_instruction
@@ -37,6 +37,7 @@ class Program:
     data: the numbers and texts of its directives, by address; warnings: of the assembler, or of a compiler
     set_up: commands of the monitor of its `#>` lines, each with the number of its line, if these were read (`inputs.py`)
     end: the address after its last instruction, which gets an ebreak; 0 if other bytes follow there
+    exported: the names that other sources may use, by `.globl` and the like
     """
 
     lines: list[str]
@@ -48,6 +49,7 @@ class Program:
     warnings: Sequence[SourceError] = field(default=(), kw_only=True)
     set_up: Sequence[tuple[int, str]] = field(default=(), kw_only=True)
     end: int = field(default=0, kw_only=True)
+    exported: frozenset[str] = field(default=frozenset(), kw_only=True)
 
     def load_lines(self) -> list[str]:
         """The lines of the monitor after `enter` that load it: its own, and those of its start."""
@@ -189,6 +191,8 @@ class _Assembler:
             self._directives.assign(tokens[0], self._symbols.bound(tokens[2:]), tokens[1].text == "==")
         elif name.kind is not Kind.NAME:
             raise name.error(f"{tokens[0].text} isn't an instruction, a directive or a label")
+        elif name.text in EXPORTING:
+            self.assembly.exported |= {token.text for token in tokens[1:] if token.kind is Kind.NAME}
         elif name.text in IGNORED:
             return
         elif name.text.startswith("."):
@@ -268,8 +272,9 @@ class _Assembler:
         entry = _entry(labels, made, self._sections.named(".text").base)
         data = {} if mistakes else data_runs(assembly.items, {*labels.values()})
         warnings = in_order(assembly.warnings.values())
-        lines = [] if mistakes else lines
-        return Program(lines, labels, made, entry, mistakes, data=data, warnings=warnings, end=self._sections.end)
+        lines, exported = [] if mistakes else lines, frozenset(assembly.exported)
+        end = self._sections.end
+        return Program(lines, labels, made, entry, mistakes, data=data, warnings=warnings, end=end, exported=exported)
 
 
 def _entry(labels: Mapping[str, int], statements: Sequence[Statement], text: int) -> int:

@@ -1,10 +1,11 @@
 """All mistakes of a source: those of form, and what the machine refuses, which a process of its own is asked."""
 
+import contextlib
 import itertools
-from collections.abc import Sequence
+from collections.abc import Iterable, Mapping
 from dataclasses import replace
 
-from ..machine.answers import Refused, read
+from ..machine.answers import Refused, Word, read
 from ..machine.process import Vecmon
 from ..machine.session import TOGETHER, Session
 from .assembly import FileReader
@@ -12,9 +13,10 @@ from .blocks import MAX_CHARACTERS
 from .commands import explain_refusal
 from .inputs import with_inputs
 from .instruction import with_fitting_operand
-from .source import Program, SourceError, Statement, in_order, read_source, refusal
+from .source import Program, SourceError, in_order, read_source, refusal
 
 MAX_OPERANDS = 5  # of an instruction
+MAX_SCRIPT = 1_000_000  # bytes of a trial's script, after which it begins anew
 
 
 def read_whole_source(
@@ -51,27 +53,62 @@ def refused_set_up(program: Program, vecmon: Vecmon) -> list[SourceError]:
 
 
 def all_mistakes(source: Program, vecmon: Vecmon) -> list[SourceError]:
-    """The mistakes of form of a source, and what a new machine refuses of all other instructions, in order.
+    """The mistakes of form of a source, and what a new machine refuses of all other instructions, in order."""
+    with Trial(vecmon) as trial:
+        return trial.mistakes(source)
 
-    An instruction with an operand that doesn't fit is tried again with one that does, since another one may not fit either.
+
+class Trial(contextlib.AbstractContextManager["Trial"]):
+    """A machine that tries instructions, and the answers by their texts, so that none is tried twice.
+
+    An instruction's text has distances in place of labels, so its word is the same at each address.
     """
-    mistakes = list(source.mistakes)
-    tried = [(statement, statement) for statement in source.statements]  # and how they are in the source
-    with Session(vecmon) as trial:
-        trial.do_all(["1 enter", "1 map 0 1 rx"])
+
+    def __init__(self, vecmon: Vecmon) -> None:
+        self._vecmon, self._session = vecmon, self._started(vecmon)
+        self._answers: dict[str, Word | Refused] = {}
+
+    def __exit__(self, *error: object) -> None:
+        self._session.close()
+
+    @staticmethod
+    def _started(vecmon: Vecmon) -> Session:
+        """A session with a page for the instructions."""
+        session = Session(vecmon)
+        session.do_all(["1 enter", "1 map 0 1 rx"])
+        return session
+
+    def answers(self, texts: Iterable[str]) -> Mapping[str, Word | Refused]:
+        """The machine's answers to instructions, by their texts: the word, or a refusal with the column."""
+        new = [text for text in dict.fromkeys(texts) if text not in self._answers]
+        for at in range(0, len(new), TOGETHER):
+            part = new[at : at + TOGETHER]
+            if self._session.size > MAX_SCRIPT:
+                self._session.close()
+                self._session, self._answers = self._started(self._vecmon), {}
+                return self.answers(texts)
+            for text, lines in zip(part, self._session.do_all([f"1 asm 0 {text}" for text in part])):
+                answer = read(lines)
+                assert isinstance(answer, Word | Refused)
+                self._answers[text] = answer
+        return self._answers
+
+    def mistakes(self, source: Program) -> list[SourceError]:
+        """The mistakes of form of a source, and what the machine refuses of all other instructions, in order.
+
+        An instruction with an operand that doesn't fit is tried again with one that does, since another one may not fit either.
+        """
+        mistakes = list(source.mistakes)
+        tried = [(statement, statement) for statement in source.statements]  # and how they are in the source
         for _ in range(MAX_OPERANDS):
+            if not tried:
+                break
+            answers = self.answers(each.text for each, _ in tried)
+            parsed = ((each, written, answers[each.text]) for each, written in tried)
             refused = [
-                (*pair, column) for pair, column in zip(tried, _columns(trial, [each for each, _ in tried])) if column
+                (each, written, int(answer.detail)) for each, written, answer in parsed if isinstance(answer, Refused)
             ]
             mistakes += [refusal(each, column, written.text) for each, written, column in refused]
             repaired = [(with_fitting_operand(each, column), written) for each, written, column in refused]
             tried = [(each, written) for each, written in repaired if each]
-    return in_order(mistakes)
-
-
-def _columns(trial: Session, statements: Sequence[Statement]) -> list[int]:
-    """The column of each statement that the machine refuses, or 0."""
-    lines = [f"1 asm 0 {statement.text}" for statement in statements]
-    answers = [trial.do_all(lines[at : at + TOGETHER]) for at in range(0, len(lines), TOGETHER)]
-    parsed = map(read, itertools.chain(*answers))
-    return [int(answer.detail) if isinstance(answer, Refused) else 0 for answer in parsed]
+        return in_order(mistakes)

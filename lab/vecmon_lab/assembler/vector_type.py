@@ -6,16 +6,18 @@ from ..tables.table import read_table
 from .line import Operand, SourceError, Token
 
 _WORDS = dict((name, words.split()) for name, words in read_table("keywords"))["vset\\w*"]
-_PARTS = [[word for word in _WORDS if word in part] for part in (_WORDS[:4], _WORDS[4:11], _WORDS[11:13], _WORDS[13:])]
+PARTS = [[word for word in _WORDS if word in part] for part in (_WORDS[:4], _WORDS[4:11], _WORDS[11:13], _WORDS[13:])]
+"""The words of each part of a vector type: the width of elements, the group multiplier, and the policies."""
+
 _DEFAULTS = ("e8", "m1", "tu", "mu")  # of GNU as
 
 
 def completed(name: Token, operands: Sequence[Operand]) -> tuple[str, SourceError] | None:
     """The template and the warning of a vsetvli or vsetivli whose vector type lacks parts; None for any other instruction."""
     given = [operand[0].text if len(operand) == 1 else "" for operand in operands[2:]]
-    if name.text not in ("vsetvli", "vsetivli") or not 0 < len(given) < len(_PARTS):
+    if name.text not in ("vsetvli", "vsetivli") or not 0 < len(given) < len(PARTS):
         return None
-    places = [next((number for number, words in enumerate(_PARTS) if word in words), -1) for word in given]
+    places = [next((number for number, words in enumerate(PARTS) if word in words), -1) for word in given]
     if -1 in places or places != sorted({*places}):
         return None
     words = [

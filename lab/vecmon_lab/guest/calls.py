@@ -9,14 +9,11 @@ from ..instructions.accesses import PAGE_BYTES
 from ..instructions.calls import A0, A7, ECALL, EXITS, WRITE, is_supported, unsupported_call
 from ..machine.program import segments_of
 from ..machine.session import Session
+from .constants import constant_before
 from .jumps import jump_target
 
 if TYPE_CHECKING:
     from .guest import Guest
-
-BACK = 32  # instructions before an ECALL that are searched for the values of a7 and a0
-BRANCH, JALR, JAL, SYSTEM, OP_IMM = 0x63, 0x67, 0x6F, 0x73, 0x13  # opcodes
-STORES = (0x23, 0x27, 0x0F)  # opcodes whose bits 11:7 are no destination: stores and FENCE
 
 
 class Code:
@@ -78,7 +75,7 @@ def shown_calls(words: Mapping[int, int]) -> dict[int, str]:
     """The ECALLs among words whose call the code shows: a sentence by its address if it isn't supported, else ""."""
     sentences, targets = dict[int, str](), _targets(words)
     for place in (address for address, word in words.items() if word == ECALL):
-        number, file = (_value(words, targets, place, register) for register in (A7, A0))
+        number, file = (constant_before(words, targets, place, register) for register in (A7, A0))
         if number is not None and (number != WRITE or file is not None):
             x = [0] * 32
             x[A7], x[A0] = number, file or 0
@@ -126,21 +123,8 @@ def _search(words: Mapping[int, int]) -> tuple[Sequence[int], Sequence[int]]:
 
 def _is_shown(words: Mapping[int, int], targets: set[int], place: int) -> bool:
     """Whether the instructions before an ECALL, one after another, give a7 and a0 values of a supported call."""
-    number = _value(words, targets, place, A7)
-    return number in EXITS or number == WRITE and is_supported(WRITE, _value(words, targets, place, A0) or 0)
-
-
-def _value(words: Mapping[int, int], targets: set[int], place: int, register: int) -> int | None:
-    """The constant that a register has at an address; None where it isn't shown."""
-    for address in range(place - 4, place - 4 * BACK, -4):
-        word = words.get(address, 0)
-        opcode = word & 0x7F
-        if address + 4 in targets or opcode in (BRANCH, JALR, JAL, SYSTEM, 0):
-            return None
-        if word >> 7 & 31 == register and opcode not in STORES:
-            is_constant = opcode == OP_IMM and word >> 12 & 0xFF == 0  # addi from x0
-            return word >> 20 if is_constant and word >> 31 == 0 else None
-    return None
+    number = constant_before(words, targets, place, A7)
+    return number in EXITS or number == WRITE and is_supported(WRITE, constant_before(words, targets, place, A0) or 0)
 
 
 def _targets(words: Mapping[int, int]) -> set[int]:

@@ -1,0 +1,19 @@
+"""`vecmon-lab lsp`: a language server for assembler sources, which an editor starts and speaks with over a pipe."""
+
+import argparse
+
+from ..machine.program import find_program
+from .server import Server
+from .wire import Wire
+
+
+def add_arguments(parser: argparse.ArgumentParser) -> None:
+    """The option that editors give servers of this kind."""
+    parser.add_argument(
+        "--stdio", action="store_true", help="use standard input and output, as always; for editors that say so"
+    )
+
+
+def run(arguments: argparse.Namespace) -> int:
+    """Serve an editor until it ends the session. Raises LabError if there is no program, or for what is no message."""
+    return Server(Wire(), find_program()).run()

@@ -1,0 +1,118 @@
+"""What is wrong with a source, and changes that cure it."""
+
+from collections.abc import Iterable, Iterator
+from dataclasses import dataclass
+from typing import NotRequired, TypedDict
+
+from ..assembler.inputs import LessonCommand
+from ..assembler.line import token_length
+from ..assembler.mistakes import Severity, mistakes_json
+from ..assembler.names import absence
+from ..guest.changes import vtype_text
+from ..machine.answers import VILL
+from .analysis import Analysis, Illegal
+from .positions import Range, TextEdit, range_of
+
+SOURCE = "vecmon"
+ERROR, WARNING, HINT = 1, 2, 4  # severities
+ILLEGAL = "illegal"
+_FIRST_TYPE = "vsetvli t0, a0, e32, m1, ta, ma"
+
+
+class Diagnostic(TypedDict):
+    """A message at a range. code: the machine's refusal, or `illegal`"""
+
+    range: Range
+    severity: int
+    source: str
+    message: str
+    code: NotRequired[str]
+
+
+@dataclass(frozen=True)
+class Fix:
+    """A change that cures something."""
+
+    title: str
+    edit: TextEdit
+
+
+@dataclass(frozen=True)
+class Finding:
+    """A diagnostic with its cures, the likeliest one first."""
+
+    diagnostic: Diagnostic
+    fixes: tuple[Fix, ...] = ()
+
+
+def findings(analysis: Analysis) -> list[Finding]:
+    """The mistakes and warnings of a source, and its illegal instructions, in its order."""
+    found = [*_mistakes(analysis, "error"), *_mistakes(analysis, "warning"), *_illegal(analysis)]
+    return sorted(found, key=lambda it: (it.diagnostic["range"]["start"]["line"], it.diagnostic["severity"]))
+
+
+def _mistakes(analysis: Analysis, severity: Severity) -> Iterator[Finding]:
+    """The mistakes or the warnings of the assembler. What other extensions or lessons have is a hint: the source may be for these."""
+    program = analysis.program
+    errors = program.mistakes if severity == "error" else program.warnings
+    for error, mistake in zip(errors, mistakes_json(errors, "\n".join(analysis.lines), severity=severity)):
+        line, column, length = mistake["line"], mistake["column"], mistake["length"]
+        span = range_of(analysis.lines, line, column, length)
+        word = analysis.lines[line - 1][column - 1 : column - 1 + length] if 0 < line <= len(analysis.lines) else ""
+        is_of_others = isinstance(error, LessonCommand) or bool(word and absence(word))
+        level = HINT if is_of_others else ERROR if severity == "error" else WARNING
+        diagnostic: Diagnostic = {
+            "range": span,
+            "severity": level,
+            "source": SOURCE,
+            "message": mistake["message"],
+        }
+        if code := mistake.get("code"):
+            diagnostic["code"] = code
+        fixes = (Fix(f"replace by {text}", {"range": span, "newText": text}) for text in mistake.get("fix", []))
+        yield Finding(diagnostic, tuple(fixes))
+
+
+def _illegal(analysis: Analysis) -> Iterator[Finding]:
+    """The instructions that trap, at their names; of a macro that is called several times each message once."""
+    seen = set[tuple[int, int, str]]()
+    for illegal in analysis.illegal:
+        line, column = illegal.statement.places[0]
+        message = illegal_message(illegal)
+        if (line, column, message) not in seen and 0 < line <= len(analysis.lines):
+            seen.add((line, column, message))
+            span = range_of(analysis.lines, line, column, token_length(analysis.lines[line - 1], column))
+            diagnostic: Diagnostic = {
+                "range": span,
+                "severity": ERROR,
+                "source": SOURCE,
+                "message": message,
+                "code": ILLEGAL,
+            }
+            yield Finding(diagnostic, tuple(_cures(analysis, illegal, line)))
+
+
+def illegal_message(illegal: Illegal) -> str:
+    """Why an instruction is illegal, and under which types."""
+    reasons = " ".join(illegal.reasons)
+    within = "".join(f" ({each})" for each in illegal.statement.within[:1])
+    if illegal.types is None:
+        return f"illegal under every vector type{within}: {reasons}"
+    return f"illegal under {listed_types(illegal.types)}{within}: {reasons}"
+
+
+def listed_types(types: Iterable[int]) -> str:
+    """Vector types as `e8,m1,ta,ma or e16,m2,ta,ma`."""
+    return " or ".join(vtype_text(each) for each in sorted(types))
+
+
+def _cures(analysis: Analysis, illegal: Illegal, line: int) -> Iterator[Fix]:
+    """Of an instruction before which no type is set, an instruction that sets one."""
+    if illegal.types != frozenset([VILL]) or illegal.statement.within:
+        return
+    text = analysis.lines[line - 1]
+    column = illegal.statement.column
+    margin = text[: column - 1] if not text[: column - 1].strip() else " " * (column - 1)
+    start = range_of(analysis.lines, line, column, 1)["start"]
+    edit: TextEdit = {"range": {"start": start, "end": start}, "newText": f"{_FIRST_TYPE}\n{margin}"}
+    yield Fix(f"insert {_FIRST_TYPE}", edit)

@@ -1,0 +1,89 @@
+"""The documents that an editor has open, and what is found out about each text of them."""
+
+import pathlib
+from collections.abc import Sequence
+from urllib.parse import unquote, urlsplit
+
+from ..assembler.assembly import FileReader
+from ..assembler.line import SourceError, refuse_preprocessor_lines
+from ..assembler.own_files import files_beside
+from ..assembler.trial import Trial
+from .analysis import Analysis
+from .diagnostics import HINT, SOURCE, Finding, findings
+from .positions import Change, changed, lines_of, range_of
+
+MAX_CHARACTERS = 1_000_000  # of a document that is read
+
+
+class Document:
+    """An open document.
+
+    lines: of its text; version: of the text, as the editor counts
+    """
+
+    def __init__(self, uri: str, text: str, version: int, trial: Trial) -> None:
+        self.uri, self.version = uri, version
+        self.lines = lines_of(text)
+        self._path = path_of(uri)
+        self._trial = trial
+        self._analysis: Analysis | None = None
+        self._findings: list[Finding] | None = None
+        self._problem: SourceError | None = None
+
+    def change(self, changes: Sequence[Change], version: int) -> None:
+        """Take up changes, one after another."""
+        for each in changes:
+            self.lines = changed(self.lines, each)
+        self.version, self._analysis, self._findings = version, None, None
+
+    @property
+    def is_read(self) -> bool:
+        """Whether the text is read as it is now."""
+        return self._findings is not None
+
+    @property
+    def analysis(self) -> Analysis:
+        """What is known of the text. Of one that isn't read it is empty."""
+        if self._analysis is None:
+            text = "\n".join(self.lines)
+            self._problem = self._reason_against(text)
+            try:
+                self._analysis = Analysis("" if self._problem else text, self._trial, self._files())
+            except Exception as error:  # pylint: disable=broad-except  # no text may end an editor's server
+                self._problem = SourceError(1, 1, f"this source can't be checked: {type(error).__name__}: {error}")
+                self._analysis = Analysis("", self._trial)
+        return self._analysis
+
+    @property
+    def findings(self) -> list[Finding]:
+        """What is wrong with the text."""
+        if self._findings is None:
+            analysis = self.analysis
+            self._findings = [self._unread(self._problem)] if self._problem else findings(analysis)
+        return self._findings
+
+    def _reason_against(self, text: str) -> SourceError | None:
+        """Why the text isn't read: it is too large, or a preprocessor makes the source from it."""
+        if len(text) > MAX_CHARACTERS:
+            return SourceError(1, 1, f"sources with more than {MAX_CHARACTERS:,} characters aren't checked")
+        if self._path is not None and self._path.suffix == ".S":
+            try:
+                refuse_preprocessor_lines(text)
+            except SourceError as error:
+                return SourceError(error.line, error.column, f"{error.message}; this source isn't checked")
+        return None
+
+    def _unread(self, problem: SourceError) -> Finding:
+        """The hint that a text isn't read."""
+        span = range_of(self.lines, problem.line, problem.column, 1)
+        return Finding({"range": span, "severity": HINT, "source": SOURCE, "message": problem.message})
+
+    def _files(self) -> FileReader | None:
+        """A reader of the files that the source includes, which are in its folder; None if it is in none."""
+        return files_beside(self._path) if self._path is not None else None
+
+
+def path_of(uri: str) -> pathlib.Path | None:
+    """The path of a document; None if it isn't a file."""
+    parts = urlsplit(uri)
+    return pathlib.Path(unquote(parts.path)) if parts.scheme == "file" and parts.netloc in ("", "localhost") else None

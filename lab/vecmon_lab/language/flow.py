@@ -1,0 +1,244 @@
+"""The vector type and length before each instruction of a program, by all ways to it, without running it.
+
+Nothing wrong is claimed of a program that calls and returns by registers that `jal` and `jalr` link, and that doesn't write its own code.
+What comes from a register, from a caller or from too many ways is unknown.
+"""
+
+from collections.abc import Collection, Iterator, Mapping
+from dataclasses import dataclass
+
+from ..guest.constants import constant_before
+from ..guest.jumps import jump_target
+from ..instructions.accesses import is_fault_only_first
+from ..instructions.calls import A7, ECALL, EXITS
+from ..instructions.table import row_of
+from ..instructions.words import SUPPORTED
+from ..machine.answers import VILL, ControlRegisters
+
+MAX_TYPES = 4  # of a place that are told apart
+JALR, JAL, BRANCH = 0x67, 0x6F, 0x63  # opcodes
+_EBREAK = 0x00100073  # the word
+_RETURN_ADDRESS = 1  # x1
+
+
+@dataclass(frozen=True)
+class VectorState:
+    """What is known of vtype and vl at a place.
+
+    types: the values that vtype may have, VILL among them; None if it may have any
+    vl: None if it is unknown
+    """
+
+    types: frozenset[int] | None = None
+    vl: int | None = None
+
+    @property
+    def vtype(self) -> int | None:
+        """The only value that vtype may have; None if there are several."""
+        return next(iter(self.types)) if self.types and len(self.types) == 1 else None
+
+    def joined(self, other: "VectorState") -> "VectorState":
+        """What is known where both may hold."""
+        types = None if self.types is None or other.types is None else self.types | other.types
+        if types is not None and len(types) > MAX_TYPES:
+            types = None
+        return VectorState(types, self.vl if self.vl == other.vl else None)
+
+
+UNKNOWN = VectorState()
+START = VectorState(frozenset([VILL]), 0)
+"""The state of a new machine."""
+
+
+def is_supported(vtype: int) -> bool:
+    """Whether a vset instruction that asks for this type sets it, and not vill."""
+    return vtype < 256 and vtype & 0x3F in SUPPORTED
+
+
+@dataclass(frozen=True)
+class Code:
+    """The instructions of a program.
+
+    words: by address; None for an instruction whose word isn't known, as of one that the machine refuses
+    entries: where it starts, with the state there
+    labels: the addresses that others may jump to by a register
+    gaps: addresses before which the source has an instruction that isn't among the words
+    is_whole: whether nothing is executed outside of the words
+    """
+
+    words: Mapping[int, int | None]
+    entries: Mapping[int, VectorState]
+    labels: Collection[int] = ()
+    gaps: Collection[int] = ()
+    is_whole: bool = True
+
+
+class Flow:
+    """The states of a program.
+
+    states: the state before each instruction that is reached, by its address; there is no other claim about it
+    """
+
+    def __init__(self, code: Code) -> None:
+        self._code = code
+        self._known = {address: word for address, word in code.words.items() if word is not None}
+        self.states: dict[int, VectorState] = {}
+        self._owners: dict[int, frozenset[int]] = {}  # the functions of an instruction, by their first addresses
+        self._returned: dict[int, VectorState] = {}  # the state at the returns of a function
+        self._calls: dict[int, set[int]] = {}  # the addresses after the calls of a function
+        self._is_lost = False  # whether a jump may go to any label
+        self._waiting: dict[int, None] = {}
+        targets = (jump_target(address, word) for address, word in self._known.items())
+        self._joins = {target for target in targets if target is not None} | {*code.entries, *code.labels, *code.gaps}
+        self._links = {word >> 7 & 31 for word in self._known.values() if word & 0x7F in (JAL, JALR)}
+        self._links = self._links - {0} | {_RETURN_ADDRESS}
+        for address, state in code.entries.items():
+            self._reach(address, state, frozenset([address]))
+        while self._waiting:
+            address = next(iter(self._waiting))
+            del self._waiting[address]
+            self._follow(address)
+
+    def after(self, address: int) -> VectorState:
+        """The state after an instruction that is reached, if the next one follows it."""
+        state, word = self.states[address], self._code.words.get(address)
+        return UNKNOWN if word is None else self._changed(address, word, state)
+
+    def _reach(self, address: int, state: VectorState, owners: frozenset[int]) -> None:
+        """Take up that a state may hold before the instruction at an address, in these functions."""
+        if address not in self._code.words:
+            if not self._code.is_whole:
+                self._lose(owners)
+            return
+        if address in self._code.gaps:
+            state = UNKNOWN
+        before = self.states.get(address)
+        joined = state if before is None else before.joined(state)
+        own = self._owners.get(address, frozenset())
+        if joined != before or not owners <= own:
+            self.states[address], self._owners[address] = joined, own | owners
+            self._waiting[address] = None
+
+    def _lose(self, owners: frozenset[int]) -> None:
+        """Take up that a jump may go to any label, or back to any call."""
+        for owner in owners:
+            self._return(owner, UNKNOWN)
+        if self._is_lost:
+            return
+        self._is_lost = True
+        for label in self._code.labels:
+            if label in self._code.words:
+                self._reach(label, UNKNOWN, frozenset([label]))
+        for function in [*self._calls]:
+            self._return(function, UNKNOWN)
+
+    def _return(self, function: int, state: VectorState) -> None:
+        """Take up that a function may return with a state."""
+        before = self._returned.get(function)
+        self._returned[function] = state if before is None else before.joined(state)
+        if self._returned[function] != before:
+            for address, caller in self._callers(function):
+                self._reach(address, self._returned[function], caller)
+
+    def _callers(self, function: int) -> list[tuple[int, frozenset[int]]]:
+        """The addresses after the calls of a function, and the functions that these are in."""
+        return [(address, self._owners[address - 4]) for address in self._calls.get(function, ())]
+
+    def _call(self, function: int, address: int) -> None:
+        """Take up that the instruction before an address calls a function."""
+        self._calls.setdefault(function, set()).add(address)
+        if self._is_lost:
+            self._return(function, UNKNOWN)
+        if function in self._returned:
+            self._reach(address, self._returned[function], self._owners[address - 4])
+
+    def _follow(self, address: int) -> None:
+        """Take up where an instruction goes on, and with which state."""
+        state, owners, word = self.states[address], self._owners[address], self._code.words[address]
+        if word is None:
+            self._reach(address + 4, UNKNOWN, owners)
+            return
+        opcode, target = word & 0x7F, jump_target(address, word)
+        if opcode == JALR:
+            self._follow_register(address, word, state, owners)
+        elif opcode == JAL and target is not None:
+            self._jump(address, word, target, state, owners)
+        elif not self._ends(address, word):
+            if target is not None:
+                self._reach(target, state, owners)
+            self._reach(address + 4, self._changed(address, word, state), owners)
+
+    def _jump(self, address: int, word: int, target: int, state: VectorState, owners: frozenset[int]) -> None:
+        """A jump to a known address, which is a call if it links a register and doesn't go to the next instruction."""
+        if word >> 7 & 31 == 0 or target == address + 4:
+            self._reach(target, state, owners)
+            return
+        self._call(target, address + 4)
+        self._reach(target, state, frozenset([target]))
+
+    def _follow_register(self, address: int, word: int, state: VectorState, owners: frozenset[int]) -> None:
+        """A jump to an address in a register: a known one, a return, or any other."""
+        register, link, offset = word >> 15 & 31, word >> 7 & 31, (word >> 20) - (word >> 31 << 12)
+        base = constant_before(self._known, self._joins, address, register)
+        if base is not None:
+            self._jump(address, word, (base + offset) % (1 << 64) & ~1, state, owners)
+        elif not link and not offset and register in self._links:
+            for owner in owners:
+                self._return(owner, state)
+        else:
+            if link:
+                self._reach(address + 4, UNKNOWN, owners)
+            self._lose(frozenset() if link else owners)
+
+    def _ends(self, address: int, word: int) -> bool:
+        """Whether nothing is executed after an instruction: an ebreak, a call that exits, or a word that is no instruction."""
+        if word == ECALL:
+            return constant_before(self._known, self._joins, address, A7) in EXITS
+        return word == _EBREAK or row_of(word) is None
+
+    def _changed(self, address: int, word: int, state: VectorState) -> VectorState:
+        """The state after an instruction that is no jump."""
+        row = row_of(word)
+        if row is None or not row.name.startswith("vset"):
+            return VectorState(state.types, None) if is_fault_only_first(word) else state
+        requested = self._requested(address, word)
+        if requested is None:
+            return UNKNOWN
+        if not is_supported(requested):
+            return START
+        new = frozenset([requested])
+        limit, length = ControlRegisters(vtype=requested).vlmax, word >> 15 & 31
+        if row.name == "vsetivli":
+            return VectorState(new, min(length, limit))
+        if length:
+            asked = constant_before(self._known, self._joins, address, length)
+            return VectorState(new, None if asked is None else min(asked, limit))
+        if word >> 7 & 31:
+            return VectorState(new, limit)
+        return self._with_same_length(state, requested)
+
+    def _requested(self, address: int, word: int) -> int | None:
+        """The type that a vset instruction asks for; None if it is unknown."""
+        if word >> 30 == 2:
+            return constant_before(self._known, self._joins, address, word >> 20 & 31)
+        return word >> 20 & (0x3FF if word >> 30 == 3 else 0x7FF)
+
+    def _with_same_length(self, state: VectorState, requested: int) -> VectorState:
+        """The state after a vset that keeps vl, by the types before it: vill if VLMAX would be another one."""
+        if state.types is None:
+            return UNKNOWN
+        limit = ControlRegisters(vtype=requested).vlmax
+        results = [
+            VectorState(frozenset([requested]), state.vl) if ControlRegisters(vtype=each).vlmax == limit else START
+            for each in state.types
+        ]
+        first, *others = results
+        for other in others:
+            first = first.joined(other)
+        return first
+
+
+def all_types() -> Iterator[int]:
+    """The values of vtype that differ in what is legal: each supported type, and vill."""
+    yield from SUPPORTED
+    yield VILL

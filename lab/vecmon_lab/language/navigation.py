@@ -1,0 +1,128 @@
+"""Definitions, uses and new names, and the outline of a source."""
+
+import re
+from collections.abc import Sequence
+from typing import TypedDict
+
+from .. import LabError
+from ..assembler.names import SOURCE_NAMES
+from ..assembler.operands import REGISTER_NAMES
+from ..assembler.source import DIRECTIVES
+from .analysis import Analysis
+from .names import Occurrence
+from .positions import Position, Range, TextEdit, index_at, range_of
+
+_NAME = re.compile(r"[A-Za-z_.$][A-Za-z0-9_.$]*")
+_FUNCTION, _VARIABLE, _CONSTANT, _KEY, _METHOD = 12, 13, 14, 20, 6  # kinds of symbols
+_WRITE, _READ = 3, 2  # kinds of highlights
+
+
+class Symbol(TypedDict):
+    """An entry of an outline."""
+
+    name: str
+    kind: int
+    detail: str
+    range: Range
+    selectionRange: Range
+
+
+class Highlight(TypedDict):
+    """A place of the name at the caret."""
+
+    range: Range
+    kind: int
+
+
+def occurrence_at(analysis: Analysis, where: Position) -> Occurrence | None:
+    """The name at a place, or that ends there; None if there is none that the source defines."""
+    number = where["line"] + 1
+    if not 0 < number <= len(analysis.lines):
+        return None
+    column = index_at(analysis.lines[number - 1], where["character"]) + 1
+    here = [it for it in analysis.names if it.line == number and it.column <= column <= it.column + it.length]
+    return here[-1] if here else None
+
+
+def definition(analysis: Analysis, where: Position) -> list[Range]:
+    """Where the name at a place is defined; a constant may have several definitions."""
+    return [_range(analysis, it) for it in _same(analysis, where) if it.defines]
+
+
+def references(analysis: Analysis, where: Position, with_definition: bool) -> list[Range]:
+    """Where the name at a place is used."""
+    return [_range(analysis, it) for it in _same(analysis, where) if with_definition or not it.defines]
+
+
+def highlights(analysis: Analysis, where: Position) -> list[Highlight]:
+    """Where the name at a place is defined and used, for the editor to mark."""
+    return [{"range": _range(analysis, it), "kind": _WRITE if it.defines else _READ} for it in _same(analysis, where)]
+
+
+def renamed(analysis: Analysis, where: Position, name: str) -> list[TextEdit]:
+    """The changes that give the name at a place another one. Raises LabError if that isn't possible."""
+    _check_new_name(analysis, name)
+    return [{"range": _range(analysis, it), "newText": name} for it in _same(analysis, _renameable(analysis, where))]
+
+
+def rename_range(analysis: Analysis, where: Position) -> Range:
+    """The range of the name at a place. Raises LabError if it can't be renamed."""
+    found = occurrence_at(analysis, _renameable(analysis, where))
+    assert found is not None
+    return _range(analysis, found)
+
+
+def symbols(analysis: Analysis) -> list[Symbol]:
+    """The labels, constants and macros of a source."""
+    found = list[Symbol]()
+    for each in analysis.names:
+        if each.defines and each.defines != "numeric label":
+            span = _range(analysis, each)
+            kind, detail = _kind(analysis, each)
+            found.append({"name": each.name, "kind": kind, "detail": detail, "range": span, "selectionRange": span})
+    return found
+
+
+def _kind(analysis: Analysis, symbol: Occurrence) -> tuple[int, str]:
+    """The kind of a symbol in an outline, and a word about it."""
+    if symbol.defines == "macro":
+        return _METHOD, "macro"
+    address = analysis.program.labels.get(symbol.name)
+    if symbol.defines == "constant" or address is None:
+        return _CONSTANT, "constant" if symbol.defines == "constant" else ""
+    if address not in analysis.words:
+        return _VARIABLE, f"{address:#x}"
+    is_function = symbol.name in analysis.program.exported or address in (analysis.program.entry, *analysis.called)
+    return _FUNCTION if is_function else _KEY, f"{address:#x}"
+
+
+def _same(analysis: Analysis, where: Position) -> Sequence[Occurrence]:
+    """All places of the name at a place."""
+    found = occurrence_at(analysis, where)
+    return [it for it in analysis.names if found and it.name == found.name]
+
+
+def _renameable(analysis: Analysis, where: Position) -> Position:
+    """A place with a name that can be renamed. Raises LabError."""
+    found = occurrence_at(analysis, where)
+    if found is None:
+        raise LabError("there is no label, constant or macro here")
+    if "\n" in found.name:
+        raise LabError("a numeric label has no name: which label 1b or 1f means depends on its place")
+    return where
+
+
+def _check_new_name(analysis: Analysis, name: str) -> None:
+    """Raise LabError unless a label may have this name and none has it."""
+    if not _NAME.fullmatch(name):
+        raise LabError(f"{name} is no name: those begin with a letter or with one of . _ $, and have no spaces")
+    if name in REGISTER_NAMES:
+        raise LabError(f"{name} is a register")
+    if name.lower() in SOURCE_NAMES or name.lower() in DIRECTIVES:
+        raise LabError(f"{name} is an instruction or a directive")
+    if any(each.name == name for each in analysis.names):
+        raise LabError(f"{name} is defined already")
+
+
+def _range(analysis: Analysis, occurrence: Occurrence) -> Range:
+    return range_of(analysis.lines, occurrence.line, occurrence.column, occurrence.length)
