@@ -8,6 +8,7 @@ from functools import partial
 
 from ..assembler.commands import refusal_on_pages
 from ..compilers.compiled import CompiledProgram
+from ..guest.jumps import is_call, is_return
 from ..machine.answers import Listing, Position, Refused, ScalarRegisters, Word, read
 from .requests import BadRequest, Lines, StepKind
 from .seats import Seat
@@ -19,7 +20,7 @@ BLOCK_WORDS = 16  # a block's instructions at most
 MAX_LINES = 1000  # that a program is stepped through up to a line
 LEAVES = "bje"  # first letters of scalar instructions that may branch, jump or call: bne, jal, ecall
 
-_JAL, _JALR, _LINKS, _SP = 0x6F, 0x67, (1, 5), 2  # opcodes; registers with return addresses; and the stack pointer's
+_SP = 2  # the number of the stack pointer
 
 
 def run(machine: SharedMachine, seat: Seat) -> Steps[None]:
@@ -106,17 +107,7 @@ def _goes_on(machine: SharedMachine, seat: Seat, answer: Sequence[str]) -> bool:
 def _calls_at_pc(seat: Seat) -> bool:
     """Whether the next instruction calls a function."""
     line = seat.state["code"].get(seat.state["pc"], "")
-    return bool(line) and _is_call(int(line[:8], 16))
-
-
-def _is_call(word: int) -> bool:
-    """Whether an instruction is a jump that saves a return address."""
-    return word & 0x7F in (_JAL, _JALR) and word >> 7 & 31 in _LINKS
-
-
-def _is_return(word: int) -> bool:
-    """Whether an instruction is a jump to a return address."""
-    return word & 0x7F == _JALR and word >> 7 & 31 == 0 and word >> 15 & 31 in _LINKS
+    return bool(line) and is_call(int(line[:8], 16))
 
 
 def _walk(machine: SharedMachine, seat: Seat, kind: StepKind, by_lines: bool) -> Steps[bool]:
@@ -203,7 +194,7 @@ class _Walk:
 
     def _passes(self, word: Word) -> bool:
         """Whether an instruction is a call that the walk passes over as a whole."""
-        return self._behind is None and self._kind != "into" and _is_call(word.word)
+        return self._behind is None and self._kind != "into" and is_call(word.word)
 
     def _is_end(self, last: Word, place: int) -> bool:
         """Whether the walk ends at a place, behind this instruction."""
@@ -213,7 +204,7 @@ class _Walk:
             self._behind = None
             return self._kind == "over" and (self._line_at is None or self._is_other_line(place))
         if self._kind == "out":
-            return _is_return(last.word)
+            return is_return(last.word)
         return self._is_other_line(place)
 
     def _stack(self) -> int:

@@ -9,6 +9,8 @@ MAX_BYTES = 64  # of an expression
 
 _LITERAL, _REGISTER, _BASE = 0x30, 0x50, 0x70  # of 32 operations each, the first one
 _VECTOR, _LENGTH, _VECTOR_BYTES = 96, 7202, 32  # the numbers of v0 and of vlenb, and what that is here
+FRAME = 32
+"""In place of a register's number: the canonical frame address, which the caller of the function has as its stack pointer."""
 _NUMBER = re.compile("addr|const[1248]?[us]")
 
 Operation = tuple[int, str, list[int], int]

@@ -1,14 +1,15 @@
 """The variables in the debug data of a source: their C types, and their places by addresses of code."""
 
 import re
-from collections.abc import Iterable, Iterator, Sequence
+from collections.abc import Callable, Iterable, Iterator, Sequence
 from itertools import islice
 from typing import TYPE_CHECKING, Any, NamedTuple
 
 from .c_types import declaration, shape
 from .compiler import C_SOURCE
 from ..guest.entries import NAME_LETTERS, entry_at, name_of, ranges_of
-from .locations import CODE_END, MAX_BYTES, Location, Sum, location
+from ..guest.source_lines import units_of
+from .locations import CODE_END, FRAME, MAX_BYTES, Location, Operation, Sum, location
 
 if TYPE_CHECKING:
     from elftools.dwarf.compileunit import CompileUnit
@@ -18,6 +19,7 @@ if TYPE_CHECKING:
 
 MAX_VARIABLES, MAX_PARTS = 300, 32
 
+_CALL_FRAME = 0x9C  # DW_OP_call_frame_cfa
 _ELEMENT = re.compile("([iucx](8|16|32|64))?")
 _VARIABLES = ("DW_TAG_formal_parameter", "DW_TAG_variable")
 _FUNCTION, _BLOCKS = "DW_TAG_subprogram", ("DW_TAG_inlined_subroutine", "DW_TAG_lexical_block")
@@ -42,14 +44,19 @@ class Variable(NamedTuple):
     locations: Sequence[Location]
 
 
-def variables_of(elf: "ELFFile") -> list[Variable]:
-    """The variables of the source, MAX_VARIABLES at most; those up to where the debug data is damaged."""
+def variables_of(
+    elf: "ELFFile", is_own: Callable[[str], bool] = lambda name: name == C_SOURCE, has_frames: bool = False
+) -> list[Variable]:
+    """The variables of the source, MAX_VARIABLES at most; those up to where the debug data is damaged.
+
+    is_own: whether the file of this name, as the compiler was given it, is a source whose variables are wanted
+    has_frames: whether locations may have FRAME in place of a register
+    """
     found = list[Variable]()
     try:
-        debug = elf.get_dwarf_info() if elf.has_dwarf_info() else None
-        for unit in debug.iter_CUs() if debug else ():
-            if name_of(top := unit.get_top_DIE()) == C_SOURCE:
-                found += islice(_Unit(debug, unit).variables(top), MAX_VARIABLES - len(found))
+        for debug, unit in units_of(elf):
+            if is_own(name_of(top := unit.get_top_DIE())):
+                found += islice(_Unit(debug, unit, has_frames).variables(top), MAX_VARIABLES - len(found))
     except Exception:  # pylint: disable=broad-except  # damaged data makes pyelftools raise what its parts do
         pass
     return found
@@ -73,11 +80,11 @@ def read_variables(entries: Iterable[Any]) -> list[Variable]:
 class _Unit:
     """The compiled form of one source."""
 
-    def __init__(self, debug: "DWARFInfo", unit: "CompileUnit") -> None:
+    def __init__(self, debug: "DWARFInfo", unit: "CompileUnit", has_frames: bool) -> None:
         from elftools.dwarf.dwarf_expr import DWARFExprParser
 
-        self._debug, self._unit = debug, unit
-        self._operations = DWARFExprParser(unit.structs).parse_expr
+        self._debug, self._unit, self._has_frames = debug, unit, has_frames
+        self._parse = DWARFExprParser(unit.structs).parse_expr
         first = unit.get_top_DIE().attributes.get("DW_AT_low_pc")
         self._base = first.value if first else 0
 
@@ -99,6 +106,8 @@ class _Unit:
     def _frame(self, entry: "DIE") -> Sum | None:
         """The base of a function's frame, if the entry has it: a scalar register."""
         attribute = entry.attributes.get("DW_AT_frame_base")
+        if attribute and self._has_frames and [*attribute.value] == [_CALL_FRAME]:
+            return FRAME, 0
         place = self._location(0, CODE_END, attribute.value, None) if attribute else None
         return (place.register, 0) if place and place.kind == "register" else None
 
@@ -116,7 +125,17 @@ class _Unit:
             if hasattr(each, "base_address"):
                 base = each.base_address
             else:
-                found.append(self._location(base + each.begin_offset, base + each.end_offset, each.loc_expr, frame))
+                own = 0 if getattr(each, "is_absolute", False) else base  # as entries of DWARF 5 may be
+                found.append(self._location(own + each.begin_offset, own + each.end_offset, each.loc_expr, frame))
+        return found
+
+    def _operations(self, expression: Sequence[int]) -> list[Operation]:
+        """The operations of an expression. Addresses that it has by their numbers in a table (DWARF 5) are in their places."""
+        found = list[Operation]()
+        for code, name, arguments, place in self._parse(expression):
+            if name == "DW_OP_addrx":
+                name, arguments = "DW_OP_addr", [self._debug.get_addr(self._unit, arguments[0])]
+            found.append((code, name, arguments, place))
         return found
 
     def _location(self, first: int, end: int, expression: Sequence[int], frame: Sum | None) -> Location:

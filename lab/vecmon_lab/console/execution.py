@@ -34,7 +34,7 @@ class Execution:
         self.has_mask = False
         self._guest, self._stepper, self._screen = guest, stepper, screen
         self._names, self._conditions = names, conditions
-        self._timeline = Timeline(guest, screen.report)
+        self._timeline = Timeline(guest, lambda advance: screen.report(advance.sentence))
 
     def run(self) -> None:
         """Runs the program to its next stop, or until Ctrl-C."""

@@ -87,9 +87,13 @@ class Target:
         """restart: loads the program on a new machine, with these arguments, or with the command's own if there are none."""
         self.is_attached, self._image, self._restart = True, image, restart
         self._is_extended = False  # whether gdb can run the program again
-        self._guest, self._link, self._timeline = guest, link, Timeline(guest, self._tell)
+        self._guest, self._link, self._timeline = guest, link, self._new_timeline(guest)
         self._last = BEGUN  # the last stop
         self._exit = ""  # the answer if gdb resumes a program that has exited
+
+    def _new_timeline(self, guest: Guest) -> Timeline:
+        """A timeline whose progress gdb prints."""
+        return Timeline(guest, lambda advance: self._tell(advance.sentence))
 
     def answer(self, packet: str) -> str | None:
         """The answer to a packet, or None if it has none; output comes before it. Raises EOFError if gdb ends the program."""
@@ -131,7 +135,7 @@ class Target:
         except (LabError, OSError) as error:
             self._tell(str(error))
             return REFUSED
-        self._timeline, self._last, self._exit = Timeline(self._guest, self._tell), BEGUN, ""
+        self._timeline, self._last, self._exit = self._new_timeline(self._guest), BEGUN, ""
         return self._last
 
     def _answer(self, letter: str, words: list[str]) -> str:

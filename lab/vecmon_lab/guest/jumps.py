@@ -15,6 +15,7 @@ Ranges = Sequence[tuple[int, int]]
 _CODE = 4  # SHF_EXECINSTR: the section has instructions
 _ADDRESSES = (1 << 64) - 1
 _BRANCH, _JUMP, _JUMP_TO_REGISTER = 0x63, 0x6F, 0x67  # opcodes
+_LINKS = (1, 5)  # registers with return addresses
 
 
 class Code:
@@ -53,6 +54,16 @@ class Code:
 def _is_in(ranges: Ranges, address: int) -> bool:
     """Whether an address is in one of the ranges."""
     return any(first <= address < end for first, end in ranges)
+
+
+def is_call(word: int) -> bool:
+    """Whether an instruction is a jump that saves a return address."""
+    return word & 0x7F in (_JUMP, _JUMP_TO_REGISTER) and word >> 7 & 31 in _LINKS
+
+
+def is_return(word: int) -> bool:
+    """Whether an instruction is a jump to a return address."""
+    return word & 0x7F == _JUMP_TO_REGISTER and word >> 7 & 31 == 0 and word >> 15 & 31 in _LINKS
 
 
 def jump_target(address: int, word: int) -> int | None:

@@ -8,7 +8,7 @@ import bisect
 import functools
 import pathlib
 from collections.abc import Callable, Collection, Iterable, Iterator, Mapping, Sequence
-from typing import TYPE_CHECKING, NamedTuple, TypeVar
+from typing import TYPE_CHECKING, Any, NamedTuple, TypeVar
 
 from .entries import entry_at, first_of, name_of, printable, ranges_of
 from .jumps import Code, Ranges
@@ -95,6 +95,15 @@ class SourceLines:
         return {name: {declared: sorted(at) for declared, at in each.items()} for name, each in found.items()}
 
     @functools.cached_property
+    def files(self) -> Mapping[str, pathlib.PurePath]:
+        """The paths of source files by their names, as the compiler was given them."""
+        return dict(self._read(source_files)[0])
+
+    def copies_at(self, address: int) -> list[Copy]:
+        """The function that has an instruction, and the inlined copies around it there, from the innermost one outwards."""
+        return sorted((copy for copy in self._copies if copy.first <= address < copy.end), reverse=True)
+
+    @functools.cached_property
     def _ordered(self) -> list[SourceRow]:
         return sorted(self._table[0], key=lambda row: (row.address, row.line != ""))
 
@@ -124,7 +133,7 @@ class SourceLines:
 
 def source_rows(elf: "ELFFile") -> Iterator[SourceRow]:
     """The rows of the line tables, in the order of each table."""
-    for debug, unit in _units(elf):
+    for debug, unit in units_of(elf):
         program = debug.line_program_for_CU(unit)
         names = _file_names(debug, unit)
         for state in (entry.state for entry in program.get_entries() if entry.state is not None) if program else ():
@@ -133,10 +142,16 @@ def source_rows(elf: "ELFFile") -> Iterator[SourceRow]:
             yield SourceRow(state.address, line, bool(state.is_stmt))
 
 
+def source_files(elf: "ELFFile") -> Iterator[tuple[str, pathlib.PurePath]]:
+    """The names of source files, each with its path."""
+    for debug, unit in units_of(elf):
+        yield from _file_paths(debug, unit)
+
+
 def copies_in(elf: "ELFFile") -> Iterator[Copy]:
     """The ranges of all functions and of their inlined copies."""
     code = Code(elf)
-    for debug, unit in _units(elf):
+    for debug, unit in units_of(elf):
         yield from _copies_of(debug, unit, code)
 
 
@@ -209,7 +224,7 @@ def _lines_at(
     return lines
 
 
-def _units(elf: "ELFFile") -> "Iterator[tuple[DWARFInfo, CompileUnit]]":
+def units_of(elf: "ELFFile") -> "Iterator[tuple[DWARFInfo, CompileUnit]]":
     """The compilation units of a file. pyelftools 0.29 lacks a form that clang's DWARF 5 has in each line table."""
     from elftools.construct import Array, ULInt8
 
@@ -225,9 +240,31 @@ def _file_names(debug: "DWARFInfo", unit: "CompileUnit") -> dict[int, str]:
     program = debug.line_program_for_CU(unit)
     if program is None:
         return {}
-    paths = (entry.name.decode("utf-8", "replace") for entry in program["file_entry"])
-    names = (printable(pathlib.PurePath(path).name) for path in paths)
+    names = (_name_in(entry) for entry in program["file_entry"])
     return dict(enumerate(names, 0 if program.header["version"] >= 5 else 1))
+
+
+def _file_paths(debug: "DWARFInfo", unit: "CompileUnit") -> Iterator[tuple[str, pathlib.PurePath]]:
+    """The names of a unit's files without folders, each with its path. Folder 0 is that of the compilation."""
+    program, folder = debug.line_program_for_CU(unit), unit.get_top_DIE().attributes.get("DW_AT_comp_dir")
+    if program is None:
+        return
+    first = pathlib.PurePath(_text(folder.value) if folder else "")
+    listed = [_text(each) for each in program["include_directory"]]
+    folders = listed if program.header["version"] >= 5 else [f"{first}", *listed]
+    for entry in program["file_entry"]:
+        own = folders[entry.dir_index] if entry.dir_index < len(folders) else ""
+        yield _name_in(entry), first / own / _text(entry.name)
+
+
+def _text(data: bytes) -> str:
+    """A name in debug data."""
+    return data.decode("utf-8", "replace")
+
+
+def _name_in(entry: Any) -> str:
+    """The name of an entry of a line table's files, without its folder."""
+    return printable(pathlib.PurePath(_text(entry.name)).name)
 
 
 def _place(entry: "DIE", kind: str, names: Mapping[int, str]) -> str:

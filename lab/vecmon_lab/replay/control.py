@@ -2,8 +2,28 @@
 
 import time
 from collections.abc import Callable
+from dataclasses import dataclass
 
 SECONDS = 2.0  # before the first report of progress, and between two
+
+
+@dataclass(frozen=True)
+class Advance:
+    """The progress of long work. work: what is done; done, whole: its parts, where `whole` is 0 if they aren't known"""
+
+    work: str
+    done: int
+    whole: int
+
+    @property
+    def amount(self) -> str:
+        """How much is done, as `45 %` or `12 million ticks`."""
+        return f"{100 * self.done // self.whole} %" if self.whole else f"{self.done / 1e6:,.0f} million ticks"
+
+    @property
+    def sentence(self) -> str:
+        """The progress for a terminal."""
+        return f"{self.work}: {self.amount}; Ctrl-C ends it"
 
 
 class Interrupted(Exception):

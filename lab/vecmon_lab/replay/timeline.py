@@ -3,12 +3,13 @@
 Where it goes back, the later instants are forgotten. `History` finds the way; here are the guest, and its way forward.
 """
 
-from collections.abc import Callable, Sequence
+import contextlib
+from collections.abc import Callable, Iterator, Sequence
 
 from ..guest.guest import MAX_STEPS, Guest
 from ..guest.runner import MAX_SLICES, OUTPUT_BYTES, SAFE_STEPS
 from ..machine.answers import Addresses, Position, Stop
-from .control import Control, Interrupted, never
+from .control import Advance, Control, Interrupted, never
 from .history import Halts, History
 from .intervals import MAX_TICKS
 from .recorded import Halt, Search
@@ -20,8 +21,8 @@ MIN_TICKS, FIRST_TICKS = 4, 256  # that the recorder is given; of the least, all
 LOGGED_TICKS, SEARCHED_TICKS = 1 << 20, 1 << 24  # at most, with a log of all instructions, and without
 GROWTH = 8  # of these, from one search to the next
 
-Report = Callable[[str], object]
-"""Is given a sentence about the progress of work that takes more than two seconds."""
+Report = Callable[[Advance], object]
+"""Is given the progress of work that takes more than two seconds."""
 
 
 class Timeline:
@@ -30,10 +31,10 @@ class Timeline:
     watches: the places that `go`, `step`, `back` and `back_to_halt` stop at, before an instruction executes or is taken
         back, that does what is watched for: so gdb has it for RISC-V
     hit: the place of the last of these, where it stopped there
-    run: what the guest has executed, and the states from which a replay may start
+    run: the guest's run, and the states from which a replay may start
     """
 
-    def __init__(self, guest: Guest, report: Report = lambda sentence: None) -> None:
+    def __init__(self, guest: Guest, report: Report = lambda advance: None) -> None:
         """report: is given the progress of a search or replay that takes more than two seconds, and then every two"""
         self.watches = list[Watch]()
         self.hit: Watch | None = None
@@ -94,6 +95,23 @@ class Timeline:
                 self.hit = hit
         return is_there
 
+    @contextlib.contextmanager
+    def before(self, is_interrupted: Callable[[], bool] = never) -> Iterator[Guest | None]:
+        """A guest on its own session, in the state before the last instruction; the timeline's guest stays where it is.
+
+        None if nothing was executed, or if it is interrupted. Raises LabError.
+        """
+        self.run.control = self._control(is_interrupted, "going back")
+        replay = None if self.run.is_at_start else self._history.at(-1, is_interrupted)
+        if replay is None:
+            self._history.cancel()
+            yield None
+            return
+        try:
+            yield replay.guest
+        finally:
+            replay.close()
+
     def back_to_halt(self, breaks: Sequence[int], is_interrupted: Callable[[], bool]) -> bool | None:
         """As `back_to_halt_if_any`, but go back to the start if there is no such instruction. Raises LabError."""
         is_there = self.back_to_halt_if_any(breaks, is_interrupted)
@@ -119,7 +137,7 @@ class Timeline:
         return True
 
     def _go_back(self, number: int, is_interrupted: Callable[[], bool]) -> bool | None:
-        """As `back`, whatever is watched. What was changed at the first instant stays, if the guest is there."""
+        """As `back`, whatever is watched. Changes at the first instant stay, if the guest is there."""
         self.run.control = self._control(is_interrupted, "going back")
         if number <= 0 or self.run.is_at_start:
             return number <= 0
@@ -204,7 +222,6 @@ class Timeline:
         """Ends work if it is interrupted, and reports its progress. what: the work"""
 
         def report(done: int, whole: int) -> None:
-            part = f"{100 * done // whole} %" if whole > done else f"{done / 1e6:,.0f} million ticks"
-            self._report(f"{what}: {part}; Ctrl-C ends it")
+            self._report(Advance(what, done, whole if whole > done else 0))
 
         return Control(is_interrupted, report)

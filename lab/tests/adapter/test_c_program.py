@@ -1,0 +1,264 @@
+"""The debug adapter with sources in C and with images: frames, variables, and steps over calls and inlined functions.
+
+The numbers of `above.c` are calculated here, those of `total` and `prefix_sums` by hand; where functions are entered is what gdb shows
+(lab/tests/gdb).
+"""
+
+import pathlib
+from collections.abc import Iterator
+
+import pytest
+
+from support.dap_client import Client, line_of
+from support.places import EXAMPLES, PREFIX_SUMS, SQUARES, SUM, SUM_DWARF4, SUM_DWARF5, TOTAL
+from vecmon_lab.compilers.compiler import RUNTIME, Compiler
+
+ABOVE = EXAMPLES / "above.c"
+NUMBERS = [i * 37 % 101 for i in range(100)]
+ADD = line_of(ABOVE, "sums = __riscv_vadd")
+
+CALLS = """\
+#include "vecmon.h"
+
+struct pair { int first; unsigned char second; };
+static short table[2][3] = {{1, 2, 3}, {-4, 5, 6}};
+static const char *name = "none";
+static char text[] = "two\\nlines";
+int count = 7;
+
+__attribute__((noinline)) static int depth(int number)
+{
+    int below = number > 0 ? depth(number - 1) : 0;
+    return below + number;
+}
+
+int main(int argc, char **argv)
+{
+    struct pair pair = {argc, 'x'};
+    count += depth(4);
+    table[1][0] = (short)count;
+    put(text, sizeof text - 1);
+    return count + pair.first + (name != argv[0]);
+}
+"""
+
+
+@pytest.fixture
+def above(clang: Compiler) -> Iterator[Client]:
+    """A client with `above.c`, stopped at its first line, with a breakpoint at the addition."""
+    with Client.started() as client:
+        client.launch(ABOVE, stopOnEntry=True, options="O2", compiler=clang.name)
+        (found,) = client.lines(ABOVE, ADD)
+        assert found["verified"] and found["line"] == ADD
+        client.begin()
+        yield client
+
+
+@pytest.fixture
+def calls(clang: Compiler, tmp_path: pathlib.Path) -> Iterator[tuple[Client, pathlib.Path]]:
+    """A client with a source that isn't optimized, stopped at `main`, and its path."""
+    source = tmp_path / "calls.c"
+    source.write_text(CALLS)
+    with Client.started() as client:
+        client.launch(source, stopOnEntry=True, options="O0", compiler=clang.name)
+        client.begin()
+        yield client, source
+
+
+def texts(client: Client, scope: str, frame: int = 1) -> dict[str, str]:
+    """The values in a scope."""
+    return {name: row["value"] for name, row in client.rows(client.scope(scope, frame)).items()}
+
+
+def test_inlined_function_has_a_frame_and_variables(above: Client) -> None:
+    assert above.move("continue")["reason"] == "breakpoint"
+    frames = above.ask("stackTrace", threadId=1)["stackFrames"]
+    call = line_of(ABOVE, "numbers[0] = sum(")
+    assert [(each["name"], each["line"]) for each in frames] == [("sum", ADD), ("_start", call)]
+    assert {each["source"]["path"] for each in frames} == {f"{ABOVE}"}
+    variables = texts(above, "Locals")
+    assert variables["length"] == "16" and variables["count"] == "100"
+    assert texts(above, "Locals", 2)["above"] == f"{sum(each > 50 for each in NUMBERS[:16])}"
+    numbers = above.rows(above.scope("Globals"))["numbers"]
+    part = above.rows(numbers["variablesReference"], start=90, count=3)
+    assert [row["value"] for row in part.values()] == [f"{each}" for each in NUMBERS[90:93]]
+    assert above.value("numbers[99]") == f"{NUMBERS[99]}" and above.value("numbers[1] * 2") == "74 (0x4a)"
+    above.move("continue")
+    assert texts(above, "Locals", 2)["above"] == f"{sum(each > 50 for each in NUMBERS[:32])}"
+
+
+def test_inlined_function_is_left(above: Client) -> None:
+    above.move("continue")
+    above.lines(ABOVE)
+    above.move("stepOut")
+    assert above.where()[0] == "_start"
+    above.move("stepBack")
+    above.lines(ABOVE, ADD)
+    above.move("reverseContinue")
+    assert above.where() == ("sum", ADD)
+
+
+def test_exit_status_comes_after_the_stop_at_the_exit(above: Client) -> None:
+    above.lines(ABOVE)
+    stop = above.move("continue")
+    status = sum(each > 50 for each in NUMBERS)
+    assert stop["reason"] == "exit" and f"status {status}." in stop["text"]
+    above.lines(ABOVE, ADD)
+    assert above.move("reverseContinue")["reason"] == "breakpoint"
+    above.lines(ABOVE)
+    assert above.move("continue")["reason"] == "exit"
+    above.ask("continue", threadId=1)
+    assert above.event("exited") == {"exitCode": status} and above.event("terminated") == {}
+
+
+def test_recursive_calls_have_frames(calls: tuple[Client, pathlib.Path]) -> None:
+    client, source = calls
+    assert client.where()[0] == "main"
+    returns = line_of(source, "return below")
+    client.lines(source, returns)
+    client.move("continue")
+    frames = client.ask("stackTrace", threadId=1)["stackFrames"]
+    assert [each["name"] for each in frames][:7] == [*["depth"] * 5, "main", "_start"]
+    assert [texts(client, "Locals", frame)["number"] for frame in range(1, 6)] == ["0", "1", "2", "3", "4"]
+    part = client.ask("stackTrace", threadId=1, startFrame=4, levels=2)
+    assert [each["id"] for each in part["stackFrames"]] == [5, 6] and part["totalFrames"] == len(frames)
+    client.lines(source)
+    client.move("stepOut")
+    assert client.where()[0] == "depth" and texts(client, "Locals")["number"] == "1"
+    client.move("next")
+    assert client.where() == ("depth", returns) and texts(client, "Locals")["below"] == "0"
+    client.move("stepBack")
+    assert client.where() == ("depth", line_of(source, "int below"))
+    assert texts(client, "Locals")["number"] == "1"
+
+
+def test_step_passes_a_recursive_call_both_ways(calls: tuple[Client, pathlib.Path]) -> None:
+    client, source = calls
+    first = line_of(source, "count += depth")
+    client.lines(source, first)
+    client.move("continue")
+    client.lines(source)
+    client.move("next")
+    assert client.where() == ("main", first + 1) and client.value("count") == "17"
+    client.move("stepBack")
+    assert client.where() == ("main", first) and client.value("count") == "7"
+    client.move("stepIn")
+    assert client.where()[0] == "depth"
+
+
+def test_values_have_their_types(calls: tuple[Client, pathlib.Path]) -> None:
+    client, source = calls
+    client.lines(source, line_of(source, "put(text"))
+    client.move("continue")
+    shared = client.rows(client.scope("Globals"))
+    assert shared["table"]["value"] == "{{1, 2, 3}, {17, 5, 6}}" and shared["table"]["type"] == "short table[2][3]"
+    row = client.rows(shared["table"]["variablesReference"])["[1]"]
+    assert [each["value"] for each in client.rows(row["variablesReference"]).values()] == ["17", "5", "6"]
+    assert shared["text"]["value"] == '"two\\nlines"' and shared["name"]["value"].startswith("0x")
+    reference = client.scope("Globals")
+    assert client.ask("setVariable", variablesReference=reference, name="count", value="-20")["value"] == "-20"
+    assert client.ask("setExpression", expression="table[0][2]", value="0x7f")["value"] == "127"
+    assert client.value("table[0][2] + count") == "107 (0x6b)"
+    for name, value in (("count", "4294967296"), ("table", "1"), ("count", "x")):
+        client.refused("setVariable", variablesReference=reference, name=name, value=value)
+    info = client.ask("dataBreakpointInfo", variablesReference=row["variablesReference"], name="[1]")
+    assert info["dataId"].endswith(":2")
+    assert client.ask("dataBreakpointInfo", name="a0")["dataId"] is None
+    client.move("next")
+    assert client.output() == "two\nlines"
+
+
+def test_data_breakpoint_at_a_variable_goes_back_to_its_change(calls: tuple[Client, pathlib.Path]) -> None:
+    client, source = calls
+    client.move("continue")
+    info = client.ask("dataBreakpointInfo", name="count")
+    client.ask("setDataBreakpoints", breakpoints=[{"dataId": info["dataId"], "accessType": "write"}])
+    assert client.move("reverseContinue")["reason"] == "data breakpoint"
+    assert client.where() == ("main", line_of(source, "count += depth") + 1)  # the store is the line's last instruction
+    assert client.value("count") == "17"
+    client.move("stepBack")
+    assert client.value("count") == "7"
+
+
+@pytest.mark.parametrize("image", TOTAL)
+def test_image_of_gcc_has_frames_and_locals(image: pathlib.Path) -> None:
+    with Client.started() as client:
+        client.launch(image, stopOnEntry=True)
+        (found,) = client.ask("setFunctionBreakpoints", breakpoints=[{"name": "total"}])["breakpoints"]
+        assert found["verified"]
+        client.begin()
+        assert client.move("continue")["reason"] == "function breakpoint"
+        frames = client.ask("stackTrace", threadId=1)["stackFrames"]
+        assert [each["name"] for each in frames] == ["total", "main", "_start"]
+        assert frames[0]["source"]["path"] == f"{image.with_name('total.c')}"
+        assert frames[2]["source"]["path"] == f"{RUNTIME / 'runtime.c'}"
+        assert client.rows(client.scope("Locals", 2))["first"]["value"] == "0"
+        numbers = client.rows(client.scope("Globals"))["numbers"]
+        assert numbers["value"] == "{0, 1, 4, 9, 16, 25, 36, 49, 64, 81}"
+
+
+@pytest.mark.parametrize("image", PREFIX_SUMS)
+def test_image_of_clang_has_globals(image: pathlib.Path) -> None:
+    with Client.started() as client:
+        client.launch(image)
+        client.lines(image.with_name("prefix_sums.c"), 51)
+        assert client.begin()["reason"] == "breakpoint"
+        assert client.rows(client.scope("Globals"))["numbers"]["type"] == "uint32_t numbers[50]"
+        assert client.value("numbers[49]") == "0"
+
+
+@pytest.mark.parametrize("image", [SUM_DWARF4, SUM_DWARF5])
+def test_arguments_of_an_inlined_function_are_found(image: pathlib.Path) -> None:
+    """At line 23 gdb 13.1 shows count=100 and v10 with the squares of 0 to 7 (docs/DEBUGGING.md)."""
+    with Client.started() as client:
+        client.launch(image, stopOnEntry=True)
+        (found,) = client.lines(pathlib.Path("/nowhere/sum.c"), 23)
+        assert found["verified"] and found["source"]["path"] == "/nowhere/sum.c"
+        client.begin()
+        client.move("continue")
+        assert client.where() == ("sum", 23)
+        assert client.rows(client.scope("Locals"))["count"]["value"] == "100"
+        group = client.rows(client.scope("Vector registers"))["v10-v11"]["variablesReference"]
+        values = [row["value"].split()[0] for row in client.rows(group, count=8).values()]
+        assert values == [f"{at * at}" for at in range(8)]
+
+
+def test_fault_of_an_image_without_debug_data_is_explained() -> None:
+    """The store and its element are those of docs/COMPILING.md."""
+    with Client.started() as client:
+        client.launch(SQUARES)
+        assert client.begin()["reason"] == "exception"
+        info = client.ask("exceptionInfo", threadId=1)
+        assert info["description"].startswith("The store at 0x10198 may not write from 0x12000 on: ")
+        (frame, *_) = client.ask("stackTrace", threadId=1)["stackFrames"]
+        assert frame["instructionPointerReference"] == "0x10198" and "source" not in frame
+        rows = client.rows(client.scope("Last instruction"))["data v8-v9"]["variablesReference"]
+        outcomes = [row["value"].split(")  ")[1] for row in client.rows(rows, start=13, count=3).values()]
+        assert outcomes == ["before vstart", "fault", "not reached"]
+
+
+def test_output_and_end_of_an_image_without_stops() -> None:
+    with Client.started() as client:
+        client.launch(SUM, noDebug=True, args=["a", "b"])
+        client.ask("configurationDone")
+        assert client.event("exited") == {"exitCode": 0} and client.output() == "328350\n"
+        client.event("terminated")
+        client.ask("disconnect")
+        with pytest.raises(EOFError):
+            client.message()
+
+
+def test_mistakes_of_a_source_are_listed(clang: Compiler, tmp_path: pathlib.Path) -> None:
+    wrong = tmp_path / "wrong.c"
+    wrong.write_text("int main(void) { return nothing; }\nint other(void) { return 1 }\n")
+    with Client.started() as client:
+        client.ask("initialize")
+        lines = client.refused("launch", program=f"{wrong}", compiler=clang.name).split("\n")
+        assert [line.split(": ")[0] for line in lines] == [f"{wrong}:1:25", f"{wrong}:2:27"]
+        source = tmp_path / "wrong.s"
+        source.write_text("vadd.vv v1, v2, 3\nvad.vv v1, v2, v3\nli a0\n")
+        lines = client.refused("launch", program=f"{source}").split("\n")
+        assert [line.removeprefix(f"{source}:").split(":")[0] for line in lines] == ["1", "2", "3"]
+        source.write_text("ebreak\n")
+        client.ask("launch", program=f"{source}", stopOnEntry=True)  # it is corrected
+        assert client.begin()["reason"] == "entry"

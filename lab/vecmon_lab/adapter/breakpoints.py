@@ -1,0 +1,238 @@
+"""Breakpoints of the client: at lines, functions and addresses, and at data.
+
+The machine has 16 addresses for them. A breakpoint without room isn't verified, until others are removed.
+"""
+
+import itertools
+import pathlib
+from collections.abc import Callable, Iterable, Iterator, Mapping, Sequence
+from dataclasses import dataclass, replace
+
+from .. import LabError
+from ..console.breakpoints import MAX_BREAKPOINTS
+from ..instructions.accesses import LINE_BYTES
+from ..machine.answers import Addresses
+from ..machine.session import TOGETHER
+from ..replay.watches import Watch
+from .program import Program
+from .requests import DataBreakpoint, FunctionBreakpoint, InstructionBreakpoint, SourceBreakpoint
+
+FUNCTIONS, INSTRUCTIONS = "functions", "instructions"
+_ACCESSES = {"write": "watch", "read": "rwatch", "readWrite": "awatch"}
+
+Wanted = SourceBreakpoint | FunctionBreakpoint | InstructionBreakpoint
+
+
+@dataclass(frozen=True)
+class Breakpoint:
+    """A breakpoint of the client's.
+
+    number: its identifier; kind: FUNCTIONS, INSTRUCTIONS, or the path of a source
+    addresses: of its instructions, in rising order
+    file, line: where it is, if that is known
+    problem: why it isn't verified, in a sentence, or ""
+    """
+
+    number: int
+    kind: str
+    wanted: Wanted
+    addresses: Sequence[int] = ()
+    file: str = ""
+    line: int = 0
+    problem: str = ""
+
+    @property
+    def condition(self) -> str:
+        """An expression that has to be true for a stop; "" for none."""
+        return self.wanted.condition
+
+    @property
+    def log_message(self) -> str:
+        """A text that is printed in place of a stop; "" for none."""
+        return self.wanted.log_message if isinstance(self.wanted, SourceBreakpoint) else ""
+
+
+@dataclass(frozen=True)
+class DataStop:
+    """A data breakpoint of the client's. problem: why it isn't verified, in a sentence, or "" """
+
+    number: int
+    watch: Watch
+    condition: str
+    problem: str = ""
+
+
+class Breakpoints:
+    """All breakpoints of a program.
+
+    data: those at data
+    """
+
+    def __init__(
+        self, check: Callable[[str], object], address_of: Callable[[str], int], changed: Callable[[Breakpoint], object]
+    ) -> None:
+        """check: raises LabError for a condition that can't be read; address_of: for a text that is no address or symbol
+
+        changed: is given a breakpoint that has become verified, or isn't any more
+        """
+        self.data: Sequence[DataStop] = ()
+        self._check, self._address_of, self._changed = check, address_of, changed
+        self._program: Program | None = None
+        self._found_ones = dict[str, Sequence[Breakpoint]]()  # with their addresses, whether these have room or not
+        self._all = dict[str, Sequence[Breakpoint]]()
+        self._numbers = itertools.count(1)
+        self._set = frozenset[int]()  # that the machine has
+
+    def __iter__(self) -> Iterator[Breakpoint]:
+        return itertools.chain(*self._all.values())
+
+    def attach(self, program: Program) -> None:
+        """Set all breakpoints in a program that was loaded."""
+        self._program, self._set = program, frozenset()
+        before = {each.number: each for each in self}
+        for kind, saved in self._found_ones.items():
+            self._found_ones[kind] = [self._found(each) for each in saved]
+        self._place(before, "")
+        self._watch()
+
+    def replace(self, kind: str, wanted: Sequence[Wanted]) -> Sequence[Breakpoint]:
+        """Set all breakpoints of a kind in place of those before; return them in their order."""
+        before, old = {each.number: each for each in self}, [*self._all.get(kind, ())]
+        new = list[Breakpoint]()
+        for each in wanted:
+            same = next((it for it in old if it.wanted == each), None)
+            if same:
+                old.remove(same)
+            new.append(self._found(Breakpoint(same.number if same else next(self._numbers), kind, each)))
+        self._found_ones[kind] = new
+        self._place(before, kind)
+        return self._all[kind]
+
+    def replace_data(self, wanted: Sequence[DataBreakpoint]) -> Sequence[DataStop]:
+        """Set all data breakpoints in place of those before; return them in their order."""
+        found, room = list[DataStop](), TOGETHER
+        for each in wanted:
+            digits, _, length = each.data_id.partition(":")
+            watch = Watch(_ACCESSES[each.access_type], int(digits, 16), int(length))
+            lines = -(-watch.length // LINE_BYTES)
+            problem = self._problem_of(each.condition)
+            if not problem and lines > room:
+                problem = f"data breakpoints watch {TOGETHER * LINE_BYTES:,} bytes at most, in blocks of {LINE_BYTES}"
+            room -= 0 if problem else lines
+            found.append(DataStop(next(self._numbers), watch, each.condition, problem))
+        self.data = found
+        self._watch()
+        return found
+
+    @property
+    def addresses(self) -> frozenset[int]:
+        """The addresses of breakpoints that are verified."""
+        return self._set
+
+    @property
+    def has_room(self) -> bool:
+        """Whether the machine takes another breakpoint."""
+        return len(self._set) < MAX_BREAKPOINTS
+
+    def at(self, address: int) -> list[Breakpoint]:
+        """The breakpoints at an address that are verified."""
+        return [each for each in self if address in each.addresses and not each.problem]
+
+    def lines(self, path: pathlib.Path) -> Mapping[int, Sequence[int]]:
+        """The addresses of each line of a source that may have a breakpoint."""
+        return self._program.stops.get(path.name, {}) if self._program else {}
+
+    def _watch(self) -> None:
+        if self._program:
+            self._program.timeline.watches = [each.watch for each in self.data if not each.problem]
+
+    def _problem_of(self, condition: str) -> str:
+        """Why a condition can't be read, or ""."""
+        try:
+            if condition:
+                self._check(condition)
+        except LabError as error:
+            return str(error)
+        return ""
+
+    def _found(self, each: Breakpoint) -> Breakpoint:
+        """A breakpoint with its addresses in the program, or why it has none."""
+        blank = replace(each, addresses=(), file="", line=0, problem="")
+        if self._program is None:
+            return replace(blank, problem="there is no program yet")
+        if problem := self._problem_of(each.condition):
+            return replace(blank, problem=problem)
+        match each.wanted:
+            case SourceBreakpoint(line):
+                return self._found_line(blank, line)
+            case FunctionBreakpoint(name):
+                return self._found_function(blank, self._program, name)
+            case InstructionBreakpoint(reference, offset):
+                return self._found_address(blank, self._program, reference, offset)
+
+    def _found_line(self, blank: Breakpoint, line: int) -> Breakpoint:
+        """As `_found`, of a line; one without instructions has the breakpoint of the next line that has some."""
+        path = pathlib.Path(blank.kind)
+        stops = self.lines(path)
+        if not stops:
+            return replace(blank, problem=f"the program has no instruction of a line of {path.name}")
+        later = min((each for each in stops if each >= line), default=None)
+        if later is None:
+            problem = f"no instruction is of line {line} of {path.name} or a later one; line {max(stops)} has the last"
+            return replace(blank, problem=problem)
+        return replace(blank, addresses=stops[later], file=path.name, line=later)
+
+    def _found_function(self, blank: Breakpoint, program: Program, name: str) -> Breakpoint:
+        """As `_found`, of a function with its inlined copies, or of a label."""
+        entries = program.symbols.source.functions.get(name, {})
+        addresses = sorted({address for each in entries.values() for address in each})
+        if not addresses and name in program.symbols.addresses:
+            addresses = [program.symbols.addresses[name]]
+        if not addresses:
+            return replace(blank, problem=f"there is no function or label {name}")
+        return self._with_line(replace(blank, addresses=addresses), program)
+
+    def _found_address(self, blank: Breakpoint, program: Program, reference: str, offset: int) -> Breakpoint:
+        """As `_found`, of an address."""
+        try:
+            address = self._address_of(reference) + offset
+        except LabError as error:
+            return replace(blank, problem=str(error))
+        if address % 4 or not 0 <= address < 1 << 48:
+            return replace(blank, problem=f"no instruction can be at {address:#x}: addresses are divisible by 4")
+        return self._with_line(replace(blank, addresses=[address]), program)
+
+    def _with_line(self, each: Breakpoint, program: Program) -> Breakpoint:
+        """A breakpoint with the line of its first address."""
+        line = program.line(each.addresses[0])
+        return replace(each, file=line.file, line=line.number) if line else each
+
+    def _place(self, before: Mapping[int, Breakpoint], kind: str) -> None:
+        """Give the machine's addresses to breakpoints, the oldest first, and report the changes of other kinds than this one."""
+        placed, used = dict[int, Breakpoint](), set[int]()
+        for each in sorted(itertools.chain(*self._found_ones.values()), key=lambda it: it.number):
+            new = {*each.addresses} - used
+            left = MAX_BREAKPOINTS - len(used)
+            if len(new) > left:
+                problem = (
+                    f"the machine has {MAX_BREAKPOINTS} breakpoints: this one needs {len(new)}, and {left} are left"
+                )
+                placed[each.number] = replace(each, problem=problem)
+            else:
+                placed[each.number] = each
+                used |= new
+        self._send(used)
+        for name, saved in self._found_ones.items():
+            self._all[name] = [placed[each.number] for each in saved]
+        for each in placed.values():
+            if each.kind != kind and each != before.get(each.number):
+                self._changed(each)
+
+    def _send(self, addresses: Iterable[int]) -> None:
+        """Set these breakpoints in the machine, in place of those before."""
+        now = frozenset(addresses)
+        if self._program:
+            guest = self._program.guest
+            there = frozenset(guest.query("breaks", Addresses).addresses)
+            guest.ask(*(f"unbreak {at:x}" for at in there - now), *(f"break {at:x}" for at in now - there))
+            self._set = now

@@ -1,0 +1,32 @@
+"""The command `vecmon-lab dap`: it serves one client over standard input and output, or over a port of this computer."""
+
+import argparse
+import os
+import socket
+
+from ..arguments import between
+from ..output import write_out
+from .session import Session
+from .wire import Wire
+
+HOST = "127.0.0.1"
+
+
+def add_arguments(parser: argparse.ArgumentParser) -> None:
+    """The words of `vecmon-lab dap`."""
+    help_text = f"wait for one client at this port of {HOST}; 0 chooses one, which is printed"
+    parser.add_argument("--port", metavar="N", type=between(0, 65535), help=help_text)
+
+
+def run(arguments: argparse.Namespace) -> int:
+    """Serve a client until it ends the session. Raises BadMessage, and OSError if the port is taken."""
+    if arguments.port is None:
+        Session(Wire(os.dup(0), write_out)).serve()
+        return 0
+    with socket.create_server((HOST, arguments.port)) as listener:
+        print(f"listening at {HOST}:{listener.getsockname()[1]}", flush=True)
+        connection, _ = listener.accept()
+    with connection:
+        connection.setsockopt(socket.IPPROTO_TCP, socket.TCP_NODELAY, 1)
+        Session(Wire(connection.fileno(), connection.sendall)).serve()
+    return 0

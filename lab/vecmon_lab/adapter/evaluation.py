@@ -1,0 +1,152 @@
+"""What a client's expressions evaluate to, at an instant of the program."""
+
+import re
+from collections.abc import Callable, Iterable
+from dataclasses import dataclass
+
+from .. import LabError
+from ..console.conditions import REGISTERS
+from ..guest.changes import NAMES
+from ..meanings.help import help_lines
+from ..meanings.record import records
+from ..meanings.why import read_name
+from . import expressions
+from .c_variables import find_variable
+from .instants import Frame, Instant
+from .operands import why
+from .program import Program
+from .values import number_text
+from .variables import Item, group_item, send, set_scalar, variable_item
+from .vectors import group_at
+
+_VECTOR = re.compile(r"v(\d|[12]\d|3[01])")
+_COMMAND = re.compile(r"(why|help)\b\s*(.*)")
+_NUMBER = re.compile(r"(?:0[xX][0-9a-fA-F]+|[0-9]+)")
+
+
+@dataclass(frozen=True)
+class Evaluation:
+    """The result of an expression: a row, or a text of several lines."""
+
+    item: Item
+
+
+def address_of(program: Program, text: str) -> int:
+    """The address that a text names: digits, or a symbol, perhaps with a number added to it. Raises LabError."""
+    name, sign, offset = text.strip().partition("+")
+    if sign and not _NUMBER.fullmatch(offset.strip()):
+        raise LabError(f"{text.strip()} is no address: 0x10000 and main+8 are some")
+    more = int(offset, 0) if sign else 0
+    if _NUMBER.fullmatch(name):
+        return int(name, 0) + more
+    if len(places := program.symbols.places_of.get(name, ())) > 1:
+        raise LabError(f"{name} names {len(places)} places: {', '.join(f'{at:#x}' for at in sorted(places))}")
+    if name not in program.symbols.addresses:
+        raise LabError(f"there is no symbol {name}")
+    return program.symbols.addresses[name] + more
+
+
+def evaluate(instant: Instant, frame: Frame, text: str, context: str, is_hex: bool) -> Item:
+    """Return the row of an expression. In the debug console `why v8[3]` and `help NAME` are answered, too. Raises LabError.
+
+    context: where the client shows the result: `hover`, `watch`, `repl` and others
+    """
+    if context == "repl" and (found := _COMMAND.fullmatch(text.strip())):
+        answer = why(instant, *read_name(found[2])) if found[1] == "why" else "\n".join(help_lines(found[2]))
+        return Item(text, answer)
+    if context == "hover" and (lines := _described(instant, frame, text)):
+        return Item(text, lines)
+    if expressions.is_name(text):
+        return _item(instant, frame, *expressions.name_in(text), is_hex)
+    value = expressions.evaluate(text, lambda name, indices: number_of(instant, frame, name, indices))
+    return Item(
+        text, number_text(value & (1 << 64) - 1, 64, is_hex), expression=text, address=value if value >= 0 else None
+    )
+
+
+def number_of(instant: Instant, frame: Frame, name: str, indices: tuple[int, ...]) -> int:
+    """Return the number of a name in an expression. Raises LabError."""
+    if found := _VECTOR.fullmatch(name):
+        group = group_at(instant, int(found[1]))
+        if len(indices) != 1 or not 0 <= indices[0] < len(group.values):
+            raise LabError(f"{name} has elements: {name}[0] to {name}[{len(group.values) - 1}] are some")
+        return group.values[indices[0]]
+    variable = find_variable(instant, frame, name)
+    for index in indices if variable else ():
+        variable = variable.element(index) if variable else None
+    if variable:
+        return variable.value()
+    if indices:
+        raise LabError(f"{name} has no elements")
+    value = _register(instant, frame, name)
+    return address_of(instant.program, name) if value is None else value
+
+
+def set_expression(instant: Instant, frame: Frame, text: str, value: str) -> None:
+    """Give the register, element or variable that an expression is a new number. Raises LabError."""
+    item = _item(instant, frame, *expressions.name_in(text), False)
+    if item.change is None:
+        raise LabError(f"{text.strip()} can't be changed")
+    item.change(value)
+
+
+def completions(instant: Instant, frame: Frame, start: str) -> list[str]:
+    """The names that begin with a text."""
+    names: Iterable[str] = [*REGISTERS, *(f"v{number}" for number in range(32)), *instant.program.symbols.addresses]
+    own = [each.name for each in instant.program.variables]
+    return sorted({name for name in [*names, *own, "why", "help"] if name.startswith(start)})
+
+
+def _item(instant: Instant, frame: Frame, name: str, indices: tuple[int, ...], is_hex: bool) -> Item:
+    """The row of a name with indices. Raises LabError."""
+    if found := _VECTOR.fullmatch(name):
+        row = group_item(group_at(instant, int(found[1])), is_hex)
+        if not indices:
+            return row
+        number_of(instant, frame, name, indices)
+        assert row.children
+        return row.children(indices[0], 1, is_hex)[0]
+    variable = find_variable(instant, frame, name)
+    for index in indices if variable else ():
+        variable = variable.element(index) if variable else None
+    if variable:
+        return variable_item(variable, is_hex)
+    value = number_of(instant, frame, name, indices)
+    change: Callable[[str], None] | None = None
+    register, guest = REGISTERS.get(name, ""), instant.program.guest
+    if frame.call.is_innermost and re.fullmatch("x[1-9][0-9]*", register):
+        change = lambda text: set_scalar(guest, int(register[1:]), text)  # noqa: E731
+    if frame.call.is_innermost and name == "pc":
+        change = lambda text: send(guest, f"setpc {address_of(instant.program, text):x}")  # noqa: E731
+    return Item(name, number_text(value, 64, is_hex), expression=name, address=value, change=change)
+
+
+def _register(instant: Instant, frame: Frame, name: str) -> int | None:
+    """The value of a scalar or control register; None if the name is another one. Raises LabError."""
+    if name == "pc":
+        return frame.call.address
+    register = REGISTERS.get(name)
+    if register is None:
+        return None
+    scalars = frame.call.registers
+    values: dict[str, int | None] = dict(zip(NAMES, [*scalars, *vars(instant.registers.control).values()]))
+    value = values[register]
+    if value is None:
+        raise LabError(f"{name} isn't known in this frame: a called function may have changed it")
+    return value
+
+
+def _described(instant: Instant, frame: Frame, text: str) -> str:
+    """What an instruction or a directive does, for a name that is neither a register, a variable nor a symbol; else ""."""
+    name = text.strip()
+    is_value = name in REGISTERS or find_variable(instant, frame, name) or name in instant.program.symbols.addresses
+    if is_value or _VECTOR.fullmatch(name) or not re.fullmatch(r"[.\w]+", name):
+        return ""
+    return "\n".join(help_lines(name)) if _is_described(name) else ""
+
+
+def _is_described(name: str) -> bool:
+    """Whether there is a record of a name."""
+    from ..instructions.table import instruction_table
+
+    return name in instruction_table() or name in records()

@@ -1,0 +1,124 @@
+"""The state of a program where it is stopped: registers, frames, and the instruction before."""
+
+from collections.abc import Callable, Sequence
+from dataclasses import dataclass
+from functools import cached_property
+
+from .. import LabError
+from ..guest.changes import Registers, Retired
+from ..guest.guest import Guest
+from ..guest.source_lines import Copy
+from ..instructions.accesses import vector_instruction
+from ..machine.answers import Memory, ScalarRegisters, ControlRegisters, Stop
+from ..meanings.executed import Before
+from ..meanings.instruction import End, ExecutedInstruction, executed_instruction
+from ..meanings.stepped import explanation_of
+from ..meanings.why import Explanation
+from .program import Line, Program
+from .unwinding import CallFrame
+
+ILLEGAL = 2  # the cause of a fault
+
+
+@dataclass(frozen=True)
+class Frame:
+    """A frame of the client's call stack: a function, or a copy that is inlined in one.
+
+    function: the machine's function; name: of the function or the inlined copy, "" if it isn't known
+    line: where the program is in it
+    """
+
+    call: CallFrame
+    name: str
+    line: Line | None
+
+
+@dataclass(frozen=True)
+class LastInstruction:
+    """The instruction that was executed last, or that faulted.
+
+    executed: its elements, if it is a vector instruction; explanation: why registers have their values, if it was executed
+    """
+
+    pc: int
+    text: str
+    before: Registers
+    executed: ExecutedInstruction | None
+    explanation: Explanation | None
+
+
+class Instant:
+    """A stopped program. After it has moved, or was changed, there is a new one."""
+
+    def __init__(self, program: Program, stop: Stop | None, is_due: Callable[[], bool]) -> None:
+        """stop: why it stopped by itself; is_due: whether the client wants long work to end"""
+        self.program, self._stop, self._is_due = program, stop, is_due
+
+    @cached_property
+    def registers(self) -> Registers:
+        """All registers."""
+        return _registers(self.program.guest)
+
+    @cached_property
+    def calls(self) -> Sequence[CallFrame]:
+        """The functions that are executing or waiting, the innermost first."""
+        guest = self.program.guest
+
+        def peek(address: int) -> int | None:
+            (answer,) = guest.ask(f"peek {address:x} 8") if 0 <= address < 1 << 48 else (None,)
+            return int.from_bytes(answer.data, "little") if isinstance(answer, Memory) else None
+
+        frames = self.program.call_frames
+        return frames.walk(guest.pc, self.registers.x, peek, lambda address: guest.word_at(address)[0])
+
+    @cached_property
+    def frames(self) -> Sequence[Frame]:
+        """The frames, the innermost first: of each function those of its inlined copies, and then its own."""
+        return [frame for call in self.calls for frame in self._frames_of(call)]
+
+    def _frames_of(self, call: CallFrame) -> list[Frame]:
+        inside, source = call.inside & ~3, self.program.symbols.source
+        line, found = self.program.line(inside), list[Frame]()
+        copies: Sequence[Copy] = source.copies_at(inside)
+        for copy in copies:
+            found.append(Frame(call, copy.name, line))
+            if not copy.called:
+                break
+            file, _, number = copy.called.rpartition(":")
+            line = Line(file, int(number))
+        if not copies or copies[-1].called:
+            found.append(Frame(call, self.program.place(inside).partition("+")[0], line))
+        return found
+
+    @cached_property
+    def last(self) -> LastInstruction | None:
+        """The instruction that was executed last; None if there was none. Raises LabError."""
+        guest, stop = self.program.guest, self._stop
+        if stop and stop.kind == "fault":
+            return self._last(guest.pc, self.registers, "illegal" if stop.cause == ILLEGAL else "fault")
+        with self.program.timeline.before(self._is_due) as earlier:
+            if earlier is None:
+                return None
+            before = _registers(earlier)
+            return self._last(earlier.pc, before, "ran")
+
+    def _last(self, pc: int, before: Registers, end: End) -> LastInstruction:
+        guest, now = self.program.guest, self.registers
+        word, text = guest.word_at(pc)
+        executed, explanation = None, None
+        if vector_instruction(word, before.control.vtype):
+            state = Before(pc, word, before.x, before.control, bytes(before.v), False)
+            executed = executed_instruction(state, now.control, bytes(now.v), end)
+        if end == "ran":
+            try:
+                explanation = explanation_of(guest, before, now.control, Retired(pc, word, text, [], None))
+            except LabError:  # an instruction without a formula
+                pass
+        return LastInstruction(pc, text, before, executed, explanation)
+
+
+def _registers(guest: Guest) -> Registers:
+    """All registers of a guest; its place is taken up."""
+    scalars, control = guest.query("regs", ScalarRegisters), guest.query("vcsr", ControlRegisters)
+    guest.pc = scalars.pc
+    return Registers(scalars.x, control, bytearray(b"".join(guest.vectors())))

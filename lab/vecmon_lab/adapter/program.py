@@ -1,0 +1,181 @@
+"""A program that is debugged: its machine, symbols and source files, and its instants."""
+
+import argparse
+import contextlib
+import io
+import itertools
+import pathlib
+from collections.abc import Callable, Iterable, Mapping, Sequence
+from functools import cached_property
+from typing import NamedTuple
+
+from .. import LabError, SourceMistakes
+from ..arguments import image_path
+from ..assembler.own_files import files_beside
+from ..assembler.trial import read_tried_source
+from ..compilers.compiler import ASSEMBLER_SUFFIXES, C_SUFFIX, CHOICES, RUNTIME, install_compilers
+from ..compilers.compiling import read_own_source
+from ..compilers.variables import Variable, variables_of
+from ..guest.guest import Guest, started
+from ..guest.runner import Report
+from ..guest.symbols import Symbols
+from ..instructions.accesses import PAGE_BYTES
+from ..machine.answers import ControlRegisters, ScalarRegisters, Word
+from ..machine.program import find_program
+from ..replay import timeline
+from ..replay.timeline import Timeline
+from .requests import BadArguments, Launch
+from .unwinding import CallFrames
+
+_RUNTIME_FILES = {path.name for path in RUNTIME.glob("*")}
+
+
+class Line(NamedTuple):
+    """A line of a source: the file's name without its folder, and the number, from 1."""
+
+    file: str
+    number: int
+
+
+class Program:
+    """A program on a machine of its own, until `close`.
+
+    path: what was launched: an image or a source; image: what the machine has loaded
+    guest, timeline: the program, and its way forward and back
+    """
+
+    def __init__(
+        self,
+        launch: Launch,
+        write: Callable[[bytes], object],
+        report: Report,
+        advance: timeline.Report,
+        note: Callable[[str], object],
+    ) -> None:
+        """Build and load it. Raises LabError and OSError, and BadArguments for the options.
+
+        write: is given the program's output; report: calls that aren't supported
+        advance: is given the progress of long work; note: warnings about the program
+        """
+        self.path = pathlib.Path(launch.program).expanduser()
+        self.image = _built(self.path, launch, note)
+        self.symbols = Symbols.read(self.image)
+        self._stack = contextlib.ExitStack()
+        own, file = [self.image.name, *launch.args], pathlib.Path(launch.input) if launch.input else None
+        self.guest: Guest = self._stack.enter_context(
+            started(
+                self.image,
+                policy=launch.policy,
+                arguments=own,
+                file=file,
+                write=write,
+                report=report,
+                name=self.path,
+            )
+        )
+        self.timeline = Timeline(self.guest, advance)
+        self._shown = dict[str, pathlib.Path]()  # paths by which the client names files
+        if self.symbols.warning:
+            note(self.symbols.warning)
+
+    def close(self) -> None:
+        """End the machine."""
+        self._stack.close()
+
+    @property
+    def pc(self) -> int:
+        """The address of the next instruction."""
+        return self.guest.pc
+
+    def scalars(self) -> Sequence[int]:
+        """The values of x0 to x31."""
+        return self.guest.query("regs", ScalarRegisters).x
+
+    def control(self) -> ControlRegisters:
+        """The vector control registers."""
+        return self.guest.query("vcsr", ControlRegisters)
+
+    def place(self, address: int) -> str:
+        """An address by the symbol before it, or its digits."""
+        return self.symbols.place(address) or f"{address:#x}"
+
+    def words(self, addresses: Iterable[int]) -> dict[int, Word]:
+        """The words at those addresses that are in memory."""
+        pages = itertools.groupby(sorted({*addresses}), lambda address: address // PAGE_BYTES)
+        return {word.address: word for _, page in pages for word in self.guest.words(page)}
+
+    def line(self, address: int) -> Line | None:
+        """The line of an instruction, if it is known."""
+        name, _, number = self.symbols.line(address).rpartition(":")
+        return Line(name, int(number)) if name else None
+
+    @cached_property
+    def stops(self) -> Mapping[str, Mapping[int, Sequence[int]]]:
+        """The addresses of breakpoints by file and line."""
+        found = dict[str, dict[int, Sequence[int]]]()
+        for text, addresses in self.symbols.source.stops.items():
+            file, _, number = text.rpartition(":")
+            found.setdefault(file, {})[int(number)] = addresses
+        return found
+
+    @property
+    def files(self) -> Sequence[str]:
+        """The names of source files that have instructions."""
+        return sorted(self.stops)
+
+    def show_at(self, path: pathlib.Path) -> None:
+        """Note by which path the client names a file."""
+        self._shown[path.name] = path
+
+    def path_of(self, file: str) -> pathlib.Path | None:
+        """The path of a source file, if it is there."""
+        named = self.symbols.source.files.get(file, pathlib.PurePath(file))
+        own = [self.path] if self.path.name == file else []
+        places = (*own, pathlib.Path(named), self.path.parent / named, self.path.parent / file, RUNTIME / file)
+        shown = self._shown.get(file)
+        return next((path.resolve() for path in places if path.is_file()), shown)
+
+    @cached_property
+    def variables(self) -> Sequence[Variable]:
+        """The variables of the sources, without those of the lab's runtime."""
+        from elftools.elf.elffile import ELFFile
+
+        with self.image.open("rb") as file:
+            return variables_of(ELFFile(file), _is_own, has_frames=True)
+
+    @cached_property
+    def call_frames(self) -> CallFrames:
+        """How to find the callers of functions."""
+        return CallFrames(self.image)
+
+
+def _is_own(name: str) -> bool:
+    """Whether a source isn't of the lab's runtime."""
+    return pathlib.PurePath(name).name not in _RUNTIME_FILES
+
+
+def _built(path: pathlib.Path, launch: Launch, note: Callable[[str], object]) -> pathlib.Path:
+    """The image of a program. Raises LabError and OSError."""
+    if launch.options is not None and launch.options not in [choice.name for choice in CHOICES]:
+        raise BadArguments(f"options is one of {', '.join(choice.name for choice in CHOICES)}")
+    if path.suffix == C_SUFFIX:
+        install_compilers()
+    arguments = argparse.Namespace(options=launch.options, cc=launch.compiler, any_vlen=launch.any_vlen)
+    warnings = io.StringIO()
+    try:
+        with contextlib.redirect_stderr(warnings):
+            image = image_path(f"{path}", arguments)
+    except LabError:
+        if path.suffix in ASSEMBLER_SUFFIXES and launch.options is None:
+            _list_mistakes(path)
+        raise
+    if warnings.getvalue():
+        note(warnings.getvalue().rstrip("\n"))
+    return image
+
+
+def _list_mistakes(path: pathlib.Path) -> None:
+    """Raise SourceMistakes with all mistakes of an assembler source, if it has any: also those that only the machine refuses."""
+    program = read_tried_source(read_own_source(path), find_program(), files_beside(path))
+    if program.mistakes:
+        raise SourceMistakes("\n".join(mistake.diagnostic(f"{path}") for mistake in program.mistakes))

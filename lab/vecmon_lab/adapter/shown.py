@@ -1,0 +1,176 @@
+"""What a client is shown of a stopped program, with the numbers by which it asks for more."""
+
+import re
+from collections.abc import Sequence
+from dataclasses import dataclass
+from typing import Any
+
+from .. import LabError
+from . import evaluation, expressions
+from .instants import Frame, Instant
+from .requests import Completions, Evaluate, SetExpression, SetVariable, ValueFormat, Variables
+from .variables import Item, Scope, scopes_of
+
+_INDEX = re.compile(r"\[([0-9]+)\]")
+_EXPRESSION = re.compile(r"\{([^{}]*)\}")
+_WORD = re.compile(r"[\w.$]*$")
+
+
+@dataclass(frozen=True)
+class _Reference:
+    """What a number of the client's stands for: a scope or an expression of a frame, and names of rows below it."""
+
+    frame: int
+    root: str
+    is_scope: bool
+    path: Sequence[str] = ()
+
+
+class Shown:
+    """The rows of an instant. The client's numbers remain the same if it changes the program."""
+
+    def __init__(self, instant: Instant, references: Sequence[_Reference] = ()) -> None:
+        self.instant = instant
+        self._references = [*references]
+
+    def renewed(self, instant: Instant) -> "Shown":
+        """The same references at the same place of the program, which the client has changed."""
+        return Shown(instant, self._references)
+
+    def scopes(self, frame: int) -> list[dict[str, Any]]:
+        """The scopes of a frame by its number. Raises LabError."""
+        return [self._scope(frame, each) for each in scopes_of(self.instant, self._frame(frame))]
+
+    def variables(self, wanted: Variables) -> list[dict[str, Any]]:
+        """The rows of a reference. Raises LabError."""
+        reference = self._reference(wanted.variables_reference)
+        if min(wanted.start, wanted.count) < 0:
+            raise LabError("start and count aren't negative")
+        rows = self._rows(reference, wanted.start, wanted.count, wanted.format.hex)
+        return [self._variable(each, reference) for each in rows]
+
+    def set_variable(self, wanted: SetVariable) -> None:
+        """Give a row a new value. Raises LabError."""
+        item = self._row(self._reference(wanted.variables_reference), wanted.name, False)
+        if item.change is None:
+            raise LabError(f"{wanted.name} can't be changed")
+        item.change(wanted.value)
+
+    def value_again(self, number: int, name: str, form: ValueFormat) -> dict[str, Any]:
+        """The value of a row, after a change. Raises LabError."""
+        reference = self._reference(number)
+        shown = self._variable(self._row(reference, name, form.hex), reference)
+        return {key: shown[key] for key in ("value", "variablesReference", "memoryReference") if key in shown}
+
+    def set_expression(self, wanted: SetExpression) -> None:
+        """Give an expression a new value. Raises LabError."""
+        evaluation.set_expression(self.instant, self._frame(wanted.frame_id), wanted.expression, wanted.value)
+
+    def evaluate(self, wanted: Evaluate) -> dict[str, Any]:
+        """The value of an expression. Raises LabError."""
+        frame = self._frame(wanted.frame_id)
+        item = evaluation.evaluate(self.instant, frame, wanted.expression, wanted.context, wanted.format.hex)
+        reference = _Reference(wanted.frame_id, wanted.expression, False)
+        shown = self._variable(item, reference, is_root=True)
+        keys = ("type", "variablesReference", "indexedVariables", "memoryReference", "presentationHint")
+        return {"result": item.value} | {key: shown[key] for key in keys if key in shown}
+
+    def number(self, expression: str) -> int:
+        """The number of an expression in the innermost frame. Raises LabError."""
+        frame = self._frame(0)
+        return expressions.evaluate(
+            expression, lambda name, indices: evaluation.number_of(self.instant, frame, name, indices)
+        )
+
+    def filled_in(self, text: str) -> str:
+        """A text with values in place of the expressions in braces."""
+
+        def value(found: re.Match[str]) -> str:
+            try:
+                return evaluation.evaluate(self.instant, self._frame(0), found[1], "", False).value
+            except LabError as error:
+                return f"{{{error}}}"
+
+        return _EXPRESSION.sub(value, text)
+
+    def completions(self, wanted: Completions, starts_at_1: bool) -> list[dict[str, Any]]:
+        """The names that complete a text at a column. Raises LabError."""
+        before = wanted.text[: max(0, wanted.column - starts_at_1)]
+        found = _WORD.search(before)
+        start = found[0] if found else ""
+        names = evaluation.completions(self.instant, self._frame(wanted.frame_id), start)
+        place = {"start": len(before) - len(start), "length": len(start)}
+        return [{"label": name, **place} for name in names]
+
+    def place_of(self, number: int, name: str) -> tuple[int, int] | None:
+        """The address and the number of bytes of a row in memory; None for another one. Raises LabError."""
+        return self._row(self._reference(number), name, False).place
+
+    def place_of_expression(self, frame: int, text: str) -> tuple[int, int] | None:
+        """The same of an expression; None also if it has no value."""
+        try:
+            return evaluation.evaluate(self.instant, self._frame(frame), text, "", False).place
+        except LabError:
+            return None
+
+    def _frame(self, number: int) -> Frame:
+        """A frame by its number, from 1; 0 is the innermost one. Raises LabError."""
+        frames = self.instant.frames
+        if not 0 <= number <= len(frames):
+            raise LabError(f"there is no frame {number}")
+        return frames[max(0, number - 1)]
+
+    def _reference(self, number: int) -> _Reference:
+        if not 1 <= number <= len(self._references):
+            raise LabError(f"there is no variablesReference {number} at this stop")
+        return self._references[number - 1]
+
+    def _number(self, reference: _Reference) -> int:
+        """The number of a reference, by which the client asks for its rows."""
+        if reference not in self._references:
+            self._references.append(reference)
+        return self._references.index(reference) + 1
+
+    def _scope(self, frame: int, scope: Scope) -> dict[str, Any]:
+        number = self._number(_Reference(frame, scope.name, True))
+        hint = {"presentationHint": scope.hint} if scope.hint else {}
+        return {"name": scope.name, "variablesReference": number, "expensive": scope.is_costly, **hint}
+
+    def _variable(self, item: Item, parent: _Reference, is_root: bool = False) -> dict[str, Any]:
+        """A row as the client has it."""
+        shown: dict[str, Any] = {"name": item.name, "value": item.value, "variablesReference": 0}
+        shown |= {"type": item.type} if item.type else {}
+        shown |= {"evaluateName": item.expression} if item.expression else {}
+        shown |= {"memoryReference": f"{item.address:#x}"} if item.address is not None else {}
+        if item.children:
+            path = () if is_root else (*parent.path, item.name)
+            number = self._number(_Reference(parent.frame, parent.root, parent.is_scope, path))
+            shown |= {"variablesReference": number, "indexedVariables": item.count}
+        elif item.change is None:
+            shown["presentationHint"] = {"attributes": ["readOnly"]}
+        return shown
+
+    def _rows(self, reference: _Reference, start: int, count: int, is_hex: bool) -> list[Item]:
+        """The rows of a reference, from a number on; all others if the count is 0."""
+        frame = self._frame(reference.frame)
+        if reference.is_scope:
+            scope = next((each for each in scopes_of(self.instant, frame) if each.name == reference.root), None)
+            rows = scope.items if scope else None
+        else:
+            rows = evaluation.evaluate(self.instant, frame, reference.root, "", is_hex).children
+        for name in reference.path:
+            rows = self._named(rows, name, is_hex).children if rows else None
+        return rows(start, count, is_hex) if rows else []
+
+    def _row(self, reference: _Reference, name: str, is_hex: bool) -> Item:
+        """The row of a name below a reference. Raises LabError."""
+        return self._named(lambda start, count, is_hex: self._rows(reference, start, count, is_hex), name, is_hex)
+
+    def _named(self, rows: Any, name: str, is_hex: bool) -> Item:
+        """The row of a name. Raises LabError."""
+        found = _INDEX.fullmatch(name)
+        own: list[Item] = rows(int(found[1]), 1, is_hex) if found else rows(0, 0, is_hex)
+        for item in own:
+            if item.name == name:
+                return item
+        raise LabError(f"there is no {name} here")

@@ -1,0 +1,176 @@
+"""What a client shows of a stopped program: scopes of a frame, and the variables, registers and elements in them."""
+
+import functools
+from collections.abc import Callable, Iterator, Sequence
+from dataclasses import dataclass
+
+from .. import LabError
+from ..assembler.commands import explain_refusal
+from ..console.show import ROUNDING, both_names
+from ..guest.changes import vtype_text
+from ..guest.guest import Guest
+from ..instructions.accesses import REGISTER_BYTES
+from ..machine.answers import Memory, Refused, elements_in
+from .c_variables import CVariable, c_variables
+from .instants import Frame, Instant
+from .operands import last_items
+from .values import number_text, read_number
+from .vectors import VectorGroup, groups
+
+LOCALS, GLOBALS, SCALARS = "Locals", "Globals", "Scalar registers"
+STATE, VECTORS, LAST = "Vector state", "Vector registers", "Last instruction"
+
+
+@dataclass(frozen=True)
+class Item:
+    """A row that a client shows.
+
+    name, value, type: as texts; expression: that evaluates to it, or ""
+    children: returns the rows below it, from a number on, and at most this number of them; None if there are none
+    count: of these rows, if they have numbers as names
+    address: where the client shows memory: of its bytes, or that it points to; None for none
+    change: gives it the number of a text; None for what can't be changed
+    place: its address and number of bytes; None if it isn't in memory
+    """
+
+    name: str
+    value: str
+    type: str = ""
+    expression: str = ""
+    children: "Callable[[int, int, bool], list[Item]] | None" = None
+    count: int = 0
+    address: int | None = None
+    change: Callable[[str], None] | None = None
+    place: tuple[int, int] | None = None
+
+
+@dataclass(frozen=True)
+class Scope:
+    """A scope of a frame. is_costly: whether it takes time to show"""
+
+    name: str
+    hint: str
+    items: Callable[[int, int, bool], list[Item]]
+    is_costly: bool = False
+
+
+def scopes_of(instant: Instant, frame: Frame) -> list[Scope]:
+    """The scopes of a frame. Vector registers are those of the innermost function: no function preserves them for another one."""
+    found = list[Scope]()
+    own, shared = c_variables(instant, frame)
+    if instant.program.variables:
+        found.append(Scope(LOCALS, "locals", _all(lambda is_hex: [variable_item(each, is_hex) for each in own])))
+    if frame.call.is_innermost:
+        found.append(Scope(STATE, "registers", _all(lambda is_hex: [*_vector_state(instant)])))
+        found.append(
+            Scope(VECTORS, "registers", _all(lambda is_hex: [group_item(each, is_hex) for each in groups(instant)]))
+        )
+    found.append(Scope(SCALARS, "registers", _all(lambda is_hex: [*_scalars(instant, frame, is_hex)])))
+    if frame.call.is_innermost:
+        found.append(Scope(LAST, "", _all(lambda is_hex: _last(instant, is_hex)), is_costly=True))
+    if shared:
+        found.append(Scope(GLOBALS, "", _all(lambda is_hex: [variable_item(each, is_hex) for each in shared])))
+    return found
+
+
+def _all(make: Callable[[bool], list[Item]]) -> Callable[[int, int, bool], list[Item]]:
+    """Rows of a scope, which have no numbers."""
+    return lambda start, count, is_hex: make(is_hex)[start : start + count if count else None]
+
+
+def send(guest: Guest, *commands: str) -> None:
+    """Send commands that change the machine. Raises LabError if one is refused."""
+    for command, answer in zip(commands, guest.ask(*commands)):
+        if isinstance(answer, Refused):
+            raise LabError(explain_refusal(f"{guest.user} {command}", answer)[-1])
+
+
+def _scalars(instant: Instant, frame: Frame, is_hex: bool) -> Iterator[Item]:
+    """The program counter and the scalar registers, by both names."""
+    guest, pc = instant.program.guest, frame.call.address
+
+    def set_pc(text: str) -> None:
+        send(guest, f"setpc {read_number(text, 64):x}")
+
+    is_own = frame.call.is_innermost
+    mapped = _mapped(guest, [value for value in frame.call.registers if value is not None])
+    yield Item("pc", f"{pc:#x}", expression="pc", address=pc, change=set_pc if is_own else None)
+    for number, value in enumerate(frame.call.registers):
+        name = f"x{number}"
+        change = functools.partial(set_scalar, guest, number) if is_own and number else None
+        if value is None:
+            yield Item(both_names(name), "unknown: a called function may have changed it")
+        else:
+            text = number_text(value, 64, is_hex)
+            address = value if value in mapped else None
+            yield Item(both_names(name), text, expression=name, address=address, change=change)
+
+
+def _mapped(guest: Guest, values: Sequence[int]) -> set[int]:
+    """Those of some values that are addresses of memory."""
+    addresses = [value for value in dict.fromkeys(values) if value < 1 << 48]
+    answers = guest.ask(*(f"peek {address:x} 1" for address in addresses))
+    return {address for address, answer in zip(addresses, answers) if isinstance(answer, Memory)}
+
+
+def set_scalar(guest: Guest, number: int, text: str) -> None:
+    """Set a scalar register. Raises LabError."""
+    send(guest, f"set x{number} {read_number(text, 64):x}")
+
+
+def _vector_state(instant: Instant) -> Iterator[Item]:
+    """The vector type in words, and the other control registers."""
+    control, policy = instant.registers.control, instant.program.guest.session.policy[instant.program.guest.user]
+    yield Item("vtype", f"{vtype_text(control.vtype)}  ({control.vtype:#x})", expression="vtype")
+    yield Item("vl", f"{control.vl}  (of {control.vlmax})", expression="vl")
+    yield Item("vstart", f"{control.vstart}", expression="vstart")
+    yield Item("vxrm", f"{control.vxrm}  ({ROUNDING[control.vxrm]})", expression="vxrm")
+    yield Item("vxsat", f"{control.vxsat}", expression="vxsat")
+    yield Item("policy", policy)
+    bits = elements_in(bytes(instant.registers.v[:REGISTER_BYTES]), 1)[: control.vl]
+    yield Item(
+        "v0.mask", "".join(map(str, bits)) or "no elements", type="mask of elements 0 to vl - 1, the first one first"
+    )
+
+
+def group_item(group: VectorGroup, is_hex: bool) -> Item:
+    """A group of vector registers, with its elements below it."""
+
+    def elements(start: int, count: int, is_hex: bool) -> list[Item]:
+        stop = min(start + count if count else len(group.values), len(group.values))
+        return [_element_item(group, index, is_hex) for index in range(start, stop)]
+
+    return Item(group.name, group.text(), group.type, group.expression, elements, len(group.values))
+
+
+def _element_item(group: VectorGroup, index: int, is_hex: bool) -> Item:
+    """An element, with its outcome in the last instruction or its place in the tail."""
+    value, outcome = number_text(group.values[index], group.width, is_hex), group.outcomes.get(index, "")
+    change = functools.partial(group.change, index) if group.change else None
+    text = f"{value}  {outcome}".rstrip()
+    return Item(f"[{index}]", text, expression=f"{group.expression}[{index}]", change=change)
+
+
+def variable_item(variable: CVariable, is_hex: bool) -> Item:
+    """A variable of C, with the elements of an array below it."""
+
+    def elements(start: int, count: int, is_hex: bool) -> list[Item]:
+        return [variable_item(each, is_hex) for each in variable.elements(start, count)]
+
+    return Item(
+        variable.name,
+        variable.text(is_hex),
+        variable.type,
+        variable.expression if variable.is_known else "",
+        elements if variable.count else None,
+        variable.count,
+        variable.pointer if variable.pointer is not None else variable.address,
+        variable.set if variable.can_change else None,
+        variable.place,
+    )
+
+
+def _last(instant: Instant, is_hex: bool) -> list[Item]:
+    """The instruction that was executed last, its meaning, and its operands with the reason for each element."""
+    rows: Sequence[tuple[str, str, VectorGroup | None]] = last_items(instant)
+    return [group_item(group, is_hex) if group else Item(name, text) for name, text, group in rows]

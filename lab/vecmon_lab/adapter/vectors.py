@@ -1,0 +1,112 @@
+"""Groups of vector registers by the vector type, and the elements of operands."""
+
+import functools
+from collections.abc import Callable, Mapping, Sequence
+from dataclasses import dataclass, field
+
+from .. import LabError
+from ..assembler.commands import explain_refusal
+from ..guest.changes import vtype_text
+from ..guest.guest import Guest
+from ..instructions.accesses import REGISTER_BYTES
+from ..machine.answers import ControlRegisters, Refused, elements_in
+from ..meanings.instruction import ExecutedInstruction
+from ..page.texts import LANGUAGE, read_texts
+from .instants import Instant
+from .values import read_number
+
+REGISTERS = 32
+_SHOWN = 16  # elements in the text of a group
+
+
+@dataclass(frozen=True)
+class VectorGroup:
+    """Vector registers whose elements are numbered as one group.
+
+    name: as `v8`, or `v8-v11`; expression: the first register; type: of the elements, in words
+    width: of an element in bits; values: unsigned
+    outcomes: by element, how it took part in the last instruction, or that it is in the tail
+    change: gives an element the number of a text; None if it can't be changed
+    is_result: whether it is the destination of the last instruction
+    """
+
+    name: str
+    expression: str
+    type: str
+    width: int
+    values: Sequence[int]
+    outcomes: Mapping[int, str] = field(default_factory=dict)
+    change: Callable[[int, str], None] | None = None
+    is_result: bool = False
+
+    def text(self) -> str:
+        """The first elements in hexadecimal digits, as the monitor's `vreg` writes them, but the first one first."""
+        count = _SHOWN * 4 if self.width == 1 else _SHOWN
+        shown = [f"{value:0{max(1, self.width // 4)}x}" for value in self.values[:count]]
+        return ("" if self.width == 1 else " ").join(shown) + " …" * (len(self.values) > count)
+
+
+def outcome_text(outcome: str) -> str:
+    """How an element took part, in the words of the pages."""
+    return read_texts(LANGUAGE)[f"outcome.{outcome}"]
+
+
+def group_name(register: int, size: int) -> str:
+    """The name of a group: `v8`, or `v8-v11`."""
+    return f"v{register}" if size == 1 else f"v{register}-v{register + size - 1}"
+
+
+def groups(instant: Instant) -> list[VectorGroup]:
+    """All vector registers as groups of the vector type; bytes where there is none."""
+    size = _group_size(instant.registers.control)
+    return [group_at(instant, register) for register in range(0, REGISTERS, size)]
+
+
+def group_at(instant: Instant, register: int) -> VectorGroup:
+    """The group of the vector type that begins at a register. Raises LabError if none does."""
+    control, v = instant.registers.control, bytes(instant.registers.v)
+    is_typed, size = not control.vtype >> 63, _group_size(control)
+    if register % size:
+        first = register // size * size
+        raise LabError(f"v{register} is in the group {group_name(first, size)} under {vtype_text(control.vtype)}")
+    width = control.sew if is_typed else 8
+    values = elements_in(v[register * REGISTER_BYTES : (register + size) * REGISTER_BYTES], width)
+    kind = vtype_text(control.vtype) if is_typed else "bytes, since vtype is vill"
+    tail = range(control.vl, len(values)) if is_typed else range(0)
+    change = functools.partial(_set_element, instant.program.guest, register, width)
+    outcomes = dict.fromkeys(tail, outcome_text("tail"))
+    return VectorGroup(group_name(register, size), f"v{register}", kind, width, values, outcomes, change)
+
+
+def operand_groups(executed: ExecutedInstruction, before: bytes, after: bytes) -> list[VectorGroup]:
+    """The register groups of an instruction's operands: the destination after it, sources as they were before."""
+    found = list[VectorGroup]()
+    for each in executed.groups:
+        is_result = each.role == "destination"
+        data, outcomes = (after, executed.results) if is_result else (before, executed.outcomes)
+        for number in range(each.groups):
+            register = each.register + number * each.size
+            values = elements_in(data[register * REGISTER_BYTES : (register + each.size) * REGISTER_BYTES], each.width)
+            own = outcomes if is_result or each.role in ("element", "data") else ()
+            texts = {index: outcome_text(outcome) for index, outcome in enumerate(own[: len(values)])}
+            name = f"{each.role} {group_name(register, each.size)}"
+            kind = f"elements of {each.width} bit{'s' * (each.width > 1)}"
+            found.append(VectorGroup(name, f"v{register}", kind, each.width, values, texts, is_result=is_result))
+    return found
+
+
+def _group_size(control: ControlRegisters) -> int:
+    """The number of registers of a group."""
+    return 1 if control.vtype >> 63 else max(1, int(control.lmul))
+
+
+def _set_element(guest: Guest, register: int, width: int, index: int, text: str) -> None:
+    """Set an element of a group. Raises LabError."""
+    size = width // 8
+    number, at = register + index * size // REGISTER_BYTES, index * size % REGISTER_BYTES
+    data = bytearray(guest.vectors()[number])
+    data[at : at + size] = read_number(text, width).to_bytes(size, "little")
+    command = f"vset v{number} {data.hex()}"
+    (answer,) = guest.ask(command)
+    if isinstance(answer, Refused):
+        raise LabError(explain_refusal(f"{guest.user} {command}", answer)[-1])
