@@ -19,7 +19,7 @@ def add_arguments(parser: argparse.ArgumentParser) -> None:
 
 
 def run(arguments: argparse.Namespace) -> int:
-    """Serve a client until it ends the session. Raises BadMessage, and OSError if the port is taken."""
+    """Serve a client until it ends the session. Raises LabError for input that has no requests, and OSError if the port is taken."""
     if arguments.port is None:
         Session(Wire(os.dup(0), write_out)).serve()
         return 0

@@ -96,7 +96,7 @@ class Session:
         self._reported, self._progress = set[str](), 0
 
     def serve(self) -> None:
-        """Answer requests until the client ends the session or has gone. Raises BadMessage."""
+        """Answer requests until the client ends the session or has gone. Raises LabError for input that has no requests."""
         try:
             while self._is_open:
                 self._answer(self._wire.receive())

@@ -5,13 +5,14 @@ from typing import Any
 
 from .. import LabError, __version__
 from ..assembler.trial import Trial
+from ..json_messages import BadContent
 from ..machine.process import Vecmon
 from . import completion, hovers, navigation
 from .actions import code_actions
 from .documents import Document
 from .hints import hints
 from .positions import Position, Range, lines_of
-from .wire import BadMessage, Wire
+from .wire import Wire
 
 PARSE_ERROR, INVALID_REQUEST, NO_METHOD, INVALID_PARAMS = -32700, -32600, -32601, -32602
 NOT_INITIALIZED, REQUEST_FAILED = -32002, -32803
@@ -95,7 +96,7 @@ class Server:
         """Answer the next message."""
         try:
             received = self._wire.receive()
-        except BadMessage as error:
+        except BadContent as error:
             self._wire.send(_failure(None, PARSE_ERROR, str(error)))
             return
         if not isinstance(received, dict) or not isinstance(received.get("method", ""), str):

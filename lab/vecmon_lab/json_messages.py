@@ -1,0 +1,85 @@
+"""Messages of editors' protocols: a head with the length of the content in bytes, and the content in JSON.
+
+The specifications of the Debug Adapter Protocol and of the Language Server Protocol call this the base protocol.
+"""
+
+import json
+import os
+import re
+import select
+from collections import deque
+
+from . import LabError
+
+_HEAD_BYTES = 4096  # of a head, at most
+_BLOCK = 65536  # bytes that are read at once
+_LENGTH = re.compile(rb"^content-length:[ \t]*([0-9]{1,15})[ \t]*\r?$", re.IGNORECASE | re.MULTILINE)
+_END = b"\r\n\r\n"  # of a head
+_HINT = "start this command from an editor"
+
+
+class BadHead(LabError):
+    """The input isn't a message, so the start of the next one is unknown."""
+
+
+class BadContent(LabError):
+    """The content of a message isn't JSON."""
+
+
+def message_bytes(message: object) -> bytes:
+    """Return a message with its head."""
+    content = json.dumps(message, separators=(",", ":")).encode("ascii")
+    return b"Content-Length: %d\r\n\r\n%s" % (len(content), content)
+
+
+def read_content(content: bytes) -> object:
+    """Return the value of a content. Raises BadContent."""
+    try:
+        value: object = json.loads(content)
+    except (ValueError, RecursionError) as error:
+        raise BadContent(f"a message isn't JSON: {error}") from error
+    return value
+
+
+class Contents:
+    """The contents of the messages that come through a file descriptor.
+
+    waiting: those that have come and weren't taken yet, the oldest first
+    """
+
+    def __init__(self, source: int, limit: int) -> None:
+        """source: the file descriptor; limit: bytes of a content, at most"""
+        self.waiting = deque[bytes]()
+        self.has_ended = False
+        self._source, self._limit = source, limit
+        self._unread = b""
+
+    def next(self) -> bytes:
+        """Take the next content; wait for it. Raises EOFError if the client has gone, and BadHead."""
+        while not self.waiting:
+            if self.has_ended:
+                raise EOFError
+            self._read()
+        return self.waiting.popleft()
+
+    def read_arrived(self) -> None:
+        """Read all that has come, without waiting. Raises BadHead."""
+        while not self.has_ended and select.select([self._source], [], [], 0)[0]:
+            self._read()
+
+    def _read(self) -> None:
+        """Read what comes next, and divide it into messages."""
+        data = os.read(self._source, _BLOCK)
+        self.has_ended, self._unread = not data, self._unread + data
+        while (end := self._unread.find(_END)) >= 0:
+            found = _LENGTH.search(self._unread[:end])
+            if found is None or int(found[1]) > self._limit:
+                raise BadHead(f"a message has no Content-Length of up to {self._limit:,} in its head: {_HINT}")
+            start = end + len(_END)
+            stop = start + int(found[1])
+            if len(self._unread) < stop:
+                return
+            self.waiting.append(self._unread[start:stop])
+            self._unread = self._unread[stop:]
+        if len(self._unread) > _HEAD_BYTES or self._unread[:1] in (b"\r", b"\n"):
+            raise BadHead(f"a message has no Content-Length in its first {_HEAD_BYTES:,} bytes: {_HINT}")
