@@ -5,8 +5,8 @@ from collections.abc import Iterator, Sequence
 from dataclasses import dataclass, field
 
 from vecmon_lab.assembler.trial import Trial
+from vecmon_lab.guest.vector_flow import VectorState
 from vecmon_lab.language.analysis import Analysis
-from vecmon_lab.language.flow import VectorState
 from vecmon_lab.machine.answers import ControlRegisters, Position, Stop, read
 from vecmon_lab.machine.session import TOGETHER, Session
 

@@ -10,10 +10,10 @@ from support.flow_claims import check_source, total
 from support.places import EXAMPLES, TOP, TOURS
 from vecmon_lab.assembler.trial import Trial
 from vecmon_lab.guest.changes import vtype_text
+from vecmon_lab.guest import vector_flow
 from vecmon_lab.guest.constants import constant_before
-from vecmon_lab.language import flow
+from vecmon_lab.guest.vector_flow import START, UNKNOWN, VectorState
 from vecmon_lab.language.analysis import Analysis
-from vecmon_lab.language.flow import START, UNKNOWN, VectorState
 
 GIVEN = TOP / "lab" / "vecmon_lab" / "exercises" / "given"
 
@@ -180,11 +180,11 @@ def only_one_way(state: VectorState, other: VectorState) -> VectorState:
     return state
 
 
-def never_ends(self: flow.Flow, address: int, word: int) -> bool:
+def never_ends(self: vector_flow.Flow, address: int, word: int) -> bool:
     return True
 
 
-def same_type(self: flow.Flow, state: VectorState, requested: int) -> VectorState:
+def same_type(self: vector_flow.Flow, state: VectorState, requested: int) -> VectorState:
     return VectorState(frozenset([requested]), state.vl)
 
 
@@ -192,10 +192,10 @@ def same_type(self: flow.Flow, state: VectorState, requested: int) -> VectorStat
     "owner, name, planted",
     [
         (VectorState, "joined", only_one_way),
-        (flow.Flow, "_ends", never_ends),
-        (flow.Flow, "_with_same_length", same_type),
-        (flow, "is_supported", lambda vtype: True),
-        (flow, "is_fault_only_first", lambda word: False),
+        (vector_flow.Flow, "_ends", never_ends),
+        (vector_flow.Flow, "_with_same_length", same_type),
+        (vector_flow, "is_supported", lambda vtype: True),
+        (vector_flow, "is_fault_only_first", lambda word: False),
     ],
 )
 def test_planted_errors_are_found(

@@ -8,7 +8,7 @@ from typing import Any
 from support.element_columns import shown_columns
 from support.past_sequences import DeskPage, found
 from vecmon_lab.assembler.source import assemble
-from vecmon_lab.guest.vector_types import vector_types
+from vecmon_lab.guest.vector_flow import flow_of_listing
 from vecmon_lab.lessons.frames import make_frames
 from vecmon_lab.lessons.script import read_assembled
 from vecmon_lab.machine.answers import Listing, read
@@ -156,12 +156,19 @@ function: vadd.vv v8, v8, v8
 def test_vector_types_of_a_listing(session: Session) -> None:
     """By hand (V 1.0, 3.4 and 6.1): e8,mf2,ta,ma is 0xc7; e32,m2,tu,ma is 0x91; e64,mf2 isn't supported, so vtype is vill.
 
-    Unknown are the type at the start, those of two paths, that of vsetvl, and that after a call.
+    After the call it is that with which the function returns. Unknown are the type at the start, those of two paths, and that of vsetvl.
     """
     session.do_all(["1 enter", *(f"1 {line}" for line in assemble(FLOW).lines)])
     listings = [read(session.look(f"1 dis {start} 9")) for start in ("10000", "10024")]
     words = [each for listing in listings if isinstance(listing, Listing) for each in listing.words]
-    types = vector_types({each.address: each.word for each in words})
+    states = flow_of_listing({each.address: each.word for each in words}).states
+    types = {address: state.vtype for address, state in states.items() if state.vtype is not None}
     known = {each.text.split(",")[0]: types[each.address] for each in words if each.address in types}
     sums = {text: vtype for text, vtype in known.items() if text.startswith("vadd")}
-    assert sums == {"vadd.vv v2": 0xC7, "vadd.vv v4": 0x91, "vadd.vv v8": 0x91, "vadd.vv v12": 1 << 63}
+    assert sums == {
+        "vadd.vv v2": 0xC7,
+        "vadd.vv v4": 0x91,
+        "vadd.vv v6": 1 << 63,
+        "vadd.vv v8": 0x91,
+        "vadd.vv v12": 1 << 63,
+    }

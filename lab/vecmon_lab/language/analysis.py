@@ -13,6 +13,7 @@ from ..assembler.source import Program, read_source
 from ..assembler.statements import split_line, without_comments
 from ..assembler.trial import Trial
 from ..guest.jumps import jump_target
+from ..guest.vector_flow import JAL, JALR, BRANCH, START, UNKNOWN, Code, Flow, VectorState, all_types
 from ..instructions.reasons import illegal_reasons
 from ..instructions.table import instruction_table
 from ..instructions.words import OP_V, VECTOR_ACCESSES, VectorInstruction
@@ -22,7 +23,6 @@ from ..machine.start_state import EBREAK
 from ..tables.absent import floating_point
 from ..tables.table import read_table
 from .names import Occurrence, occurrences
-from .flow import JAL, JALR, BRANCH, START, UNKNOWN, Code, Flow, VectorState, all_types
 
 _JUMPS = (BRANCH, JALR, JAL)
 _NOP = 0x13  # addi x0, x0, 0

@@ -5,12 +5,12 @@ from collections.abc import Iterator
 from typing import TypedDict
 
 from ..assembler.instruction import Statement
+from ..guest.vector_flow import VectorState
 from ..instructions.table import row_of
 from ..instructions.words import Operand
 from ..machine.answers import VILL, ControlRegisters
 from .analysis import Analysis
 from .diagnostics import listed_types
-from .flow import VectorState
 from .positions import Position, position
 
 

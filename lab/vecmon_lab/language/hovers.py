@@ -7,6 +7,7 @@ from ..assembler.line import Kind, Line, SourceError, Token, tokens_of
 from ..assembler.names import SOURCE_NAMES
 from ..assembler.operands import REGISTER_NAMES
 from ..guest.changes import vtype_text
+from ..guest.vector_flow import VectorState
 from ..instructions.accesses import REGISTER_BITS
 from ..instructions.table import ABI_NAMES
 from ..instructions.words import Operand
@@ -14,7 +15,6 @@ from ..machine.answers import VILL, ControlRegisters
 from ..meanings.describe import describe
 from .analysis import Analysis
 from .diagnostics import illegal_message, listed_types
-from .flow import VectorState
 from .hints import group_text
 from .navigation import occurrence_at
 from .positions import Position, Range, index_at, range_of

@@ -5,7 +5,7 @@ from collections.abc import Iterable, Mapping, Sequence
 from itertools import groupby
 from typing import NamedTuple, TypedDict
 
-from ..guest.vector_types import type_after, vector_types
+from ..guest.vector_flow import flow_of_listing, type_after
 from ..instructions.accesses import vector_instruction
 
 REGISTERS = 32
@@ -63,7 +63,8 @@ class RegisterGroups:
             self._code = code
             words = {int(address, 16): int(line[:8], 16) for address, line in code.items()}
             self._words = dict(sorted(words.items()))
-            self._types = vector_types(words)
+            states = flow_of_listing(self._words).states
+            self._types = {address: state.vtype for address, state in states.items() if state.vtype is not None}
         if 0 < stepped <= len(trace):
             self._execute(trace[-stepped:], self._vtype, vtype)
         elif trace != self._trace:

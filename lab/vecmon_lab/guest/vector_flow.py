@@ -7,16 +7,17 @@ What comes from a register, from a caller or from too many ways is unknown.
 from collections.abc import Collection, Iterator, Mapping
 from dataclasses import dataclass
 
-from ..guest.constants import constant_before
-from ..guest.jumps import jump_target
 from ..instructions.accesses import is_fault_only_first
 from ..instructions.calls import A7, ECALL, EXITS
 from ..instructions.table import row_of
-from ..instructions.words import SUPPORTED
+from ..instructions.words import OP_V, SUPPORTED
 from ..machine.answers import VILL, ControlRegisters
+from .constants import constant_before
+from .jumps import jump_target
 
 MAX_TYPES = 4  # of a place that are told apart
 JALR, JAL, BRANCH = 0x67, 0x6F, 0x63  # opcodes
+_OP_VSET = 7  # funct3
 _EBREAK = 0x00100073  # the word
 _RETURN_ADDRESS = 1  # x1
 
@@ -71,6 +72,24 @@ class Code:
     labels: Collection[int] = ()
     gaps: Collection[int] = ()
     is_whole: bool = True
+
+
+def is_vset(word: int) -> bool:
+    """Whether a word is vsetvli, vsetivli or vsetvl."""
+    return word & 0x7F == OP_V and word >> 12 & 7 == _OP_VSET
+
+
+def requested_type(word: int) -> int | None:
+    """The type that vsetvli or vsetivli asks for; None for vsetvl, which has it in a register."""
+    return None if word >> 30 == 2 else word >> 20 & (0x3FF if word >> 30 == 3 else 0x7FF)
+
+
+def type_after(word: int, vtype: int | None) -> int | None:
+    """The vector type after an instruction, by its word; None if that doesn't show it. vtype: before it"""
+    if not is_vset(word):
+        return vtype
+    requested = requested_type(word)
+    return requested if requested is None or is_supported(requested) else VILL
 
 
 class Flow:
@@ -198,8 +217,7 @@ class Flow:
 
     def _changed(self, address: int, word: int, state: VectorState) -> VectorState:
         """The state after an instruction that is no jump."""
-        row = row_of(word)
-        if row is None or not row.name.startswith("vset"):
+        if not is_vset(word) or row_of(word) is None:
             return VectorState(state.types, None) if is_fault_only_first(word) else state
         requested = self._requested(address, word)
         if requested is None:
@@ -208,7 +226,7 @@ class Flow:
             return START
         new = frozenset([requested])
         limit, length = ControlRegisters(vtype=requested).vlmax, word >> 15 & 31
-        if row.name == "vsetivli":
+        if word >> 30 == 3:  # vsetivli
             return VectorState(new, min(length, limit))
         if length:
             asked = constant_before(self._known, self._joins, address, length)
@@ -219,9 +237,8 @@ class Flow:
 
     def _requested(self, address: int, word: int) -> int | None:
         """The type that a vset instruction asks for; None if it is unknown."""
-        if word >> 30 == 2:
-            return constant_before(self._known, self._joins, address, word >> 20 & 31)
-        return word >> 20 & (0x3FF if word >> 30 == 3 else 0x7FF)
+        requested = requested_type(word)
+        return constant_before(self._known, self._joins, address, word >> 20 & 31) if requested is None else requested
 
     def _with_same_length(self, state: VectorState, requested: int) -> VectorState:
         """The state after a vset that keeps vl, by the types before it: vill if VLMAX would be another one."""
@@ -236,6 +253,19 @@ class Flow:
         for other in others:
             first = first.joined(other)
         return first
+
+
+def flow_of_listing(words: Mapping[int, int]) -> Flow:
+    """The flow of a listing. It may start, with any state, at the first instruction and where no other instruction leads."""
+    reached = {jump_target(address, word) for address, word in words.items()}
+    reached |= {address + 4 for address, word in words.items() if not _leaves(word)}
+    starts = [address for address in words if address not in reached] + [*words][:1]
+    return Flow(Code(words, dict.fromkeys(starts, UNKNOWN), is_whole=False))
+
+
+def _leaves(word: int) -> bool:
+    """Whether an instruction jumps, and links no register for the way back."""
+    return word & 0x7F in (JAL, JALR) and word >> 7 & 31 == 0
 
 
 def all_types() -> Iterator[int]:
