@@ -154,6 +154,25 @@ async def test_page_with_a_code_passes_those_that_wait(tmp_path: pathlib.Path, m
 
 
 @pytest.mark.asyncio
+async def test_later_requests_of_a_connection_wait(tmp_path: pathlib.Path, monkeypatch: pytest.MonkeyPatch) -> None:
+    """So one that stays open doesn't pass the door's rate; new connections go on."""
+    monkeypatch.setattr(class_server, "LATER_AT_ONCE", 3)
+    monkeypatch.setattr(class_server, "LATER_A_SECOND", NEVER)
+    async with served(tmp_path / "class") as room:
+        reader, writer = await asyncio.open_connection("127.0.0.1", room.port)
+        asked = f"GET /nowhere HTTP/1.1\r\nHost: 127.0.0.1:{room.port}\r\n\r\n".encode("ascii")
+        for _ in range(4):
+            writer.write(asked)
+            await asyncio.wait_for(reader.readuntil(b"404: Not Found"), SECONDS)
+        writer.write(asked)
+        waiting = asyncio.create_task(reader.read(1))
+        await room.sit("A1")
+        assert (await room.get("", None))[0] == 200 and not waiting.done()
+        writer.close()
+        await asyncio.gather(waiting, return_exceptions=True)
+
+
+@pytest.mark.asyncio
 async def test_oldest_of_too_many_that_wait_is_closed(monkeypatch: pytest.MonkeyPatch) -> None:
     monkeypatch.setattr(class_door, "AT_ONCE", 0)
     monkeypatch.setattr(class_door, "A_SECOND", NEVER)

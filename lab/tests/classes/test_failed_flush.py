@@ -1,13 +1,18 @@
 """Flushes that fail: as on Linux the system then counts the data as flushed, and it isn't on the disk. Nothing is lost."""
 
+import errno
+import os
 import pathlib
+import threading
+import time
+from typing import Any
 
 import pytest
 
 from support.disk import Disk
 from vecmon_lab.classes import disk_files, durable, journal, store
 from vecmon_lab.classes.durable import Flusher
-from vecmon_lab.classes.journal import recover
+from vecmon_lab.classes.journal import Journal, recover
 from vecmon_lab.classes.store import ScriptFile
 
 
@@ -68,6 +73,36 @@ def test_file_of_journal_is_written_again(tmp_path: pathlib.Path, disk: Disk) ->
     assert not list(tmp_path.glob("journal.*"))
     assert {"A.json": b"second", "B.json": b"other"}.items() <= disk.states(0, 0)[0].items()
     flusher.end()
+
+
+def test_many_files_are_flushed_together(tmp_path: pathlib.Path, monkeypatch: pytest.MonkeyPatch) -> None:
+    """16 at a time: after an hour a class of 30 has some 500, and its end waits for them on a slow disk."""
+    turn, counts = threading.Lock(), [0, 0]  # that flush now, and at most
+
+    class Slow:
+        def __getattr__(self, name: str) -> Any:
+            return getattr(os, name)
+
+        def fsync(self, file: int) -> None:
+            with turn:
+                counts[0] += 1
+                counts[1] = max(counts)
+            time.sleep(0.02)
+            with turn:
+                counts[0] -= 1
+            if os.readlink(f"/proc/self/fd/{file}").endswith("/A7.s"):
+                raise OSError(errno.EIO, "Input/output error")
+
+    own = Journal(tmp_path)
+    own.append({f"A{number}.s": b"nop" for number in range(100)})
+    for number in range(0, 100, 2):  # the others were removed since
+        (tmp_path / f"A{number}.s").write_bytes(b"nop")
+    (tmp_path / "A7.s").write_bytes(b"nop")
+    own.switch()
+    monkeypatch.setattr(journal, "os", Slow())
+    with pytest.raises(OSError):
+        own.flush_files(own.generations[0])
+    assert own.generations[0].doubtful == {"A7.s"} and 2 <= counts[1] <= 16
 
 
 def test_record_of_journal_is_written_again(tmp_path: pathlib.Path, disk: Disk) -> None:

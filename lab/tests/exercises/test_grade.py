@@ -259,9 +259,8 @@ def test_answer_that_takes_long_to_assemble_fails(echo: Echo, monkeypatch: pytes
     repeated = ".rept 300\nnop\n.endr\n"
     assert echo(f"{repeated}ebreak\n", "answer.s") != apart.TOO_LONG
     assert "there is no instruction ad" in echo(f"{repeated}ad a0\n", "answer.s")
-    monkeypatch.setattr(
-        apart.subprocess, "run", lambda *_, **words: subprocess.CompletedProcess([], -signal.SIGXCPU, b"", b"")
-    )
+    ended = subprocess.CompletedProcess([], -signal.SIGXCPU, b"", b"")
+    monkeypatch.setattr("vecmon_lab.assembler.apart.subprocess.run", lambda *_, **words: ended)
     assert echo(repeated, "answer.s") == apart.TOO_LONG
 
 

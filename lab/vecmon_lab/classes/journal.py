@@ -16,12 +16,14 @@ import pathlib
 import re
 from binascii import crc32
 from collections.abc import Iterator, Mapping
+from concurrent.futures import ThreadPoolExecutor
 from dataclasses import dataclass, field
 
 from .disk_files import aside_of, make_folder, replace_file, sync_folder, write_all
 
 JOURNAL = re.compile(r"journal\.([1-9][0-9]{0,8})")
 HEADER_BYTES = 18
+MANY, AT_ONCE = 64, 16  # files of a journal that are flushed in threads, and how many at a time
 
 Changes = Mapping[str, bytes | None]
 """New contents of files by name relative to the folder; None for a file that is removed."""
@@ -85,13 +87,9 @@ class Journal:
         """
         by_folder: dict[pathlib.Path, set[str]] = {}
         failure: OSError | None = None
-        for name in sorted(generation.names):
+        for name, error in self._flushed_together(sorted(generation.names)):
             path = self._folder / name
-            try:
-                _flush_file(path)
-            except FileNotFoundError:  # it was removed since
-                pass
-            except OSError as error:
+            if error:
                 failure = error
                 generation.doubtful.add(name)
             if path.parent.is_dir():
@@ -104,6 +102,14 @@ class Journal:
                 generation.doubtful |= names
         if failure:
             raise failure
+
+    def _flushed_together(self, names: list[str]) -> list[tuple[str, OSError | None]]:
+        """Flush files; return their names with what failed. Of many some at a time, since a disk takes these together."""
+        paths = [self._folder / name for name in names]
+        if len(names) < MANY:
+            return [*zip(names, map(_flush_error, paths))]
+        with ThreadPoolExecutor(AT_ONCE) as pool:
+            return [*zip(names, pool.map(_flush_error, paths))]
 
     def write_again(self, generation: Generation) -> None:
         """Replace and flush the files of a journal whose flush failed, by what the journals have. Raises OSError."""
@@ -228,13 +234,21 @@ def put_file(path: pathlib.Path, data: bytes) -> None:
     os.replace(new, path)
 
 
-def _flush_file(path: pathlib.Path) -> None:
-    """Flush a file. Raises OSError."""
-    file = os.open(path, os.O_RDONLY)
+def _flush_error(path: pathlib.Path) -> OSError | None:
+    """Flush a file, unless it was removed; return what failed."""
+    try:
+        file = os.open(path, os.O_RDONLY)
+    except FileNotFoundError:
+        return None
+    except OSError as error:
+        return error
     try:
         os.fsync(file)
+    except OSError as error:
+        return error
     finally:
         os.close(file)
+    return None
 
 
 def _is_inside(name: str) -> bool:

@@ -31,7 +31,7 @@ from ..page.reference import reference_text
 from .codes import TEACHER
 from .connections import Connections, Crowd, address_of
 from .door import Door, DoorSite
-from .frame_limits import LimitedSocket
+from .frame_limits import LimitedSocket, Rate
 from .resumed_pages import OpenPages
 from .room import Room
 from .seat_budget import SeatBudget
@@ -45,6 +45,7 @@ MESSAGE_BYTES = 400_000
 SOCKET = "/socket"  # the path of the WebSocket; requests to upgrade at other paths are ignored
 PATIENCE = 10.0  # seconds for a first request
 CODE_SECONDS = 60.0  # for a tab's code; of a flood of sockets few are closed in a second, whose clients connect again
+LATER_A_SECOND, LATER_AT_ONCE = 100, 1000  # requests that aren't the first ones of their connections; others wait
 IDLE_SECONDS = 15.0  # of a connection between two requests
 UNKNOWN = 1500  # connections without a whole request, connections between two requests, and sockets without a code
 WAITING = 8000  # connections at the door
@@ -79,6 +80,7 @@ class Server:
         self.connections = Connections(_share_of_files(UNKNOWN), PATIENCE, READ_SECONDS)
         self._budgets = defaultdict[str, SeatBudget](SeatBudget)
         self._budgets[TEACHER] = SeatBudget(TEACHERS_SHARE)
+        self._later = Rate(LATER_A_SECOND, LATER_AT_ONCE)
         self._is_ending = False
         self._nameless = Crowd[web.RequestHandler](_share_of_files(UNKNOWN), _abort)  # of sockets without a code
         self._sockets: weakref.WeakSet[web.WebSocketResponse] = weakref.WeakSet()
@@ -125,6 +127,8 @@ class Server:
     async def _check(
         self, request: web.Request, handler: Callable[[web.Request], Awaitable[web.StreamResponse]]
     ) -> web.StreamResponse:
+        if request.protocol in self.connections.spoken and (left := self._later.take()) < 0:
+            await asyncio.sleep(-left / LATER_A_SECOND)
         self.connections.spoken.add(request.protocol)
         if request._message.upgrade and request.path != SOCKET:
             request.protocol._message_tail = b""  # aiohttp would store later data without a limit
