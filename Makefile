@@ -20,7 +20,7 @@ lab_files = lab/vecmon_lab/py.typed $(filter-out %.pyc, $(wildcard lab/vecmon_la
     lab/vecmon_lab/compilers/runtime/* lab/vecmon_lab/tables/meanings/* lab/vecmon_lab/exercises/given/*/*.* lab/vecmon_lab/exercises/given/*/wrong/* \
     lab/vecmon_lab/lessons/tours/* lab/examples/*.* lab/examples/*/*.*)) \
     $(filter-out %/good %/short, $(wildcard tests/command_lines/data/images/*))
-documents = README.md CHANGELOG.md CONTRIBUTING.md SECURITY.md CITATION.cff LICENSE-MIT LICENSE-APACHE crates.txt crates/monitor_script/src/script.rt $(wildcard docs/*.md docs/*.csv docs/*.json docs/pictures/*)
+documents = README.md CHANGELOG.md CONTRIBUTING.md SECURITY.md CITATION.cff LICENSE-MIT LICENSE-APACHE crates.txt crates/monitor_script/src/script.rt $(wildcard docs/*.md docs/*.csv docs/*.json docs/pictures/* editors/*/*)
 # Outside of the folders that are vecmon's alone, $(lab) and $(docdir)
 commands = $(shell sed -n 's/^\([a-z][a-z]*\) .*/\1/p' lab/vecmon_lab/tables/lab_commands.txt)
 others = $(bindir)/vecmon $(bindir)/vecmon-record $(bindir)/vecmon-lab $(mandir)/man1/vecmon.1 $(mandir)/man1/vecmon-record.1 \
@@ -47,6 +47,7 @@ install:
 	$(link) "$(DESTDIR)$(lab)/lab/examples" "$(DESTDIR)$(docdir)/examples/sources"
 	$(link) "$(DESTDIR)$(lab)/lab/vecmon_lab/exercises/given" "$(DESTDIR)$(docdir)/examples/exercises"
 	$(link) "$(DESTDIR)$(lab)/lab/vecmon_lab/lessons/tours" "$(DESTDIR)$(docdir)/examples/tour"
+	umask 022; tools/vsix "$(DESTDIR)$(docdir)/vecmon.vsix"
 	tools/book "$(DESTDIR)$(docdir)/html"
 	test -z "$(site)" || { install -d "$(DESTDIR)$(lab)/site" && cp -r --no-preserve=mode,ownership "$(site)"/. "$(DESTDIR)$(lab)/site"; }
 	$(call page,vecmon,1,'trainer machine for the RISC-V vector extension',PROGRAM.md)

@@ -90,7 +90,7 @@ class Client:
         """The body of the response to a request, which has to succeed."""
         response = self.response(self.post(command, **arguments))
         assert response["success"], response
-        return response["body"]
+        return response.get("body")
 
     def refused(self, command: str, **arguments: Any) -> str:
         """The message of the response to a request, which has to fail."""
@@ -104,7 +104,7 @@ class Client:
             for place, event in enumerate(self.events):
                 if event["event"] == name:
                     del self.events[place]
-                    body: Body = event["body"]
+                    body: Body = event.get("body", {})
                     return body
             message = self.message()
             assert message["type"] == "event", message

@@ -20,6 +20,7 @@ from support.skips import (
     NO_BROWSER,
     NO_CLANG,
     NO_GDB,
+    NO_LLDB,
     NO_LLVM,
     NO_NODE,
     NO_QEMU,
@@ -40,6 +41,7 @@ if TYPE_CHECKING:
 LEFT_OUT = {
     "in a browser": NO_BROWSER,
     "with gdb": NO_GDB,
+    "with LLDB": NO_LLDB,
     "on QEMU": NO_QEMU,
     "of sources in C": NO_CLANG,
     "in a sandbox": NO_SANDBOX,

@@ -5,6 +5,7 @@ import pathlib
 import re
 import select
 import shutil
+import socket
 import subprocess
 import sys
 from collections.abc import Callable, Iterator
@@ -159,7 +160,16 @@ def test_registers_are_described(squares: Packets) -> None:
     assert registers == [(name, "64") for name in names] + [(f"v{number}", "256") for number in range(32)]
     for vector in target.iter("vector"):
         assert int(vector.get("type", "").removeprefix("uint")) * int(vector.get("count", "")) == 256
-    assert [field.get("name") for field in target.iter("field")] == ["b", "s", "w", "l"]
+    (elements,) = target.iter("union")
+    assert [field.get("name") for field in elements] == ["b", "s", "w", "l"]
+    numbers = {register.get("name"): register.get("dwarf_regnum") for register in target.iter("reg")}
+    assert [numbers[name] for name in ("x1", "x31", "v0", "v31", "vl")] == [
+        "1",
+        "31",
+        "96",
+        "127",
+        None,
+    ]  # by the psABI
 
 
 def test_fault_is_reported_and_resumed(squares: Packets) -> None:
@@ -471,6 +481,34 @@ def test_manual_session_is_reproduced(gdb: Callable[..., str]) -> None:
     for line in shown:  # in this order
         assert line in rest
         rest = rest[rest.index(line) :]
+
+
+def test_gdb_shows_vector_state_in_words(gdb: Callable[..., str]) -> None:
+    """vtype 0xd1 is SEW 32, LMUL 2, ta and ma (the manual's section 3.4); v10 has the squares of 0 to 15."""
+    commands = ("print $vtype", "break 23", "continue", "print $vtype", "print/x $vtype", "monitor vector")
+    output = gdb(SUM_DWARF4, *commands)
+    assert "$1 = [ lmul=m1 sew=e8 vill ]\n" in output
+    assert "$2 = [ lmul=m2 sew=e32 ta ma ]\n$3 = 0xd1\n" in output
+    assert "vl=16 vtype=d1 (e32,m2,ta,ma) vstart=0 vxrm=0 (rnu) vxsat=0 policy=keep\n" in output
+    rows = dict(re.findall(r"^(v\d+) +(.*)$", output, re.MULTILINE))
+    assert [*rows] == [f"v{number}" for number in range(0, 32, 2)]
+    assert rows["v10"].split() == [f"{number * number:08x}" for number in range(16)]
+
+
+def test_port_serves_one_gdb() -> None:
+    with subprocess.Popen([*GDB, "--port", "0", SUM_DWARF4], cwd=TOP, stdout=subprocess.PIPE) as program:
+        try:
+            assert program.stdout
+            found = re.fullmatch(rb"listening at 127\.0\.0\.1:([0-9]+)\n", program.stdout.readline())
+            assert found
+            with socket.create_connection(("127.0.0.1", int(found[1]))) as connection:
+                connection.sendall(b"$?#3f")
+                assert connection.makefile("rb").read(8) == b"+$S00#b3"
+                with pytest.raises(ConnectionRefusedError):
+                    socket.create_connection(("127.0.0.1", int(found[1])))
+            assert program.wait() == 0
+        finally:
+            program.kill()
 
 
 def test_gdb_debugs_c_source(gdb: Callable[..., str], clang: Compiler) -> None:

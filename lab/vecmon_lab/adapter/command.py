@@ -2,14 +2,12 @@
 
 import argparse
 import os
-import socket
 
 from ..arguments import between
 from ..output import write_out
+from ..port import HOST, one_client
 from .session import Session
 from .wire import Wire
-
-HOST = "127.0.0.1"
 
 
 def add_arguments(parser: argparse.ArgumentParser) -> None:
@@ -23,10 +21,6 @@ def run(arguments: argparse.Namespace) -> int:
     if arguments.port is None:
         Session(Wire(os.dup(0), write_out)).serve()
         return 0
-    with socket.create_server((HOST, arguments.port)) as listener:
-        print(f"listening at {HOST}:{listener.getsockname()[1]}", flush=True)
-        connection, _ = listener.accept()
-    with connection:
-        connection.setsockopt(socket.IPPROTO_TCP, socket.TCP_NODELAY, 1)
+    with one_client(arguments.port) as connection:
         Session(Wire(connection.fileno(), connection.sendall)).serve()
     return 0

@@ -13,16 +13,17 @@ import contextlib
 import os
 import pathlib
 import re
-from collections.abc import Callable, Sequence
+from collections.abc import Callable, Iterator, Sequence
 
 from .. import LabError
-from ..arguments import SOURCES, add_program
+from ..arguments import SOURCES, add_program, between
 from ..assembler.commands import explain_refusal
 from ..guest.guest import Guest, started
 from ..guest.input import input_of
 from ..guest.runner import Reporter
 from ..guest.symbols import Symbols
-from ..instructions.accesses import LINE_BYTES
+from ..console.show import control_row
+from ..instructions.accesses import LINE_BYTES, REGISTER_BYTES
 from ..machine.answers import (
     CONTROL,
     Addresses,
@@ -33,10 +34,12 @@ from ..machine.answers import (
     ScalarRegisters,
     Stop,
     VectorRegister,
+    elements_in,
     read,
 )
 from ..machine.lines import BadLine, is_look, words_of
 from ..machine.session import TOGETHER
+from ..port import HOST, one_client
 from ..replay.timeline import Timeline
 from ..replay.watches import Watch
 from .packets import Link
@@ -58,11 +61,21 @@ VCSR = FIRST_VECTOR + 32
 def add_arguments(parser: argparse.ArgumentParser) -> None:
     """The words of `vecmon-lab gdb`."""
     add_program(parser, f"the image that the machine loads, or {SOURCES}", assembles=True)
+    help_text = f"wait for gdb or LLDB at this port of {HOST}; 0 chooses one, which is printed"
+    parser.add_argument("--port", metavar="N", type=between(0, 65535), help=help_text)
 
 
 def run(arguments: argparse.Namespace) -> int:
-    """Serve gdb until it disconnects. Raises LabError and OSError for a bad image."""
-    link, image = Link(), arguments.image
+    """Serve gdb until it disconnects. Raises LabError and OSError for a bad image, and OSError for a port that is taken."""
+    if arguments.port is None:
+        return _serve(arguments, Link())
+    with one_client(arguments.port) as connection:
+        return _serve(arguments, Link(connection.fileno(), connection.sendall))
+
+
+def _serve(arguments: argparse.Namespace, link: Link) -> int:
+    """Serve gdb over a link."""
+    image = arguments.image
     report, write = Reporter(Symbols.read(image).place), lambda data: link.send(f"O{data.hex()}")
     own, name = [image.name, *arguments.words], arguments.named
     with started(image, arguments=own, file=arguments.input, write=write, report=report, name=name) as guest:
@@ -73,7 +86,7 @@ def run(arguments: argparse.Namespace) -> int:
             guest.start("image", arguments=[image.name, *words] if words else own, data=data)
 
         target = Target(guest, link, image, restart)
-        with contextlib.suppress(EOFError, BrokenPipeError):
+        with contextlib.suppress(EOFError, BrokenPipeError, ConnectionError):
             while target.is_attached:
                 if (reply := target.answer(link.receive())) is not None:
                     link.send(reply)
@@ -264,14 +277,27 @@ class Target:
 
     def _monitor(self, line: str) -> str:
         """The answer to gdb's `monitor LINE`, for a line of the user's that only looks, or sets the policy."""
+        if line.strip() == "vector":
+            return "".join(f"{row}\n" for row in self._vector_rows())
         if not is_look(f"1 {line}") and words_of(f"1 {line}")[:1] != ["policy"]:
-            return "monitor takes policy and lines that look, as regs, vreg, dis and trace; gdb does the rest\n"
+            return "monitor takes vector, policy and lines that look, as regs, vreg, dis and trace; gdb does the rest\n"
         try:
             lines = self._guest.session.do(f"1 {line}")
         except BadLine as error:
             return f"{error}\n"
         answer, rows = read(lines), [part[2:] for part in lines]
         return "\n".join([*(explain_refusal(f"1 {line}", answer) if isinstance(answer, Refused) else rows), ""])
+
+    def _vector_rows(self) -> Iterator[str]:
+        """The vector state in words, and the elements of each register group of the vector type, the first one first."""
+        control, policy = self._guest.query("vcsr", ControlRegisters), self._guest.session.policy[self._guest.user]
+        yield control_row(control, policy)
+        data, is_typed = b"".join(self._guest.vectors()), not control.vtype >> 63
+        size, width = (max(1, int(control.lmul)), control.sew) if is_typed else (1, 8)
+        for register in range(0, 32, size):
+            own = data[register * REGISTER_BYTES : (register + size) * REGISTER_BYTES]
+            values = [f"{value:0{width // 4}x}" for value in elements_in(own, width)]
+            yield f"v{register:<3} {' '.join(values[: control.vl] if is_typed else values)}".rstrip()
 
     def _do(self, command: str) -> str:
         """The answer after a command."""

@@ -1,4 +1,4 @@
-"""Packets of gdb's remote serial protocol over a pipe (gdb's manual, "gdb Remote Serial Protocol").
+"""Packets of gdb's remote serial protocol over a pipe or a socket (gdb's manual, "gdb Remote Serial Protocol").
 
 A packet is `$DATA#SUM`, with SUM the sum of DATA's bytes modulo 256 in two hexadecimal digits. Each is acknowledged by `+`, or asked for
 again by `-`, until gdb says that it needs no such acknowledgements. A byte 03 outside of packets asks for a stop.
@@ -7,7 +7,7 @@ again by `-`, until gdb says that it needs no such acknowledgements. A byte 03 o
 import os
 import re
 import select
-import sys
+from collections.abc import Callable
 
 from ..output import write_out
 
@@ -16,10 +16,11 @@ _INTERRUPT = b"\x03"
 
 
 class Link:
-    """The pipes from gdb and to it, which are standard input and output."""
+    """The connection to gdb: by default standard input and output."""
 
-    def __init__(self) -> None:
-        self._source = sys.stdin.fileno()
+    def __init__(self, source: int = 0, write: Callable[[bytes], object] = write_out) -> None:
+        """source: a file descriptor to read from; write: is given bytes for gdb"""
+        self._source, self._write = source, write
         self._unread = b""
         self._acknowledges = True
 
@@ -32,7 +33,7 @@ class Link:
             self._unread = self._unread[packet.end() :]
             data, is_good = packet[1], sum(packet[1]) % 256 == int(packet[2], 16)
             if self._acknowledges:
-                write_out(b"+" if is_good else b"-")
+                self._write(b"+" if is_good else b"-")
             if is_good:
                 self._acknowledges &= data != b"QStartNoAckMode"
                 return data.decode("latin-1")
@@ -40,7 +41,7 @@ class Link:
     def send(self, text: str) -> None:
         """Sends a packet."""
         data = re.sub(rb"[#$}*]", lambda odd: b"}" + bytes([odd[0][0] ^ 0x20]), text.encode("latin-1"))
-        write_out(b"$" + data + b"#%02x" % (sum(data) % 256))
+        self._write(b"$" + data + b"#%02x" % (sum(data) % 256))
 
     def is_interrupted(self) -> bool:
         """Whether gdb asks for a stop, while it waits for an answer. Raises EOFError at the end."""
