@@ -10,8 +10,8 @@ import pytest
 
 from support.language_client import URI, Editor, marked
 from support.places import EXAMPLES
-from vecmon_lab.assembler.assembly import FileReader
 from vecmon_lab.assembler import line as line_module
+from vecmon_lab.assembler.assembly import FileReader
 from vecmon_lab.assembler.source import Program, read_source
 from vecmon_lab.assembler.trial import Trial
 from vecmon_lab.language import analysis
@@ -54,7 +54,7 @@ loop:   csrr t0, mhartid
 
 
 def at(text: str, word: str, offset: int = 1) -> tuple[int, int]:
-    """The line and the character of a word of a text, or some characters after its start."""
+    """The line and the character at which a word of a text starts, or some characters after that."""
     before = text[: text.index(word)]
     return before.count("\n"), len(before) - before.rfind("\n") - 1 + offset
 
@@ -81,7 +81,7 @@ def test_good_source() -> None:
 
 
 def test_wrong_source() -> None:
-    """Each mistake at its token, with its fixes; what other machines have is a hint."""
+    """Each mistake is reported at its token, with its fixes; an instruction of other machines has a hint."""
     with Editor() as editor:
         found = editor.set_text(WRONG)
         lines = [(line, word) for line, word, _ in marked(WRONG, found)]
@@ -162,7 +162,7 @@ def test_hover() -> None:
 
 
 def test_completion() -> None:
-    """What fits at the caret of half-typed lines; under e32,m2 register groups begin at even registers."""
+    """Completions at the caret of half-typed lines; under e32,m2 register groups begin at even registers."""
     head, tail = "_start: vsetivli x0, 4, e32, m2, ta, ma\n.equ COUNT, 4\n", "\nfoo: ret\n"
     with Editor() as editor:
 
@@ -301,12 +301,11 @@ def test_other_sources(tmp_path: pathlib.Path) -> None:
 
 def test_text_that_fails(program: pathlib.Path, monkeypatch: pytest.MonkeyPatch) -> None:
     """A text at which the lab fails has a hint that says so, and the next text is checked."""
-    whole = analysis.read_source
 
     def fails(text: str, files: FileReader | None = None) -> Program:
         if "vmul" in text:
             raise IndexError("planted")
-        return whole(text, files=files)
+        return read_source(text, files=files)
 
     monkeypatch.setattr(analysis, "read_source", fails)
     with Trial(program) as trial:

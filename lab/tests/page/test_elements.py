@@ -319,7 +319,7 @@ def test_columns_equal_golden_results(tmp_path: pathlib.Path) -> None:
                 assert (case, kind, [cell["text"] for cell in row["cells"]]) == (case, kind, values)
         execution = Execution(before)
         outcomes = [OUTCOMES[execution.outcome(at)] for at in range(len(found["results"]))]
-        if execution.record.layout == "compress":  # what isn't packed is the tail (16.5)
+        if execution.record.layout == "compress":  # elements that aren't packed are the tail (16.5)
             outcomes = ["tail" if each == "kept" else each for each in outcomes]
         assert (case, found["results"]) == (case, outcomes)
         reasons = Explanation(before)

@@ -211,7 +211,7 @@ def test_interrupts_leave_the_state(guest: Guest, random_stores: pathlib.Path) -
 
 def test_progress_is_reported(guest: Guest, monkeypatch: pytest.MonkeyPatch) -> None:
     sentences = list[str]()
-    timeline = Timeline(guest, sentences.append)
+    timeline = Timeline(guest, lambda advance: sentences.append(advance.sentence))
     monkeypatch.setattr("vecmon_lab.replay.control.SECONDS", 1e9)
     assert timeline.go(never) and timeline.back() and not sentences  # this time hasn't passed
     monkeypatch.setattr("vecmon_lab.replay.control.SECONDS", 0.0)

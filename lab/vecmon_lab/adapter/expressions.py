@@ -86,8 +86,16 @@ def _parsed(text: str) -> ast.expr:
 
 
 _ALLOWED: tuple[type[ast.AST], ...] = (
-    *(ast.BinOp, ast.UnaryOp, ast.BoolOp, ast.Compare, ast.Name, ast.Subscript, ast.Constant, ast.Load),
-    *(ast.And, ast.Or),
+    ast.BinOp,
+    ast.UnaryOp,
+    ast.BoolOp,
+    ast.Compare,
+    ast.Name,
+    ast.Subscript,
+    ast.Constant,
+    ast.Load,
+    ast.And,
+    ast.Or,
     *_UNARY,
     *_BINARY,
     *_SHIFTS,

@@ -1,7 +1,7 @@
 """The vector type and length before each instruction of a program, by all ways to it, without running it.
 
 Nothing wrong is claimed of a program that calls and returns by registers that `jal` and `jalr` link, and that doesn't write its own code.
-What comes from a register, from a caller or from too many ways is unknown.
+A value from a register, from a caller or by too many ways is unknown.
 """
 
 from collections.abc import Collection, Iterator, Mapping
@@ -15,7 +15,7 @@ from ..machine.answers import VILL, ControlRegisters
 from .constants import constant_before
 from .jumps import jump_target
 
-MAX_TYPES = 4  # of a place that are told apart
+MAX_TYPES = 4  # that are distinguished at a place
 JALR, JAL, BRANCH = 0x67, 0x6F, 0x63  # opcodes
 _OP_VSET = 7  # funct3
 _EBREAK = 0x00100073  # the word
