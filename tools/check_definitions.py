@@ -1,6 +1,8 @@
 #!/usr/bin/env python3
-"""Compares figures and names in pages about definitions with the sources: `tools/check_definitions.py [OUTPUT]`, at the top of the
-repository.
+"""Compares figures and names in pages about definitions with the sources: `tools/check_definitions.py [OUTPUT | --write]`, at the top
+of the repository.
+
+With --write it first writes the counts of lines in docs/DEFINITIONS.md (`definition_figures.py`).
 
 In docs/DEFINITIONS.md it compares the lines and files of each row of both tables, and each sum, with the counts of `tools/definitions.py`.
 In docs/GUARANTEES.md it looks for each contract that a statement about a crate names, with its clauses, and for the modules of the kit that
@@ -14,6 +16,7 @@ from collections.abc import Iterator
 from pathlib import Path
 
 import definitions as counted
+from definition_figures import files_in, with_counts
 from kit_definitions import report
 
 
@@ -22,15 +25,6 @@ def rows_of(page: str, title: str) -> Iterator[list[str]]:
     section = page.partition(f"\n## {title}\n")[2].partition("\n## ")[0]
     for line in re.findall(r"^\|(.*)\|$", section, re.MULTILINE)[2:]:
         yield [cell.strip() for cell in line.split("|")]
-
-
-def files_in(cell: str) -> list[str]:
-    """The files that a cell names: one without a folder lies in that of the file before it."""
-    found, folder = list[str](), ""
-    for name in re.findall(r"`([\w/]+)`", cell):
-        folder = f"{name.rpartition('/')[0]}/" if "/" in name else folder
-        found.append(name if "/" in name else folder + name)
-    return found
 
 
 def number(text: str) -> int:
@@ -157,8 +151,14 @@ def wrong_axioms(page: str, output: str) -> Iterator[str]:
 
 
 def main() -> int:
-    output = Path(sys.argv[1]).read_text(encoding="utf-8") if len(sys.argv) > 1 else ""
-    guide, guarantees = (Path("docs", it).read_text(encoding="utf-8") for it in ("DEFINITIONS.md", "GUARANTEES.md"))
+    arguments = sys.argv[1:]
+    pages = Path("docs/DEFINITIONS.md"), Path("docs/GUARANTEES.md")
+    guide, guarantees = (page.read_text(encoding="utf-8") for page in pages)
+    if arguments == ["--write"]:
+        guide = with_counts(guide)
+        pages[0].write_text(guide, encoding="utf-8")
+        arguments = []
+    output = Path(arguments[0]).read_text(encoding="utf-8") if arguments else ""
     found = {
         "DEFINITIONS.md": [*wrong_hour(guide), *wrong_modules(guide), *wrong_rest(guide)],
         "GUARANTEES.md": [*wrong_contracts(guarantees), *wrong_kit(guarantees), *wrong_axioms(guarantees, output)],

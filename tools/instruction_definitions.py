@@ -1,6 +1,7 @@
 """Compares docs/INSTRUCTIONS.md and the lab with the definitions, for `tools/instructions`.
 
-First it prints each place that lacks an instruction (`instruction_places.py`). Then it compares
+First it prints the names that files of formulas lack (`definition_names.py`), each record whose definition has no line for it, and each
+place that lacks an instruction (`instruction_places.py`). Then it compares
 
 - the page: it starts with what each instruction does, by the lab's records (`support/instruction_page.py`). The list that `test_assembler`
   prints follows, with three more columns: the formula that the record names, on which the instruction's own line of a step has to rest;
@@ -17,10 +18,12 @@ from functools import cache
 from pathlib import Path
 
 import definitions as counted
+from definition_names import unknown_names
 
 sys.path[:0] = ["lab"]
 from instruction_places import missing
-from instruction_records import FOLDER, read_records
+from instruction_records import FIXED, FOLDER, FUNCT6, Mnemonic, read_records
+from instruction_records import Record as InstructionRecord
 from support.elements import elements_of
 from support.instruction_page import records_text
 from vecmon_lab import LabError
@@ -29,11 +32,15 @@ from vecmon_lab.instructions.accesses import REGISTER_BITS, active_spans, base_a
 from vecmon_lab.instructions.table import Row, instruction_table
 from vecmon_lab.instructions.words import STORE, STORE_FP, decode
 from vecmon_lab.machine.answers import ControlRegisters
+from vecmon_lab.meanings.describe import section_of
 from vecmon_lab.meanings.record import record_of
 from vecmon_lab.page.operands import shown_operands
 from vecmon_lab.runs.dataflow import scalars_read
 
 PAGE, PRINTED = Path("docs/INSTRUCTIONS.md"), Path("crates/test_assembler/stdout")
+FAMILIES = (*FUNCT6, *FIXED)
+OTHERS = " _"
+"""The end of a record's `definition` if the line for all other operations counts for it."""
 ROW = re.compile(r"^(\| `(\S+)[^`]*` \| `[01 -]+`) \|$", re.MULTILINE)
 COLUMNS = """
 `Formula` is the definition in `crates/rv_model/specs` of the computation or move; where it has a line for each
@@ -176,7 +183,48 @@ def asks(name: str, variants: frozenset[str]) -> bool:
 @cache
 def formulas() -> dict[str, tuple[str, str]]:
     """The definition that each name's record has, with the place of the record."""
-    return {it.name: (record.cells["definition"], record.place) for record in read_records() for it in record.mnemonics}
+    return {
+        it.name: (record.cells["definition"].removesuffix(OTHERS), record.place)
+        for record in read_records()
+        for it in record.mnemonics
+    }
+
+
+def without_formula() -> Iterator[str]:
+    """A line for each record that the definition which it names has no line for, although it has lines for operations."""
+    found = read_records()
+    operations = {
+        family: {it for record in found if record.family == family for it in record.variants} for family in FAMILIES
+    }
+    for record in found:
+        definition = record.cells["definition"]
+        for mnemonic in record.mnemonics:
+            fault = formula_fault(
+                record, mnemonic, definition.removesuffix(OTHERS), operations.get(record.family, set())
+            )
+            if fault:
+                yield f"{record.place}: {fault}"
+                break
+
+
+def formula_fault(record: InstructionRecord, mnemonic: Mnemonic, definition: str, operations: set[str]) -> str:
+    """What the definitions lack for a name; empty if they have its formula. `operations` are those of its family."""
+    variants = variants_of(mnemonic.name)
+    module = rests_on(variants).get(definition)
+    if module is None:
+        return f"the step of {mnemonic.name} doesn't rest on the definition {definition}"
+    path = f"crates/rv_model/specs/{module.replace('.', '/')}.antt"
+    lines = [it.variants & operations for it in clauses(module, definition)]
+    takes_others = record.cells["definition"].endswith(OTHERS)
+    if any(lines) and not takes_others and not any(it & variants for it in lines):
+        return f"the definition {definition} has no line for it: add one to {path}"
+    if record.family == "binary" and mnemonic.letter == "i":
+        line = first(module, "has_unsigned_immediate", variants)
+        if ("uimm" in mnemonic.operands) != (line is not None and line.says.text.strip() == "true"):
+            return (
+                f"its immediate isn't {re.findall('u?imm', mnemonic.operands)[0]} by has_unsigned_immediate in {path}"
+            )
+    return ""
 
 
 def cells_of(name: str) -> list[str]:
@@ -190,7 +238,7 @@ def cells_of(name: str) -> list[str]:
     if formula not in rests_on(variants):
         raise LabError(f"{place} has the definition {formula}, on which its step doesn't rest")
     legal = ", ".join(f"`{it}`" for it in legality(variants))
-    return [f"`{formula_of(formula, variants)}`", legal, record_of(name).section]
+    return [f"`{formula_of(formula, variants)}`", legal, section_of(record_of(name))]
 
 
 def with_definitions(printed: str) -> str:
@@ -309,7 +357,7 @@ def list_in(output: str) -> str:
 
 def compare(writes_page: bool) -> int:
     """Compare the places of each name, the page and the lab with the definitions; print differences, and return the status."""
-    lacking = missing()
+    lacking = [*unknown_names(), *without_formula(), *missing()]
     for line in lacking:
         print(line)
     printed = list_in(PRINTED.read_text(encoding="latin-1"))

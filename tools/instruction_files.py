@@ -7,11 +7,13 @@ from pathlib import Path
 from instruction_accesses import access_parts
 from instruction_commands import command_parts
 from instruction_crates import crate_parts
+from instruction_figures import figure_parts, output_parts
 from instruction_lists import ListError, list_parts
 from instruction_parts import Part, PartError, first_difference, replaced
 from instruction_records import Record, RecordError, read_records
 from instruction_tables import table_texts
 from instruction_tests import STEPPED, kernel_parts, listed_parts, stepped_text
+from instruction_widths import width_parts
 
 FILE_ERRORS = (RecordError, PartError, ListError)
 """Why the files can't be written: each has a text of one line with the file."""
@@ -42,7 +44,10 @@ def read(path: Path) -> str:
 def parts_by_file(records: Sequence[Record]) -> dict[str, list[Part]]:
     """The generated parts of files, by file."""
     found = dict[str, list[Part]]()
-    writers = (crate_parts, access_parts, list_parts, listed_parts, kernel_parts, command_parts)
+    writers = (
+        *(crate_parts, width_parts, access_parts, list_parts, listed_parts, kernel_parts, command_parts),
+        *(output_parts, figure_parts),
+    )
     for part in (part for writer in writers for part in writer(records)):
         found.setdefault(part.path, []).append(part)
     return found

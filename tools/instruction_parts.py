@@ -8,6 +8,7 @@ import re
 from collections.abc import Iterable, Sequence
 from dataclasses import dataclass
 from pathlib import Path
+from typing import Protocol
 
 COLUMNS = 120  # of a list that is written anew
 
@@ -113,7 +114,18 @@ class Items:
         return _filled(wanted.split(" "), "    ")
 
 
-Part = Run | Between | Items
+class Part(Protocol):
+    """A part of a file."""
+
+    @property
+    def path(self) -> str:
+        """The file."""
+
+    def place_in(self, text: str) -> Place:
+        """The place of the part in a text. Raises PartError."""
+
+    def written(self, old: str) -> str:
+        """The text of the part by the records, from the one that the file has."""
 
 
 def _filled(words: Iterable[str], indent: str) -> str:

@@ -7,10 +7,12 @@ instruction").
 
 import lzma
 import re
+from collections import Counter
 from collections.abc import Iterable, Iterator, Set
 from itertools import chain
 from pathlib import Path
 
+from support.values_by_hand import hand_values
 from vecmon_lab.instructions.words import CONTROL_REGISTERS, OP_V, SYSTEM, VECTOR_ACCESSES, NoInstruction, decode
 from vecmon_lab.meanings.describe import examples
 from vecmon_lab.meanings.record import Record, records
@@ -19,7 +21,8 @@ MNEMONICS = Path("crates/rv_model/src/assembler/mnemonics.rt")
 MNEMONIC = re.compile(r'\*b"([a-z]\S*) *", .*\b(0x[0-9a-f_]+)\)')  # a name, and its word with all operands zero
 VSET = 7  # funct3 of the instructions that set the vector type
 WITHOUT_KERNEL = r"vset\w+|vmv[1248]r\.v"
-WITHOUT_GOLDEN_VECTORS = {"ecall"}
+WITHOUT_RESULTS = {"ecall"}
+LEAST_BY_HAND = 2  # values by hand of an instruction without golden vectors
 
 Place = tuple[str, Set[str]]
 """The change that a new mnemonic needs at a place, and the mnemonics that the place has."""
@@ -80,9 +83,10 @@ def crate_places(encoded: dict[str, int]) -> Iterator[Place]:
     """The places in tests of crates."""
     without = {name for name in encoded if re.fullmatch(WITHOUT_KERNEL, name)}
     kernels = of_families(encoded, re.findall(r'"(v\w+)', text_of("crates/test_kernels/src/**/*.rt")))
-    yield "name the array of its kernel in crates/test_kernels/src by the record's key `test`", without | kernels
+    change = "name the array of its kernel by the record's key `test`, or add a row to crates/test_kernels/src/by_hand"
+    yield change, without | kernels
     spelled = re.findall(r"^[0-9a-f]{8} (\S+)", text_of("crates/test_assembler/data/spellings"), re.MULTILINE)
-    yield "add words and texts to encodings and spellings in crates/test_assembler/data", {*spelled}
+    yield "run `.venv/bin/python -m tests.peers.new_words`, which adds its words to crates/test_assembler", {*spelled}
 
 
 def table_places(encoded: dict[str, int]) -> Iterator[Place]:
@@ -103,8 +107,12 @@ def generated_places(encoded: dict[str, int]) -> Iterator[Place]:
 
 
 def other_places(_encoded: dict[str, int]) -> Iterator[Place]:
-    """The golden vectors."""
-    yield "add results of another machine to lab/tests/data/golden_vectors", golden_names() | WITHOUT_GOLDEN_VECTORS
+    """The golden vectors, or values by hand."""
+    rows = Counter(row.name for row in hand_values())
+    by_hand = {name for name, count in rows.items() if count >= LEAST_BY_HAND}
+    data = "lab/tests/data"
+    change = f"add {LEAST_BY_HAND} rows to {data}/values_by_hand.txt, or golden vectors to {data}/golden_vectors"
+    yield change, golden_names() | by_hand | WITHOUT_RESULTS
 
 
 def missing() -> list[str]:

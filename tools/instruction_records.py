@@ -12,6 +12,8 @@ from functools import cached_property
 from itertools import product
 from pathlib import Path
 
+from vecmon_lab.tables.table import read_table
+
 FOLDER = Path("instructions")
 FILES = ("scalar", "vector_integer", "vector_fixed_point", "vector_masks", "vector_moves", "vector_memory")
 """The files of the records, in the order of the table of instructions."""
@@ -32,8 +34,41 @@ SINGLE = (
 """Layouts of one instruction."""
 ACCESSES = ("unit_stride", "strided", "indexed", "whole_load", "whole_store", "mask_access")
 """Layouts of vector loads and stores."""
-EXTENSIONS = ("I", "M", "Zba", "Zbb", "Zbs", "Zicsr", "V", "Zvkb", "Zvbb", "Zvbc")
+EXTENSION_TABLE = "lab/vecmon_lab/tables/instruction_extensions.txt"
+EXTENSIONS = tuple(name for name, *_ in read_table("instruction_extensions"))
 """The extensions of RISC-V that records may name, in the order of the list of instructions."""
+SHAPE_TABLE = "lab/vecmon_lab/tables/shapes.txt"
+SHAPES = {name: dict(zip(("vd", "vs2", "vs1"), cells)) for name, *cells in read_table("shapes")}
+"""The cell of each vector operand by shape; `-` if the shape lacks the operand."""
+FAMILY_SHAPES = {
+    **dict.fromkeys(("binary", "fixed_point"), ("single", "high product")),
+    **dict.fromkeys(("narrow_shift", "clip"), ("narrowing",)),
+    **dict.fromkeys(("multiply_add", "carry"), ("single",)),
+    **dict.fromkeys(("widen", "widen_multiply_add"), ("widening",)),
+    **dict.fromkeys(("carry_out", "compare"), ("comparison",)),
+    **dict.fromkeys(("unit_stride", "strided"), ("plain",)),
+    **dict.fromkeys(("whole_load", "whole_store"), ("whole",)),
+    "wide_source": ("wide source",),
+    "extend": ("same source", "half source", "quarter source", "eighth source"),
+    "move": ("move",),
+    "mask_logic": ("mask logic",),
+    "mask_to_scalar": ("mask count",),
+    "mask_scan": ("scan",),
+    "mask_unary": ("iota",),
+    "element_index": ("numbers",),
+    "reduce": ("reduction",),
+    "widen_reduce": ("wide reduction",),
+    "move_to_scalar": ("from element 0",),
+    "move_to_vector": ("to element 0",),
+    "permute": ("single", "gather", "gather 16"),
+    "compress": ("compress",),
+    "whole_move": ("1 register", "2 registers", "4 registers", "8 registers"),
+    "mask_access": ("mask",),
+    "indexed": ("indexed", "indexed segment"),
+}
+"""The shapes that the definitions have for the operands of each family of vector instructions."""
+OP_V, VSET = "1010111", "111"
+"""The opcode of vector operations, and funct3 of the instructions of this opcode that set the vector type."""
 FIELDS = (7, 5, 5, 3, 5, 7)
 """The widths in bits of funct7, rs2, rs1, funct3, rd and the opcode, in which a word is written."""
 FUNCT3 = {"OPI": {"v": "000", "x": "100", "i": "011"}, "OPM": {"v": "010", "x": "110"}}
@@ -45,14 +80,9 @@ PLACES = {
 }
 """Places of a name and its word, such as `{eew}`: the bits of each value."""
 NEEDED = ("extension", "family", "word", "operands", "definition", "does", "section")
-BUILD_KEYS = (
-    *("extension", "family", "variants", "word", "forms", "mnemonics", "operands", "shape", "definition", "test"),
-)
+BUILD_KEYS = tuple("family variants word forms mnemonics operands shape definition test chunk".split())
 """The keys that the lab's copies lack."""
-LAB_KEYS = (
-    *("names", "does", "formula", "formulas", "kept", "layout", "elements", "use", "mistake", "see", "section"),
-    "intrinsic",
-)
+LAB_KEYS = tuple("extension names does formula formulas kept layout elements use mistake see section intrinsic".split())
 
 
 class RecordError(Exception):
@@ -216,15 +246,56 @@ def _check(record: Record) -> None:
         families = ", ".join((*FUNCT6, *FIXED, *SINGLE, *ACCESSES))
         raise RecordError(f"{record.place} has the unknown family {record.family}; known are {families}")
     if record.extension not in EXTENSIONS:
-        raise RecordError(f"{record.place} has the unknown extension {record.extension}; add it to EXTENSIONS")
+        raise RecordError(f"{record.place} has the unknown extension {record.extension}; add it to {EXTENSION_TABLE}")
     if record.family in FUNCT6 and not re.search(r"\b(OPI|OPM)\b", cells["word"]):
         raise RecordError(f"{record.place} needs OPI or OPM as funct3, since its family is {record.family}")
     if len(record.shapes) not in ({0, 1} | {len(record.mnemonics)}):
         raise RecordError(f"{record.place} has {len(record.shapes)} shapes for {len(record.mnemonics)} names")
     if not record.shapes and record.path.stem != "scalar":
         raise RecordError(f"{record.place} lacks the key shape")
+    if "chunk" in cells and (record.family, cells["chunk"]) != ("binary", "none"):
+        raise RecordError(f'{record.place} has the key chunk; it is "none", and of the family binary alone')
     if record.family in FIXED and len(record.variants) != len(record.mnemonics):
         raise RecordError(f"{record.place} has {len(record.variants)} variants for {len(record.mnemonics)} names")
+    for number, mnemonic in enumerate(record.mnemonics):
+        if record.shapes:
+            _check_shape(record, mnemonic, record.shapes[number if len(record.shapes) > 1 else 0])
+        if mnemonic.fields[5] == OP_V and mnemonic.fields[3] != VSET:
+            _check_word(record, mnemonic)
+
+
+def _check_shape(record: Record, mnemonic: Mnemonic, shape: str) -> None:
+    """Raise RecordError if the family of a name doesn't have its shape, or the shape other vector operands than the name."""
+    if shape not in SHAPES:
+        raise RecordError(f"{record.place} has the unknown shape {shape}; {SHAPE_TABLE} has all")
+    if record.family in FAMILY_SHAPES and shape not in FAMILY_SHAPES[record.family]:
+        known = ", ".join(FAMILY_SHAPES[record.family])
+        raise RecordError(f"{record.place} has the shape {shape}; the family {record.family} has {known}")
+    left_out = {"vs1"} if mnemonic.letter in ("x", "i") else set()
+    wanted = [place for place, cell in SHAPES[shape].items() if cell != "-" and place not in left_out]
+    found = [place for place in SHAPES[shape] if re.search(rf"\b{place}\b", mnemonic.operands)]
+    if found != wanted:
+        raise RecordError(
+            f"{record.place}: {mnemonic.name} has the vector operands {', '.join(found) or 'none'}, "
+            f"and the shape {shape} has {', '.join(wanted)}"
+        )
+
+
+def _check_word(record: Record, mnemonic: Mnemonic) -> None:
+    """Raise RecordError if the word of a vector operation has other fields for operands than its name has operands."""
+    funct7, vs2, vs1, _, vd, _ = mnemonic.fields
+    operands = {*re.findall(r"\w+", mnemonic.operands.replace("[, v0.t]", " vm"))}
+    for bits, name, names in (
+        (vd, "vd", "vd rd"),
+        (vs2, "vs2", "vs2"),
+        (vs1, "vs1", "vs1 rs1 imm uimm"),
+        (funct7[6], "vm", "vm"),
+    ):
+        found = operands & {*names.split()}
+        if found and "-" not in bits:
+            raise RecordError(f"{record.place}: the word of {mnemonic.name} has {bits} for the operand {min(found)}")
+        if not found and "-" in bits:
+            raise RecordError(f"{record.place}: {mnemonic.name} lacks an operand for the field {name} of its word")
 
 
 def _read_file(path: Path) -> Iterator[Record]:

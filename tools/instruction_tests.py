@@ -63,17 +63,30 @@ def _listed_row(mnemonic: Mnemonic) -> str:
 
 def kernel_parts(records: Sequence[Record]) -> Iterator[Part]:
     """The operations that `test_kernels` compares with plain formulas, in arrays by the records' key `test`."""
-    found = [it for family in (*FUNCT6, *FIXED) for it in operations(records, family) if it.test]
-    for array in dict.fromkeys(it.test for it in found):
-        yield from _array_parts(records, array, [it for it in found if it.test == array])
+    for array, found in _operations_by_array(records).items():
+        yield from _array_parts(records, array, found)
     yield from _digest_parts(records)
+
+
+def tested_arrays(records: Sequence[Record]) -> dict[str, list[str]]:
+    """The arrays of `test_kernels` with the names that it prints for their operations."""
+    bases = [it.base for it in records]
+    return {array: [_tested_name(it, bases) for it in found] for array, found in _operations_by_array(records).items()}
+
+
+def _operations_by_array(records: Sequence[Record]) -> dict[str, list[Operation]]:
+    """The operations of each array of `test_kernels`, in its order."""
+    arrays = dict[str, list[Operation]]()
+    for operation in (it for family in (*FUNCT6, *FIXED) for it in operations(records, family) if it.test):
+        arrays.setdefault(operation.test, []).append(operation)
+    for array in TESTS_BY_RECORDS:
+        arrays[array].sort(key=lambda it: records.index(it.record))
+    return arrays
 
 
 def _array_parts(records: Sequence[Record], array: str, found: Sequence[Operation]) -> Iterator[Part]:
     """The head and the rows of an array of operations with their names."""
     module, _, name = array.partition(".")
-    if array in TESTS_BY_RECORDS:
-        found = sorted(found, key=lambda it: records.index(it.record))
     path, head = f"{KERNELS}/{module}.rt", f"const {name}: [({found[0].enum}, &str); "
     first = f"{head}{len(found)}] = ["
     yield Run(path, head, [first])

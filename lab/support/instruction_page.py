@@ -14,8 +14,8 @@ each family.
 
 ## What each instruction does
 
-Each family of instructions has a sentence and a formula. The lab's tests execute the formulas on 13,358 single instructions whose results
-QEMU computed; nothing here is proved. Definitions that `vecmon` is proved against are in the columns of the encodings.
+Each family of instructions has a sentence and a formula. The lab's tests execute the formulas on over 13,000 single instructions whose
+results QEMU computed, and on values by hand; nothing here is proved. Definitions that `vecmon` is proved against are in the columns of the encodings.
 
 Elements of `vd` from `vstart` to `vl` that `v0` doesn't mask off get the value of the formula. All others are unchanged, unless they are
 agnostic under [`policy ones`](COMMANDS.md#agnostic-elements). Numbers in formulas have no limit; a target takes its lowest bits. Sentences and

@@ -13,10 +13,13 @@ import subprocess
 import tempfile
 
 from support.places import DATA, DOCS
+from vecmon_lab.meanings.extensions import extension_of
 
 HERE = DATA / "stock"
 INSTRUCTIONS = DOCS / "INSTRUCTIONS.md"
 FLAGS = "--target=riscv64-linux-gnu -march=rv64im_zve64x -mabi=lp64 -mno-relax -c".split()
+ALLOWED, RESTORED = ["        .option push"], ["        .option pop"]
+"""Lines around an instruction of another extension: with that in -march, clang would expand `li` in other ways."""
 LAYOUT = """SECTIONS {
   . = 0x10000;
   .text : { *(.text) }
@@ -39,7 +42,9 @@ def instructions() -> str:
     for number, text in enumerate(texts):
         if number % 16 == 0:
             lines.append(f"label_{number // 16}:")
-        lines.append(f"        {operands(random.Random(text), text, number // 16)}")
+        name, shown = text.split()[0], f"        {operands(random.Random(text), text, number // 16)}"
+        arch = "" if name == ".word" else extension_of(name).arch
+        lines += [*ALLOWED, f"        .option arch, +{arch}", shown, *RESTORED] if arch else [shown]
     return "\n".join(lines) + f"\nlabel_{-(-len(texts) // 16)}:\n"
 
 

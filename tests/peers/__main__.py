@@ -6,7 +6,6 @@ from collections.abc import Iterator
 
 from tests.peers import digests, encodings, instructions, programs
 from tests.peers.tally import Tally
-from vecmon_lab.instructions.table import instruction_table
 
 PARTS = ("instructions", "encodings", "programs")
 
@@ -39,7 +38,7 @@ def tallies(arguments: argparse.Namespace) -> Iterator[Tally]:
         yield from programs.compare(60, 1000, seed, 10)
     if "instructions" in parts:
         for policy in ("keep", "ones"):
-            yield instructions.compare(list(instruction_table()), arguments.cases, seed, policy)
+            yield instructions.compare(instructions.names(), arguments.cases, seed, policy)
 
 
 def main(words: list[str]) -> int:

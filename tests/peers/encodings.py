@@ -14,6 +14,7 @@ from tests.peers.tools import (
     llvm_disassembled,
 )
 from vecmon_lab.instructions.table import instruction_table
+from vecmon_lab.meanings.extensions import added_archs, names_lacked_by
 
 Assembler = Callable[[Sequence[str]], tuple[list[int], Mapping[int, str]]]
 Disassembler = Callable[[Sequence[int]], list[str]]
@@ -26,6 +27,8 @@ JUMPS = ("jal ", "beq ", "bne ", "blt ", "bge ", "bltu ", "bgeu ")
 OVERLAP = "llvm-mc refuses operands that overlap, which vecmon refuses when it executes them"
 OTHER_FENCE = "a fence other than fence iorw, iorw is .word in vecmon"
 ODD_REGISTERS = "llvm-mc takes whole-register loads, stores and moves of aligned registers alone"
+LACKED = "binutils 2.40 lacks the extension of the instruction"
+NO_INSTRUCTION = "another instruction of an extension that vecmon has in part"
 OTHER_NAME = "the name of a control register that vecmon takes by its number alone"
 _OVERLAPS = re.compile(r"the destination vector register group cannot (overlap|be V0)")
 _WHOLE = re.compile(r"v(?:l|s|mv)([248])r")
@@ -47,9 +50,15 @@ def random_words(count: int, seed: int) -> list[int]:
 
 
 def compare_assembler(name: str, assembler: Assembler, words: Sequence[int]) -> Tally:
-    """Passes `vecmon`'s text of each word to an assembler, which should give the word. Both know all these names."""
+    """Passes `vecmon`'s text of each word to an assembler, which should give the word.
+
+    Words of instructions that `as` lacks are left out.
+    """
     tally = Tally(f"texts of vecmon, assembled by {name}")
-    texts = disassembled(words)
+    known = [(word, text) for word, text in zip(words, disassembled(words), strict=True) if not _is_lacked(name, text)]
+    if len(known) < len(words):
+        tally.left_out[LACKED] += len(words) - len(known)
+    words, texts = [word for word, _ in known], [text for _, text in known]
     given, refused = assembler([dotted(text) if name == "as" else text for text in texts])
     results = iter(given)
     for at, (word, text) in enumerate(zip(words, texts, strict=True)):
@@ -76,6 +85,10 @@ def compare_disassembler(name: str, disassembler: Disassembler, words: Sequence[
             tally.left_out[OTHER_FENCE] += 1
         elif not other and _has_odd_registers(text):
             tally.left_out[ODD_REGISTERS] += 1
+        elif not other and _is_lacked(name, text):
+            tally.left_out[LACKED] += 1
+        elif text.startswith(".word") and _is_of_added_extension(other):
+            tally.left_out[NO_INSTRUCTION] += 1
         elif not other or text.startswith(".word"):
             _count(tally, not other and text.startswith(".word"), told)
         elif text.split()[0] == other.split()[0] and back is None and _has_other_control_register(other):
@@ -109,6 +122,16 @@ def compare(names: int, count: int, seed: int) -> list[Tally]:
     tallies = [compare_assembler("as", gnu_assembled, words), compare_assembler("llvm-mc", llvm_assembled, words)]
     tallies += [compare_disassembler("objdump", gnu_disassembled, both)]
     return [*tallies, compare_disassembler("llvm-mc", llvm_disassembled, both)]
+
+
+def _is_lacked(tool: str, text: str) -> bool:
+    """Whether the tool is of GNU binutils, and these lack the extension of an instruction."""
+    return tool in ("as", "objdump") and text.split()[0] in names_lacked_by("as")
+
+
+def _is_of_added_extension(text: str) -> bool:
+    """Whether a text of another disassembler has a name that `vecmon` lacks, while it has a part of added extensions."""
+    return bool(text) and bool(added_archs()) and text.split()[0] not in instruction_table()
 
 
 def _signed(distance: int) -> int:

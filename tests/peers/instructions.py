@@ -14,6 +14,7 @@ from tests.peers.tally import Tally
 from vecmon_lab.instructions.table import instruction_table
 from vecmon_lab.machine.answers import VILL
 from vecmon_lab.machine.program import find_program
+from vecmon_lab.meanings.extensions import names_lacked_by
 from vecmon_lab.vectors import on_qemu
 from vecmon_lab.vectors.command import golden_results
 
@@ -26,6 +27,11 @@ _UNFILLED = ("vmv.s.x", "vslidedown.v")
 Case = Mapping[str, object]
 Differing = Mapping[str, tuple[object, object]]
 """Differences by name: the value that `vecmon` leaves, and QEMU's."""
+
+
+def names() -> list[str]:
+    """Return the names of the instructions that QEMU 7.2 has, in the order of the table."""
+    return [name for name in instruction_table() if name not in names_lacked_by("qemu")]
 
 
 def compare(names: Sequence[str], cases: int | None, seed: int, policy: str) -> Tally:

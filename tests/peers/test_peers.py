@@ -14,9 +14,10 @@ from tests.peers.__main__ import parsed
 from tests.peers.tally import Tally
 from tests.peers.tools import GNU, LLVM_MC, gnu_assembled, gnu_disassembled, llvm_assembled, llvm_disassembled
 from vecmon_lab.instructions.table import instruction_table
+from vecmon_lab.meanings.extensions import names_lacked_by
 from vecmon_lab.vectors.on_qemu import version
 
-NAMES = list(instruction_table())
+NAMES = instructions.names()
 WORD_COUNT, RANDOM_COUNT = 4, 8000
 
 
@@ -75,7 +76,8 @@ def test_a_changed_digit_of_a_register_is_found() -> None:
 
 @pytest.mark.usefixtures("binutils")
 def test_gnu_binutils(words: Sequence[int]) -> None:
-    check(encodings.compare_assembler("as", gnu_assembled, words), WORD_COUNT * len(NAMES))
+    known = {*instruction_table()} - names_lacked_by("as")
+    check(encodings.compare_assembler("as", gnu_assembled, words), WORD_COUNT * len(known))
     check(encodings.compare_disassembler("objdump", gnu_disassembled, both(words)), 10_000)
 
 
@@ -104,6 +106,20 @@ def test_another_name_and_no_instruction_are_found() -> None:
     texts = ["vadd.vv v1,v2,v3", "vsub.vv v1,v2,v3", "", "addi x0,x0,0"]
     tally = encodings.compare_disassembler("objdump", lambda _: texts, words)
     assert (tally.agreeing, len(tally.differing)) == (1, 3)
+
+
+def test_words_of_extensions_that_binutils_lack_are_left_out(monkeypatch: pytest.MonkeyPatch) -> None:
+    """vadd.vv, as if it were of Zvkb: refused, known after all, and another instruction of Zvkb that `vecmon` lacks."""
+    monkeypatch.setattr(encodings, "names_lacked_by", lambda tool: {"vadd.vv"})
+    texts = ["", "vadd.vv v1,v2,v3", "vrev8.v v8,v9"]
+    words = [0x022180D7, 0x022180D7, 0x4A94A457]
+    tally = encodings.compare_disassembler("objdump", lambda _: texts, words)
+    assert (tally.agreeing, len(tally.differing)) == (1, 1) and tally.left_out == {encodings.LACKED: 1}
+    monkeypatch.setattr(encodings, "added_archs", lambda: ("zvkb",))
+    tally = encodings.compare_disassembler("llvm-mc", lambda _: texts, words)
+    assert (tally.agreeing, len(tally.differing)) == (1, 1) and tally.left_out == {encodings.NO_INSTRUCTION: 1}
+    tally = encodings.compare_assembler("as", lambda given: ([0x00A00093], {}), [0x022180D7, 0x00A00093])
+    assert (tally.agreeing, tally.differing) == (1, []) and tally.left_out == {encodings.LACKED: 1}
 
 
 @pytest.mark.usefixtures("binutils", "llvm")

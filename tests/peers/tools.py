@@ -7,10 +7,17 @@ import tempfile
 from collections.abc import Mapping, Sequence
 
 from tests.program import built, lines_of, run
+from vecmon_lab.meanings.extensions import added_archs
 
 GNU = "riscv64-linux-gnu-"
-GNU_FLAGS = ("-march=rv64im_zicsr_zifencei_zve64x_zvl256b", "-mabi=lp64", "-mno-relax")
-LLVM_MC = ("llvm-mc-19", "--triple=riscv64", "--mattr=+m,+zve64x,+zicsr,+zifencei,+zvl256b")
+GNU_FLAGS = (
+    "_".join(("-march=rv64im_zicsr_zifencei_zve64x_zvl256b", *added_archs("as"))),
+    *("-mabi=lp64", "-mno-relax"),
+)
+LLVM_MC = (
+    *("llvm-mc-19", "--triple=riscv64"),
+    ",+".join(("--mattr=+m", "zve64x", "zicsr", "zifencei", "zvl256b", *added_archs())),
+)
 _TOGETHER = 16  # the most that one `dis` lists
 
 

@@ -10,6 +10,7 @@ sys.path.insert(0, str(TOP / "lab"))
 
 from vecmon_lab.instructions.table import Row, instruction_table  # noqa: E402
 from vecmon_lab.meanings.describe import encoding_fields, examples, illegal_causes, operand_cells  # noqa: E402
+from vecmon_lab.meanings.extensions import extensions  # noqa: E402
 from vecmon_lab.meanings.record import Record, instruction_records, records  # noqa: E402
 
 FOLDER = Path("docs/instructions")
@@ -77,7 +78,8 @@ def _example(record: Record) -> Iterator[str]:
 
 
 def _references(record: Record) -> Iterator[str]:
-    manual = "V extension" if record.name.startswith("v") else "unprivileged ISA"
+    manual = extensions()[record.extension].manual.removeprefix("the ")
+    manual = manual or ("V extension" if record.name.startswith("v") else "unprivileged ISA")
     yield f"## References\n\nManual, {manual}: section {record.section}."
     if record.intrinsic:
         yield f"In C: `{record.intrinsic}`."

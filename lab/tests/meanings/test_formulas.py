@@ -1,27 +1,31 @@
-"""Each formula on the golden vectors, whose results are QEMU's, and formulas with an error, which they find."""
+"""Each formula on the golden vectors, whose results are QEMU's, and on values by hand, and formulas with an error, which they find."""
 
 import ast
 import copy
 import pathlib
 from collections import Counter, defaultdict
 from collections.abc import Iterator
+from dataclasses import replace
 
 import pytest
 
 from support.golden import Vector, before_of, differences, drawn_as_vector, drawn_before, golden_vectors, has_formula
+from support.values_by_hand import HandValue, formula_result, hand_values, machine_result
 from vecmon_lab import LabError
 from vecmon_lab.instructions.table import instruction_table
-from vecmon_lab.machine.answers import ControlRegisters
-from vecmon_lab.meanings.executed import Before, execute
+from vecmon_lab.machine.session import Session
+from vecmon_lab.meanings.executed import execute
+from vecmon_lab.meanings.extensions import names_lacked_by
 from vecmon_lab.meanings.formula import Formula
 from vecmon_lab.meanings.record import Record, instruction_records, record_of
 from vecmon_lab.vectors.command import golden_results
 
-VECTORS, LEAST = 13_358, 2  # that a formula is evaluated on; of an instruction, at least
+VECTORS, LEAST = (
+    13_000,
+    2,
+)  # that formulas are evaluated on, at least; those of an instruction, or its values by hand, at least
 DRAWN, MANY = 2, 100  # cases of a family that are drawn; of an instruction, for an error that the golden vectors miss
 MOST = 400  # vectors that an erroneous formula is tried on
-NEGATIVE = 0xFFFF_FFFF_8000_0000  # their result for 80000000 in x2 and 1 in x3, worked by hand
-BY_HAND = {"divuw": 0x023150BB, "srliw": 0x0001509B}  # divuw x1, x2, x3 and srliw x1, x2, 0
 WITHOUT = {"fence", "ecall", "ebreak"}  # instructions without a formula
 
 
@@ -33,9 +37,28 @@ def test_formulas_equal_qemu_results() -> None:
             found = list(differences(vector, before, execute(before)))
             wrong += [f"{policy} {vector['id']} {vector['text']}: {', '.join(found)}"] if found else []
             counts[vector["name"]] += 1
-    assert wrong == [] and counts.total() == VECTORS
+    assert wrong == [] and counts.total() > VECTORS
     names = {name for record in instruction_records() for name in record.members} - WITHOUT
+    assert names_lacked_by("qemu").isdisjoint(counts)
+    counts += Counter(row.name for row in hand_values())
     assert counts.keys() == names and min(counts.values()) >= LEAST
+
+
+def test_formulas_equal_values_by_hand(session: Session) -> None:
+    for row in hand_values():
+        word, result = machine_result(session, row)
+        assert formula_result(row, word) == row.expected(), row
+        assert result == row.expected(), row
+
+
+def test_wrong_value_by_hand_is_detected(session: Session) -> None:
+    """A changed digit of each result, in a register that the instruction writes."""
+    for row in hand_values():
+        name, values = next(iter(row.after.items()))
+        other = f"{int(values[0][-1], 16) ^ 1:x}"
+        changed = replace(row, after={**row.after, name: [values[0][:-1] + other, *values[1:]]})
+        word, result = machine_result(session, changed)
+        assert formula_result(changed, word) != changed.expected() != result, row
 
 
 def erroneous(record: Record, name: str) -> Iterator[Formula]:
@@ -96,16 +119,19 @@ def _drawn_differences(drawn: Vector, formula: Formula | None = None) -> Iterato
     return differences(drawn_as_vector(drawn), before, execute(before, formula), old)
 
 
-def test_wrong_formula_is_detected(by_name: dict[str, list[tuple[str, Vector]]], program: pathlib.Path) -> None:
+def test_wrong_formula_is_detected(
+    by_name: dict[str, list[tuple[str, Vector]]], program: pathlib.Path, session: Session
+) -> None:
     missed, count = list[str](), 0
     for record in instruction_records():
         if record.name in WITHOUT:
             continue
         vectors = [each for name in record.members for each in by_name[name]][:MOST]
+        by_hand = [row for row in hand_values() if row.name in record.members]
         for formula in erroneous(record, record.members[0]):
             forms = {name for name in record.members if record.formula_of(name) == record.formula_of(record.members[0])}
             is_found = any(_finds(formula, *each) for each in vectors if each[1]["name"] in forms)
-            is_found = is_found or record.name in BY_HAND and _result(record.name, formula) != NEGATIVE
+            is_found = is_found or any(_finds_by_hand(formula, row, session) for row in by_hand if row.name in forms)
             if not is_found and not any(
                 any(_drawn_differences(it, formula)) for it in _drawn(program, record.members[0], MANY)
             ):
@@ -114,14 +140,13 @@ def test_wrong_formula_is_detected(by_name: dict[str, list[tuple[str, Vector]]],
     assert missed == [] and count > 250
 
 
-def _result(name: str, formula: Formula | None = None) -> int:
-    """x1 after an instruction of BY_HAND, by its formula or by another one."""
-    x = [0, 0, 1 << 31, 1] + [0] * 28
-    return execute(Before(0, BY_HAND[name], x, ControlRegisters(), bytes(1024), False), formula).x[1]
-
-
-def test_word_results_are_sign_extended() -> None:
-    assert {_result(name) for name in BY_HAND} == {NEGATIVE}
+def _finds_by_hand(formula: Formula, row: HandValue, session: Session) -> bool:
+    """Whether a value by hand shows that a formula is wrong."""
+    word, _ = machine_result(session, row)
+    try:
+        return formula_result(row, word, formula) != row.expected()
+    except (LabError, ValueError):
+        return True
 
 
 def _finds(formula: Formula, policy: str, vector: Vector) -> bool:

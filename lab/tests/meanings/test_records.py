@@ -13,6 +13,7 @@ from vecmon_lab.compilers.compiler import Compiler
 from vecmon_lab.instructions.table import instruction_table
 from vecmon_lab.meanings import record as record_module
 from vecmon_lab.meanings.describe import EXAMPLES, describe, encoding_fields, expansions, found
+from vecmon_lab.meanings.extensions import added_archs
 from vecmon_lab.meanings.help import help_lines
 from vecmon_lab.meanings.record import instruction_records, record_of, records
 from vecmon_lab.tables.table import read_table
@@ -103,7 +104,8 @@ def test_every_intrinsic_compiles(tmp_path: pathlib.Path, clang: Compiler) -> No
     source.write_text("\n".join(parts))
     words = [
         "--target=riscv64",
-        "-march=rv64im_zve64x_zvl256b",
+        "_".join(("-march=rv64im_zve64x_zvl256b", *added_archs())),
+        "-menable-experimental-extensions",  # which intrinsics of Zvkb, Zvbb and Zvbc need
         "-O1",
         "-Werror=implicit-function-declaration",
         "-S",

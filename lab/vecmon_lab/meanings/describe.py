@@ -10,6 +10,7 @@ from fractions import Fraction
 from ..instructions.table import Row, instruction_table
 from ..instructions.words import OP_V, STORE_FP, VECTOR_ACCESSES, Operand, Trait, VectorInstruction, decode
 from ..tables.table import read_table
+from .extensions import extensions
 from .record import FOLDER, Record, record_of, records, scalar_source
 
 _SHORT = ("a", "an", "the", "of", "to", "with", "in")  # words that a search leaves out
@@ -149,8 +150,15 @@ def scalar_note(row: Row, formula: str) -> str:
     return f", where vs1[i] is {other}" if other else ""
 
 
+def section_of(record: Record) -> str:
+    """The section of the manual, and the manual if it is another one than the Unprivileged ISA and the V extension."""
+    manual = extensions()[record.extension].manual if record.extension else ""
+    return f"{record.section} of {manual}" if manual else record.section
+
+
 def _more(record: Record) -> Iterator[str]:
-    manual = f"{record.section}; in C: {record.intrinsic}" if record.intrinsic else record.section
+    manual = section_of(record)
+    manual += f"; in C: {record.intrinsic}" if record.intrinsic else ""
     texts = {
         "Use: ": record.use,
         "Mistake: ": record.mistake,

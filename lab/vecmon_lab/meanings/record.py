@@ -31,6 +31,7 @@ class Record:
     layout: how sources lie to results: `by element`, `gather`, `slide`, `reduce`, `compress` or `scan`
     elements: of inactive and tail elements, where the general rule doesn't hold
     see: names of related records
+    extension: of RISC-V, for an instruction
     section: of the manual
     file: the table of the record
     kept_text: `kept` as text
@@ -49,6 +50,7 @@ class Record:
     use: str = ""
     mistake: str = ""
     see: tuple[str, ...] = ()
+    extension: str = ""
     section: str = ""
     file: str = ""
     kept_text: str = ""

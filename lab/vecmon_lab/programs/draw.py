@@ -11,6 +11,7 @@ from ..instructions.reserved import registers_of_two_widths
 from ..instructions.table import Row, instruction_table
 from ..instructions.words import LOAD, OP_V, STORE, STORE_FP, SUPPORTED, SYSTEM, VECTOR_ACCESSES, Operand, decode
 from ..machine.answers import ControlRegisters
+from ..meanings.extensions import names_lacked_by
 from ..vectors.cases import PLACES
 from .registers import DrawnRegisters, operands_of
 
@@ -23,7 +24,7 @@ _BASE, _END = 29, 0x22  # the scalar register that has the middle of memory; the
 _JUMPS, _BRANCH, _FENCE = (0x6F, 0x67), 0x63, 0x0F
 _CONTROL = {0x009: 2, 0x00A: 4, 0x00F: 8}  # vxsat, vxrm and vcsr, and how many values each takes
 _READ = (0x008, *_CONTROL, 0xC20, 0xC21, 0xC22)
-_LEFT_OUT = ("ecall", "ebreak")  # which end programs
+_ENDS = ("ecall", "ebreak")  # which end programs
 _UNORDERED, _STRIDED, _TRIES = 1, 2, 4  # values of the field mop; draws of registers for an instruction
 
 
@@ -57,7 +58,8 @@ class _Generator:
         self._registers, self._control = DrawnRegisters(self._draws, has_choices), FIRST
         self._drawn, self._times, self._since, self._is_atomic = Drawn(), 1, 0, False
         self._counters = set[int]()  # the scalar register that counts the turns of a loop
-        rows = [row for row in instruction_table().values() if row.name not in _LEFT_OUT]
+        left_out = {*_ENDS, *names_lacked_by("qemu")}
+        rows = [row for row in instruction_table().values() if row.name not in left_out]
         self._scalar = [row for row in rows if row.opcode in (0x13, 0x1B, 0x33, 0x3B, 0x37, 0x17)]
         self._rows = [*rows, *(row for row in rows if row.opcode != OP_V and row.opcode not in VECTOR_ACCESSES)]
         self._rows += [row for row in rows if row.name.startswith("vset")] * 10
