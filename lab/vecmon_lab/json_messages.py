@@ -52,7 +52,7 @@ class Contents:
         self.waiting = deque[bytes]()
         self.has_ended = False
         self._source, self._limit = source, limit
-        self._unread = b""
+        self._unread = bytearray()
 
     def next(self) -> bytes:
         """Take the next content; wait for it. Raises EOFError if the client has gone, and BadHead."""
@@ -70,7 +70,8 @@ class Contents:
     def _read(self) -> None:
         """Read what comes next, and divide it into messages."""
         data = os.read(self._source, _BLOCK)
-        self.has_ended, self._unread = not data, self._unread + data
+        self.has_ended = not data
+        self._unread += data
         while (end := self._unread.find(_END)) >= 0:
             found = _LENGTH.search(self._unread[:end])
             if found is None or int(found[1]) > self._limit:
@@ -79,7 +80,7 @@ class Contents:
             stop = start + int(found[1])
             if len(self._unread) < stop:
                 return
-            self.waiting.append(self._unread[start:stop])
-            self._unread = self._unread[stop:]
+            self.waiting.append(bytes(self._unread[start:stop]))
+            del self._unread[:stop]
         if len(self._unread) > _HEAD_BYTES or self._unread[:1] in (b"\r", b"\n"):
             raise BadHead(f"a message has no Content-Length in its first {_HEAD_BYTES:,} bytes: {_HINT}")

@@ -5,9 +5,11 @@ from collections.abc import Sequence
 
 import pytest
 
+from vecmon_lab.assembler import trial
 from vecmon_lab.assembler.mistakes import mistakes_json
 from vecmon_lab.assembler.source import SourceError, read_source
 from vecmon_lab.assembler.trial import read_tried_source
+from vecmon_lab.machine.answers import Refused
 
 
 @pytest.mark.parametrize(
@@ -205,3 +207,17 @@ def test_partial_vector_type_has_warning_and_fixes(program: pathlib.Path) -> Non
         repaired = read_tried_source(text.replace("m1", fix), program)
         assert not repaired.mistakes and not repaired.warnings
     assert warning.get("fix") == ["m1, tu, mu", "m1, ta, ma"]
+
+
+def test_trial_goes_on_with_another_machine(program: pathlib.Path, monkeypatch: pytest.MonkeyPatch) -> None:
+    """When its script is long, or it remembers many answers, its answers are the same; the words are by the manual."""
+    monkeypatch.setattr(trial, "MAX_SCRIPT", 2000)
+    monkeypatch.setattr(trial, "MAX_ANSWERS", 500)
+    texts = [f"addi x1, x0, {number}" for number in range(300)]
+    with trial.Trial(program) as own:
+        for _ in range(3):
+            answers = own.answers([*texts, "addi x1, x0, 5000", *(f"addi x2, x0, {number}" for number in range(300))])
+            assert [getattr(answers[text], "word") for text in texts] == [
+                number << 20 | 1 << 7 | 0x13 for number in range(300)
+            ]
+            assert answers["addi x1, x0, 5000"] == Refused("E15", "14")

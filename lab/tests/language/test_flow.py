@@ -136,7 +136,7 @@ def test_half_typed_lines(trial: Trial) -> None:
 
 
 def test_illegal_under_every_type(trial: Trial) -> None:
-    """Without a known type only what no type allows is illegal; of several types all have to forbid it."""
+    """Without a known type only an instruction that no type allows is illegal; of several types all have to forbid it."""
     text = ".globl f\nf: vadd.vv v0, v2, v4, v0.t\nvadd.vv v1, v2, v3\nvsetivli x0, 1, {}, ta, ma\n"
     analysis = Analysis(text.format("e8, m1"), trial)
     assert [(each.statement.line, each.types) for each in analysis.illegal] == [(2, None)]

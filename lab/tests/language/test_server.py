@@ -113,6 +113,26 @@ def names_of_fixes(editor: Editor, span: object) -> list[str]:
     return [each["title"] for each in actions]
 
 
+@pytest.mark.parametrize(
+    "line, marked_word, message",
+    [
+        ("vsetvli t0, a0, e64, mf2, ta, ma", "vsetvli", "e64,mf2,ta,ma isn't supported"),
+        ("vsetvli x0, x0, e16, m2, ta, ma\n vsetvli x0, x0, e8, m2, ta, ma", "vsetvli", "with x0 twice vl stays"),
+        ("li a1, 0x104\n vsetvl t0, a0, a1", "vsetvl", "no supported type"),
+        ("vsetivli x0, 4, 0x25", "vsetivli", "no supported type"),
+    ],
+)
+def test_types_that_are_vill(line: str, marked_word: str, message: str) -> None:
+    """By V 1.0, sections 3.4.1, 3.4.2 and 6.2; a type with the same VLMAX is no problem."""
+    text = f"_start: vsetivli x0, 4, e8, m1, ta, ma\n {line}\n"
+    with Editor() as editor:
+        found = editor.set_text(text)
+        ((number, word, shown),) = marked(text, found)
+        assert (number, word, found[0]["severity"]) == (text.count("\n") - 1, marked_word, 2)
+        assert shown.startswith("sets vill: ") and message in shown
+        assert editor.hints()[number] == "vill, vl 0"
+
+
 def test_fixes_cure() -> None:
     """The preferred fix of each diagnostic that has one, in the source, removes the diagnostic."""
     with Editor() as editor:
@@ -358,6 +378,18 @@ def test_bad_messages() -> None:
         assert editor.reply("textDocument/hover", {})["error"]["code"] == -32600
         editor.tell("exit")
         assert editor.ended() == (0, "")
+
+
+def test_large_and_divided_messages() -> None:
+    """Messages that come in parts, and several at once; a source of half a million characters."""
+    with Editor() as editor:
+        text = "        nop                                       # a comment\n" * 8000
+        assert len(text) > 400_000 and editor.set_text(text) == []
+        bodies = [json.dumps({"jsonrpc": "2.0", "id": number, "method": "none"}).encode() for number in range(900, 903)]
+        data = b"".join(b"content-length:%d\r\nContent-Type: x\r\n\r\n%s" % (len(each), each) for each in bodies)
+        for at_byte in range(len(data)):
+            editor.write(data[at_byte : at_byte + 1])
+        assert [editor.receive()["id"] for _ in bodies] == [900, 901, 902]
 
 
 def test_head_without_length() -> None:

@@ -183,7 +183,8 @@ class _Assembler:
                 self._symbols.define(_checked_label(label), self.assembly.here())
         if not tokens:
             return
-        name = replace(tokens[0], text=tokens[0].text.lower())
+        small = tokens[0].text.lower()
+        name = tokens[0] if tokens[0].text == small else replace(tokens[0], text=small)
         if len(tokens) == 2 and tokens[1].text == "=":
             self._symbols.assume(tokens[0].text)
             raise tokens[1].error("a number is missing after =")

@@ -16,7 +16,8 @@ from .instruction import with_fitting_operand
 from .source import Program, SourceError, in_order, read_source, refusal
 
 MAX_OPERANDS = 5  # of an instruction
-MAX_SCRIPT = 1_000_000  # bytes of a trial's script, after which it begins anew
+MAX_SCRIPT = 1_000_000  # bytes of a trial's script, after which another machine goes on
+MAX_ANSWERS = 100_000  # that a trial remembers
 
 
 def read_whole_source(
@@ -75,18 +76,23 @@ class Trial(contextlib.AbstractContextManager["Trial"]):
     def _started(vecmon: Vecmon) -> Session:
         """A session with a page for the instructions."""
         session = Session(vecmon)
-        session.do_all(["1 enter", "1 map 0 1 rx"])
+        try:
+            session.do_all(["1 enter", "1 map 0 1 rx"])
+        except BaseException:
+            session.close()
+            raise
         return session
 
     def answers(self, texts: Iterable[str]) -> Mapping[str, Word | Refused]:
         """The machine's answers to instructions, by their texts: the word, or a refusal with the column."""
+        if len(self._answers) > MAX_ANSWERS:
+            self._answers = {}
         new = [text for text in dict.fromkeys(texts) if text not in self._answers]
         for at in range(0, len(new), TOGETHER):
-            part = new[at : at + TOGETHER]
             if self._session.size > MAX_SCRIPT:
                 self._session.close()
-                self._session, self._answers = self._started(self._vecmon), {}
-                return self.answers(texts)
+                self._session = self._started(self._vecmon)
+            part = new[at : at + TOGETHER]
             for text, lines in zip(part, self._session.do_all([f"1 asm 0 {text}" for text in part])):
                 answer = read(lines)
                 assert isinstance(answer, Word | Refused)

@@ -9,13 +9,17 @@ from ..assembler.line import token_length
 from ..assembler.mistakes import Severity, mistakes_json
 from ..assembler.names import absence
 from ..guest.changes import vtype_text
+from ..instructions.reasons import ELEN
+from ..instructions.table import row_of
 from ..machine.answers import VILL
 from .analysis import Analysis, Illegal
+from .flow import is_supported
 from .positions import Range, TextEdit, range_of
 
 SOURCE = "vecmon"
 ERROR, WARNING, HINT = 1, 2, 4  # severities
 ILLEGAL = "illegal"
+_RESERVED = 4  # the value of vlmul that no type has
 _FIRST_TYPE = "vsetvli t0, a0, e32, m1, ta, ma"
 
 
@@ -47,7 +51,12 @@ class Finding:
 
 def findings(analysis: Analysis) -> list[Finding]:
     """The mistakes and warnings of a source, and its illegal instructions, in its order."""
-    found = [*_mistakes(analysis, "error"), *_mistakes(analysis, "warning"), *_illegal(analysis)]
+    found = [
+        *_mistakes(analysis, "error"),
+        *_mistakes(analysis, "warning"),
+        *_illegal(analysis),
+        *_without_type(analysis),
+    ]
     return sorted(found, key=lambda it: (it.diagnostic["range"]["start"]["line"], it.diagnostic["severity"]))
 
 
@@ -92,12 +101,40 @@ def _illegal(analysis: Analysis) -> Iterator[Finding]:
             yield Finding(diagnostic, tuple(_cures(analysis, illegal, line)))
 
 
+def _without_type(analysis: Analysis) -> Iterator[Finding]:
+    """The instructions that should set a vector type, and set vill on all ways."""
+    for statement in analysis.program.statements:
+        word, is_reached = analysis.words.get(statement.address, 0), statement.address in analysis.flow.states
+        row = row_of(word)
+        if row is None or not row.name.startswith("vset") or not is_reached or statement.within:
+            continue
+        if analysis.flow.after(statement.address).vtype == VILL:
+            line, column = statement.places[0]
+            diagnostic: Diagnostic = {
+                "range": range_of(analysis.lines, line, column, len(row.name)),
+                "severity": WARNING,
+                "source": SOURCE,
+                "message": _vill_message(analysis.flow.requested(statement.address, word)),
+                "code": "vill",
+            }
+            yield Finding(diagnostic)
+
+
+def _vill_message(requested: int | None) -> str:
+    """Why an instruction that asks for a vector type sets vill."""
+    if requested is not None and is_supported(requested):
+        return "sets vill: with x0 twice vl stays, so the type before has to have the same VLMAX"
+    if requested is not None and requested < 1 << 8 and requested & 7 != _RESERVED and requested >> 5 & 1 == 0:
+        return f"sets vill: {vtype_text(requested)} isn't supported, since elements have LMUL x {ELEN} bits at most"
+    return "sets vill: this is the number of no supported type"
+
+
 def illegal_message(illegal: Illegal) -> str:
-    """Why an instruction is illegal, and under which types."""
+    """Why an instruction is illegal, and under which types unless it always is."""
     reasons = " ".join(illegal.reasons)
     within = "".join(f" ({each})" for each in illegal.statement.within[:1])
     if illegal.types is None:
-        return f"illegal under every vector type{within}: {reasons}"
+        return f"illegal{within}: {reasons}"
     return f"illegal under {listed_types(illegal.types)}{within}: {reasons}"
 
 

@@ -29,7 +29,7 @@ def hints(analysis: Analysis, first: int, last: int) -> list[InlayHint]:
     for number in range(max(first, 1), min(last, len(analysis.lines)) + 1):
         texts = [_at_label(analysis, labels[number])] if number in labels else []
         own = [each for each in analysis.by_line.get(number, []) if not each.within]
-        texts += [text for each in own[:1] for text in _after(analysis, each)]
+        texts += [text for each in own for text in _after(analysis, each)]
         shown = "; ".join(filter(None, texts))
         if shown:
             end = len(analysis.plain[number - 1].rstrip()) + 1
@@ -84,7 +84,7 @@ def set_text(state: VectorState) -> str:
     if state.vtype is None:
         return ""
     if state.vtype == VILL:
-        return "vill: the type isn't supported, vl 0"
+        return "vill, vl 0"
     most = ControlRegisters(vtype=state.vtype).vlmax
     return f"vl ≤ {most}, VLMAX {most}" if state.vl is None else f"vl {state.vl}, VLMAX {most}"
 

@@ -119,7 +119,7 @@ def state_texts(state: VectorState | None) -> Iterator[str]:
     if state.vtype is None:
         yield f"vtype by the way here: {listed_types(state.types)}"
     elif state.vtype == VILL:
-        yield "vtype: vill, since no instruction has set a type"
+        yield "vtype: vill; no instruction has set a supported type"
     else:
         most = ControlRegisters(vtype=state.vtype).vlmax
         yield f"vtype: {vtype_text(state.vtype)}; vl: {state.vl if state.vl is not None else f'{most} at most'}"
