@@ -4,7 +4,7 @@ Nothing wrong is claimed of a program that calls and returns by registers that `
 A value from a register, from a caller or by too many ways is unknown.
 """
 
-from collections.abc import Collection, Iterator, Mapping
+from collections.abc import Collection, Mapping
 from dataclasses import dataclass
 
 from ..instructions.accesses import is_fault_only_first
@@ -123,6 +123,11 @@ class Flow:
         state, word = self.states[address], self._code.words.get(address)
         return UNKNOWN if word is None else self._changed(address, word, state)
 
+    def requested(self, address: int, word: int) -> int | None:
+        """The type that a vset instruction asks for; None if it is unknown."""
+        requested = requested_type(word)
+        return constant_before(self._known, self._joins, address, word >> 20 & 31) if requested is None else requested
+
     def _reach(self, address: int, state: VectorState, owners: frozenset[int]) -> None:
         """Take up that a state may hold before the instruction at an address, in these functions."""
         if address not in self._code.words:
@@ -219,7 +224,7 @@ class Flow:
         """The state after an instruction that is no jump."""
         if not is_vset(word) or row_of(word) is None:
             return VectorState(state.types, None) if is_fault_only_first(word) else state
-        requested = self._requested(address, word)
+        requested = self.requested(address, word)
         if requested is None:
             return UNKNOWN
         if not is_supported(requested):
@@ -234,11 +239,6 @@ class Flow:
         if word >> 7 & 31:
             return VectorState(new, limit)
         return self._with_same_length(state, requested)
-
-    def _requested(self, address: int, word: int) -> int | None:
-        """The type that a vset instruction asks for; None if it is unknown."""
-        requested = requested_type(word)
-        return constant_before(self._known, self._joins, address, word >> 20 & 31) if requested is None else requested
 
     def _with_same_length(self, state: VectorState, requested: int) -> VectorState:
         """The state after a vset that keeps vl, by the types before it: vill if VLMAX would be another one."""
@@ -266,9 +266,3 @@ def flow_of_listing(words: Mapping[int, int]) -> Flow:
 def _leaves(word: int) -> bool:
     """Whether an instruction jumps, and links no register for the way back."""
     return word & 0x7F in (JAL, JALR) and word >> 7 & 31 == 0
-
-
-def all_types() -> Iterator[int]:
-    """The values of vtype that differ in what is legal: each supported type, and vill."""
-    yield from SUPPORTED
-    yield VILL

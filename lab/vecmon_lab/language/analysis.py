@@ -13,12 +13,12 @@ from ..assembler.source import Program, read_source
 from ..assembler.statements import split_line, without_comments
 from ..assembler.trial import Trial
 from ..guest.jumps import jump_target
-from ..guest.vector_flow import JAL, JALR, BRANCH, START, UNKNOWN, Code, Flow, VectorState, all_types
+from ..guest.vector_flow import BRANCH, JAL, JALR, START, UNKNOWN, Code, Flow, VectorState
+from ..instructions.accesses import vector_instruction
 from ..instructions.reasons import illegal_reasons
 from ..instructions.table import instruction_table
-from ..instructions.words import OP_V, VECTOR_ACCESSES, VectorInstruction
-from ..instructions.accesses import vector_instruction
-from ..machine.answers import ControlRegisters, Word
+from ..instructions.words import OP_V, SUPPORTED, VECTOR_ACCESSES, VectorInstruction
+from ..machine.answers import VILL, ControlRegisters, Word
 from ..machine.start_state import EBREAK
 from ..tables.absent import floating_point
 from ..tables.table import read_table
@@ -34,7 +34,7 @@ _WORD_BYTES = 4
 class Illegal:
     """An instruction that is illegal under every vector type that may be in force.
 
-    types: these; None if any type may be
+    types: these; None if it is illegal under every type
     """
 
     statement: Statement
@@ -106,11 +106,12 @@ class Analysis:
         """The same one after another."""
         for statement in self.program.statements:
             word, state = self.words.get(statement.address), self.state(statement)
-            types = state.types if state else None
-            if state is None and statement.text.startswith(".word"):  # as data between instructions
+            if word is None or state is None and statement.text.startswith(".word"):  # which may be data
                 continue
-            if word is not None and (reasons := _reasons(word, types)):
-                yield Illegal(statement, types, reasons)
+            if always := _reasons_always(word):
+                yield Illegal(statement, None, always)
+            elif state and state.types and (reasons := _reasons(word, tuple(sorted(state.types)), True)):
+                yield Illegal(statement, state.types, reasons)
 
     def _code(self) -> Code:
         """The program's code, with words that other directives than instructions lay."""
@@ -215,14 +216,18 @@ def _missing(addresses: Sequence[int]) -> Iterator[int]:
             yield from range(before + _WORD_BYTES, after, _WORD_BYTES)
 
 
-def _reasons(word: int, types: frozenset[int] | None) -> Sequence[str]:
-    """Why a word is illegal under each of these types, or under any; nothing if it is legal under one of them."""
-    return _reasons_under(word, tuple(sorted(types)) if types is not None else tuple(all_types()))
+def _reasons_always(word: int) -> Sequence[str]:
+    """Why a word is illegal under every supported type, and under vill; nothing if it is legal under one of these."""
+    reasons = _reasons(word, tuple(SUPPORTED))
+    return reasons if reasons and _reasons(word, (VILL,)) else ()
 
 
 @functools.lru_cache(maxsize=1 << 14)
-def _reasons_under(word: int, types: tuple[int, ...]) -> Sequence[str]:
-    """The reasons that all types have in common, or those of the first one if there is no such reason."""
+def _reasons(word: int, types: tuple[int, ...], takes_first: bool = False) -> Sequence[str]:
+    """Why a word is illegal under each of these types; nothing if it is legal under one of them.
+
+    takes_first: whether, without a reason that all types have in common, those of the first type count
+    """
     every = list[list[str]]()
     for vtype in types:
         reasons = illegal_reasons(word, ControlRegisters(vtype=vtype))
@@ -230,4 +235,4 @@ def _reasons_under(word: int, types: tuple[int, ...]) -> Sequence[str]:
             return ()
         every.append(reasons)
     common = [reason for reason in every[0] if all(reason in reasons for reasons in every)]
-    return common or every[0]
+    return common or (every[0] if takes_first else ())

@@ -9,11 +9,11 @@ from ..assembler.line import token_length
 from ..assembler.mistakes import Severity, mistakes_json
 from ..assembler.names import absence
 from ..guest.changes import vtype_text
+from ..guest.vector_flow import is_supported, is_vset
 from ..instructions.reasons import ELEN
 from ..instructions.table import row_of
 from ..machine.answers import VILL
 from .analysis import Analysis, Illegal
-from .flow import is_supported
 from .positions import Range, TextEdit, range_of
 
 SOURCE = "vecmon"
@@ -106,7 +106,7 @@ def _without_type(analysis: Analysis) -> Iterator[Finding]:
     for statement in analysis.program.statements:
         word, is_reached = analysis.words.get(statement.address, 0), statement.address in analysis.flow.states
         row = row_of(word)
-        if row is None or not row.name.startswith("vset") or not is_reached or statement.within:
+        if row is None or not is_vset(word) or not is_reached or statement.within:
             continue
         if analysis.flow.after(statement.address).vtype == VILL:
             line, column = statement.places[0]
