@@ -14,6 +14,7 @@ from vecmon_lab.classes import door as class_door
 from vecmon_lab.classes import server as class_server
 from vecmon_lab.classes.connections import Crowd
 from vecmon_lab.classes.door import Door
+from vecmon_lab.classes.tls import kind_of_start
 
 NEVER = 1e-6  # connections in a second
 
@@ -45,8 +46,8 @@ async def opened(waiting: int = 100) -> AsyncIterator[tuple[Callable[[], socket.
         ports.append(connection.getpeername()[1])
         connection.close()
 
-    def recognize(head: bytes) -> str | None:
-        return head.decode() if head.startswith(b"seat") else None
+    def recognize(head: bytes) -> tuple[str | None, str]:
+        return head.decode() if head.startswith(b"seat") else None, f"{len(head)}"
 
     def connect() -> socket.socket:
         return socket.create_connection(listener.getsockname(), timeout=SECONDS)
@@ -124,8 +125,23 @@ async def test_connections_with_a_code_go_first(monkeypatch: pytest.MonkeyPatch)
 
 
 @pytest.mark.asyncio
-async def test_requests_of_the_page_take_turns_with_others(monkeypatch: pytest.MonkeyPatch) -> None:
-    """Newer requests of sockets don't keep a page waiting."""
+async def test_kinds_are_recognized(tmp_path: pathlib.Path) -> None:
+    """Requests of the page and others, and TLS handshakes (RFC 8446, section 5.1) and others."""
+    async with served(tmp_path / "class") as room:
+        assert room.members
+        server, code = class_server.Server(room.members, set()), room.codes["A1"]
+        head = b"GET /socket HTTP/1.1\r\nHost: x\r\nsec-websocket-protocol: vecmon, vecmon-code."
+        assert server.recognize(head + code.encode() + b"\r\n\r\n") == ("A1", "other")
+        for other in (head, head + b"a" * 14, head + code.encode()[:-1], code.encode(), head + code.upper().encode()):
+            assert server.recognize(other + b"\r\n") == (None, "other")
+        assert server.recognize(b"GET / HTTP/1.1\r\n") == (None, "page")
+    assert kind_of_start(b"\x16\x03\x01") == (None, "TLS")
+    assert kind_of_start(b"GET / ") == kind_of_start(b"") == (None, "other")
+
+
+@pytest.mark.asyncio
+async def test_kinds_of_connections_take_turns(monkeypatch: pytest.MonkeyPatch) -> None:
+    """Newer connections of another kind don't keep one waiting."""
     monkeypatch.setattr(class_door, "AT_ONCE", 1)
     monkeypatch.setattr(class_door, "A_SECOND", 20)
     async with opened() as (connect, ports):

@@ -1,7 +1,9 @@
 """The sources of a class: what is kept of them, who gives and sees them, and what they begin."""
 
 import pathlib
+import time
 from collections.abc import AsyncIterator
+from types import SimpleNamespace
 
 import pytest
 import pytest_asyncio
@@ -209,6 +211,16 @@ async def test_versions_are_stored(room: Served, monkeypatch: pytest.MonkeyPatch
     assert [each["number"] for each in tab.view["source"]["versions"]] == list(range(14, 64))
     assert len(list((room.folder / "sources").iterdir())) == 50
     assert "error" in await tab.ask("version", number=13)
+
+
+async def test_clock_that_is_set_back_delays_no_version(room: Served, monkeypatch: pytest.MonkeyPatch) -> None:
+    tab, members = await room.sit("A1"), room.members
+    assert members
+    await tab.ask("draft", text="typed", number=0)
+    for name, value in (("TYPING_SECONDS", 0), ("time", SimpleNamespace(time=lambda: 1e9, monotonic=time.monotonic))):
+        monkeypatch.setattr(f"vecmon_lab.classes.sources.{name}", value)
+    members.save()
+    await tab.until(lambda view: [each["why"] for each in view["source"]["versions"]] == ["typed"])
 
 
 async def test_restarted_class_preserves_sources(tmp_path: pathlib.Path) -> None:

@@ -21,23 +21,22 @@ BREATH = 0.001  # seconds between two, in which other work is done
 BACKLOG = 4096  # connections that the kernel holds until they are accepted; a client whose is dropped waits for seconds
 ACCEPTED = 256  # connections in a row, at most
 OF_CODE_A_SECOND, OF_CODE_AT_ONCE = 4, 32  # connections with a seat's code that go ahead of others
-PAGE = b"GET / "  # the start of a request of the page
 HEAD_BYTES = 4096  # of a request, in which a code is looked for
 ACCEPT_PAUSE = 1.0  # seconds, if the process may have no more files
 LAST_SECONDS = 2.0  # of connections once the server ends
 
 Serve = Callable[[socket.socket], Coroutine[Any, Any, object]]
-Recognize = Callable[[bytes], str | None]
-"""The owner of the code that is in the first bytes of a request, or None."""
+Recognize = Callable[[bytes], tuple[str | None, str]]
+"""The owner of the code in the first bytes of a client, or None; and the kind of the connection: kinds take turns."""
 
 
 class Door:
     """Accepts connections at a socket, and has them served; to aiohttp it is the server of a site."""
 
     def __init__(
-        self, listener: socket.socket, serve: Serve, recognize: Recognize | None, waiting: int, beginning: int
+        self, listener: socket.socket, serve: Serve, recognize: Recognize, waiting: int, beginning: int
     ) -> None:
-        """serve: makes a connection the transport of a protocol, perhaps after a handshake; recognize: None if requests are encrypted
+        """serve: makes a connection the transport of a protocol, perhaps after a handshake
 
         waiting, beginning: number of connections that wait, and of those that `serve` hasn't returned from; of too many
         the oldest one of the address that has the most is closed
@@ -81,27 +80,24 @@ class Door:
             connection.setblocking(False)
             address = network_of(peer[0])
             self._waiting.add(connection, address)
-            if self._recognize:
-                self._loop.add_reader(connection, self._look, connection, address)
+            self._loop.add_reader(connection, self._look, connection, address)
             self._has_come.set()
 
     def _look(self, connection: socket.socket, address: str) -> None:
         """Look once at what a client has sent: a connection with the code of a seat is served at once."""
         self._loop.remove_reader(connection)
-        assert self._recognize
         try:
             head = connection.recv(HEAD_BYTES, socket.MSG_PEEK)
         except OSError:
             head = b""
-        owner = self._recognize(head)
+        owner, kind = self._recognize(head)
         self._waiting.discard(connection)
         if not head:
             connection.close()
         elif owner is not None and self._rates[owner].take() >= 0:
             self._start(connection, address)
         else:
-            kind = "page" if head.startswith(PAGE) else ""
-            self._waiting.add(connection, f"{address} {kind}")  # so requests of the page and of sockets take turns
+            self._waiting.add(connection, f"{address} {kind}")
 
     def _close(self, connection: socket.socket) -> None:
         """Close a connection that waits."""

@@ -38,7 +38,7 @@ from .seat_budget import SeatBudget
 from .store import BadFolder, script_name
 from .tab_requests import TabRequests
 from .tab_socket import CLOSED, READ_SECONDS, TabSocket
-from .tls import Handshake
+from .tls import Handshake, kind_of_start
 from .view import Class, Tab
 
 MESSAGE_BYTES = 400_000
@@ -113,10 +113,11 @@ class Server:
             return parts[2] in self.names
         return True
 
-    def owner(self, head: bytes) -> str | None:
-        """The owner of the code that the first bytes of a tab's request show, if they show one."""
+    def recognize(self, head: bytes) -> tuple[str | None, str]:
+        """The owner of the code that the first bytes of a request show, if they show one; and whether it is for the page."""
         found = SHOWN_CODE.search(head)
-        return self.members.codes.owner(found[1].decode("ascii")) if found else None
+        owner = self.members.codes.owner(found[1].decode("ascii")) if found else None
+        return owner, "page" if head.startswith(b"GET / ") else "other"
 
     async def close(self) -> None:
         """Tells all tabs that the server ends."""
@@ -318,8 +319,8 @@ def _door(server: Server, tls: ssl.SSLContext | None, make: web.Server, listener
     """The door at a socket that listens, by HTTPS if there is a context for it. make: returns a connection's protocol"""
     limits = _share_of_files(WAITING), _share_of_files(UNKNOWN)
     if tls:
-        return Door(listener, Handshake(make, tls, PATIENCE), None, *limits)
-    return Door(listener, partial(asyncio.get_running_loop().connect_accepted_socket, make), server.owner, *limits)
+        return Door(listener, Handshake(make, tls, PATIENCE), kind_of_start, *limits)
+    return Door(listener, partial(asyncio.get_running_loop().connect_accepted_socket, make), server.recognize, *limits)
 
 
 def end_signals() -> list[signal.Signals]:

@@ -60,7 +60,7 @@ class SeatSource:
         self.case = self._saved_case = kept_case(store, name)
         self._gift: tuple[SourceText, SourceText] | None = None  # the teacher's last one, and the own before it
         self._newest = self._newest_of(self.exercise)
-        self._since = time.time()  # when the text began to differ from the newest version
+        self._since = time.monotonic()  # when the text began to differ from the newest version
 
     @property
     def has_changed(self) -> bool:
@@ -98,7 +98,7 @@ class SeatSource:
         self.own = left if left.text else SourceText("", self.own.language)
         self.exercise, self.caret, self.number, self._gift = exercise, 0, self.number + 1, None
         self.is_given = False
-        self._newest, self._since = self._newest_of(exercise), time.time()
+        self._newest, self._since = self._newest_of(exercise), time.monotonic()
 
     def draft(
         self, source: SourceText, number: int, exercise: str = "", is_kept: bool = False, window: str = ""
@@ -184,7 +184,7 @@ class SeatSource:
         program: of the source in the machine
         """
         before = self.versions
-        if self.own != self._newest and time.time() - self._since >= TYPING_SECONDS:
+        if self.own != self._newest and time.monotonic() - self._since >= TYPING_SECONDS:
             self._add_version(self.own, "typed")
         for exercise in [each for each, source in self._left.items() if self._write(self._place(each), source)]:
             del self._left[exercise]
@@ -233,7 +233,7 @@ class SeatSource:
     def _change(self, source: SourceText) -> None:
         self.is_given = False
         if source != self.own:
-            self._since = time.time() if self.own == self._newest else self._since
+            self._since = time.monotonic() if self.own == self._newest else self._since
             self.own, self.number = source, self.number + 1
 
     def _add_version(self, source: SourceText, why: str, exercise: str | None = None) -> None:

@@ -14,7 +14,8 @@ from .. import LabError
 FLIGHTS = 20  # more than a handshake has, of both sides
 PEM_BYTES = 1 << 20  # of a certificate with its issuers', or a key
 PLAIN_BYTES = 1 << 16  # of a plain request that are read before its connection is closed
-METHOD_STARTS = [bytes([letter]) for letter in b"ABCDEFGHIJKLMNOPQRSTUVWXYZ"]  # of plain requests; TLS starts with 0x16
+HANDSHAKE = b"\x16"  # the first byte of TLS
+METHOD_STARTS = [bytes([letter]) for letter in b"ABCDEFGHIJKLMNOPQRSTUVWXYZ"]  # of plain requests
 NOT_HTTPS = b"This class is served by HTTPS: open the same address with https:// at its beginning.\n"
 PLAIN_REFUSAL = (
     b"HTTP/1.1 400 Bad Request\r\nContent-Type: text/plain; charset=utf-8\r\nCache-Control: no-store\r\n"
@@ -103,6 +104,11 @@ class Handshake:
                 await _refuse_plain(connection)
                 return
             await asyncio.get_running_loop().connect_accepted_socket(self._make, connection, ssl=self._context)
+
+
+def kind_of_start(head: bytes) -> tuple[None, str]:
+    """The kind of a connection by its first bytes, of which no code can be read: a TLS handshake, or something else."""
+    return None, "TLS" if head[:1] == HANDSHAKE else "other"
 
 
 async def _readable(connection: socket.socket) -> None:
