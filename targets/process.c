@@ -52,6 +52,7 @@ int32_t rattle_errno(void)
     return errno;
 }
 
+#if !defined __x86_64__ || !defined __linux__ // else the C library has this function
 // A proved program checks the features of an x86-64 processor when it starts. The target has its own code, so all are present.
 const void *__x86_get_cpuid_feature_leaf(uint32_t leaf)
 {
@@ -59,3 +60,4 @@ const void *__x86_get_cpuid_feature_leaf(uint32_t leaf)
     static const uint32_t all[8] = {~0u, ~0u, ~0u, ~0u, ~0u, ~0u, ~0u, ~0u};
     return all;
 }
+#endif

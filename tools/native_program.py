@@ -1,4 +1,4 @@
-"""Builds a program for another processor with Linux, or for Windows.
+"""Builds a program for Linux on any of three processors, which needs no C library of the system, or for Windows.
 
 All targets are little-endian and have 64-bit integers and pointers, as x86-64 has, and the kit addresses memory by byte offsets. So the LLVM
 module gets another triple, data layout and processor, and for Windows other probes of the stack. Nothing else changes.
@@ -26,6 +26,7 @@ STACK_BYTES = 8_388_608  # as on Linux
 WINDOWS_LINK = f"-static -s -Wl,--gc-sections,--no-insert-timestamp,--stack,{STACK_BYTES}".split()
 WINDOWS_COMPILER = "x86_64-w64-mingw32-gcc"
 LINUX_COMPILER = "clang-19"
+NATIVE = "x86_64"  # of the kit itself: Debian's own C library, and not one for another processor
 
 
 @dataclass(frozen=True)
@@ -46,10 +47,22 @@ class Target:
         """Whether the system is Windows, else it is Linux."""
         return self.name == "windows"
 
+    @property
+    def gcc_folders(self) -> Path:
+        """The folder that has GCC's library for Linux, in a folder for each version."""
+        return Path("/usr/lib/gcc" if self.name == NATIVE else "/usr/lib/gcc-cross") / self.triple
+
 
 TARGETS = {
     each.name: each
     for each in (
+        Target(
+            NATIVE,
+            "x86_64-linux-gnu",
+            "e-m:e-p270:32:32-p271:32:32-p272:64:64-i64:64-i128:128-f80:128-n8:16:32:64-S128",
+            ("-march=x86-64-v2",),
+            "x86_64",
+        ),
         Target(
             "aarch64",
             "aarch64-linux-gnu",
@@ -114,13 +127,16 @@ def build(name: str, text: Path, folder: Path, target: Target, origin: str) -> b
 
 
 def _link_for_linux(target: Target, compiled: str, folder: Path, about: str, program: str) -> None:
-    """Link an object file of the kit to a static program, with Debian's C library: the kit has none for the target.
+    """Link an object file of the kit to a static program, with Debian's C library: the kit's links to that of the system.
 
     folder: for object files; about: the definition of ORIGIN for targets/process.c"""
-    library = f"/usr/{target.triple}"
     clang = [find_tool(LINUX_COMPILER, target.packages), f"--target={target.triple}", *target.processor]
-    parts = _compile([*clang, "-isystem", f"{library}/include"], ("process.c", "linux.c"), folder, about)
-    places = [f"--gcc-install-dir={_gcc_folder(target)}", f"-B{library}/lib", f"-L{library}/lib"]
+    headers, places = list[str](), [f"--gcc-install-dir={_gcc_folder(target)}"]
+    if target.name != NATIVE:
+        library = f"/usr/{target.triple}"
+        headers = ["-isystem", f"{library}/include"]
+        places += [f"-B{library}/lib", f"-L{library}/lib"]
+    parts = _compile([*clang, *headers], ("process.c", "linux.c"), folder, about)
     run([*clang, *LINUX_LINK, *places, compiled, *parts, "-o", program], os.path.basename(program), "targets/linux.c")
 
 
@@ -146,7 +162,7 @@ def _compile(compiler: Sequence[str], sources: Sequence[str], folder: Path, abou
 
 def _gcc_folder(target: Target) -> Path:
     """Return the folder of GCC's library for a target with Linux. Raises Refusal if it is missing."""
-    folders = sorted(Path(f"/usr/lib/gcc-cross/{target.triple}").glob("[0-9]*"))
+    folders = sorted(target.gcc_folders.glob("[0-9]*"))
     if not folders:
         raise Refusal(f"GCC's library for {target.name} not found: run tools/debian_packages {target.packages}")
     return folders[-1]

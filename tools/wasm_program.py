@@ -31,6 +31,7 @@ LAUNCHER = """#!/bin/sh
 # {name} as WebAssembly under node: {name}.wasm, SHA-256 {digest}.
 # {origin}.
 here=$(dirname "$(readlink -f "$0")")
+command -v node > /dev/null || {{ echo "{name} needs node 18 or later on PATH: install nodejs" >&2; exit 69; }}
 exec node "$here/host.mjs" "$here/{name}.wasm" "$@"
 """
 

@@ -9,6 +9,7 @@ from collections.abc import Mapping, Sequence
 import pytest
 
 from support.places import TOP
+from vecmon_lab.check import first_script
 from vecmon_lab.machine.program import find_recorder
 
 PARTS = ("lab/vecmon_lab", "lab/examples", "tests/command_lines/data/images", "pyproject.toml", "tools/wheels")
@@ -41,7 +42,7 @@ def made(tmp_path_factory: pytest.TempPathFactory, program: pathlib.Path) -> pat
         subprocess.run([*GIT, *words], cwd=top / "clone", check=True)
     for name in SITE:
         (top / "site" / name).parent.mkdir(parents=True, exist_ok=True)
-        (top / "site" / name).write_text(name)
+        (top / "site" / name).write_text(f"{name}, with WebAssembly")
     for folder in ("native", "node"):
         (top / folder).mkdir()
     shutil.copy(program, top / "native" / "vecmon")
@@ -96,33 +97,32 @@ def test_same_commit_and_programs_give_same_bytes(made: pathlib.Path, wheels: Ma
     assert (made / "second" / wheels["any"].name).read_bytes() == wheels["any"].read_bytes()
 
 
-@pytest.mark.parametrize(
-    "words, output",
-    [
-        (["check"], "/packaged/bin/vecmon answers README's first script as it should\n"),
-        (["run", "try/sum"], "328350"),
-        (["profile", "try/sum"], "ticks"),
-        (["lesson", "try/strip_mined.s", "-o", "lesson.html"], ""),
-        (["tour", "pages"], "pages/index.html"),
-        (["course", "course"], "course/index.html"),
-        (["vectors", "vid.v", "--cases", "1"], "vid.v"),
-        (["grade", "saturating_sum", "try/answers/vectors.s"], "5 of 5"),
-        (["site", "copy"], "copy/playground.html"),
-    ],
-    ids=lambda it: it[0] if isinstance(it, list) else "",
-)
-def test_installed_command_runs(
-    installed: pathlib.Path, tmp_path: pathlib.Path, words: Sequence[str], output: str
-) -> None:
-    assert run([installed / "vecmon-lab", "examples", "try"], tmp_path).returncode == 0
-    ran = run([installed / "vecmon-lab", *words], tmp_path)
-    assert ran.returncode == 0 and output in ran.stdout, ran.stderr
+def test_every_command_of_installed_wheel_works(installed: pathlib.Path, tmp_path: pathlib.Path) -> None:
+    """Those of `vecmon-lab help`, without sources in C; vecmon-record; and `from vecmon_lab import Kernel`."""
+    path = f"{installed}:/usr/bin:/bin"
+    ran = run([TOP / "packaging/try_commands"], tmp_path, PATH=path, PYTHON=str(installed / "python"))
+    assert (ran.returncode, ran.stdout) == (0, "every command of vecmon-lab works\n"), ran.stderr
 
 
-def test_installed_library_calls_a_kernel(installed: pathlib.Path, tmp_path: pathlib.Path) -> None:
-    code = "from vecmon_lab import Kernel; print(Kernel.__name__)"
-    ran = run([installed / "python", "-c", code], tmp_path)
-    assert (ran.returncode, ran.stdout) == (0, "Kernel\n"), ran.stderr
+def test_installed_vecmon_is_command(installed: pathlib.Path, tmp_path: pathlib.Path) -> None:
+    """It gets the arguments, and its status is that of the program."""
+    script, answers = first_script()
+    (tmp_path / "script").write_text(script)
+    ran = run([installed / "vecmon", "script"], tmp_path)
+    assert (ran.returncode, ran.stdout) == (0, answers), ran.stderr
+    ran = run([installed / "vecmon", "none"], tmp_path)
+    assert (ran.returncode, ran.stdout) == (3, "") and ran.stderr.count("\n") == 1
+
+
+def test_check_names_no_apt(installed: pathlib.Path, tmp_path: pathlib.Path) -> None:
+    """The user of a Python package may have another system than Debian."""
+    ran = run([installed / "python", "-m", "vecmon_lab", "check"], tmp_path, PATH=str(tmp_path), CODEMIRROR="/nowhere")
+    advice = "with the package manager of your system, since pip doesn't have them"
+    assert ran.returncode == 0 and "apt" not in ran.stdout, ran.stdout
+    assert f"CodeMirror for class and explore: not installed: install libjs-codemirror {advice}\n" in ran.stdout
+    assert f"gdb for gdb: not installed: install gdb-multiarch {advice}\n" in ran.stdout
+    code = "from vecmon_lab.compilers.compiler import COMPILERS_ADVICE; print(COMPILERS_ADVICE)"
+    assert run([installed / "python", "-c", code], tmp_path).stdout == f"install clang-19 lld-19 bubblewrap {advice}\n"
 
 
 def test_missing_library_names_pip(installed: pathlib.Path, tmp_path: pathlib.Path) -> None:

@@ -13,6 +13,9 @@ TOP = IN_PACKAGE if IS_PYTHON_PACKAGE else LAB.parents[1]
 PROGRAMS = TOP / "bin"
 """The programs in a Python package; a clone and a Debian package have no such folder."""
 
+RELEASED = TOP / "programs"
+"""In the source archive of a release: a folder of programs for each processor, by Debian's names (tools/package)."""
+
 EXAMPLES = TOP / "lab" / "examples"
 EXAMPLE_IMAGES = TOP / "tests" / "command_lines" / "data" / "images"  # of COMPILING.md
 SITE = TOP / "site"
@@ -27,3 +30,11 @@ def install_command(library: str) -> str:
     if IS_PYTHON_PACKAGE:
         return f"python3 -m pip install {library}"
     return f"sudo apt install python3-{library.replace('_', '-')}"
+
+
+def tools_advice(*packages: str) -> str:
+    """Return how to install programs that aren't Python's, by the names of their Debian packages."""
+    names = " ".join(packages)
+    if IS_PYTHON_PACKAGE:
+        return f"install {names} with the package manager of your system, since pip doesn't have them"
+    return f"sudo apt install {names}"

@@ -297,6 +297,12 @@ def test_other_program_is_refused(program: str) -> None:
         Session(pathlib.Path(program))
 
 
+def test_missing_node_is_reported(tmp_path: pathlib.Path) -> None:
+    """The command of a program as WebAssembly ends so, as tools/programs writes it."""
+    with pytest.raises(NoProgram, match="^vecmon needs node 18 or later on PATH: install nodejs$"):
+        Session(stand_in(tmp_path, "echo vecmon needs node 18 or later on PATH: install nodejs >&2; exit 69"))
+
+
 def test_cause_of_program_end_is_reported(program: pathlib.Path, tmp_path: pathlib.Path) -> None:
     with pytest.raises(ProgramGone, match="status 4: vecmon: cannot read image it$"):
         Session(program, {"it": tmp_path / "nowhere"})

@@ -9,6 +9,7 @@ from dataclasses import dataclass
 
 from .. import LabError
 from ..machine.image import MARCH
+from ..places import tools_advice
 
 RUNTIME = pathlib.Path(__file__).parent / "runtime"
 C_SOURCE, ASSEMBLER_SOURCE, PREPROCESSED_SOURCE, IMAGE = "source.c", "source.s", "source.S", "image"
@@ -26,6 +27,9 @@ CXX_SUFFIXES = (".cc", ".cpp", ".cxx", ".c++", ".C")
 """Of sources in C++, which the lab doesn't compile."""
 
 MIN_CLANG, MIN_GCC = 17, 14  # which have the intrinsics of vectors by their present names
+
+COMPILERS_ADVICE = tools_advice("clang-19", "lld-19", "bubblewrap")
+"""How to install the compilers of sources in C, and their sandbox."""
 
 INSTALLER = pathlib.Path(__file__).resolve().parents[3] / "tools" / "debian_packages"
 """The tool of a clone that installs Debian packages. An installed vecmon has no such file."""
@@ -164,7 +168,7 @@ def find_compiler(name: str | None) -> Compiler:
         if name in (None, compiler.name):
             return compiler
     missing = "there is no compiler for C" if name is None else f"{name} is no compiler that is here"
-    raise LabError(f"{missing}: sudo apt install clang-19 lld-19 bubblewrap")
+    raise LabError(f"{missing}: {COMPILERS_ADVICE}")
 
 
 def install_compilers() -> None:

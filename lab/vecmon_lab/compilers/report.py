@@ -4,15 +4,14 @@ import os
 
 from .. import LabError
 from .account import OWN, account_named
-from .compiler import find_compilers
+from .compiler import COMPILERS_ADVICE, find_compilers
 from .sandbox import sandboxed_compiler
 
 
 def print_compilers() -> None:
     """Print which compilers there are for C, and why sources of others aren't compiled, if they aren't."""
     names = [each.name if each.has_vectors else f"{each.name} (without intrinsics)" for each in find_compilers()]
-    missing = "not installed: sudo apt install clang-19 lld-19 bubblewrap"
-    print(f"compilers for sources in C: {', '.join(names) or missing}")
+    print(f"compilers for sources in C: {', '.join(names) or f'not installed: {COMPILERS_ADVICE}'}")
     try:
         account = OWN if os.geteuid() else account_named("nobody")
         sandboxed_compiler(None, account)

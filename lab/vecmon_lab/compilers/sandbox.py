@@ -17,6 +17,7 @@ from asyncio.subprocess import DEVNULL, PIPE
 from collections.abc import Mapping, Sequence
 
 from .. import LabError
+from ..places import tools_advice
 from .account import OWN, Account
 from .compiler import Compiler, find_compiler
 from .failures import ToolError
@@ -46,7 +47,7 @@ class StartedAsRoot(LabError):
 def check_sandbox(account: Account = OWN) -> None:
     """Raises LabError if there can be no sandbox of this user's, StartedAsRoot if it would be root's."""
     if shutil.which("bwrap") is None:
-        raise LabError("others' C is compiled behind bwrap alone, which isn't here: sudo apt install bubblewrap")
+        raise LabError(f"others' C is compiled behind bwrap alone, which isn't here: {tools_advice('bubblewrap')}")
     if account == OWN and os.geteuid() == 0:
         raise StartedAsRoot("others' C isn't compiled as root: add `--as nobody`, or start this as another user")
 

@@ -16,6 +16,7 @@ import tempfile
 from collections.abc import Iterable, Iterator, Sequence
 from subprocess import DEVNULL
 
+from ..places import install_command
 from .compiler import Compiler
 from .failures import ToolError
 
@@ -31,6 +32,7 @@ MODULES = (
     *(f"vecmon_lab/guest/{name}.py" for name in ("__init__", "entries", "jumps", "source_lines", "symbols")),
     "vecmon_lab/machine/__init__.py",
     "vecmon_lab/machine/image.py",
+    "vecmon_lab/places.py",
 )
 """The files of the lab in the sandbox: `sandbox_main.py`, the modules that it imports, and what is linked to a source."""
 
@@ -88,7 +90,7 @@ def elftools() -> pathlib.Path:
     """The folder of Python's package pyelftools. Raises ToolError where it isn't installed."""
     found = importlib.util.find_spec("elftools")
     if found is None or not found.submodule_search_locations:
-        raise ToolError("Python's package pyelftools isn't installed: sudo apt install python3-pyelftools")
+        raise ToolError(f"Python's package pyelftools isn't installed: {install_command('pyelftools')}")
     return pathlib.Path(found.submodule_search_locations[0])
 
 

@@ -8,7 +8,7 @@ import struct
 from collections.abc import Iterator
 
 from .. import LabError
-from ..places import PROGRAMS, TOP
+from ..places import IS_PYTHON_PACKAGE, PROGRAMS, RELEASED, TOP
 from ..tables.table import read_table
 from .image import rights_of
 from .target import report_target
@@ -18,9 +18,14 @@ BUILT, BUILT_RECORDER = _CRATES / "vecmon" / "out" / "vecmon", _CRATES / "vecmon
 # Built by tools/run: a folder for each state of the sources; `current` names one.
 UNPROVED = _CRATES.parent / "build" / "unproved"
 RECORDER = "vecmon-record"
+PROCESSORS = {"x86_64": "amd64", "aarch64": "arm64", "riscv64": "riscv64"}
+"""Debian's names of processors, by those of the kernel."""
+
 HOW_TO_BUILD = dict(read_table("how_to_build"))
 
 PT_LOAD = 1
+NO_NODE = 69
+"""The exit status of a program as WebAssembly, which tools/programs writes, if there is no node to run it."""
 
 
 class NoProgram(LabError):
@@ -28,14 +33,15 @@ class NoProgram(LabError):
 
 
 def find_program() -> pathlib.Path:
-    """Return the path of vecmon: `$VECMON`, else that in a Python package, else the first of crates/vecmon/out, build/unproved and PATH.
+    """Return the path of vecmon: `$VECMON`, else that in a Python package, else the first of crates/vecmon/out,
+    build/unproved, programs and PATH.
 
     Raises NoProgram."""
     named = os.environ.get("VECMON")
     found = shutil.which(named) if named else _first_built(BUILT, "vecmon")
     if found is None:
         missing = f"VECMON={named} is no program" if named else "there is no program vecmon"
-        raise NoProgram(f"{missing}; {HOW_TO_BUILD['vecmon']}")
+        raise NoProgram(f"{missing}; {_advice('vecmon')}")
     return pathlib.Path(found).absolute()
 
 
@@ -55,13 +61,18 @@ def find_recorder() -> pathlib.Path:
             raise NoProgram(
                 f"tools/run is still building {RECORDER} in the background: try again when {log} says built"
             )
-        raise NoProgram(f"there is no program {named or RECORDER}; {HOW_TO_BUILD[RECORDER]}")
+        raise NoProgram(f"there is no program {named or RECORDER}; {_advice(RECORDER)}")
     return pathlib.Path(found).absolute()
 
 
+def _advice(name: str) -> str:
+    """Return how to get a program that isn't found."""
+    return HOW_TO_BUILD["packaged" if IS_PYTHON_PACKAGE else name]
+
+
 def _first_built(built: pathlib.Path, name: str) -> str | None:
-    """Return the program in a Python package, else the one that rt built, that tools/run built, or that is on PATH."""
-    places = (PROGRAMS / name, built, _unproved(name), name)
+    """Return the program in a Python package, else one that rt built, that tools/run built, of the sources' release, or on PATH."""
+    places = (PROGRAMS / name, built, _unproved(name), _released(name), name)
     return next((found for found in (shutil.which(str(place)) for place in places) if found), None)
 
 
@@ -85,17 +96,24 @@ def _unproved(name: str) -> pathlib.Path:
     return UNPROVED / (current.read_text("ascii").strip() if current.is_file() else "none") / name
 
 
+def _released(name: str) -> pathlib.Path:
+    """Return where the source archive of a release has a program for this processor. There may be no file."""
+    import platform  # which the synchronous core does without
+
+    return RELEASED / PROCESSORS.get(platform.machine(), "none") / name
+
+
 def check_is_vecmon(program: pathlib.Path) -> None:
     """Raises NoProgram where a program that answers otherwise than it should isn't vecmon, by how its help begins."""
     import subprocess  # which the synchronous core does without
 
     try:
-        help_text = subprocess.run(
-            [program, "--help"], stdin=subprocess.DEVNULL, capture_output=True, timeout=10
-        ).stdout
+        completed = subprocess.run([program, "--help"], stdin=subprocess.DEVNULL, capture_output=True, timeout=10)
     except (OSError, subprocess.TimeoutExpired):
         return
-    if not help_text.startswith(b"Runs a script on a trainer machine for the RISC-V vector extension"):
+    if completed.returncode == NO_NODE:
+        raise NoProgram(completed.stderr.decode("utf-8", "replace").strip())
+    if not completed.stdout.startswith(b"Runs a script on a trainer machine for the RISC-V vector extension"):
         raise NoProgram(f"{program} is no vecmon; VECMON=PATH names one")
 
 
