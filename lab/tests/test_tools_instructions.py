@@ -76,12 +76,11 @@ def copy(names: list[str], tmp_path: pathlib.Path, monkeypatch: pytest.MonkeyPat
 
 def added_lines() -> dict[str, list[str]]:
     """The new lines of each file that differs from the records, without indents."""
-    return {
-        change.path.as_posix(): [
-            line.strip() for line in change.text.splitlines() if line not in {*change.has.splitlines()}
-        ]
-        for change in changes()
-    }
+    added = dict[str, list[str]]()
+    for change in changes():
+        lines = {*change.has.splitlines()}
+        added[change.path.as_posix()] = [line.strip() for line in change.text.splitlines() if line not in lines]
+    return added
 
 
 def edit(folder: pathlib.Path, name: str, old: str, new: str) -> None:
