@@ -475,7 +475,8 @@ async def test_machines_are_independent(tmp_path: pathlib.Path) -> None:
 
 
 async def test_silent_connections_are_closed(tmp_path: pathlib.Path, monkeypatch: pytest.MonkeyPatch) -> None:
-    monkeypatch.setattr(class_server, "PATIENCE", 2.0)
+    for limit in ("PATIENCE", "CODE_SECONDS"):
+        monkeypatch.setattr(class_server, limit, 2.0)
     monkeypatch.setattr(class_server, "UNKNOWN", 3)
     async with served(tmp_path / "class") as room:
         readers = []
