@@ -221,6 +221,20 @@ def test_calls_are_passed_entered_and_left(tmp_path: pathlib.Path) -> None:
         assert client.event("exited") == {"exitCode": 104} and client.event("terminated") == {}
 
 
+def test_step_passes_a_loop_that_is_one_line(tmp_path: pathlib.Path) -> None:
+    source = tmp_path / "loop.s"
+    source.write_text("li t0, 200\nloop: addi t0, t0, -1; addi t1, t1, 2; bnez t0, loop\nli a0, 1\nebreak\n")
+    with Client.started() as client:
+        client.launch(source, stopOnEntry=True)
+        client.begin()
+        assert moves(client, "next", "next") == [("step", 2), ("step", 3)]
+        assert client.value("t0") == "0 (0x0)" and client.value("t1") == "400 (0x190)"
+        assert moves(client, "stepBack") == [("step", 2)] and client.value("t0") == "1 (0x1)"  # the last round
+        client.ask("setInstructionBreakpoints", breakpoints=[{"instructionReference": "loop", "offset": 8}])
+        assert moves(client, "reverseContinue", "next") == [("instruction breakpoint", 2)] * 2
+        assert client.value("t0") == "0 (0x0)"
+
+
 def test_values_can_be_changed(client: Client) -> None:
     client.move("continue")
     scalars = client.scope("Scalar registers")

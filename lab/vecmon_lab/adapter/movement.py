@@ -6,7 +6,7 @@ from dataclasses import dataclass
 from typing import Literal, Protocol
 
 from .. import LabError
-from ..guest.jumps import is_call, is_return, jump_target
+from ..guest.jumps import is_call, is_return, jump_target, may_jump
 from ..guest.source_lines import Copy
 from ..machine.answers import Addresses, Stop
 from ..replay.watches import Watch
@@ -15,6 +15,7 @@ from .program import Line, Program
 from .unwinding import SP, CallFrame
 
 StepKind = Literal["into", "over", "out"]
+BLOCK_WORDS = 16  # instructions that are executed at once, at most
 TRACE_LENGTH = 16  # of the addresses that the machine's `trace` shows
 START = "This is the start: nothing was executed before."
 
@@ -86,6 +87,7 @@ class Movement:
         self._program, self._breakpoints, self._client = program, breakpoints, client
         self._holds, self._holds_text, self._frames = holds, holds_text, frames
         self._guest, self._timeline = program.guest, program.timeline
+        self._words = dict[int, int]()  # words of the present step by address
 
     def go(self) -> Halt:
         """Run the program to a stop, a breakpoint whose condition holds, or an access to watched data."""
@@ -153,6 +155,8 @@ class Movement:
 
     def _halt_here(self) -> Halt | None:
         """The halt at breakpoints of the program counter; None if there are none that stop the program."""
+        if self._guest.pc not in self._breakpoints.addresses:
+            return None
         there = [each for each in self._breakpoints.at(self._guest.pc) if self._holds(each)]
         if not there:
             return None
@@ -238,12 +242,46 @@ class Movement:
     def _step_line(self, is_over: bool) -> Halt | None:
         """Execute instructions up to another line. Functions without lines are passed over, and inlined ones as calls are."""
         start, copies = self._line(), [copy.number for copy in self._copies()]
+        self._words.clear()
         while True:
-            if halt := self._step_call(is_over or self._calls_unknown()):
+            if halt := self._step_part(is_over, start):
                 return halt
             line = self._line()
             if start is None or line not in (None, start) and not (is_over and self._is_within(copies, start)):
                 return None
+
+    def _step_part(self, is_over: bool, line: Line | None) -> Halt | None:
+        """Execute a call with all that it executes, or else instructions of a line up to one that may jump."""
+        pc = self._guest.pc
+        if is_call(self._word(pc)) and (is_over or self._calls_unknown(pc)):
+            return self._pass_call()
+        count = 0 if line is None or self._timeline.watches else self._straight(pc, line)
+        if count < 1:
+            return self._step_once()
+        self._attend()
+        stop, _ = self._guest.execute(count)
+        return self._halt_of(stop) if stop else self._halt_here()
+
+    def _straight(self, pc: int, line: Line) -> int:
+        """How many instructions execute one after another from an address on.
+
+        They are of a line, up to one that may jump, or up to a breakpoint or a call.
+        """
+        for count in range(1, BLOCK_WORDS + 1):
+            address = pc + 4 * count
+            if may_jump(self._word(address - 4)) or address in self._breakpoints.addresses:
+                return count
+            if self._program.line(address) != line or is_call(self._word(address)):
+                return count
+        return BLOCK_WORDS
+
+    def _word(self, address: int) -> int:
+        """The word at an address, as it was when the step began."""
+        if address not in self._words:
+            listed = self._program.words(range(address, address + 4 * BLOCK_WORDS, 4))
+            self._words |= {at: word.word for at, word in listed.items()}
+            self._words.setdefault(address, 0)
+        return self._words[address]
 
     def _copies(self) -> Sequence[Copy]:
         return self._program.symbols.source.copies_at(self._guest.pc)
@@ -254,11 +292,9 @@ class Movement:
         called = [inner.called for inner, outer in zip(now, now[1:]) if [outer.number] == copies[:1]]
         return called == [f"{line.file}:{line.number}"]
 
-    def _calls_unknown(self) -> bool:
-        """Whether the next instruction calls a function without source lines."""
-        pc = self._guest.pc
-        word = self._guest.word_at(pc)[0]
-        target = jump_target(pc, word) if is_call(word) else None
+    def _calls_unknown(self, pc: int) -> bool:
+        """Whether a call calls a function without source lines."""
+        target = jump_target(pc, self._word(pc))
         return target is not None and self._program.line(target) is None
 
     def _step_out(self) -> Halt | None:

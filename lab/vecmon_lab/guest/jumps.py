@@ -14,7 +14,7 @@ Ranges = Sequence[tuple[int, int]]
 
 _CODE = 4  # SHF_EXECINSTR: the section has instructions
 _ADDRESSES = (1 << 64) - 1
-_BRANCH, _JUMP, _JUMP_TO_REGISTER = 0x63, 0x6F, 0x67  # opcodes
+_BRANCH, _JUMP, _JUMP_TO_REGISTER, _SYSTEM = 0x63, 0x6F, 0x67, 0x73  # opcodes
 _LINKS = (1, 5)  # registers with return addresses
 
 
@@ -59,6 +59,11 @@ def _is_in(ranges: Ranges, address: int) -> bool:
 def is_call(word: int) -> bool:
     """Whether an instruction is a jump that saves a return address."""
     return word & 0x7F in (_JUMP, _JUMP_TO_REGISTER) and word >> 7 & 31 in _LINKS
+
+
+def may_jump(word: int) -> bool:
+    """Whether another instruction than the next one in memory may follow: after a branch, a jump, a call or `ebreak`."""
+    return word & 0x7F in (_BRANCH, _JUMP, _JUMP_TO_REGISTER, _SYSTEM)
 
 
 def is_return(word: int) -> bool:
