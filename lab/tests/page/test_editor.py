@@ -141,6 +141,23 @@ def test_hollow_breakpoints_come_back(sit: Sit) -> None:
     tab.wait(f"{SIGNS} === '●▶3,●4'")
 
 
+def test_pasted_source_has_no_breakpoints_of_the_one_before(sit: Sit) -> None:
+    """Over the whole text: neither its first line nor its last one; undo brings them back."""
+    from selenium.webdriver.common.keys import Keys
+
+    tab = sit("A7")
+    tab.write("nop\nli a0, 3\nebreak")
+    for line in (0, 2):
+        tab.run("(code().focus(), code().setCursor(arguments[0], 0))", line)
+        tab.type(Keys.F9)
+    assert tab.run(SIGNS) == "○1,○3"
+    tab.run("code().execCommand('selectAll')")
+    tab.run("code().replaceSelection('li a1, 1\\nli a2, 2\\nli a3, 3\\nebreak', null, 'paste')")
+    assert tab.run(SIGNS) == ""
+    tab.run("code().undo()")
+    assert tab.run("text()") == "nop\nli a0, 3\nebreak" and tab.run(SIGNS) == "○1,○3"
+
+
 def test_problems_are_shown_while_typing(sit: Sit) -> None:
     """Without a machine, in a moment; a key takes the word that is offered first, and undo takes that back."""
     from selenium.webdriver.common.keys import Keys

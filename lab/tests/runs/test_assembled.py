@@ -121,6 +121,17 @@ def test_mistakes_of_source_are_reported(lab: Lab, tmp_path: pathlib.Path) -> No
     assert lab("profile", source)[2].startswith(f"vecmon-lab: {source}:2:")
 
 
+def test_ignored_inputs_are_reported(lab: Lab, tmp_path: pathlib.Path) -> None:
+    """In one line, and not for lines that only a lesson carries out, such as those of the first example."""
+    source = tmp_path / "three.s"
+    source.write_text(
+        "#> a0 = 5\n#> step 60\n        addi a0, a0, 3\n #> set x11 1\n        li a7, 93\n        ecall\n", "ascii"
+    )
+    said = f"vecmon-lab: {source}: the inputs in lines 1 and 4 (#>) are ignored: pages and lessons take them\n"
+    assert lab("run", source) == (3, b"", said)
+    assert lab("profile", source)[2].startswith(said)
+
+
 def test_stock_assembler_is_an_option(lab: Lab, clang: Compiler, tmp_path: pathlib.Path) -> None:
     """For what the lab's own assembler doesn't take, here `.insn`; and 3 + 7 by a macro, a repetition, a section and a numeric label."""
     source = tmp_path / "repeated.S"

@@ -68,6 +68,17 @@ def is_input(line: str) -> bool:
     return _INPUT.match(line) is not None
 
 
+def lines_with_inputs(text: str) -> list[int]:
+    """The numbers of a source's lines that set registers or memory before it runs."""
+    lines = [line.strip() for line in text.split("\n")]
+    commands = [line[2:].split()[:1] if line.startswith("#>") else [] for line in lines]
+    return [
+        number
+        for number, (line, command) in enumerate(zip(lines, commands), 1)
+        if is_input(line) or command and command[0] in _SET_UP
+    ]
+
+
 def with_inputs(program: Program, text: str) -> Program:
     """A program with the commands, the mistakes and the data of the `#>` lines of its source."""
     lines = [(number, line) for number, line in enumerate(text.split("\n"), 1) if line.lstrip().startswith("#>")]

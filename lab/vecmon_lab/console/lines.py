@@ -12,6 +12,7 @@ from ..assembler.own_files import files_beside
 from ..guest.changes import Stepper, vtype_text
 from ..guest.guest import Guest
 from ..guest.symbols import Symbols
+from ..harness.assembled import report_inputs
 from ..lessons.script import read_assembled, send
 from ..machine.answers import (
     Addresses,
@@ -76,6 +77,7 @@ class Console:
             raise LabError(f"{path} isn't an assembler source; vecmon-lab console {path} starts with it")
         text = content.decode("utf-8", "replace")
         script = read_assembled(text, str(path), files_beside(path))
+        report_inputs(path, text)
         commands = [line[2:] for line in script.steps[0].lines]
         with Session(find_program()) as trial:
             send(Guest(trial), commands, script)

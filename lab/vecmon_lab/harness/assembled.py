@@ -2,14 +2,17 @@
 
 import atexit
 import pathlib
+import sys
 import tempfile
 
 from .. import LabError
+from ..assembler.inputs import lines_with_inputs
 from ..assembler.own_files import files_beside
 from ..compilers.compiling import read_own_source
 from ..guest.guest import Guest
 from ..guest.image_start import END_SYMBOL
 from ..instructions.accesses import PAGE_BYTES
+from ..instructions.words import listed
 from ..lessons.script import print_warnings, read_assembled, send
 from ..machine.program import find_program
 from ..machine.session import Session
@@ -24,8 +27,10 @@ def assembled_image(path: pathlib.Path) -> pathlib.Path:
     It has the source's name without `.s`, its labels as symbols, the lines of its instructions, and the page that it returns
     to. The source's `#>` lines are for lessons. Raises LabError where the source has mistakes, and OSError.
     """
-    script = read_assembled(read_own_source(path), f"{path}", files_beside(path))
+    text = read_own_source(path)
+    script = read_assembled(text, f"{path}", files_beside(path))
     print_warnings(script)
+    report_inputs(path, text)
     program = script.program
     if not program or not program.statements:
         raise LabError(f"{path}: there is no instruction in the source")
@@ -41,6 +46,16 @@ def assembled_image(path: pathlib.Path) -> pathlib.Path:
     image = pathlib.Path(saved.name, path.stem)
     image.write_bytes(elf(program.entry, segments, symbols, debug_sections(path.absolute(), rows)))
     return image
+
+
+def report_inputs(path: pathlib.Path, text: str) -> None:
+    """Print a line on standard error if a source asks for inputs, which only pages and lessons give it."""
+    numbers = lines_with_inputs(text)
+    if numbers:
+        lines = f"line{'s' * (len(numbers) > 1)} {listed([f'{number}' for number in numbers])}"
+        print(
+            f"vecmon-lab: {path}: the inputs in {lines} (#>) are ignored: pages and lessons take them", file=sys.stderr
+        )
 
 
 def _segment(guest: Guest, digits: str, pages: str, permissions: str) -> Segment:

@@ -9,7 +9,7 @@ import { Inputs } from "./inputs.js";
 import { goToPane } from "./keys.js";
 import { LineLinks } from "./line_links.js";
 import { offer, offerLanguages } from "./languages.js";
-import { listenToLines, requestsOf, unfitLines } from "./lines.js";
+import { addressOfLabel, listenToLines, requestsOf, unfitLines, withAddresses } from "./lines.js";
 import { linkOf, sourceOf } from "./links.js";
 import { Panes } from "./panes.js";
 import { Problems } from "./problems.js";
@@ -27,6 +27,7 @@ import { textOf } from "./texts.js";
 
 const LOOKED_AT = 64; // bytes of memory that are asked for at an address
 const PAUSE = 600; // ms in which nothing is typed, and then problems are asked for
+const NO_COMMAND = "E03"; // the machine's answer to a line without a command
 const LEAVING = { absent: [], stopped: ["leave"], running: ["stop", "leave"] };
 
 /** Whether a state has nothing that could be lost. */
@@ -227,18 +228,26 @@ export class Bench {
   /** Executes what was typed: `help` and a name, or lines. */
   enter(/** @type {string[]} */ lines) {
     const [, name] = /^help\b *(.*)$/.exec(lines[0]) ?? [];
-    if (lines.length > 1 || name === undefined) return this.send(lines);
+    if (lines.length > 1) return this.send(lines);
+    if (name === undefined) return this.sendLine(lines[0]);
     this.panes.show("reference");
     this.refer(name);
     return this.refuse(entryText(name) || (this.parts.entries.querySelector("li") ? "" : textOf("help.unknown", { name })));
   }
 
-  /** Sends lines, unless one of them can't be sent. */
+  /** Sends a line. If that is a label, which is no command, a sentence says so. */
+  async sendLine(/** @type {string} */ line) {
+    const answer = await this.send([line]);
+    const [label, address] = [line.trim(), addressOfLabel(line.trim(), this.desk.state.labels ?? {})];
+    if (address && answer?.do?.[0]?.[0] === NO_COMMAND) this.refuse(textOf("lines.label", { label, address: `0x${address}` }));
+  }
+
+  /** Sends lines, unless one of them can't be sent. Their labels become addresses. */
   send(/** @type {string[]} */ lines) {
     const [, way, number = "1"] = /^(back|forth)(?: +([1-9][0-9]{0,8}))?$/.exec(lines.join("\n").trim()) ?? [];
     if (way) return this.go(/** @type {"back" | "forth"} */ (way), Number(number));
     const unfit = unfitLines(lines);
-    if (!unfit) return this.request(...requestsOf(lines));
+    if (!unfit) return this.request(...requestsOf(withAddresses(lines, this.desk.state.labels ?? {})));
     this.desk.past.showNow();
     return this.refuse(unfit);
   }

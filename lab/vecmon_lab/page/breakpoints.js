@@ -23,7 +23,14 @@ class FollowedLines {
   /** @param {import("./codemirror.js").Editor} code */
   constructor(code) {
     this.code = code;
-    code.on("beforeChange", (_, { origin }) => origin === "setValue" && this.leave());
+    code.on("beforeChange", (_, change) => this.replacesAll(change) && this.leave());
+  }
+
+  /** Whether a change replaces the whole text, as pasting over all of it does: CodeMirror keeps its first and its last line then. */
+  replacesAll(/** @type {import("./codemirror.js").Change} */ { from, to, text, origin }) {
+    const last = this.code.lineCount() - 1;
+    const isAll = !from.line && !from.ch && to.line === last && to.ch === (this.code.getLine(last) ?? "").length;
+    return origin === "setValue" || (isAll && text.length > 1);
   }
 
   /** The lines as they are in the text. */
@@ -116,6 +123,11 @@ export class LoadedLines extends FollowedLines {
       this.isCurrent = false;
       this.comeBack();
     });
+  }
+
+  leave() {
+    super.leave();
+    this.handles = new Map();
   }
 
   /** @returns {Pairs} */

@@ -4,6 +4,7 @@ import { textOf } from "./texts.js";
 
 const [MOST_LINES, MOST_TOGETHER] = [4096, 64]; // at once, and in a request
 const MOST_CHARACTERS = 1022; // of a line
+const WITH_ADDRESS = /^(\s*(?:asm|break|dis|map|peek|poke|setpc|unbreak)\s+)(\S+)/;
 /** @type {Record<string, number>} */
 const STEPS = { ArrowUp: -1, ArrowDown: 1 };
 
@@ -17,6 +18,15 @@ export function unfitLines(/** @type {string[]} */ lines) {
   }
   return "";
 }
+
+/** The address of a label, as hexadecimal digits; undefined if a name is none. */
+/** @type {(name: string, labels: Record<string, string[]>) => string | undefined} */
+export const addressOfLabel = (name, labels) => Object.keys(labels).find((address) => labels[address].includes(name));
+
+/** Lines with the address of a label in place of its name, in commands that start with an address. Hexadecimal digits are an address. */
+/** @type {(lines: string[], labels: Record<string, string[]>) => string[]} */
+export const withAddresses = (lines, labels) => lines.map((line) => line.replace(WITH_ADDRESS, (all, head, name) =>
+  (/^[0-9a-f]+$/i.test(name) ? all : `${head}${addressOfLabel(name, labels) ?? name}`)));
 
 /** The requests that execute lines, at most a fixed number each. */
 /** @type {(lines: string[]) => { ask: "lines", do: string[] }[]} */

@@ -332,6 +332,7 @@ export interface Places {
   "console.fold.title": never;
   "console.command": never;
   "console.example": never;
+  "lines.label": "address" | "label";
   "lines.too-many": "lines" | "most";
   "lines.not-ascii": "character" | "line" | "place";
   "lines.too-long": "characters" | "line" | "most";

@@ -2,7 +2,7 @@
 import assert from "node:assert/strict";
 import { test } from "node:test";
 import { nameOf } from "../../../vecmon_lab/page/connection.js";
-import { requestsOf, unfitLines } from "../../../vecmon_lab/page/lines.js";
+import { addressOfLabel, requestsOf, unfitLines, withAddresses } from "../../../vecmon_lab/page/lines.js";
 import { patched } from "../../../vecmon_lab/page/patches.js";
 import { Pending } from "../../../vecmon_lab/page/pending.js";
 import { entryParts } from "../../../vecmon_lab/page/transcript.js";
@@ -73,6 +73,14 @@ test("lines that the monitor can't read are refused before they are sent", () =>
 test("requests have 64 lines at most", () => {
   const sizes = requestsOf(Array(130).fill("step 1")).map(({ ask, do: lines }) => [ask, lines.length]);
   assert.deepEqual(sizes, [["lines", 64], ["lines", 64], ["lines", 2]]);
+});
+
+test("labels become addresses where a command starts with one, unless they are hexadecimal digits", () => {
+  const labels = { 10004: ["loop", "again"], 10008: ["add"] };
+  const lines = ["break loop", "  dis again 4", "peek add 1", "set x10 5", "loop", "asm loop j loop", "break other"];
+  const expected = ["break 10004", "  dis 10004 4", "peek add 1", "set x10 5", "loop", "asm 10004 j loop", "break other"];
+  assert.deepEqual(withAddresses(lines, labels), expected);
+  assert.deepEqual(["again", "other"].map((name) => addressOfLabel(name, labels)), ["10004", undefined]);
 });
 
 test("an entry of the transcript has a text, and the words of a refusal", () => {

@@ -4,6 +4,7 @@ import { test } from "node:test";
 import { titleOf } from "../../../vecmon_lab/page/edits.js";
 import { isLink, languageOf, linkOf, sourceOf, suffixOf } from "../../../vecmon_lab/page/links.js";
 import { inOrder, placesOf } from "../../../vecmon_lab/page/rows.js";
+import { placeName } from "../../../vecmon_lab/page/scalars.js";
 import { lineBegins, startOf, stoppedLines } from "../../../vecmon_lab/page/source_lines.js";
 import { cutRows } from "../../../vecmon_lab/page/memory.js";
 import { littleEndian } from "../../../vecmon_lab/page/numbers.js";
@@ -52,6 +53,12 @@ test("each label in memory is above the row that starts at its address", () => {
   const texts = places.map(({ address, text }) => address ?? text);
   const expected = "first: 11000 words: 11004 11008 11010 11018 text: end: 1101e ⋯ 12000 12008";
   assert.equal(texts.join(" "), expected);
+});
+
+test("an address in memory that is shown has the name of the last label before it in its page", () => {
+  const state = { labels: { 10008: ["loop"], 11004: ["xs"], 11018: ["ys", "end"] }, memory: { 11000: "", 11010: "", 12000: "" } };
+  const names = ["11004", "1100c", "1101a", "11000", "12008", "10008", "1000c", "5", "13000"].map((value) => placeName(value, state));
+  assert.deepEqual(names, ["xs", "xs+8", "ys+2", "", "", "loop", undefined, undefined, undefined]);
 });
 
 test("an instruction belongs to the line that starts last before it", () => {
