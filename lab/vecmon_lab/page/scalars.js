@@ -8,32 +8,38 @@ import { ABI_NAMES, signedText } from "./words.js";
 /** @typedef {import("./types").MachineState} MachineState */
 
 const COLUMN = 9; // characters of a register besides its value
-const WIDEST = 12; // characters of a value with its label in one column; a wider one takes all
+const WIDEST = 14; // characters of a number with the same number as an address; a longer one is shown as an address alone
 const POINTERS = ["ra", "sp", "gp"]; // registers that have addresses
-
 const PAGE_DIGITS = 3; // hexadecimal digits of a place in a page of memory
+const ROW_DIGITS = 1; // and in a row of a state's memory
+
+/** The parts of an address before a place in it, and the place. */
+/** @type {(address: string, digits: number) => [start: string, place: number]} */
+const divided = (address, digits) => [address.slice(0, -digits), parseInt(address.slice(-digits), 16)];
 
 /**
- * Returns the label at an address, or the last one before it in the same page of the state's memory: `loop`, `numbers+8`; "" without
- * one, and undefined if the number is no address there. Small numbers are none.
- * @type {(value: string, state: MachineState) => string | undefined}
+ * Returns the name of an address: its label, or a label of data whose numbers it is among or right after, as `numbers+8`; "" without one.
+ * @type {(address: string, state: MachineState) => string}
  */
-export function placeName(value, { labels = {}, memory }) {
-  if (labels[value]) return labels[value][0];
-  const pageOf = (/** @type {string} */ address) => address.slice(0, -PAGE_DIGITS);
-  const page = pageOf(value);
-  if (!page || !Object.keys(memory).some((row) => pageOf(row) === page)) return undefined;
-  const offset = (/** @type {string} */ address) => parseInt(address.slice(-PAGE_DIGITS), 16);
-  const before = Object.keys(labels).filter((label) => pageOf(label) === page && offset(label) < offset(value));
-  const last = before.sort((one, other) => offset(other) - offset(one))[0];
-  return last === undefined ? "" : `${labels[last][0]}+${offset(value) - offset(last)}`;
+export function placeName(address, { labels = {}, data = {} }) {
+  if (labels[address]) return labels[address][0];
+  const [page, place] = divided(address, PAGE_DIGITS);
+  for (const [start, { type, count }] of Object.entries(data)) {
+    const [own, first] = divided(start, PAGE_DIGITS);
+    const size = count * (type === "text" ? 1 : Number(type.slice(1)) / 8);
+    if (page && own === page && labels[start] && place > first && place <= first + size) return `${labels[start][0]}+${place - first}`;
+  }
+  return "";
 }
+
+/** Whether a number is the address of a row of memory in a state, above its first page. */
+/** @type {(value: string, state: MachineState) => boolean} */
+const isInMemory = (value, { memory }) => value.length > PAGE_DIGITS && `${divided(value, ROW_DIGITS)[0]}0` in memory;
 
 /** Shows registers in a list, whose columns fit them. */
 function paintList(/** @type {HTMLElement} */ list, /** @type {HTMLElement[]} */ rows) {
   renew(list, rows);
-  const narrow = rows.filter((row) => !row.matches(".labelled")).flatMap((row) => elementsIn(row, "dd"));
-  const longest = Math.max(0, ...narrow.map(({ textContent }) => `${textContent}`.length));
+  const longest = Math.max(0, ...elementsIn(list, "dd").map(({ textContent }) => `${textContent}`.length));
   list.style.setProperty("--register-width", `${longest + COLUMN}ch`);
 }
 
@@ -44,28 +50,25 @@ function paintList(/** @type {HTMLElement} */ list, /** @type {HTMLElement[]} */
  */
 export function paintRegisters(root, state, before, used) {
   const [hasNames, form] = [part(root, "names").value === "abi", part(root, "numbers").value];
-  const labelOf = (/** @type {string} */ value) =>
-    (state.labels?.[value] ?? []).slice(0, 1).map((label) => make("small", "label", ` ${label}`));
+  const labelOf = (/** @type {string} */ label) => (label ? [make("small", "label", ` ${label}`)] : []);
   const rows = ABI_NAMES.map((abi, number) => {
     const [value, numbered] = [state.x[number], `x${number}`];
     const [name, other] = hasNames ? [abi, numbered] : [numbered, abi];
-    const [signed, label] = [signedText(value), labelOf(value)];
+    const [signed, place] = [signedText(value), placeName(value, state)];
     const isHexadecimal = form === "hexadecimal";
     const decimal = form === "unsigned" ? `${BigInt(`0x${value}`)}` : signed;
-    const isAddress = label.length > 0 || (POINTERS.includes(abi) && value !== "0");
+    const isNear = isInMemory(value, state);
+    const isLong = `${decimal} 0x${value}`.length > WIDEST;
+    const isAddress = place !== "" || (POINTERS.includes(abi) && value !== "0") || (isNear && isLong);
     const text = isHexadecimal || isAddress ? `0x${value}` : decimal;
-    const place = isAddress ? undefined : placeName(value, state);
-    const also = [isHexadecimal ? "" : `0x${value}`, place].filter(Boolean).join(" ");
-    const near = place === undefined || !also ? [] : [make("small", "label", ` ${also}`)];
-    const cell = make("dd", before.x[number] === value ? "" : "changed", text, ...label, ...near);
-    cell.title = `${numbered}, ${abi}: 0x${value} = ${signed}`;
+    const label = place || (text === decimal && isNear ? `0x${value}` : "");
+    const cell = make("dd", before.x[number] === value ? "" : "changed", text, ...labelOf(label));
+    cell.title = `${numbered}, ${abi}: 0x${value} = ${signed}${place && ` = ${place}`}`;
     cell.dataset.value = isHexadecimal ? value : decimal;
     if (number) cell.dataset.edit = `set x${number}`;
-    const isWide = `${cell.textContent}`.length > WIDEST;
-    const kind = value === "0" ? "zero" : (label.length || near.length) && isWide ? "labelled" : "";
-    return make("div", kind, make("dt", "", name, " ", make("small", "", other)), cell);
+    return make("div", value === "0" ? "zero" : "", make("dt", "", name, " ", make("small", "", other)), cell);
   });
-  const pc = make("dd", "", `0x${state.pc}`, ...labelOf(state.pc));
+  const pc = make("dd", "", `0x${state.pc}`, ...labelOf(placeName(state.pc, state)));
   Object.assign(pc.dataset, { edit: "setpc", value: state.pc });
   const [list, unused] = elementsIn(root, "dl.registers");
   const others = unused && used.size ? rows.filter((_, number) => !used.has(number)) : [];

@@ -55,10 +55,12 @@ test("each label in memory is above the row that starts at its address", () => {
   assert.equal(texts.join(" "), expected);
 });
 
-test("an address in memory that is shown has the name of the last label before it in its page", () => {
-  const state = { labels: { 10008: ["loop"], 11004: ["xs"], 11018: ["ys", "end"] }, memory: { 11000: "", 11010: "", 12000: "" } };
-  const names = ["11004", "1100c", "1101a", "11000", "12008", "10008", "1000c", "5", "13000"].map((value) => placeName(value, state));
-  assert.deepEqual(names, ["xs", "xs+8", "ys+2", "", "", "loop", undefined, undefined, undefined]);
+test("an address has the name of its label, or of the data that it is in or right after", () => {
+  const labels = { 10008: ["loop"], 11004: ["xs"], 11018: ["ys", "end"], 11020: ["other"] };
+  const data = { 11004: { type: "i32", count: 5 }, 11018: { type: "u16", count: 3 } };
+  const names = ["11004", "1100c", "11018", "1101a", "1101e", "11000", "1101f", "11024", "10008", "1000c", "5"];
+  const expected = ["xs", "xs+8", "ys", "ys+2", "ys+6", "", "", "", "loop", "", ""];
+  assert.deepEqual(names.map((value) => placeName(value, { labels, data })), expected);
 });
 
 test("an instruction belongs to the line that starts last before it", () => {
