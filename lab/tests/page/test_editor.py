@@ -66,6 +66,16 @@ def test_breakpoint_is_set_at_line(started: Tab) -> None:
     started.wait(f"{SIGNS} === '●▶2' && id('run').textContent === 'Ready'")
 
 
+def test_console_takes_labels(started: Tab) -> None:
+    """As the address that a command starts with, and alone with a sentence; the program's first address is 10000."""
+    started.command("dis start 1")
+    assert started.text("#log > li:last-child").startswith("0000000000010000 ")
+    started.command("start")
+    started.wait("id('stop').textContent.startsWith('start is a label, the address 0x10000.')")
+    started.command("strat")
+    started.wait("id('stop').textContent.includes('there is no command strat')")
+
+
 def test_breakpoints_wait_for_the_program(sit: Sit) -> None:
     """They are shown before the first run, follow their lines, and stop the run; a change that is undone sets them, too."""
     from selenium.webdriver.common.keys import Keys
