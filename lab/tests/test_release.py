@@ -162,7 +162,7 @@ def test_release_has_all_files_and_digests(proved: pathlib.Path) -> None:
     first = {path.name: path.read_bytes() for path in (top / "first").iterdir()}
     assert first == {path.name: path.read_bytes() for path in (top / "second").iterdir()}
     assert set(first) == {*FILES, "index.html", "SHA256SUMS"}
-    sums = dict(reversed(line.split("  ")) for line in ran.stdout.splitlines())
+    sums = {name: digest for digest, _, name in (line.partition("  ") for line in ran.stdout.splitlines())}
     assert sums == {name: hashlib.sha256(first[name]).hexdigest() for name in set(first) - {"SHA256SUMS"}}
     record = first["PROVENANCE"].decode()
     assert record.startswith("Gate: 5 passed, 0 failed\n") and record.count("\nTarget: ") == 5

@@ -250,7 +250,7 @@ def test_values_can_be_changed(client: Client) -> None:
         group = client.rows(client.scope("Vector registers"))["v8"]["variablesReference"]
         client.refused("setVariable", variablesReference=group, name=name, value=value)
     client.move("stepBack")
-    assert client.value("t1") == "10 (0xa)"  # what was changed there stays
+    assert client.value("t1") == "10 (0xa)"  # a change that was made there stays
 
 
 def test_memory_is_read_and_written(client: Client) -> None:

@@ -16,7 +16,7 @@ LARGE = ADD * 400
 
 
 def test_small_sources_are_assembled_here(program: pathlib.Path) -> None:
-    """Comments and blanks don't count; what macros make does."""
+    """Comments and blanks don't count; lines that macros make do."""
     small = [ADD, ADD * 300 + "# a comment, which takes no time\n" * 1000, f".rept 60\n{ADD}.endr\n", "add a0\n"]
     assert [bool(read_small("whole", text, program)) for text in small] == [True] * 4
     large = [

@@ -26,7 +26,7 @@ def test_statements_belong_to_calling_line() -> None:
 
 
 def test_mistake_is_where_it_was_typed() -> None:
-    """The register is in the call; what the machine refuses of `5000` is there, too."""
+    """The register is in the call, and `5000`, for which the machine refuses an instruction, is there, too."""
     program = read_source(TABLE)
     assert [(it.line, it.column) for it in program.mistakes] == [(8, 17)]
     assert program.mistakes[0].message.endswith("; in macro step, called in line 8")

@@ -117,7 +117,7 @@ def test_loop_from_memory_assembles(program: pathlib.Path) -> None:
     ],
 )
 def test_one_mistake_has_one_message(program: pathlib.Path, line: str, problem: str | None) -> None:
-    """What follows a refused line isn't refused, neither for its address nor for a name that the line defines."""
+    """Lines after a refused one aren't refused, neither for its address nor for a name that the line defines."""
     text = FROM_MEMORY.replace("1:  ", f".data\n{line}\n.text\n1:  ").replace(
         "ebreak", "ebreak\n.data\n.align 2\n.word 1, size"
     )

@@ -39,7 +39,7 @@ def test_oldest_of_address_with_most_ends() -> None:
 
 @contextlib.asynccontextmanager
 async def opened(waiting: int = 100) -> AsyncIterator[tuple[Callable[[], socket.socket], list[int]]]:
-    """A door: what connects to it, and the clients' ports of the connections that were served."""
+    """A door with its clients, and the clients' ports of the connections that were served."""
     listener, ports = socket.create_server(("127.0.0.1", 0)), list[int]()
 
     async def serve(connection: socket.socket) -> None:
