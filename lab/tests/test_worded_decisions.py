@@ -1,12 +1,14 @@
 """No module decides by the words of a message, or by the columns of an answer: exceptions, enums and parsed answers have values."""
 
 import pathlib
+import re
 from collections.abc import Iterator
 
 import pytest
 
 from support.places import TOP
 from support.worded_decisions import decisions_in, decisions_in_javascript
+from vecmon_lab.tables.table import read_table
 
 FOLDERS = ("lab/vecmon_lab", "lab/tools", "lab/support", "tools", "packaging")
 OTHERS = "other programs report this in words only"
@@ -23,6 +25,7 @@ EXCEPTIONS = {  # the files with such decisions, and the reason for each
     "lab/vecmon_lab/classes/live.py": "the mark of the server's own lines, which the same module writes",
     "lab/vecmon_lab/classes/requests.py": "a message is a mapping there, and its keys are tested",
     "lab/vecmon_lab/meanings/describe.py": "a search for a reader's words",
+    "lab/vecmon_lab/page/lines.js": "a field in which a person types lines; the next test compares its commands",
     "lab/support/golden_equations.py": "the independent reader of sentences that are shown",
 }
 
@@ -41,6 +44,12 @@ def test_no_module_decides_by_words() -> None:
         found[path.relative_to(TOP).as_posix()] = list(finder(path.read_text("utf-8")))
     assert {name: each for name, each in found.items() if each and name not in EXCEPTIONS} == {}
     assert [name for name in EXCEPTIONS if not found.get(name)] == []
+
+
+def test_page_takes_labels_in_commands_that_start_with_an_address() -> None:
+    forms = [form.split() for section, form, *_ in read_table("commands") if not section.startswith("Commands of")]
+    (listed,) = re.findall(r"\^\(\\s\*\(\?:([a-z|]+)\)", (TOP / "lab/vecmon_lab/page/lines.js").read_text("utf-8"))
+    assert listed.split("|") == sorted(name for name, *arguments in forms if arguments[:1] == ["ADDR"])
 
 
 @pytest.mark.parametrize(

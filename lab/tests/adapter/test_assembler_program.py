@@ -58,6 +58,7 @@ def moves(client: Client, *commands: str) -> list[tuple[str, int]]:
     return [(client.move(command)["reason"], client.where()[1]) for command in commands]
 
 
+@pytest.mark.by_command("dap")
 def test_lines_are_stepped_forwards_and_backwards(client: Client) -> None:
     assert moves(client, "next", "next", "stepIn", "stepBack", "stepBack") == [
         ("step", FIRST + each) for each in (1, 2, 3, 2, 1)

@@ -1,7 +1,7 @@
 """Others' sources, assembled with limits of processor and memory: small ones here, others in a separate process.
 
-As a module it assembles the source on standard input, and prints its program, pickled. The arguments are the name of a
-reader, and the path of `vecmon`.
+As a module it assembles the source on standard input, and prints its program, or the reason for which there is none, pickled. The arguments
+are the name of a reader, and the path of `vecmon`.
 """
 
 import os
@@ -54,11 +54,11 @@ def read_limited(reader: str, text: str, vecmon: pathlib.Path) -> Program:
         return program
     command = [sys.executable, "-PB", "-m", f"vecmon_lab.{MODULE}", reader, str(vecmon)]
     environment = os.environ | {"PYTHONPATH": str(LAB)}
-    completed = subprocess.run(command, input=encoded(text), capture_output=True, env=environment)
+    completed = subprocess.run(command, input=encoded(text), stdout=subprocess.PIPE, env=environment)
     if completed.returncode < 0:
         raise LabError(TOO_LONG)
     if completed.returncode:
-        raise LabError(completed.stderr.decode("utf-8", "replace").strip().rpartition("\n")[2])
+        raise LabError(f"the process that assembles this source ended with status {completed.returncode}")
     return decoded(completed.stdout)
 
 
@@ -68,9 +68,11 @@ def encoded(text: str) -> bytes:
 
 
 def decoded(output: bytes) -> Program:
-    """The program that the module has printed."""
-    program: Program = pickle.loads(output)
-    return program
+    """The program that the module has printed. Raises LabError with the reason for which there is none."""
+    result: Program | str = pickle.loads(output)
+    if isinstance(result, str):
+        raise LabError(result)
+    return result
 
 
 def _plain(mistake: SourceError) -> SourceError:
@@ -90,11 +92,9 @@ def main() -> int:
         mistakes, warnings = ([*map(_plain, each)] for each in (program.mistakes, program.warnings))
         output = pickle.dumps(replace(program, mistakes=mistakes, warnings=warnings))
     except MemoryError:
-        print(TOO_LARGE, file=sys.stderr)
-        return 1
+        output = pickle.dumps(TOO_LARGE)
     except (LabError, ValueError, RecursionError) as error:
-        print(error, file=sys.stderr)
-        return 1
+        output = pickle.dumps(str(error))
     sys.stdout.buffer.write(output)
     return 0
 

@@ -28,6 +28,8 @@ export interface Mode<State> {
 }
 
 export interface Change {
+  from: Position;
+  to: Position;
   text: string[];
   origin?: string;
 }
