@@ -20,6 +20,8 @@ DECLARED = re.compile(r"^(?:abbrev |unfoldable |pub |record |data )*(\w+) : ", r
 HEAD = re.compile(r"^(\w+)((?: [^=\n]*?)?) =(?= |$)")
 WORD = re.compile(r"(?<![\w.'])([A-Za-z_]\w*)(\.)?")
 BOUND = re.compile(r"λ ([\w ]+)\.|\blet (\w+)|\((\w+(?: \w+)*) : ")
+CONSTRUCTORS = {*"zero suc pos negsuc true false".split()}
+"""Constructors in small letters: in a pattern, other such words are variables."""
 KEYWORDS = {*"if then else let in record with Type refl search".split()}
 OPERATOR = re.compile(r" ([-+*/%^]|==|&&|\|\||∷|\+\+)(ℤ?) ")
 
@@ -40,9 +42,11 @@ def _unknown_in(text: str) -> Iterator[tuple[int, str]]:
         head = HEAD.match(clause)
         if head:
             patterns, body = head[2], clause[head.end() :]
-            bound = {word for word in re.findall(r"(?<![\w.])[a-z_]\w*", patterns)}
+            words = re.findall(r"(?<![\w.])[A-Za-z_]\w*", patterns)
+            matched = [word for word in words if word[0].isupper() or word in CONSTRUCTORS]
+            bound = {*words}.difference(matched)
             bound |= {word for found in BOUND.findall(body) for part in found for word in part.split()}
-            used = [word for word in re.findall(r"(?<![\w.])[A-Z]\w*", patterns) if word not in known]
+            used = [word for word in matched if word not in known]
             used += [word for word, _ in WORD.findall(body) if word not in known | bound and not _is_field(body, word)]
             operators = [f"◌{sign}{kind}◌" for sign, kind in OPERATOR.findall(body)]
             used += [it for it in dict.fromkeys(operators) if it not in known]

@@ -5,6 +5,7 @@ from collections.abc import Iterator, Mapping, Sequence
 
 from instruction_parts import Between, Part
 from instruction_records import ACCESSES, Record
+from vecmon_lab.meanings.extensions import extensions
 
 PAGE = "docs/COMMANDS.md"
 LAST_ACCESS = "| `vl1r` to `vl8r`, `vs1r` to `vs8r` | 7.9 |"
@@ -44,12 +45,18 @@ def command_parts(records: Sequence[Record]) -> Iterator[Part]:
     names = dict[str, list[str]]()
     for record in records:
         if record.shapes and record.family not in ACCESSES:
-            found = names.setdefault(record.cells["section"], [])
+            found = names.setdefault(section_of(record), [])
             found += [name for name in shown_names(record) if name not in found]
     known = {section for text in ROWS.values() for place in PLACE.findall(text) for section in place.split()}
     rows = ROWS | {section: f"{{{section}}}" for section in names if section not in known}
     lines = [f"| {PLACE.sub(lambda it: _listed(names, it[1]), text)} | {manual} |" for manual, text in rows.items()]
     yield Between(PAGE, [LAST_ACCESS], "", lines)
+
+
+def section_of(record: Record) -> str:
+    """The section of a record, with the manual if that isn't the V extension's."""
+    section, manual = record.cells["section"], extensions()[record.cells["extension"]].manual
+    return f"{section} of {manual}" if manual else section
 
 
 def _listed(names: Mapping[str, Sequence[str]], place: str) -> str:
