@@ -14,7 +14,7 @@ from instruction_files import FILE_ERRORS, changes, parts_by_file, part_lines
 from instruction_parts import replaced
 from instruction_records import Record, RecordError, read_records
 from support.places import TOP
-from support.values_by_hand import HandValue
+from support.values_by_hand import HandValue, hand_values
 
 TOOL = TOP / "tools" / "instructions"
 RECORDS = TOP / "instructions"
@@ -182,16 +182,16 @@ def test_added_source_width_gets_its_lines(copy: pathlib.Path) -> None:
         file.write(UNARY)
         file.write(ADDED.replace('test = "one', 'chunk = "none"\ntest = "one'))
     added = added_lines()
-    assert added["crates/reg_groups/src/operands.rt"] == ["ExtendOp::Vunary => 1,"]
+    (divisor,) = added["crates/reg_groups/src/operands.rt"]
+    assert divisor.endswith("ExtendOp::Vunary => 1,")
     assert {"extension_divisor Vunary = 1", "part_width Vunary w = w"} <= {
         *added["crates/rv_model/specs/vector/Groups.antt"]
     }
-    assert added["crates/vec_unit/src/extend.rt"][:2] == [
-        "ExtendOp::Vunary => match sew {",
-        "Sew::E8 => perform_at::<u8, u8, ExtendOperation>(from, groups, target, state, scalar),",
-    ]
+    (text,) = [change.text for change in changes() if change.path.as_posix() == "crates/vec_unit/src/extend.rt"]
+    arm = text.partition("ExtendOp::Vunary => match sew {\n")[2].lstrip()
+    assert arm.startswith("Sew::E8 => perform_at::<u8, u8, ExtendOperation>(from, groups, target, state, scalar),\n")
     assert "is_simd Vnone = false" in added["crates/lane_arith/specs/SimdOperations.antt"]
-    assert "BinaryOp::Vnone" in added["crates/lane_arith/src/chunk.rt"]
+    assert any(line.endswith("BinaryOp::Vnone") for line in added["crates/lane_arith/src/chunk.rt"])
 
 
 MISTAKES = {
@@ -272,7 +272,7 @@ def test_mistakes_of_files_are_one_line(copy: pathlib.Path) -> None:
     path.write_text(f"{text}\n[lui]\n", "ascii")
     with pytest.raises(RecordError, match=r"^instructions/scalar.toml: Cannot declare \('lui',\) twice"):
         changes()
-    path.write_text(f"{text}\n[andn]\nfamily = \n", "ascii")
+    path.write_text(f"{text}\n[none]\nfamily = \n", "ascii")
     with pytest.raises(RecordError, match="^instructions/scalar.toml: Invalid value"):
         changes()
     path.unlink()
@@ -354,7 +354,7 @@ def test_record_without_formula_is_named(tree: pathlib.Path) -> None:
     replace_in(tree / FORMULAS, "has_unsigned_immediate Vsll = true\n", "")
     replace_in(tree / FORMULAS, " pos, negsuc,", " pos,")
     replace_in(tree / FORMULAS, " quotient, remainder,", " quotient,")
-    replace_in(tree / FORMULAS, "VzextVf4, VzextVf2}", "VzextVf4}")
+    replace_in(tree / FORMULAS, "VzextVf4, VzextVf2", "VzextVf4")
     lines = check(tree)
     unknown = [re.sub(r"^(\S+):\d+: ", r"\1: ", line) for line in lines[:3]]
     assert unknown == [
@@ -381,13 +381,14 @@ def test_name_without_results_is_named(monkeypatch: pytest.MonkeyPatch) -> None:
     """`divuw` has golden vectors, two rows by hand, or one, which isn't enough."""
     monkeypatch.chdir(TOP)
     golden, rows = instruction_places.golden_names(), [HandValue("divuw x1, x2, x3", {}, {})] * 2
+    others = [row for row in hand_values() if row.name != "divuw"]
     fault = "divuw: add 2 rows to lab/tests/data/values_by_hand.txt, or golden vectors to lab/tests/data/golden_vectors"
     monkeypatch.setattr(instruction_places, "golden_names", lambda: golden)
-    monkeypatch.setattr(instruction_places, "hand_values", lambda: [])
+    monkeypatch.setattr(instruction_places, "hand_values", lambda: others)
     assert instruction_places.missing() == []
     monkeypatch.setattr(instruction_places, "golden_names", lambda: golden - {"divuw"})
     assert instruction_places.missing() == [fault]
-    monkeypatch.setattr(instruction_places, "hand_values", lambda: rows[:1])
+    monkeypatch.setattr(instruction_places, "hand_values", lambda: [*others, *rows[:1]])
     assert instruction_places.missing() == [fault]
-    monkeypatch.setattr(instruction_places, "hand_values", lambda: rows)
+    monkeypatch.setattr(instruction_places, "hand_values", lambda: [*others, *rows])
     assert instruction_places.missing() == []

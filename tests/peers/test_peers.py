@@ -111,6 +111,7 @@ def test_another_name_and_no_instruction_are_found() -> None:
 def test_words_of_extensions_that_binutils_lack_are_left_out(monkeypatch: pytest.MonkeyPatch) -> None:
     """vadd.vv, as if it were of Zvkb: refused, known after all, and another instruction of Zvkb that `vecmon` lacks."""
     monkeypatch.setattr(encodings, "names_lacked_by", lambda tool: {"vadd.vv"})
+    monkeypatch.setattr(encodings, "added_archs", lambda: ())
     texts = ["", "vadd.vv v1,v2,v3", "vrev8.v v8,v9"]
     words = [0x022180D7, 0x022180D7, 0x4A94A457]
     tally = encodings.compare_disassembler("objdump", lambda _: texts, words)

@@ -37,7 +37,7 @@ def _faults(name: str, bits: str, draws: random.Random) -> Iterator[str]:
 def test_every_shape_belongs_to_instruction() -> None:
     named = {shape for *_, shape, _ in read_table("operations")} | {kind for _, kind, _ in read_table("words")}
     for_new_ones = {"same source"}  # as docs/ADDING.md says
-    assert {name for name, *_ in read_table("shapes")} - named == for_new_ones
+    assert {name for name, *_ in read_table("shapes")} - named <= for_new_ones
 
 
 def test_word_is_instruction_exactly_if_encoding_matches() -> None:

@@ -37,9 +37,12 @@ def test_each_instruction_has_an_extension() -> None:
 @pytest.mark.usefixtures("others")
 def test_names_that_tools_lack() -> None:
     for tool in ("as", "qemu"):
-        assert names_lacked_by.__wrapped__(tool) == {"vand.vv", "vand.vx"}
-        assert added_archs.__wrapped__(tool) == ("zbb",)
-    assert added_archs.__wrapped__() == ("zbb", "zvkb")
+        assert {name for name in names_lacked_by.__wrapped__(tool) if record_of(name).extension == "V"} == {
+            "vand.vv",
+            "vand.vx",
+        }
+        assert "zbb" in added_archs.__wrapped__(tool) and "zvkb" not in added_archs.__wrapped__(tool)
+    assert [arch for arch in added_archs.__wrapped__() if arch in ("zbb", "zvkb")] == ["zbb", "zvkb"]
 
 
 def test_section_has_manual_of_other_extension() -> None:
@@ -55,9 +58,9 @@ def test_stock_source_allows_extension_for_its_own_line(monkeypatch: pytest.Monk
     tool = importlib.util.module_from_spec(spec)
     spec.loader.exec_module(tool)
     before = tool.instructions().splitlines()
-    monkeypatch.setattr(tool, "extension_of", lambda name: extensions()[OTHERS.get(name, "I")])
+    monkeypatch.setattr(tool, "extension_of", lambda name: extensions()[OTHERS.get(name, extension_of(name).name)])
     after = tool.instructions().splitlines()
     place = next(at for at, line in enumerate(after) if line.split()[:1] == ["vand.vx"])
     assert [line.strip() for line in after[place - 2 : place + 2 : 3]] == [".option push", ".option pop"]
     assert after[place - 1] == "        .option arch, +zvkb" and after[place] in before
-    assert [line for line in after if ".option" not in line] == before
+    assert [line for line in after if ".option" not in line] == [line for line in before if ".option" not in line]

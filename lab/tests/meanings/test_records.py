@@ -179,13 +179,13 @@ def test_other_extension_name_is_explained() -> None:
 def test_absent_names_leave_out_instructions(tmp_path: pathlib.Path, monkeypatch: pytest.MonkeyPatch) -> None:
     """The pattern of an extension may still fit an instruction that the machine has by now."""
     (tmp_path / "absent.toml").write_text(
-        "[Zvkb]\nnames = 'vadd\\.v[vx]|vandn\\.v[vx]'\ndoes = \"It isn't there.\"\n", "ascii"
+        "[Zvkb]\nnames = 'vadd\\.v[vx]|vnone\\.v[vx]'\ndoes = \"It isn't there.\"\n", "ascii"
     )
     monkeypatch.setattr(record_module, "FOLDER", tmp_path)
     found = record_module.records.__wrapped__()["Zvkb"]
-    assert [name for name in ("vadd.vv", "vadd.vx", "vandn.vv", "vandn.vx") if re.fullmatch(found.names, name)] == [
-        "vandn.vv",
-        "vandn.vx",
+    assert [name for name in ("vadd.vv", "vadd.vx", "vnone.vv", "vnone.vx") if re.fullmatch(found.names, name)] == [
+        "vnone.vv",
+        "vnone.vx",
     ]
 
 
