@@ -298,8 +298,35 @@ def test_expressions_hovers_and_completions_are_answered(client: Client) -> None
     assert "vadd.vv" in client.value("help vadd.vv", context="repl")
     for text in ("nothing", "v8[8]", "v32", "a0[1]", "vmacc.vx", "1 +"):
         client.refused("evaluate", expression=text)
+    assert client.value("((int32_t *)x)[4]") == "8 (0x8)" and client.value("*(uint16_t *)(y + 2)") == "0 (0x0)"
+    assert client.value("((int32_t *)a2)[vl - 1] == 100 && *(int *)a1 == v8[0]") == "1 (0x1)"
+    assert "((int32_t *)y)[2]" in client.refused("evaluate", expression="y[2]")
     targets = client.ask("completions", text="a0 + vst", column=9)["targets"]
     assert targets == [{"label": "vstart", "start": 5, "length": 3}]
+
+
+def test_number_at_an_address_is_watched(client: Client) -> None:
+    client.move("continue")
+    y = int(client.value("y").split()[0])
+    info = client.ask("dataBreakpointInfo", name="((int32_t *)y)[2]")
+    assert info["dataId"] == f"{y + 8:x}:4"
+    for number in (0, -1):
+        client.refused("dataBreakpointInfo", name=f"{y:#x}", asAddress=True, bytes=number)
+    client.lines(SOURCE)
+    client.ask("setDataBreakpoints", breakpoints=[{"dataId": info["dataId"], "accessType": "write"}])
+    assert client.move("continue")["reason"] == "data breakpoint"
+    assert client.where()[1] == STORE + 1 and client.value("((int32_t *)y)[2]") == f"{Y[2]} ({Y[2]:#x})"
+
+
+def test_source_has_the_path_by_which_it_was_launched(tmp_path: pathlib.Path) -> None:
+    link = tmp_path / "link.s"
+    link.symlink_to(SOURCE)
+    with Client.started() as client:
+        client.launch(link, stopOnEntry=True)
+        (found,) = client.lines(link, MULTIPLY)
+        assert found["verified"] and found["source"]["path"] == f"{link}"
+        client.begin()
+        assert client.ask("stackTrace", threadId=1)["stackFrames"][0]["source"]["path"] == f"{link}"
 
 
 def test_illegal_instruction_is_explained(tmp_path: pathlib.Path) -> None:

@@ -42,6 +42,31 @@ int main(int argc, char **argv)
 }
 """
 
+SCALE = """\
+#include <riscv_vector.h>
+#include <stddef.h>
+#include <stdint.h>
+
+int16_t from[20];
+int32_t to[20];
+
+__attribute__((noinline)) static void scale(size_t n, const int16_t *x, int32_t *y)
+{
+    for (size_t vl; n > 0; n -= vl, x += vl, y += vl) {
+        vl = __riscv_vsetvl_e16m1(n);
+        __riscv_vse32(y, __riscv_vwmul(__riscv_vle16_v_i16m1(x, vl), 1000, vl), vl);
+    }
+}
+
+int main(void)
+{
+    for (int i = 0; i < 20; i++)
+        from[i] = (int16_t)(i - 3);
+    scale(20, from, to);
+    return to[19] & 0x7f;
+}
+"""
+
 
 @pytest.fixture
 def above(clang: Compiler) -> Iterator[Client]:
@@ -178,6 +203,32 @@ def test_data_breakpoint_at_a_variable_goes_back_to_its_change(calls: tuple[Clie
     assert client.value("count") == "17"
     client.move("stepBack")
     assert client.value("count") == "7"
+
+
+def test_pointers_have_elements(clang: Compiler, tmp_path: pathlib.Path) -> None:
+    """In the second round x[0] is from[16], which is 13, and y[0] is to[16]; the others are calculated by hand."""
+    source = tmp_path / "scale.c"
+    source.write_text(SCALE)
+    with Client.started() as client:
+        client.launch(source, options="O0", compiler=clang.name)
+        (found,) = client.lines(source, line_of(source, "vse32"), condition="x[0] == 13 && *x > x[-1]")
+        assert found["verified"]
+        assert client.begin()["reason"] == "breakpoint"
+        values = {"x[0]": "13", "x[vl - 1]": "16", "x[-1]": "12", "y[-1]": "12000", "n": "4"}
+        assert {text: client.value(text) for text in values} == values
+        assert client.value("*(y - 2) + 1") == "11001 (0x2af9)"
+        to = int(client.value("y"), 16)
+        assert client.value("y + 1") == f"{to + 4} ({to + 4:#x})" and client.value("y + 1 - y") == "1 (0x1)"
+        info = client.ask("dataBreakpointInfo", name="y[-15]")
+        assert info["dataId"] == f"{to - 60:x}:4"
+        client.lines(source)
+        client.ask("setDataBreakpoints", breakpoints=[{"dataId": info["dataId"], "accessType": "write"}])
+        assert client.move("reverseContinue")["reason"] == "data breakpoint"
+        assert client.value("n") == "20" and client.value("y[1]") == "-2000"
+        client.ask("setExpression", expression="y[1]", value="-7")
+        assert client.value("*(y + 1)") == "-7 (0xfffffffffffffff9)"
+        for text in ("n[0]", "*n", "x - y", "scale[0]"):
+            client.refused("evaluate", expression=text)
 
 
 @pytest.mark.parametrize("image", TOTAL)

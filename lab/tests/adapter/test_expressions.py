@@ -5,12 +5,27 @@ import pytest
 from vecmon_lab import LabError
 from vecmon_lab.adapter import expressions
 
-NAMES = {"a0": 5, "vl": 8, "minus": (1 << 64) - 1, "i": -1}
+NAMES = {"a0": 5, "vl": 8, "zero": 0, "minus": (1 << 64) - 1, "i": -1}
+POINTERS = {"short_at": "i16", "long_at": "u64"}
 
 
-def value_of(name: str, indices: tuple[int, ...]) -> int:
-    """The values of some names; an element is its index."""
-    return sum(indices) if indices else NAMES[name]
+class Names:
+    """Some names; an element is its index, and a number in memory is its address."""
+
+    def value(self, name: str, indices: tuple[int, ...]) -> expressions.Value:
+        """The value of a name or an element."""
+        if name in POINTERS:
+            return expressions.Value(0x1000, POINTERS[name])
+        return expressions.Value(sum(indices) if indices else NAMES[name])
+
+    def load(self, address: int, kind: str) -> expressions.Value:
+        """The number at an address."""
+        return expressions.Value(address, place=(address, int(kind[1:]) // 8))
+
+
+def value_of(text: str) -> int:
+    """The value of an expression."""
+    return expressions.evaluate(text, Names()).number
 
 
 @pytest.mark.parametrize(
@@ -32,10 +47,47 @@ def value_of(name: str, indices: tuple[int, ...]) -> int:
         ("i == -1", 1),
         ("i < 0", 1),
         ("vl > 3", 1),
+        ("!a0 == 1", 0),  # (!a0) == 1
+        ("!zero + 1", 2),
+        ("1 + !zero", 2),
+        ("5 > 3 > 1", 0),  # (5 > 3) > 1
+        ("3 == 3 == 1", 1),
+        ("a0 & 1 == 1", 1),  # a0 & (1 == 1)
+        ("6 & 4 == 4", 0),  # 6 & (4 == 4)
+        ("1 | 2 ^ 3 & 1", 3),
+        ("1 << 2 + 1", 8),
+        ("7 - 2 - 1", 4),
+        ("a0 || 1 && zero", 1),
+        ("zero && 1 / zero", 0),  # the right side isn't evaluated
+        ("1 || 1 / zero", 1),
+        ("0b101", 5),
     ],
 )
 def test_values_are_those_of_c(text: str, value: int) -> None:
-    assert expressions.evaluate(text, value_of) == value
+    """The values are those that clang 19 and gcc 12 print for these expressions, with a0 = 5 and so on."""
+    assert value_of(text) == value
+
+
+@pytest.mark.parametrize(
+    "text, value",
+    [
+        ("short_at + 3", 0x1006),
+        ("3 + short_at", 0x1006),
+        ("short_at - 1", 0xFFE),
+        ("long_at + 1", 0x1008),
+        ("short_at + 3 - short_at", 3),
+        ("*short_at", 0x1000),
+        ("*(short_at + 2) + 1", 0x1005),
+        ("(long_at + 1)[2]", 0x1018),
+        ("(long_at + 1)[-1]", 0x1000),
+        ("*(int32_t *)(a0 + 3)", 8),
+        ("((uint8_t*)a0)[3]", 8),
+        ("((int *)long_at)[1]", 0x1004),
+        ("(long *)a0 + 1", 13),
+    ],
+)
+def test_pointers_count_what_they_point_to(text: str, value: int) -> None:
+    assert value_of(text) == value
 
 
 @pytest.mark.parametrize(
@@ -57,17 +109,30 @@ def test_values_are_those_of_c(text: str, value: int) -> None:
         "lambda: 1",
         "(1)[2]",
         "a0 if vl else 1",
+        "a0 and vl",
+        "1_000",
+        "0o17",
+        "010",
+        "0x",
+        "*a0",
+        "*5",
+        "a0[1",
+        "(a0",
+        "short_at - long_at",
+        "(void *)a0",
+        "-" * 900 + "1",
         "(" * 300 + "1" + ")" * 300,
         "1 +" * 400 + "1",
     ],
 )
 def test_what_is_no_expression_is_refused(text: str) -> None:
     with pytest.raises(LabError):
-        expressions.evaluate(text, value_of)
+        value_of(text)
 
 
 def test_names_are_told_from_other_expressions() -> None:
-    assert expressions.name_in("x[2][0x10]") == ("x", (2, 16))
+    assert expressions.name_in("x[2][0x10]", Names()) == ("x", (2, 16))
+    assert expressions.name_in("x[a0 - 1]", Names()) == ("x", (4,))
     assert [expressions.is_name(text) for text in ("a0", "v8[1]", "a0 + 1", "5", "a b")] == [
         True,
         True,

@@ -227,7 +227,7 @@ def test_crafted_variables_are_bounded(answer: Ask) -> None:
         crafted([("fine", b"\3" + bytes([0, 1]) + bytes(6)), *((f"v{at}", each) for at, each in enumerate(hostile))])
     )
     (_, *fine), *others = reply["image"]["variables"]
-    assert fine == ["fine", "", [], "", [], [[0, 1 << 48, "memory", 0, "100"]]]
+    assert fine == ["fine", "", [], "", [], [[0, 1 << 48, "memory", 0, "100"]], ""]
     assert [each[6][0][2] for each in others] == ["untold"] * len(hostile)
 
 

@@ -53,7 +53,7 @@ def test_arguments_are_in_registers(clang: Compiler) -> None:
     text = "__attribute__((noinline)) long sum(long one, long other) { return one + other; }\n"
     program = compiled(clang, text + "int main(void) { return (int)sum(3, 4); }\n")
     places = {
-        name: (function, scopes, locations[0]) for name, _, _, _, function, scopes, locations in program.variables
+        name: (function, scopes, locations[0]) for name, _, _, _, function, scopes, locations, _ in program.variables
     }
     for number, name in enumerate(("one", "other"), 10):
         function, scopes, place = places[name]
@@ -65,7 +65,7 @@ def test_locals_are_in_their_frame(clang: Compiler) -> None:
     text = "int main(void)\n{\n    int first = 1;\n    long second = 2;\n    return first + (int)second;\n}\n"
     variables = compiled(clang, text, O0).variables
     assert {name for name, *_ in variables} == {"first", "second"}
-    for _, _, _, _, function, _, (place,) in variables:
+    for _, _, _, _, function, _, (place,), _ in variables:
         assert function == "main" and place[2:4] == ("memory", 8) and int(place[4], 16) >= (1 << 64) - 64
 
 
@@ -73,7 +73,7 @@ def test_optimized_out_variable_has_no_location(clang: Compiler) -> None:
     """A vector is in no register that clang describes, and 3 is a part of an instruction."""
     found = {each[0]: each for each in compiled(clang, (KERNELS / "saxpy.c").read_text("ascii")).variables}
     for name, declared in (("sum", "vint32m2_t sum"), ("factor", "int32_t factor")):
-        _, words, _, _, function, scopes, places = found[name]
+        _, words, _, _, function, scopes, places, _ = found[name]
         assert (words, function, places) == (declared, "saxpy", []) and scopes == found["length"][5]
 
 

@@ -33,6 +33,8 @@ class CVariable:
     data: the bytes of it, or why there are none, in words
     address: where it lies; None if that isn't in memory
     put: gives a number new bytes; None for what can't be changed
+    target: the kind of the numbers that a pointer points to, or "" where that is no number
+    pointed: returns the number of this kind at an address; None of other variables
     """
 
     name: str
@@ -43,6 +45,8 @@ class CVariable:
     data: bytes | str
     address: int | None = None
     put: Callable[[bytes], None] | None = None
+    target: str = ""
+    pointed: "Callable[[int, str], CVariable] | None" = None
 
     @property
     def is_known(self) -> bool:
@@ -101,8 +105,12 @@ class CVariable:
         return [self.element(index) for index in range(start, stop)]
 
     def element(self, index: int) -> "CVariable":
-        """An element of an array. Raises LabError if there is none."""
-        if isinstance(self.data, str) or not 0 <= index < self.count:
+        """An element of an array, or a number that a pointer points to. Raises LabError if there is none."""
+        if self.pointer is not None and self.pointed:
+            return self._pointed_number(index, self.pointer, self.pointed)
+        if isinstance(self.data, str):
+            raise LabError(f"{self.name} is {self.data}")
+        if not 0 <= index < self.count:
             raise LabError(f"{self.name} has no element {index}")
         size = len(self.data) // self.count
         put = functools.partial(_put_part, self.put, self.data, index * size) if self.put else None
@@ -116,6 +124,13 @@ class CVariable:
             address=None if self.address is None else self.address + index * size,
             put=put,
         )
+
+    def _pointed_number(self, index: int, pointer: int, pointed: "Callable[[int, str], CVariable]") -> "CVariable":
+        """The number that a pointer points to, or one after or before it. Raises LabError if its type isn't known as a number."""
+        if not self.target:
+            raise LabError(f"{self.name} points to no number")
+        found = pointed((pointer + index * (int(self.target[1:]) // 8)) % _ADDRESSES, self.target)
+        return replace(found, name=f"[{index}]", expression=f"{self.expression}[{index}]")
 
     def set(self, text: str) -> None:
         """Give it the number of a text. Raises LabError."""
@@ -141,9 +156,24 @@ def find_variable(instant: Instant, frame: Frame, name: str) -> CVariable | None
     return next((each for found in c_variables(instant, frame) for each in found if each.name == name), None)
 
 
+def number_at(instant: Instant, address: int, kind: str) -> CVariable:
+    """The number of a kind at an address."""
+    blank = CVariable(f"the number at {address:#x}", "", "", kind, [], "")
+    return _in_memory(blank, instant, address, int(kind[1:]) // 8)
+
+
 def _placed(variable: Variable, instant: Instant, frame: Frame) -> CVariable:
     """A variable with its bytes."""
-    blank = CVariable(variable.name, variable.declaration, variable.name, variable.element, variable.counts, "")
+    blank = CVariable(
+        variable.name,
+        variable.declaration,
+        variable.name,
+        variable.element,
+        variable.counts,
+        "",
+        target=variable.target,
+        pointed=functools.partial(number_at, instant),
+    )
     place = next((it for it in variable.locations if it.first <= frame.call.inside < it.end), None)
     if place is None:
         return replace(blank, data=OPTIMIZED_OUT)

@@ -11,7 +11,7 @@ from ..meanings.help import help_lines
 from ..meanings.record import records
 from ..meanings.why import read_name
 from . import expressions
-from .c_variables import find_variable
+from .c_variables import CVariable, find_variable, number_at
 from .instants import Frame, Instant
 from .operands import why
 from .program import Program
@@ -56,35 +56,50 @@ def evaluate(instant: Instant, frame: Frame, text: str, context: str, is_hex: bo
         return Item(text, answer)
     if context == "hover" and (lines := _described(instant, frame, text)):
         return Item(text, lines)
+    names = FrameNames(instant, frame)
     if expressions.is_name(text):
-        return _item(instant, frame, *expressions.name_in(text), is_hex)
-    value = expressions.evaluate(text, lambda name, indices: number_of(instant, frame, name, indices))
+        return _item(instant, frame, *expressions.name_in(text, names), is_hex)
+    value = expressions.evaluate(text, names)
     return Item(
-        text, number_text(value & (1 << 64) - 1, 64, is_hex), expression=text, address=value if value >= 0 else None
+        text,
+        number_text(value.number & (1 << 64) - 1, 64, is_hex),
+        expression=text,
+        address=value.number if value.number >= 0 else None,
+        place=value.place,
     )
 
 
-def number_of(instant: Instant, frame: Frame, name: str, indices: tuple[int, ...]) -> int:
-    """Return the number of a name in an expression. Raises LabError."""
-    if found := _VECTOR.fullmatch(name):
-        group = group_at(instant, int(found[1]))
-        if len(indices) != 1 or not 0 <= indices[0] < len(group.values):
-            raise LabError(f"{name} has elements: {name}[0] to {name}[{len(group.values) - 1}] are some")
-        return group.values[indices[0]]
-    variable = find_variable(instant, frame, name)
-    for index in indices if variable else ():
-        variable = variable.element(index) if variable else None
-    if variable:
-        return variable.value()
-    if indices:
-        raise LabError(f"{name} has no elements")
-    value = _register(instant, frame, name)
-    return address_of(instant.program, name) if value is None else value
+@dataclass(frozen=True)
+class FrameNames:
+    """What names in an expression mean at an instant, in a frame."""
+
+    instant: Instant
+    frame: Frame
+
+    def value(self, name: str, indices: tuple[int, ...]) -> expressions.Value:
+        """Return the value of a name, with the indices after it. Raises LabError."""
+        if found := _VECTOR.fullmatch(name):
+            group = group_at(self.instant, int(found[1]))
+            if len(indices) != 1 or not 0 <= indices[0] < len(group.values):
+                raise LabError(f"{name} has elements: {name}[0] to {name}[{len(group.values) - 1}] are some")
+            return expressions.Value(group.values[indices[0]])
+        if variable := _variable(self.instant, self.frame, name, indices):
+            target = variable.target if variable.pointer is not None else ""
+            return expressions.Value(variable.value(), target, variable.place)
+        if indices:
+            raise LabError(f"{name} has no elements; ((int32_t *){name})[{indices[0]}] is a number of the memory there")
+        value = _register(self.instant, self.frame, name)
+        return expressions.Value(address_of(self.instant.program, name) if value is None else value)
+
+    def load(self, address: int, kind: str) -> expressions.Value:
+        """Return the number of a kind at an address. Raises LabError."""
+        found = number_at(self.instant, address, kind)
+        return expressions.Value(found.value(), place=found.place)
 
 
 def set_expression(instant: Instant, frame: Frame, text: str, value: str) -> None:
     """Give the register, element or variable that an expression is a new number. Raises LabError."""
-    item = _item(instant, frame, *expressions.name_in(text), False)
+    item = _item(instant, frame, *expressions.name_in(text, FrameNames(instant, frame)), False)
     if item.change is None:
         raise LabError(f"{text.strip()} can't be changed")
     item.change(value)
@@ -103,15 +118,12 @@ def _item(instant: Instant, frame: Frame, name: str, indices: tuple[int, ...], i
         row = group_item(group_at(instant, int(found[1])), is_hex)
         if not indices:
             return row
-        number_of(instant, frame, name, indices)
+        FrameNames(instant, frame).value(name, indices)
         assert row.children
         return row.children(indices[0], 1, is_hex)[0]
-    variable = find_variable(instant, frame, name)
-    for index in indices if variable else ():
-        variable = variable.element(index) if variable else None
-    if variable:
+    if variable := _variable(instant, frame, name, indices):
         return variable_item(variable, is_hex)
-    value = number_of(instant, frame, name, indices)
+    value = FrameNames(instant, frame).value(name, indices).number
     change: Callable[[str], None] | None = None
     register, guest = REGISTERS.get(name, ""), instant.program.guest
     if frame.call.is_innermost and re.fullmatch("x[1-9][0-9]*", register):
@@ -119,6 +131,14 @@ def _item(instant: Instant, frame: Frame, name: str, indices: tuple[int, ...], i
     if frame.call.is_innermost and name == "pc":
         change = lambda text: send(guest, f"setpc {address_of(instant.program, text):x}")  # noqa: E731
     return Item(name, number_text(value, 64, is_hex), expression=name, address=value, change=change)
+
+
+def _variable(instant: Instant, frame: Frame, name: str, indices: tuple[int, ...]) -> CVariable | None:
+    """The variable of a name, or its element; None if there is no such variable. Raises LabError if there is no such element."""
+    found = find_variable(instant, frame, name)
+    for index in indices if found else ():
+        found = found.element(index) if found else None
+    return found
 
 
 def _register(instant: Instant, frame: Frame, name: str) -> int | None:

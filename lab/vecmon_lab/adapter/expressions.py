@@ -1,47 +1,118 @@
-"""Expressions of a client: registers, elements, variables, symbols and numbers, with the operators of C."""
+"""Expressions of a client: registers, elements, variables, symbols and numbers, with the operators and precedences of C."""
 
-import ast
 import operator
 import re
-from collections.abc import Callable, Mapping
+from collections.abc import Callable, Mapping, Sequence
+from dataclasses import dataclass
+from typing import NamedTuple, Protocol
 
 from .. import LabError
 
-_BINARY: Mapping[type[ast.operator], Callable[[int, int], int]] = {
-    ast.Add: operator.add,
-    ast.Sub: operator.sub,
-    ast.Mult: operator.mul,
-    ast.BitAnd: operator.and_,
-    ast.BitOr: operator.or_,
-    ast.BitXor: operator.xor,
+_BINARY: Mapping[str, Callable[[int, int], int]] = {
+    "+": operator.add,
+    "-": operator.sub,
+    "*": operator.mul,
+    "&": operator.and_,
+    "|": operator.or_,
+    "^": operator.xor,
 }
-_UNARY: Mapping[type[ast.unaryop], Callable[[int], int]] = {
-    ast.Not: lambda value: int(not value),
-    ast.USub: operator.neg,
-    ast.UAdd: operator.pos,
-    ast.Invert: operator.invert,
+_UNARY: Mapping[str, Callable[[int], int]] = {
+    "!": lambda value: int(not value),
+    "-": operator.neg,
+    "+": operator.pos,
+    "~": operator.invert,
 }
-_SHIFTS: Mapping[type[ast.operator], Callable[[int, int], int]] = {
-    ast.LShift: operator.lshift,
-    ast.RShift: operator.rshift,
+_SHIFTS: Mapping[str, Callable[[int, int], int]] = {"<<": operator.lshift, ">>": operator.rshift}
+_COMPARISONS: Mapping[str, Callable[[int, int], bool]] = {
+    "==": operator.eq,
+    "!=": operator.ne,
+    "<": operator.lt,
+    "<=": operator.le,
+    ">": operator.gt,
+    ">=": operator.ge,
 }
-_DIVISIONS = (ast.Div, ast.Mod)
-_COMPARISONS: Mapping[type[ast.cmpop], Callable[[int, int], bool]] = {
-    ast.Eq: operator.eq,
-    ast.NotEq: operator.ne,
-    ast.Lt: operator.lt,
-    ast.LtE: operator.le,
-    ast.Gt: operator.gt,
-    ast.GtE: operator.ge,
-}
-_LOGIC = re.compile(r"&&|\|\||!(?!=)")
-_IN_PYTHON = {"&&": " and ", "||": " or ", "!": " not "}
-_MAX_LETTERS = 1000
-_ORDER = (ast.Lt, ast.LtE, ast.Gt, ast.GtE)
+_LEVELS: Sequence[Sequence[str]] = (
+    ("||",),
+    ("&&",),
+    ("|",),
+    ("^",),
+    ("&",),
+    ("==", "!="),
+    ("<", "<=", ">", ">="),
+    ("<<", ">>"),
+    ("+", "-"),
+    ("*", "/", "%"),
+)
+_PRECEDENCES = {sign: level for level, signs in enumerate(_LEVELS) for sign in signs}  # C11, section 6.5
+_TOKEN = re.compile(
+    r"\s*(?:(0[xX][0-9a-fA-F]+|0[bB][01]+|0|[1-9][0-9]*)\b|([^\W\d]\w*)|(&&|\|\||[=!<>]=|<<|>>|[-+*/%&|^!~<>()\[\]]))"
+)
+_KINDS = {f"{'u' * (sign == 'u')}int{bits}_t": f"{sign}{bits}" for sign in "iu" for bits in (8, 16, 32, 64)}
+_KINDS |= {"char": "c8", "short": "i16", "int": "i32", "long": "i64"}
+_MAX_LETTERS, _MAX_DEPTH = 1000, 50
 _WORD = (1 << 64) - 1
 
-NameValue = Callable[[str, tuple[int, ...]], int]
-"""Returns the value of a name, with the indices after it. Raises LabError."""
+
+class Value(NamedTuple):
+    """The value of an expression.
+
+    target: the kind of the numbers that it points to, as `i32`; "" if it is no pointer
+    place: the address and the number of bytes of the memory that it was read from; None for others
+    """
+
+    number: int
+    target: str = ""
+    place: tuple[int, int] | None = None
+
+
+class Names(Protocol):
+    """What names in an expression mean, and what the memory has."""
+
+    def value(self, name: str, indices: tuple[int, ...]) -> Value:
+        """Return the value of a name, with the indices after it. Raises LabError."""
+
+    def load(self, address: int, kind: str) -> Value:
+        """Return the number of a kind at an address. Raises LabError."""
+
+
+@dataclass(frozen=True)
+class _Number:
+    value: int
+
+
+@dataclass(frozen=True)
+class _Name:
+    name: str
+
+
+@dataclass(frozen=True)
+class _Element:
+    of: "_Node"
+    index: "_Node"
+
+
+@dataclass(frozen=True)
+class _Cast:
+    """A pointer to numbers of a kind."""
+
+    kind: str
+    operand: "_Node"
+
+
+@dataclass(frozen=True)
+class _Unary:
+    sign: str
+    operand: "_Node"
+
+
+@dataclass(frozen=True)
+class _Binary:
+    sign: str
+    left: "_Node"
+    right: "_Node"
+
+
+_Node = _Number | _Name | _Element | _Cast | _Unary | _Binary
 
 
 def check(text: str) -> None:
@@ -49,9 +120,9 @@ def check(text: str) -> None:
     _parsed(text)
 
 
-def evaluate(text: str, value_of: NameValue) -> int:
+def evaluate(text: str, names: Names) -> Value:
     """Return the value of an expression; a comparison is 0 or 1. Raises LabError."""
-    return _value(_parsed(text), value_of)
+    return _value(_parsed(text), names)
 
 
 def is_name(text: str) -> bool:
@@ -60,101 +131,196 @@ def is_name(text: str) -> bool:
         node = _parsed(text)
     except LabError:
         return False
-    while isinstance(node, ast.Subscript):
-        node = node.value
-    return isinstance(node, ast.Name)
+    while isinstance(node, _Element):
+        node = node.of
+    return isinstance(node, _Name)
 
 
-def name_in(text: str) -> tuple[str, tuple[int, ...]]:
-    """Return the name that an expression is, and the numbers after it in brackets. Raises LabError if it is another one."""
-    return _name(_parsed(text), lambda name, indices: _refuse(name))
+def name_in(text: str, names: Names) -> tuple[str, tuple[int, ...]]:
+    """Return the name that an expression is, and the numbers in brackets after it. Raises LabError if it is another one."""
+    name, indices = _indexed(_parsed(text), names)
+    if not isinstance(name, _Name):
+        raise LabError(f"{text.strip()} isn't a name, as a0, v8[3] or x[2] are")
+    return name.name, indices
 
 
-def _parsed(text: str) -> ast.expr:
+class _Parser:
+    """Reads the tokens of an expression. Raises ValueError if they are none."""
+
+    def __init__(self, text: str) -> None:
+        self._tokens, at = list[str](), 0
+        while at < len(text):
+            found = _TOKEN.match(text, at)
+            if found is None:
+                raise ValueError
+            self._tokens.append(found[found.lastindex or 0])
+            at = found.end()
+        self._at = self._depth = 0
+
+    def expression(self) -> _Node:
+        """Read all tokens."""
+        node = self._binary(0)
+        if self._next():
+            raise ValueError
+        return node
+
+    def _next(self) -> str:
+        """The next token; "" at the end."""
+        return self._tokens[self._at] if self._at < len(self._tokens) else ""
+
+    def _take(self) -> str:
+        token = self._next()
+        self._at += 1
+        return token
+
+    def _expect(self, token: str) -> None:
+        if self._take() != token:
+            raise ValueError
+
+    def _binary(self, level: int) -> _Node:
+        """Read operands with the operators of a level, and of those that bind more tightly."""
+        node = self._unary()
+        while _PRECEDENCES.get(self._next(), -1) >= level:
+            sign = self._take()
+            node = _Binary(sign, node, self._binary(_PRECEDENCES[sign] + 1))
+        return node
+
+    def _unary(self) -> _Node:
+        self._depth += 1
+        if self._depth > _MAX_DEPTH:
+            raise ValueError
+        sign = self._next()
+        if sign in (*_UNARY, "*"):
+            self._take()
+            node: _Node = _Unary(sign, self._unary())
+        elif self._is_cast():
+            kind = _KINDS[self._tokens[self._at + 1]]
+            self._at += 4
+            node = _Cast(kind, self._unary())
+        else:
+            node = self._with_indices(self._primary())
+        self._depth -= 1
+        return node
+
+    def _is_cast(self) -> bool:
+        """Whether a pointer's type in parentheses is next, such as `(int32_t *)`."""
+        opening, kind, *closing = [*self._tokens[self._at : self._at + 4], "", ""][:4]
+        return opening == "(" and kind in _KINDS and closing == ["*", ")"]
+
+    def _primary(self) -> _Node:
+        token = self._take()
+        if token == "(":
+            node = self._binary(0)
+            self._expect(")")
+            return node
+        if token[:1].isdecimal():
+            return _Number(int(token, 0))
+        if not token.isidentifier():
+            raise ValueError
+        return _Name(token)
+
+    def _with_indices(self, node: _Node) -> _Node:
+        while self._next() == "[":
+            self._take()
+            node = _Element(node, self._binary(0))
+            self._expect("]")
+        return node
+
+
+def _parsed(text: str) -> _Node:
     """The tree of an expression. Raises LabError."""
-    written = _LOGIC.sub(lambda found: _IN_PYTHON[found[0]], text.strip().replace("$", ""))
+    if len(text) > _MAX_LETTERS:
+        raise LabError(f"an expression has {_MAX_LETTERS:,} characters at most")
+    written = text.strip()
     try:
-        if len(text) > _MAX_LETTERS:
-            raise LabError(f"an expression has {_MAX_LETTERS:,} characters at most")
-        tree = ast.parse(written.strip(), mode="eval").body
-    except (SyntaxError, ValueError, RecursionError, MemoryError) as error:
-        raise LabError(f"{text.strip()} is no expression: a0, v8[3], vl < 8 or x[2] == 5 are some") from error
-    for node in ast.walk(tree):
-        if not isinstance(node, _ALLOWED) or isinstance(node, ast.Constant) and type(node.value) is not int:
-            raise LabError(f"{text.strip()} is no expression: a0, v8[3], vl < 8 or x[2] == 5 are some")
-    return tree
+        return _Parser(written.replace("$", "")).expression()
+    except ValueError as error:
+        raise LabError(f"{written} is no expression: a0, v8[3], vl < 8 or x[2] == 5 are some") from error
 
 
-_ALLOWED: tuple[type[ast.AST], ...] = (
-    ast.BinOp,
-    ast.UnaryOp,
-    ast.BoolOp,
-    ast.Compare,
-    ast.Name,
-    ast.Subscript,
-    ast.Constant,
-    ast.Load,
-    ast.And,
-    ast.Or,
-    *_UNARY,
-    *_BINARY,
-    *_SHIFTS,
-    *_DIVISIONS,
-    *_COMPARISONS,
-)
-
-
-def _refuse(name: str) -> int:
-    raise LabError(f"{name} isn't a number")
-
-
-def _name(node: ast.expr, value_of: NameValue) -> tuple[str, tuple[int, ...]]:
-    """The name of a node, and its indices. Raises LabError."""
+def _indexed(node: _Node, names: Names) -> tuple[_Node, tuple[int, ...]]:
+    """What indices are after, and their numbers. Raises LabError."""
     indices = list[int]()
-    while isinstance(node, ast.Subscript):
-        indices.insert(0, _value(node.slice, value_of))
-        node = node.value
-    if not isinstance(node, ast.Name):
-        raise LabError("only a name has numbers in brackets after it, as v8[3] or x[2]")
-    return node.id, tuple(indices)
+    while isinstance(node, _Element):
+        indices.insert(0, _value(node.index, names).number)
+        node = node.of
+    return node, tuple(indices)
 
 
-def _value(node: ast.expr, value_of: NameValue) -> int:
+def _value(node: _Node, names: Names) -> Value:
     """The value of a node. Raises LabError."""
     match node:
-        case ast.Constant(int(number)):
-            return number
-        case ast.Name() | ast.Subscript():
-            return value_of(*_name(node, value_of))
-        case ast.UnaryOp(operation, operand):
-            return _UNARY[type(operation)](_value(operand, value_of))
-        case ast.BoolOp(operation, values):
-            results = (bool(_value(each, value_of)) for each in values)
-            return int(all(results) if isinstance(operation, ast.And) else any(results))
-        case ast.Compare(left, operations, others):
-            sides = [_value(each, value_of) for each in (left, *others)]
-            return int(all(_compare(*each) for each in zip(operations, sides, sides[1:])))
-        case ast.BinOp(left, operation, right):
-            return _calculate(operation, _value(left, value_of), _value(right, value_of))
-    raise LabError("this expression isn't supported")
+        case _Number(number):
+            return Value(number)
+        case _Name() | _Element():
+            return _value_of_element(*_indexed(node, names), names)
+        case _Cast(kind, operand):
+            return Value(_value(operand, names).number, kind)
+        case _Unary("*", operand):
+            return _load(_value(operand, names), 0, names)
+        case _Unary(sign, operand):
+            return Value(_UNARY[sign](_value(operand, names).number))
+        case _Binary("&&", left, right):
+            return Value(int(bool(_value(left, names).number and _value(right, names).number)))
+        case _Binary("||", left, right):
+            return Value(int(bool(_value(left, names).number or _value(right, names).number)))
+        case _Binary(sign, left, right):
+            return _calculate(sign, _value(left, names), _value(right, names))
 
 
-def _compare(sign: ast.cmpop, left: int, right: int) -> bool:
+def _value_of_element(node: _Node, indices: tuple[int, ...], names: Names) -> Value:
+    """The value of a name with indices, or of a pointer with them. Raises LabError."""
+    if isinstance(node, _Name):
+        return names.value(node.name, indices)
+    found = _value(node, names)
+    for index in indices:
+        found = _load(found, index, names)
+    return found
+
+
+def _load(pointer: Value, index: int, names: Names) -> Value:
+    """The number that a pointer points to, or another one after it. Raises LabError."""
+    if not pointer.target:
+        raise LabError("only a pointer has * before it or an index after it, such as *(int32_t *)a0")
+    return names.load((pointer.number + index * _size(pointer)) & _WORD, pointer.target)
+
+
+def _size(pointer: Value) -> int:
+    """The bytes of a number that a pointer points to."""
+    return int(pointer.target[1:]) // 8
+
+
+def _calculate(sign: str, left: Value, right: Value) -> Value:
+    """The result of two values. Numbers that are added to a pointer count what it points to. Raises LabError."""
+    if sign in _COMPARISONS:
+        return Value(int(_compare(sign, left.number, right.number)))
+    if sign == "-" and left.target and right.target:
+        if left.target != right.target:
+            raise LabError("pointers to different types have no difference")
+        return Value(_divide("/", left.number - right.number, _size(left)))
+    if sign in "+-" and left.target:
+        return Value(_BINARY[sign](left.number, right.number * _size(left)), left.target)
+    if sign == "+" and right.target:
+        return _calculate(sign, right, left)
+    if sign in "/%":
+        return Value(_divide(sign, left.number, right.number))
+    if sign in _SHIFTS:
+        if not 0 <= right.number < 64:
+            raise LabError(f"a shift by {right.number} bits isn't defined")
+        return Value(_SHIFTS[sign](left.number, right.number))
+    return Value(_BINARY[sign](left.number, right.number))
+
+
+def _compare(sign: str, left: int, right: int) -> bool:
     """Whether a comparison holds. Numbers are equal if their low 64 bits are, so that a register may be compared with -1."""
-    if not isinstance(sign, _ORDER):
+    if sign in ("==", "!="):
         left, right = left & _WORD, right & _WORD
-    return _COMPARISONS[type(sign)](left, right)
+    return _COMPARISONS[sign](left, right)
 
 
-def _calculate(sign: ast.operator, left: int, right: int) -> int:
-    """The result of two numbers. Division rounds towards zero, as in C. Raises LabError."""
-    if isinstance(sign, _DIVISIONS):
-        if right == 0:
-            raise LabError("the expression divides by 0")
-        quotient = abs(left) // abs(right) * (1 if (left < 0) == (right < 0) else -1)
-        return quotient if isinstance(sign, ast.Div) else left - quotient * right
-    if isinstance(sign, (ast.LShift, ast.RShift)):
-        if not 0 <= right < 64:
-            raise LabError(f"a shift by {right} bits isn't defined")
-        return _SHIFTS[type(sign)](left, right)
-    return _BINARY[type(sign)](left, right)
+def _divide(sign: str, left: int, right: int) -> int:
+    """The quotient, rounded towards zero as in C, or the remainder. Raises LabError."""
+    if right == 0:
+        raise LabError("the expression divides by 0")
+    quotient = abs(left) // abs(right) * (1 if (left < 0) == (right < 0) else -1)
+    return quotient if sign == "/" else left - quotient * right

@@ -128,10 +128,11 @@ class Program:
         self._shown[path.name] = path
 
     def path_of(self, file: str) -> pathlib.Path | None:
-        """The path of a source file, if it is there."""
+        """The path of a source file, if it is there. That of the program has the links by which the client named it."""
+        if self.path.name == file and self.path.is_file():
+            return self.path.absolute()
         named = self.symbols.source.files.get(file, pathlib.PurePath(file))
-        own = [self.path] if self.path.name == file else []
-        places = (*own, pathlib.Path(named), self.path.parent / named, self.path.parent / file, RUNTIME / file)
+        places = (pathlib.Path(named), self.path.parent / named, self.path.parent / file, RUNTIME / file)
         shown = self._shown.get(file)
         return next((path.resolve() for path in places if path.is_file()), shown)
 

@@ -407,6 +407,8 @@ class Session:
 
     def _watched(self, program: Program, wanted: DataBreakpointInfo) -> tuple[int | None, int, str]:
         """The address and the size of what a data breakpoint watches; or None, and why there is none."""
+        if wanted.bytes is not None and wanted.bytes < 1:
+            raise BadArguments("bytes is 1 or more")
         if wanted.as_address:
             return self._address(wanted.name), wanted.bytes or 8, ""
         shown = self._instant()

@@ -77,10 +77,7 @@ class Shown:
 
     def number(self, expression: str) -> int:
         """The number of an expression in the innermost frame. Raises LabError."""
-        frame = self._frame(0)
-        return expressions.evaluate(
-            expression, lambda name, indices: evaluation.number_of(self.instant, frame, name, indices)
-        )
+        return expressions.evaluate(expression, evaluation.FrameNames(self.instant, self._frame(0))).number
 
     def filled_in(self, text: str) -> str:
         """A text with values in place of the expressions in braces."""

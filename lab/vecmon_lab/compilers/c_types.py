@@ -116,6 +116,20 @@ def shape(entry: "DIE | None") -> tuple[str, list[int]]:
     return "", []
 
 
+def pointed_kind(entry: "DIE | None") -> str:
+    """The kind of the numbers that a pointer, or an array's pointers, point to, as `shape` has it; "" where there is none.
+
+    Raises RecursionError for a type that has itself in it.
+    """
+    if entry is None:
+        return ""
+    of = entry_at(entry, "DW_AT_type")
+    if entry.tag == "DW_TAG_pointer_type":
+        kind, counts = shape(of)
+        return "" if counts else kind
+    return pointed_kind(of) if entry.tag in (*_QUALIFIERS, "DW_TAG_typedef", "DW_TAG_array_type") else ""
+
+
 def _counts(entry: "DIE") -> list[int]:
     """The dimensions of an array; 0 for one without a constant."""
     ranges = [child.attributes for child in entry.iter_children() if child.tag == "DW_TAG_subrange_type"]

@@ -5,7 +5,7 @@ from collections.abc import Callable, Iterable, Iterator, Sequence
 from itertools import islice
 from typing import TYPE_CHECKING, Any, NamedTuple
 
-from .c_types import declaration, shape
+from .c_types import declaration, pointed_kind, shape
 from .compiler import C_SOURCE
 from ..guest.entries import NAME_LETTERS, entry_at, name_of, ranges_of
 from ..guest.source_lines import units_of
@@ -33,6 +33,7 @@ class Variable(NamedTuple):
     function: of the variable, also an inlined one; "" for a variable of all functions
     scopes: the addresses where it is known, each from the first to the one behind the last; none for everywhere
     locations: where none of them has the address, it was optimized out
+    target: the kind of the numbers that a pointer points to, as `i32`; "" if it isn't known
     """
 
     name: str
@@ -42,6 +43,7 @@ class Variable(NamedTuple):
     function: str
     scopes: Sequence[tuple[int, int]]
     locations: Sequence[Location]
+    target: str = ""
 
 
 def variables_of(
@@ -65,7 +67,7 @@ def variables_of(
 def read_variables(entries: Iterable[Any]) -> list[Variable]:
     """Variables as they came as JSON. Raises ValueError and TypeError where that is in another form."""
     found = list[Variable]()
-    for name, words, element, counts, function, scopes, locations in islice(entries, MAX_VARIABLES):
+    for name, words, element, counts, function, scopes, locations, *_ in islice(entries, MAX_VARIABLES):
         if not _ELEMENT.fullmatch(element):
             raise ValueError("a kind of numbers that there isn't")
         parts = locations[:MAX_PARTS]
@@ -153,9 +155,10 @@ def _variable(entry: "DIE", function: str, scopes: Sequence[Sum], locations: Seq
     name, kind = name_of(entry), entry_at(entry_at(entry, "DW_AT_abstract_origin") or entry, "DW_AT_type")
     try:
         words, (element, counts) = " ".join(declaration(kind, name).split()), shape(kind)
+        target = pointed_kind(kind)
     except Exception:  # pylint: disable=broad-except  # types that are damaged, or have themselves in them
-        words, element, counts = name, "", []
-    return Variable(name, words[:NAME_LETTERS], element, counts, function, scopes, locations)
+        words, element, counts, target = name, "", [], ""
+    return Variable(name, words[:NAME_LETTERS], element, counts, function, scopes, locations, target)
 
 
 def _dropped(entry: "DIE") -> list["DIE"]:
