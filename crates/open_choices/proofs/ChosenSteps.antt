@@ -1,5 +1,6 @@
 -- The state with any overlay of a step's fill is one that the standard allows.
 use Rattle.std.proofs.Common.{ℕ, ◌≡◌, ◌∙◌, ◌+◌, ◌*◌, ◌/◌, ◌≤◌, List, length, Bool, true, false, ◌&&◌, Option, Some, None, if◌then◌else◌, max, refl, sym, ap, subst, arith, inl, inr}
+use mir.Val.{bits}
 use Rattle.std.specs.Option.{option_and_then, option_map_or, unwrap_or}
 use Rattle.std.specs.Prelude.{[]}
 use Rattle.std.proofs.lemmas.Bool.Decides.{nat_tests}
@@ -13,7 +14,7 @@ use Rattle.rv_model.specs.declared.step.vector_end.VEnd.{VEnd}
 use Rattle.rv_model.specs.declared.step.vector_end.VEnd.TheVariants.{Illegal}
 use Rattle.rv_model.specs.declared.vector.policy.Policy.{Policy}
 use Rattle.rv_model.specs.declared.vector.policy.Policy.TheVariants.{Keep, Ones}
-use Rattle.rv_model.specs.declared.vector.sizes.TheConstants.{FILE_BYTES, VLENB}
+use Rattle.rv_model.specs.declared.vector.sizes.TheConstants.{FILE_BYTES, VECTOR_REGISTERS, VLENB}
 use Rattle.rv_model.specs.declared.vector.types.VType.{VType}
 use Rattle.rv_model.specs.elements.Bodies.{operation_body}
 use Rattle.rv_model.specs.elements.Elements.{Body}
@@ -26,7 +27,7 @@ use Rattle.rv_model.specs.vector.Groups.{registers, width_bytes}
 use Rattle.rv_model.proofs.Choices.{of_bool}
 use Rattle.open_choices.specs.Fills.{ChosenIsOpen, Fill, NoneChosen, fill_at, fill_of, if_ran, is_filled, typed_fill, with_ones}
 use Rattle.open_choices.specs.OpenStep.{IsAgnostic, IsElementOf, IsOpenStep, file_under, grain, instr_at, with_choices}
-use Rattle.open_choices.proofs.Destinations.{Destined, IsDestination, destined, grain_is, group_fits}
+use Rattle.open_choices.proofs.Destinations.{Destined, IsDestination, destined, grain_is, group_inside, group_most, group_width}
 use Rattle.open_choices.proofs.Filled.{Filled, typed_filled, under}
 use Rattle.open_choices.proofs.OpenSteps.{same_file, same_number, step_is_open}
 use Rattle.open_choices.proofs.Overlays.{FillsBy, either_of, new_long, none_taken}
@@ -111,46 +112,57 @@ found s f h =
     let both = ran_of (step 256 s).end (fill_of (instr_at s) s) f h in
     by_instr s f both.0 (instr_at s) refl both.1
 
+-- its group is the destination of a legal instruction
+module _ (s : HartState) (f : Fill) (it : Found s f) where
+  abbrev i : VectorInstr
+  i = it.operation
+
+  abbrev pub b : Body
+  b = operation_body it.operation it.type s.vector
+
+  legal : is_legal (instr.Vector it.operation) s.vector.conf.vtype s.vector.vstart ≡ true
+  legal = legal_of it.operation s it.fetched_is it.ran
+
+  -- the registers under a policy
+  under_is : (p : Policy) → file_under p s ≡ (typed_over i b it.type (under p s)).state.vector.file
+  under_is p =
+      file_is i (under p s) it.fetched_is legal ∙ ap (λ (d : VectorStepped). d.state.vector.file) (typed_is i b it.type f (under p s) it.fill_is)
+      ∙ ap (λ c. (typed c (typed_step i) (under p s)).state.vector.file) it.type_is
+
+  destination : IsDestination f (operands (instr.Vector i) (Some it.type))
+  destination = subst (λ o. Destined o (operands (instr.Vector i) (Some it.type))) it.fill_is (destined i b it.type s.scalar)
+
+  typed_legal : is_legal (instr.Vector i) (Some it.type) s.vector.vstart ≡ true
+  typed_legal = ap (λ c. is_legal (instr.Vector i) c s.vector.vstart) (sym it.type_is) ∙ legal
+
+  pub inside : f.first + registers f.group.emul ≤ VECTOR_REGISTERS
+  inside = group_inside f i it.type s.vector.vstart typed_legal destination
+
+  pub most : f.group.emul ≤ 64
+  most = group_most f i it.type s.vector.vstart typed_legal destination
+
+  pub narrow : bits f.group.width ≤ 64
+  narrow = group_width f i it.type s.vector.vstart typed_legal destination
+
+  grain_of : grain s ≡ width_bytes f.group.width
+  grain_of =
+      ap (λ o. max 1 (option_map_or (λ o. eew o.content / 8) (written_of (option_map_or (λ i. unwrap_or (operands i s.vector.conf.vtype) []) o [])) 1)) it.fetched_is
+      ∙ ap (λ c. max 1 (option_map_or (λ o. eew o.content / 8) (written_of (unwrap_or (operands (instr.Vector i) c) [])) 1)) it.type_is
+      ∙ grain_is f i it.type s.vector.vstart typed_legal destination
+
 module _ (s : HartState) (keeps : s.policy ≡ Keep) (long : length s.vector.file ≡ FILE_BYTES) where
   abbrev now : List ℕ
   now = (step 256 s).state.vector.file
 
   module _ (f : Fill) (it : Found s f) where
-    abbrev i : VectorInstr
-    i = it.operation
-
-    abbrev b : Body
-    b = operation_body it.operation it.type s.vector
-
-    legal : is_legal (instr.Vector it.operation) s.vector.conf.vtype s.vector.vstart ≡ true
-    legal = legal_of it.operation s it.fetched_is it.ran
-
-    -- the registers under a policy
-    under_is : (p : Policy) → file_under p s ≡ (typed_over i b it.type (under p s)).state.vector.file
-    under_is p =
-        file_is i (under p s) it.fetched_is legal ∙ ap (λ (d : VectorStepped). d.state.vector.file) (typed_is i b it.type f (under p s) it.fill_is)
-        ∙ ap (λ c. (typed c (typed_step i) (under p s)).state.vector.file) it.type_is
-
     pub by : FillsBy f s.vector.file now (file_under Ones s)
     by =
-        rw (same_file s keeps, under_is Keep, under_is Ones)
-        (subst (λ o. Filled o s.vector.file (typed_over i b it.type (under Keep s)).state.vector.file (typed_over i b it.type (under Ones s)).state.vector.file) it.fill_is
-        (typed_filled s i it.type b))
-
-    destination : IsDestination f (operands (instr.Vector i) (Some it.type))
-    destination = subst (λ o. Destined o (operands (instr.Vector i) (Some it.type))) it.fill_is (destined i b it.type s.scalar)
-
-    typed_legal : is_legal (instr.Vector i) (Some it.type) s.vector.vstart ≡ true
-    typed_legal = ap (λ c. is_legal (instr.Vector i) c s.vector.vstart) (sym it.type_is) ∙ legal
+        rw (same_file s keeps, under_is s f it Keep, under_is s f it Ones)
+        (subst (λ o. Filled o s.vector.file (typed_over it.operation (b s f it) it.type (under Keep s)).state.vector.file (typed_over it.operation (b s f it) it.type (under Ones s)).state.vector.file) it.fill_is
+        (typed_filled s it.operation it.type (b s f it)))
 
     pub fits : VLENB * f.first + VLENB * registers f.group.emul ≤ length s.vector.file
-    fits = omega (arith, long, group_fits f i it.type s.vector.vstart typed_legal destination)
-
-    grain_of : grain s ≡ width_bytes f.group.width
-    grain_of =
-        ap (λ o. max 1 (option_map_or (λ o. eew o.content / 8) (written_of (option_map_or (λ i. unwrap_or (operands i s.vector.conf.vtype) []) o [])) 1)) it.fetched_is
-        ∙ ap (λ c. max 1 (option_map_or (λ o. eew o.content / 8) (written_of (unwrap_or (operands (instr.Vector i) c) [])) 1)) it.type_is
-        ∙ grain_is f i it.type s.vector.vstart typed_legal destination
+    fits = omega (arith, long, inside s f it)
 
     module _ (taken : ℕ → Bool) where
       abbrev new : List ℕ
@@ -159,8 +171,8 @@ module _ (s : HartState) (keeps : s.policy ≡ Keep) (long : length s.vector.fil
       agnostic : (e : ℕ) → IsAgnostic s new e
       agnostic e =
           elim (either_of f s.vector.file now (file_under Ones s) by fits taken e) [
-            | inl kept ↦ inl (subst (λ k. IsElementOf k (file_under Keep s) new e) (sym grain_of) (subst (λ file. IsElementOf (width_bytes f.group.width) file new e) (same_file s keeps) kept))
-            | inr filled ↦ inr (subst (λ k. IsElementOf k (file_under Ones s) new e) (sym grain_of) filled)
+            | inl kept ↦ inl (subst (λ k. IsElementOf k (file_under Keep s) new e) (sym (grain_of s f it)) (subst (λ file. IsElementOf (width_bytes f.group.width) file new e) (same_file s keeps) kept))
+            | inr filled ↦ inr (subst (λ k. IsElementOf k (file_under Ones s) new e) (sym (grain_of s f it)) filled)
           ]
 
       open_by : IsOpenStep s (with_choices s new (step 256 s).state.vector.conf.vl)

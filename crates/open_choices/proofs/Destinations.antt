@@ -88,6 +88,19 @@ module _ (f : Fill) (i : VectorInstr) (t : VType) (vstart : ℕ) (legal : is_leg
       ap (λ fields. fields * registers d.first.emul) d.fields ∙ once ∙ ap registers d.multiplier in
       omega (arith, most, same, d.register)
 
+  -- what an overlay of the group needs
+  pub group_most : f.group.emul ≤ 64
+  group_most = subst (λ n. n ≤ 64) d.multiplier group_is.most
+
+  pub group_inside : f.first + registers f.group.emul ≤ VECTOR_REGISTERS
+  group_inside = omega (arith, group_fits)
+
+  pub group_width : bits f.group.width ≤ 64
+  group_width =
+      let sized : IsGroup (record d.first { content = Elements (bits f.group.width) }) =
+      subst IsGroup (ap (λ content. record d.first { content = content }) d.width) group_is in
+      sized.width.1
+
   destination_is : written_of (d.first ∷ d.rest) ≡ Some d.first
   destination_is = search (arith, d.written)
 

@@ -1,2 +1,4 @@
 pub mod Fills
+pub mod Groups
 pub mod OpenStep
+pub mod Seeds
