@@ -3,11 +3,9 @@ pub mod ChosenSteps
 pub mod Destinations
 pub mod Filled
 pub mod FilledChunks
-pub mod LoadTails
 pub mod OpenBits
 pub mod OpenGroups
 pub mod OpenSteps
 pub mod Overlays
 pub mod ReadyGroups
-pub mod SameStops
 pub mod SeedBits

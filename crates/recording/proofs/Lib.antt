@@ -3,6 +3,7 @@ pub mod RunsEqualSteps
 pub mod Bodies
 pub mod Counted
 pub mod Lengths
+pub mod OpenChoices
 pub mod Outputs
 pub mod Runs
 pub mod TableTotals

@@ -10,49 +10,55 @@ use Rattle.rv_model.specs.machine.UserMachine.{stop_of}
 use Rattle.rv_model.specs.step.Hart.{HartState, Stepped, ends_after}
 use Rattle.rv_model.specs.step.Step.{step}
 use Rattle.recording.specs.Machines.{Advances, taken}
-use Rattle.recording.specs.Runs.{Run, TakesFirst, begins, output_of, run, stays}
+use Rattle.recording.specs.Runs.{Run, TakesFirst, begins, output_of, run_by, stays}
 
 -- ---- no instruction is executed without fuel or ticks
 
-pub without_fuel : (k left : ℕ) (s : HartState) → k ≡ 0 → run k left s ≡ stays s
-unfolding run
-without_fuel zero left s none = refl
-without_fuel (suc k) left s none = absurd (omega (arith, none))
+pub without_fuel : (next : ℕ → HartState → HartState) (k left : ℕ) (s : HartState) → k ≡ 0 → run_by next k left s ≡ stays s
+unfolding run_by
+without_fuel next zero left s none = refl
+without_fuel next (suc k) left s none = absurd (omega (arith, none))
 
-pub without_ticks : (k left : ℕ) (s : HartState) → left ≡ 0 → run k left s ≡ stays s
-unfolding run
-without_ticks zero left s none = refl
-without_ticks (suc k) zero s none = refl
-without_ticks (suc k) (suc left) s none = absurd (omega (arith, none))
+pub without_ticks : (next : ℕ → HartState → HartState) (k left : ℕ) (s : HartState) → left ≡ 0 → run_by next k left s ≡ stays s
+unfolding run_by
+without_ticks next zero left s none = refl
+without_ticks next (suc k) zero s none = refl
+without_ticks next (suc k) (suc left) s none = absurd (omega (arith, none))
 
 -- ---- an instruction is executed if fuel and ticks are left
 
-first : (n m : ℕ) (s : HartState)
-    → run (suc n) (suc m) s ≡ begins s (is_none (stop_of (step 256 s).end)) (step 256 s).end (taken (step 256 s).state) (run n (suc m - (step 256 s).ticks) (taken (step 256 s).state))
-unfolding run
-first n m s = refl
+-- what the instructions after the first one leave
+abbrev pub later : (ℕ → HartState → HartState) → ℕ → HartState → HartState
+later next k s = next (suc k) s
 
-pub run_is : (k n left m ticks : ℕ) (s next : HartState) (end : StepEnd) (goes : Bool) → k ≡ suc n → left ≡ suc m → Advances s next end ticks → is_none (stop_of end) ≡ goes
-    → run k left s ≡ begins s goes end next (run n (left - ticks) next)
-run_is k n left m ticks s next end goes fuel some made whether =
-    let x : HartState = taken (step 256 s).state in
-    ap (λ (f : ℕ). run f left s) fuel ∙ ap (λ (l : ℕ). run (suc n) l s) some ∙ first n m s
-    ∙ ap (λ (l : ℕ). begins s (is_none (stop_of (step 256 s).end)) (step 256 s).end x (run n (l - (step 256 s).ticks) x)) (sym some)
-    ∙ ap (λ (t : ℕ). begins s (is_none (stop_of (step 256 s).end)) (step 256 s).end x (run n (left - t) x)) made.ticks_are
-    ∙ ap (λ (e : StepEnd). begins s (is_none (stop_of e)) e x (run n (left - ticks) x)) made.end_is
-    ∙ ap (λ (b : Bool). begins s b end x (run n (left - ticks) x)) whether
-    ∙ ap (λ (y : HartState). begins s goes end y (run n (left - ticks) y)) (sym made.state)
+first : (next : ℕ → HartState → HartState) (n m : ℕ) (s : HartState)
+    → run_by next (suc n) (suc m) s ≡ begins s (is_none (stop_of (step 256 s).end)) (step 256 s).end (taken (next 0 s)) (run_by (later next) n (suc m - (step 256 s).ticks) (taken (next 0 s)))
+unfolding run_by
+first next n m s = refl
+
+pub run_is : (next after : ℕ → HartState → HartState) (k n left m ticks : ℕ) (s new : HartState) (end : StepEnd) (goes : Bool) → k ≡ suc n → left ≡ suc m
+    → Advances (next 0 s) s new end ticks → is_none (stop_of end) ≡ goes → after ≡ later next
+    → run_by next k left s ≡ begins s goes end new (run_by after n (left - ticks) new)
+run_is next after k n left m ticks s new end goes fuel some made whether same =
+    let x : HartState = taken (next 0 s) in
+    ap (λ (f : ℕ). run_by next f left s) fuel ∙ ap (λ (l : ℕ). run_by next (suc n) l s) some ∙ first next n m s
+    ∙ ap (λ (l : ℕ). begins s (is_none (stop_of (step 256 s).end)) (step 256 s).end x (run_by (later next) n (l - (step 256 s).ticks) x)) (sym some)
+    ∙ ap (λ (t : ℕ). begins s (is_none (stop_of (step 256 s).end)) (step 256 s).end x (run_by (later next) n (left - t) x)) made.ticks_are
+    ∙ ap (λ (e : StepEnd). begins s (is_none (stop_of e)) e x (run_by (later next) n (left - ticks) x)) made.end_is
+    ∙ ap (λ (b : Bool). begins s b end x (run_by (later next) n (left - ticks) x)) whether
+    ∙ ap (λ (y : HartState). begins s goes end y (run_by (later next) n (left - ticks) y)) (sym made.state)
+    ∙ ap (λ (f : ℕ → HartState → HartState). begins s goes end new (run_by f n (left - ticks) new)) (sym same)
 
 -- for any end, the state before the instruction is the first of the run
 begins_with : (s : HartState) (goes : Bool) (end : StepEnd) (next : HartState) (others : Run) → (rest : List HartState) × ((begins s goes end next others).found ≡ s ∷ rest)
 begins_with s true end next others = (others.found, refl)
 begins_with s false end next others = ([], refl)
 
-pub run_begins : (k left n m : ℕ) (s : HartState) → k ≡ suc n → left ≡ suc m → (rest : List HartState) × ((run k left s).found ≡ s ∷ rest)
-run_begins k left n m s fuel some =
-    let x : HartState = taken (step 256 s).state in
-    let begun = begins_with s (is_none (stop_of (step 256 s).end)) (step 256 s).end x (run n (suc m - (step 256 s).ticks) x) in
-    (begun.0, ap (λ (f : ℕ). (run f left s).found) fuel ∙ ap (λ (l : ℕ). (run (suc n) l s).found) some ∙ ap (λ (r : Run). r.found) (first n m s) ∙ begun.1)
+pub run_begins : (next : ℕ → HartState → HartState) (k left n m : ℕ) (s : HartState) → k ≡ suc n → left ≡ suc m → (rest : List HartState) × ((run_by next k left s).found ≡ s ∷ rest)
+run_begins next k left n m s fuel some =
+    let x : HartState = taken (next 0 s) in
+    let begun = begins_with s (is_none (stop_of (step 256 s).end)) (step 256 s).end x (run_by (later next) n (suc m - (step 256 s).ticks) x) in
+    (begun.0, ap (λ (f : ℕ). (run_by next f left s).found) fuel ∙ ap (λ (l : ℕ). (run_by next (suc n) l s).found) some ∙ ap (λ (r : Run). r.found) (first next n m s) ∙ begun.1)
 
 -- ---- the states before the instructions so far
 
@@ -63,9 +69,10 @@ pub record SoFar {R : Type 0} (Recorded : R → List HartState → R → Type 0)
   pub end : rest.end ≡ all.end
   pub recorded : Recorded old seen new
 
-pub nothing_yet : {R : Type 0} (Recorded : R → List HartState → R → Type 0) (k n : ℕ) (s : HartState) (old : R) → k ≡ n → Recorded old [] old → SoFar Recorded (run n n s) (run k n s) [] old old
-nothing_yet Recorded k n s old same none =
-    let e : run k n s ≡ run n n s = ap (λ (f : ℕ). run f n s) same in
+pub nothing_yet : {R : Type 0} (Recorded : R → List HartState → R → Type 0) (next : ℕ → HartState → HartState) (k n : ℕ) (s : HartState) (old : R) → k ≡ n → Recorded old [] old
+    → SoFar Recorded (run_by next n n s) (run_by next k n s) [] old old
+nothing_yet Recorded next k n s old same none =
+    let e : run_by next k n s ≡ run_by next n n s = ap (λ (f : ℕ). run_by next f n s) same in
     record {
       found = ap (λ (r : Run). r.found) e;
       state = ap (λ (r : Run). r.state) e;
@@ -143,11 +150,11 @@ part_put_out Took a b n bytes is =
 pub same_put_out : {D : Type 0} (Took : D → List ℕ → D → Type 0) (a b : D) (xs ys : List ℕ) → xs ≡ ys → TakesFirst Took a xs b → TakesFirst Took a ys b
 same_put_out Took a b xs ys is part = subst (λ (l : List ℕ). TakesFirst Took a l b) is part
 
--- an executed instruction whose output was taken
-pub advanced : (s mid new : HartState) (end : StepEnd) (ticks : ℕ) → step 256 s ≡ ends_after ticks end mid → new ≡ taken mid → Advances s new end ticks
-advanced s mid new end ticks made is =
+-- an executed instruction after which choices were made, and whose output was taken
+pub advanced : (s mid next left new : HartState) (end : StepEnd) (ticks : ℕ) → step 256 s ≡ ends_after ticks end mid → left ≡ next → new ≡ taken left → Advances next s new end ticks
+advanced s mid next left new end ticks made chosen is =
     record {
-      state = is ∙ ap (λ (o : Stepped). taken o.state) (sym made);
+      state = is ∙ ap taken chosen;
       end_is = ap (λ (o : Stepped). o.end) made;
       ticks_are = ap (λ (o : Stepped). o.ticks) made;
     }

@@ -10,7 +10,7 @@ use Rattle.rv_model.specs.step.Hart.{HartState, Stepped}
 use Rattle.rv_model.specs.step.Step.{step}
 use Rattle.recording.specs.Laws.{RunsAsSteps}
 use Rattle.recording.specs.Machines.{taken}
-use Rattle.recording.specs.Runs.{Run, begins, output_of, run}
+use Rattle.recording.specs.Runs.{Run, begins, output_of, run, run_by}
 use Rattle.recording.proofs.Outputs.{joined, step_joins, with_output}
 
 after_hart : (end : StepEnd) (h : HartState) (p : Present) → (after end h p).hart ≡ h
@@ -89,7 +89,7 @@ module _ (x : HartState) (o : List ℕ) (skip_once : Bool) (p : Present) (rest :
 steps_from : (n left : ℕ) (x : HartState) (o : List ℕ) (skip_once : Bool) (p : Present) → p.breakpoints ≡ [] → p.hart ≡ with_output o x
     → length (o ++ flat_map output_of (run n left (taken x)).found) ≤ 768
     → (steps (length (run n left (taken x)).found) skip_once p).state.hart ≡ with_output (o ++ flat_map output_of (run n left (taken x)).found) (run n left (taken x)).state
-unfolding run
+unfolding run_by
 steps_from zero left x o skip_once p none at fits = at ∙ ap (λ (l : List ℕ). with_output l x) (sym (append-nil o))
 steps_from (suc n) zero x o skip_once p none at fits = at ∙ ap (λ (l : List ℕ). with_output l x) (sym (append-nil o))
 steps_from (suc n) (suc left) x o skip_once p none at fits =

@@ -3,6 +3,7 @@ pub mod CountLaws
 pub mod PreState
 pub mod Laws
 pub mod Machines
+pub mod OpenRuns
 pub mod Rows
 pub mod Runs
 pub mod Sums

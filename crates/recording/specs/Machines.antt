@@ -19,8 +19,8 @@ LeadsTo memory old new end ticks = step 256 (state_of memory old) ≡ ends_after
 abbrev pub taken : HartState → HartState
 taken s = record s { output = [] }
 
--- One instruction leads from the old state to the new one, whose output buffer is emptied, with this end and these ticks.
-pub record Advances (old new : HartState) (end : StepEnd) (ticks : ℕ) : Type 0 where
-  pub state : new ≡ taken (step 256 old).state
+-- One instruction leads from the old state, with this end and these ticks, to the state `next` with its output buffer emptied.
+pub record Advances (next old new : HartState) (end : StepEnd) (ticks : ℕ) : Type 0 where
+  pub state : new ≡ taken next
   pub end_is : (step 256 old).end ≡ end
   pub ticks_are : (step 256 old).ticks ≡ ticks

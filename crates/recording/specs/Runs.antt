@@ -34,18 +34,29 @@ begins s goes end next others =
     if goes then record others { found = s ∷ others.found }
     else record { found = s ∷ []; state = next; end = Some end }
 
--- At most n instructions, until no ticks are left or one stops the program. No memory instruction has more than 256 elements, so none
--- is cut.
-unfoldable pub run : ℕ → ℕ → HartState → Run
-run zero left s = stays s
-run (suc n) zero s = stays s
-run (suc n) (suc left) s =
+-- At most n instructions, until no ticks are left or one stops the program. `next k s` is the state that the k-th of them, from 0 on, leaves
+-- of the state s. No memory instruction has more than 256 elements, so none is cut.
+unfoldable pub run_by : (ℕ → HartState → HartState) → ℕ → ℕ → HartState → Run
+run_by next zero left s = stays s
+run_by next (suc n) zero s = stays s
+run_by next (suc n) (suc left) s =
     let one = step 256 s in
-    begins s (is_none (stop_of one.end)) one.end (taken one.state) (run n (suc left - one.ticks) (taken one.state))
+    begins s (is_none (stop_of one.end)) one.end (taken (next 0 s)) (run_by (λ k. next (suc k)) n (suc left - one.ticks) (taken (next 0 s)))
 
 -- a run of a number of ticks; the last instruction may take more
+abbrev pub ran_by : (ℕ → HartState → HartState) → ℕ → HartState → Run
+ran_by next ticks s = run_by next ticks ticks s
+
+-- the state after any instruction: that of its step
+abbrev pub stepped : ℕ → HartState → HartState
+stepped k s = (step 256 s).state
+
+-- the same runs without choices: each instruction leaves the state of its step
+abbrev pub run : ℕ → ℕ → HartState → Run
+run n left s = run_by stepped n left s
+
 abbrev pub ran : ℕ → HartState → Run
-ran ticks s = run ticks ticks s
+ran ticks s = ran_by stepped ticks s
 
 -- the output of the instruction executed from a state
 abbrev pub output_of : HartState → List ℕ

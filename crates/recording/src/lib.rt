@@ -1,6 +1,7 @@
 //! Runs of a machine of one user, recorded or not.
 #![tactic(auto)]
 
+mod chooser;
 mod class;
 mod counting;
 mod counts;
@@ -9,6 +10,7 @@ mod fault;
 mod key;
 mod laws;
 mod machine;
+mod open_chooser;
 mod pre_state;
 mod recorder;
 mod recorder_pair;
@@ -20,6 +22,7 @@ mod short_writes;
 mod sums;
 mod table;
 
+pub use chooser::{Chooser, NoChoices};
 pub use class::{Class, Extent};
 pub use counting::{is_counted, word_at};
 pub use counts::Counts;
@@ -28,6 +31,7 @@ pub use hart::SingleSlot;
 pub use key::Key;
 pub use laws::recording_laws;
 pub use machine::SingleUserMachine;
+pub use open_chooser::OpenChooser;
 pub use recorder::Recorder;
 pub use recorder_pair::RecorderPair;
 pub use retired::Retired;

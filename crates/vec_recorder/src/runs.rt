@@ -18,8 +18,8 @@ use devices::{DeviceFault, Sink};
 use first_state::OwnBytes;
 use memory_changes::{Changes, Place, WatchedPlaces};
 use recording::{
-    Counts, RecordFault, Recorder, RecorderPair, Retired, Row, ShortWrites, SingleUserMachine, run,
-    totals,
+    Counts, NoChoices, RecordFault, Recorder, RecorderPair, Retired, Row, ShortWrites,
+    SingleUserMachine, run, totals,
 };
 use rv_model::StepEnd;
 use std::alloc::{AllocError, Global};
@@ -147,7 +147,7 @@ fn run_unlogged<K: Sink, O: Recorder<OwnBytes> + Drop>(
         ⊎ ((last : O) × O.failed last fault)) }
 {
     let mut only = recorder;
-    let end = run(&mut only, machine, output, ticks)?;
+    let end = run(&mut only, &mut NoChoices {}, machine, output, ticks)?;
     Ok((end, only))
 }
 
@@ -188,7 +188,7 @@ fn run_recorded<'a, F: Outputs, K: Sink, O: Recorder<OwnBytes> + Drop>(
             second: log,
         },
     };
-    let end = match run(&mut both, machine, output, ticks) {
+    let end = match run(&mut both, &mut NoChoices {}, machine, output, ticks) {
         Ok(end) => end,
         Err(stopped) => {
             let RecorderPair { second, .. } = both;

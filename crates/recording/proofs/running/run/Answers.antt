@@ -2,7 +2,7 @@ use Rattle.std.proofs.Common.{ℕ, ◌+◌, ◌-◌, ◌++◌, true, false, List
 use Rattle.devices.proofs.Moves.{moved, on_err}
 use Rattle.rv_model.specs.step.Hart.{HartState}
 use Rattle.recording.specs.Machines.{state_of}
-use Rattle.recording.specs.Runs.{Run, begins, ran, run}
+use Rattle.recording.specs.Runs.{Run, begins, ran_by, run_by}
 use Rattle.recording.proofs.Runs.{SoFar, all_recorded, all_put_out, failed_since, first_put_out, more_put_out, nothing_yet, one_more, run_begins, run_is, without_fuel, without_ticks}
 use Rattle.recording.proofs.running.run.Goals as goal
 
@@ -10,7 +10,7 @@ pub loop-init : goal.loop-init
 loop-init g c = (
   [],
   record {
-    so_far = nothing_yet g.R.Recorder.recorded (c.args.ticks - 0) c.args.ticks (state_of g.M.UserBytes.memory c.args.machine.now) c.args.recorder.now (omega arith)
+    so_far = nothing_yet g.R.Recorder.recorded (g.C.Chooser.next c.args.chooser.now) (c.args.ticks - 0) c.args.ticks (state_of g.M.UserBytes.memory c.args.machine.now) c.args.recorder.now (omega arith)
         (g.met.R.Recorder.recorded_none c.args.recorder.now);
     took = g.met.K.Sink.took_none c.args.sink.now;
     count = refl;
@@ -25,12 +25,12 @@ loop-preserved g c =
     let before = c.loop.invariant.1 in
     let n : ℕ = c.args.ticks - (c.loop.counter + 1) in
     let next : HartState = state_of g.M.UserBytes.memory c.advance.new.machine in
-    let is = run_is (c.args.ticks - c.loop.counter) n c.loop.left (c.loop.left - 1) _ s next _ true
-    (omega arith) (omega arith) c.in_ok-end.ensures.machine (sym c.goes_on.ensures ∙ c.if-not-goes_on.false) in (
+    let is = run_is (g.C.Chooser.next c.loop.chooser) (g.C.Chooser.next c.advance.new.chooser) (c.args.ticks - c.loop.counter) n c.loop.left (c.loop.left - 1) _ s next _ true
+    (omega arith) (omega arith) c.in_ok-end.ensures.machine (sym c.goes_on.ensures ∙ c.if-not-goes_on.false) c.in_ok-end.ensures.next in (
       seen ++ s ∷ [],
       record {
-        so_far = one_more g.R.Recorder.recorded g.met.R.Recorder.recorded_more _ _ (run n c.saturating_sub-left.result next) seen s c.args.recorder.now c.loop.recorder c.advance.new.recorder
-            (is ∙ ap (λ (l : ℕ). begins s true c.in_ok-end.end next (run n l next)) (sym c.saturating_sub-left.ensures)) c.in_ok-end.ensures.recorded before.so_far;
+        so_far = one_more g.R.Recorder.recorded g.met.R.Recorder.recorded_more _ _ (run_by (g.C.Chooser.next c.advance.new.chooser) n c.saturating_sub-left.result next) seen s c.args.recorder.now c.loop.recorder c.advance.new.recorder
+            (is ∙ ap (λ (l : ℕ). begins s true c.in_ok-end.end next (run_by (g.C.Chooser.next c.advance.new.chooser) n l next)) (sym c.saturating_sub-left.ensures)) c.in_ok-end.ensures.recorded before.so_far;
         took = moved g.K.Sink.took _ _ _ _ (more_put_out seen s) (g.met.K.Sink.took_more _ _ _ _ _ before.took c.in_ok-end.ensures.output);
         count = c.in_ok-end.ensures.unfailed ∙ before.count;
         memory = c.advance.ensures.memory
@@ -48,8 +48,8 @@ returns-then-not-goes_on g c =
     let n : ℕ = c.args.ticks - (c.loop.counter + 1) in
     let next : HartState = state_of g.M.UserBytes.memory c.advance.new.machine in
     let stops : Run = record { found = []; state = next; end = Some c.in_ok-end.end } in
-    let is = run_is (c.args.ticks - c.loop.counter) n c.loop.left (c.loop.left - 1) _ s next _ false
-    (omega arith) (omega arith) c.in_ok-end.ensures.machine (sym c.goes_on.ensures ∙ c.if-not-goes_on.true) in
+    let is = run_is (g.C.Chooser.next c.loop.chooser) (g.C.Chooser.next c.advance.new.chooser) (c.args.ticks - c.loop.counter) n c.loop.left (c.loop.left - 1) _ s next _ false
+    (omega arith) (omega arith) c.in_ok-end.ensures.machine (sym c.goes_on.ensures ∙ c.if-not-goes_on.true) c.in_ok-end.ensures.next in
     let so_far = one_more g.R.Recorder.recorded g.met.R.Recorder.recorded_more _ _ stops seen s c.args.recorder.now c.loop.recorder c.advance.new.recorder is c.in_ok-end.ensures.recorded before.so_far in
     record {
       recorded = all_recorded g.R.Recorder.recorded _ _ _ _ _ so_far refl;
@@ -70,7 +70,7 @@ returns-in_err-end-clause-part g c =
     let s : HartState = state_of g.M.UserBytes.memory c.loop.machine in
     let seen : List HartState = c.loop.invariant.0 in
     let before = c.loop.invariant.1 in
-    let begun = run_begins (c.args.ticks - c.loop.counter) c.loop.left (c.args.ticks - (c.loop.counter + 1)) (c.loop.left - 1) s (omega arith) (omega arith) in
+    let begun = run_begins (g.C.Chooser.next c.loop.chooser) (c.args.ticks - c.loop.counter) c.loop.left (c.args.ticks - (c.loop.counter + 1)) (c.loop.left - 1) s (omega arith) (omega arith) in
     on_err c.from_residual.result
     (first_put_out g.K.Sink.took g.met.K.Sink.took_more seen begun.0 _ s _ _ _ (ap (λ (l : List HartState). seen ++ l) (sym begun.1) ∙ before.so_far.found)
     before.took c.in_err-end.ensures.part)
@@ -85,8 +85,8 @@ pub returns-then-left-eq0 : goal.returns-then-left-eq0
 returns-then-left-eq0 g c =
     let s : HartState = state_of g.M.UserBytes.memory c.loop.machine in
     let before = c.loop.invariant.1 in
-    let is = without_ticks (c.args.ticks - c.loop.counter) c.loop.left s c.if-left-eq0.true in
-    let so_far = subst (λ (r : Run). SoFar g.R.Recorder.recorded (ran c.args.ticks (state_of g.M.UserBytes.memory c.args.machine.now)) r c.loop.invariant.0 c.args.recorder.now c.loop.recorder) is before.so_far in
+    let is = without_ticks (g.C.Chooser.next c.loop.chooser) (c.args.ticks - c.loop.counter) c.loop.left s c.if-left-eq0.true in
+    let so_far = subst (λ (r : Run). SoFar g.R.Recorder.recorded (ran_by (g.C.Chooser.next c.args.chooser.now) c.args.ticks (state_of g.M.UserBytes.memory c.args.machine.now)) r c.loop.invariant.0 c.args.recorder.now c.loop.recorder) is before.so_far in
     record {
       recorded = all_recorded g.R.Recorder.recorded _ _ _ _ _ so_far refl;
       end = so_far.end;
@@ -101,8 +101,8 @@ pub returns : goal.returns
 returns g c =
     let s : HartState = state_of g.M.UserBytes.memory c.loop.machine in
     let before = c.loop.invariant.1 in
-    let is = without_fuel (c.args.ticks - c.loop.counter) c.loop.left s (omega arith) in
-    let so_far = subst (λ (r : Run). SoFar g.R.Recorder.recorded (ran c.args.ticks (state_of g.M.UserBytes.memory c.args.machine.now)) r c.loop.invariant.0 c.args.recorder.now c.loop.recorder) is before.so_far in
+    let is = without_fuel (g.C.Chooser.next c.loop.chooser) (c.args.ticks - c.loop.counter) c.loop.left s (omega arith) in
+    let so_far = subst (λ (r : Run). SoFar g.R.Recorder.recorded (ran_by (g.C.Chooser.next c.args.chooser.now) c.args.ticks (state_of g.M.UserBytes.memory c.args.machine.now)) r c.loop.invariant.0 c.args.recorder.now c.loop.recorder) is before.so_far in
     record {
       recorded = all_recorded g.R.Recorder.recorded _ _ _ _ _ so_far refl;
       end = so_far.end;
