@@ -4,6 +4,7 @@ As a module it assembles the source on standard input, and prints its program, o
 are the name of a reader, and the path of `vecmon`.
 """
 
+import contextlib
 import os
 import pathlib
 import pickle
@@ -86,17 +87,22 @@ def main() -> int:
     resource.setrlimit(resource.RLIMIT_CPU, (CPU_SECONDS, CPU_SECONDS + 1))
     resource.setrlimit(resource.RLIMIT_AS, (MEMORY_BYTES, MEMORY_BYTES))
     resource.setrlimit(resource.RLIMIT_CORE, (0, 0))
-    text = sys.stdin.buffer.read().decode("utf-8", "surrogatepass")
-    try:
-        program = READERS[reader](text, pathlib.Path(vecmon), MAX_CHARACTERS)
-        mistakes, warnings = ([*map(_plain, each)] for each in (program.mistakes, program.warnings))
-        output = pickle.dumps(replace(program, mistakes=mistakes, warnings=warnings))
-    except MemoryError:
-        output = pickle.dumps(TOO_LARGE)
-    except (LabError, ValueError, RecursionError) as error:
-        output = pickle.dumps(str(error))
+    output = pickle.dumps(TOO_LARGE)  # first, since later no memory may be left for it
+    with contextlib.suppress(MemoryError):
+        output = _assembled(reader, pathlib.Path(vecmon))
     sys.stdout.buffer.write(output)
     return 0
+
+
+def _assembled(reader: str, vecmon: pathlib.Path) -> bytes:
+    """The program of the source on standard input, or the reason for which there is none, pickled. Raises MemoryError."""
+    text = sys.stdin.buffer.read().decode("utf-8", "surrogatepass")
+    try:
+        program = READERS[reader](text, vecmon, MAX_CHARACTERS)
+    except (LabError, ValueError, RecursionError) as error:
+        return pickle.dumps(str(error))
+    mistakes, warnings = ([*map(_plain, each)] for each in (program.mistakes, program.warnings))
+    return pickle.dumps(replace(program, mistakes=mistakes, warnings=warnings))
 
 
 if __name__ == "__main__":
