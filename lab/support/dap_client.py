@@ -11,6 +11,7 @@ from collections.abc import Mapping, Sequence
 from types import TracebackType
 from typing import Any
 
+from support.busy_host import PATIENCE
 from support.places import TOP
 from support.terminal import MAX_SECONDS
 
@@ -44,12 +45,16 @@ class Client:
     def __exit__(
         self, kind: type[BaseException] | None, error: BaseException | None, trace: TracebackType | None
     ) -> None:
-        if self.program:
+        if not self.program:
+            return
+        for pipe in (self.program.stdin, self.program.stdout, self.program.stderr):
+            if pipe:
+                pipe.close()
+        try:
+            self.program.wait(PATIENCE)  # so that it removes its files
+        except subprocess.TimeoutExpired:
             self.program.kill()
             self.program.wait()
-            for pipe in (self.program.stdin, self.program.stdout, self.program.stderr):
-                if pipe:
-                    pipe.close()
 
     def write(self, data: bytes) -> None:
         """Write bytes as they are."""

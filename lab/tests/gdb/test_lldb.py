@@ -61,7 +61,8 @@ def test_adapter_of_lldb_shows_locals(served: tuple[pathlib.Path, int]) -> None:
     pipe = subprocess.PIPE
     with subprocess.Popen(["lldb-dap-19"], stdin=pipe, stdout=pipe, stderr=pipe, bufsize=0) as program:
         assert program.stdin and program.stdout
-        with Client(program.stdout.fileno(), program.stdin.fileno(), program) as client:
+        client = Client(program.stdout.fileno(), program.stdin.fileno())
+        try:
             client.ask("initialize", adapterID="lldb", linesStartAt1=True, pathFormat="path")
             own = {
                 "program": f"{image}",
@@ -82,3 +83,5 @@ def test_adapter_of_lldb_shows_locals(served: tuple[pathlib.Path, int]) -> None:
                 each["name"]: each["variablesReference"] for each in client.ask("scopes", frameId=frame["id"])["scopes"]
             }
             assert client.rows(scopes["Locals"])["count"]["value"] == "100"
+        finally:
+            program.kill()  # it would end by SIGPIPE, and leave files
