@@ -5,8 +5,8 @@ of the repository.
 With --write it first writes the counts of lines in docs/DEFINITIONS.md (`definition_figures.py`).
 
 In docs/DEFINITIONS.md it compares the lines and files of each row of both tables, and each sum, with the counts of `tools/definitions.py`.
-In docs/GUARANTEES.md it looks for each contract that a statement about a crate names, with its clauses, and for the modules of the kit that
-contracts and definitions cite. If OUTPUT is given, the file with the output of `rt ci` that proved `vecmon`, it also compares the kit's
+In docs/CONTRACTS.md it looks for each contract that a statement about a crate names, with its clauses, and in docs/GUARANTEES.md for the
+modules of the kit that contracts and definitions cite. If OUTPUT is given, the file with the output of `rt ci` that proved `vecmon`, it also compares the kit's
 crates and the number of C functions that the proof assumes. The exit status is 1 if something differs.
 """
 
@@ -121,7 +121,7 @@ def cited_in(statement: str) -> list[str]:
 
 def wrong_contracts(page: str) -> Iterator[str]:
     """Yield a message for each statement about a crate without a contract, and for each contract that isn't in the crate."""
-    for crate, section in re.findall(r"^### `(\w+)`\n(.*?)(?=^##)", page, re.MULTILINE | re.DOTALL):
+    for crate, section in re.findall(r"^## `(\w+)`\n(.*?)(?=^## |\Z)", page, re.MULTILINE | re.DOTALL):
         clauses = clauses_of(crate)
         for statement in re.split(r"^- ", section, flags=re.MULTILINE)[1:]:
             contracts = cited_in(re.sub(r"\s+", " ", statement))
@@ -152,8 +152,8 @@ def wrong_axioms(page: str, output: str) -> Iterator[str]:
 
 def main() -> int:
     arguments = sys.argv[1:]
-    pages = Path("docs/DEFINITIONS.md"), Path("docs/GUARANTEES.md")
-    guide, guarantees = (page.read_text(encoding="utf-8") for page in pages)
+    pages = Path("docs/DEFINITIONS.md"), Path("docs/CONTRACTS.md"), Path("docs/GUARANTEES.md")
+    guide, contracts, guarantees = (page.read_text(encoding="utf-8") for page in pages)
     if arguments == ["--write"]:
         guide = with_counts(guide)
         pages[0].write_text(guide, encoding="utf-8")
@@ -161,7 +161,8 @@ def main() -> int:
     output = Path(arguments[0]).read_text(encoding="utf-8") if arguments else ""
     found = {
         "DEFINITIONS.md": [*wrong_hour(guide), *wrong_modules(guide), *wrong_rest(guide)],
-        "GUARANTEES.md": [*wrong_contracts(guarantees), *wrong_kit(guarantees), *wrong_axioms(guarantees, output)],
+        "CONTRACTS.md": [*wrong_contracts(contracts)],
+        "GUARANTEES.md": [*wrong_kit(guarantees), *wrong_axioms(guarantees, output)],
     }
     for page, faults in found.items():
         for fault in faults:
