@@ -1,6 +1,6 @@
 """The lab's limits by the clock, raised for tests: on a busy host all takes longer, and that fails no test."""
 
-from vecmon_lab.classes import checks, explore, scripts, server, solo, tab_socket
+from vecmon_lab.classes.server import checks, explore, scripts, server, solo, tab_socket
 from vecmon_lab.compilers import sandbox
 
 PATIENCE = 180  # seconds: a test that waits for so long has failed

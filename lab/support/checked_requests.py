@@ -5,7 +5,8 @@ import sys
 import jsonschema
 
 from support.message_schema import check_request
-from vecmon_lab.classes import requests, tab_requests
+from vecmon_lab.classes.core import requests
+from vecmon_lab.classes.server import tab_requests
 
 HEAD = "a request isn't as docs/CLASS_PROTOCOL.schema.json has it:"
 

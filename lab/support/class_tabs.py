@@ -17,10 +17,10 @@ import aiohttp
 from support.busy_host import PATIENCE
 from support.message_schema import check_message, check_request, check_view
 from support.places import TOP
-from vecmon_lab.classes import server as class_server
-from vecmon_lab.classes.builds import Builds
-from vecmon_lab.classes.store import Store, script_name
-from vecmon_lab.classes.view import Class
+from vecmon_lab.classes.server import server as class_server
+from vecmon_lab.classes.server.builds import Builds
+from vecmon_lab.classes.server.store import Store, script_name
+from vecmon_lab.classes.server.view import Class
 from vecmon_lab.machine.program import find_program
 
 LOOP = ["enter", "map 10000 1 rwx", "asm 10000 addi x5, x5, 1", "asm 10004 jal x0, -4", "setpc 10000"]
@@ -197,7 +197,9 @@ async def served(
 def command(folder: pathlib.Path, *words: str, makes_checkpoints: bool = True, raises_limits: bool = True) -> list[str]:
     """The command that serves a class. raises_limits: with the limits by the clock for tests"""
     limits = "from support.busy_host import raise_limits; raise_limits(); " if raises_limits else ""
-    spares = "" if makes_checkpoints else "from vecmon_lab.classes import scripts; scripts.SHORTEN_SECONDS = 1e9; "
+    spares = (
+        "" if makes_checkpoints else "from vecmon_lab.classes.server import scripts; scripts.SHORTEN_SECONDS = 1e9; "
+    )
     start = f"{limits}{spares}import vecmon_lab.__main__ as lab; raise SystemExit(lab.main())"
     return [sys.executable, "-c", start, "class", str(folder), *words, "--port", "0", "--no-clock"]
 

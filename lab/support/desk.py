@@ -4,12 +4,12 @@ import json
 from collections.abc import Mapping
 from typing import Any
 
-from vecmon_lab.classes.messages import Changes, Result
-from vecmon_lab.classes.names import checked_name
-from vecmon_lab.classes.progress import starts_of
-from vecmon_lab.classes.requests import BadRequest, Request, SetName
-from vecmon_lab.classes.shared_machine import Answers
-from vecmon_lab.classes.student import ClassView
+from vecmon_lab.classes.core.messages import Changes, Result
+from vecmon_lab.classes.core.names import checked_name
+from vecmon_lab.classes.core.progress import starts_of
+from vecmon_lab.classes.core.requests import BadRequest, Request, SetName
+from vecmon_lab.classes.core.shared_machine import Answers
+from vecmon_lab.classes.core.student import ClassView
 from vecmon_lab.exercises.exercise import Exercise
 from vecmon_lab.machine.process import Vecmon
 from vecmon_lab.machine.session import Session

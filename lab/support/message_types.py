@@ -10,11 +10,11 @@ from collections.abc import Iterable, Mapping, Sequence
 from typing import Any, Literal, Union, get_args, get_origin, get_type_hints, is_typeddict
 
 from support.places import TOP
-from vecmon_lab.classes import request_forms
-from vecmon_lab.classes.messages import Answer, Hello, Message, News
-from vecmon_lab.classes.request_forms import StudentRequestForm, TeacherRequestForm
-from vecmon_lab.classes.student import StudentView
-from vecmon_lab.classes.teacher_view import TeacherView, WallView
+from vecmon_lab.classes.core import request_forms
+from vecmon_lab.classes.core.messages import Answer, Hello, Message, News
+from vecmon_lab.classes.core.request_forms import StudentRequestForm, TeacherRequestForm
+from vecmon_lab.classes.core.student import StudentView
+from vecmon_lab.classes.server.teacher_view import TeacherView, WallView
 from vecmon_lab.lessons.page import LessonData
 from vecmon_lab.playground.page_desk import PageHello
 

@@ -16,10 +16,10 @@ from support.class_tabs import patched
 from support.desk import Desk
 from vecmon_lab.assembler.source import Program
 from vecmon_lab.assembler.trial import read_whole_source
-from vecmon_lab.classes.progress import starts_of
-from vecmon_lab.classes.store import Store
-from vecmon_lab.classes.tab_requests import TabRequests
-from vecmon_lab.classes.view import Class, Tab
+from vecmon_lab.classes.core.progress import starts_of
+from vecmon_lab.classes.server.store import Store
+from vecmon_lab.classes.server.tab_requests import TabRequests
+from vecmon_lab.classes.server.view import Class, Tab
 from vecmon_lab.exercises.answer import settled
 from vecmon_lab.exercises.exercise import Exercise, read_exercise
 from vecmon_lab.guest.guest import VECTOR_LOOKS

@@ -8,31 +8,47 @@ from support.architecture import names_in
 from support.places import TOP
 
 LAB = TOP / "lab" / "vecmon_lab"
+CLASSES = LAB / "classes"
 ROOMS = [path.parent.name for path in sorted(LAB.glob("*/__init__.py"))]
 CORE, SERVER = names_in("### The synchronous core"), names_in("### The server of a class")
 
 
 def imported(path: pathlib.Path, level: int) -> set[str]:
-    """The modules that a module imports by this number of dots: of its own room, or other rooms."""
+    """The modules that a module imports by this number of dots, each with the package before it, if it names one."""
     nodes = [node for node in ast.walk(ast.parse(path.read_text("utf-8"))) if isinstance(node, ast.ImportFrom)]
-    return {str(node.module).split(".")[0] for node in nodes if node.level == level and node.module}
+    return {node.module for node in nodes if node.level == level and node.module}
 
 
-def misplaced(order: Sequence[str]) -> list[str]:
+def rooms_used(path: pathlib.Path) -> set[str]:
+    """The other rooms that a module imports, at any depth below its own."""
+    level = len(path.relative_to(LAB).parts)
+    return {name.split(".")[0] for name in imported(path, level)} & set(ROOMS)
+
+
+def of_class(path: pathlib.Path) -> set[str]:
+    """The modules of a class that a module of one of its two packages imports."""
+    other = {name.removeprefix("core.").removeprefix("server.") for name in imported(path, 2)}
+    return imported(path, 1) | other
+
+
+def misplaced(order: Sequence[pathlib.Path]) -> list[str]:
     """Modules of a class that import one which this order doesn't have above them."""
-    paths = [(place, LAB / "classes" / f"{module}.py") for place, module in enumerate(order)]
-    return [path.stem for place, path in paths if not imported(path, 1) <= set(order[:place])]
+    names = [path.stem for path in order]
+    return [path.stem for place, path in enumerate(order) if not of_class(path) <= set(names[:place])]
 
 
 def test_packages_import_only_packages_above() -> None:
     order = names_in("## The lab")
     assert sorted(order) == ROOMS
     for place, room in enumerate(order):
-        for path in (LAB / room).glob("*.py"):
-            assert imported(path, 2) & set(ROOMS) <= set(order[:place]), path
+        for path in (LAB / room).rglob("*.py"):
+            assert rooms_used(path) <= set(order[:place]), path
 
 
 def test_class_modules_import_only_modules_above() -> None:
-    assert sorted(CORE + SERVER) == sorted(path.stem for path in (LAB / "classes").glob("[a-z]*.py"))
-    assert misplaced(CORE + SERVER) == []
-    assert misplaced([*CORE[:-2], CORE[-1], CORE[-2]]) == [CORE[-1]]
+    core = [CLASSES / "core" / f"{module}.py" for module in CORE]
+    server = [CLASSES / "server" / f"{module}.py" for module in SERVER]
+    assert sorted(core + server) == sorted(CLASSES.rglob("[a-z]*.py"))
+    assert misplaced(core + server) == []
+    assert misplaced([*core[:-2], core[-1], core[-2]]) == [CORE[-1]]
+    assert misplaced([*server, *core])

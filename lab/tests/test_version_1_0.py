@@ -12,8 +12,8 @@ import pytest
 
 from support.class_tabs import Served, served
 from support.places import DATA
-from vecmon_lab.classes.solo import solo
-from vecmon_lab.classes.store import Store
+from vecmon_lab.classes.server.solo import solo
+from vecmon_lab.classes.server.store import Store
 
 WRITTEN = DATA / "version_1_0"
 COURSE = [path.stem for path in (WRITTEN / "course").glob("*.html") if path.stem != "index"]

@@ -8,8 +8,8 @@ import pytest
 
 from support.class_tabs import served
 from vecmon_lab.assembler import apart
-from vecmon_lab.classes import tab_requests
-from vecmon_lab.classes.worker_pool import WorkerEnded, WorkerPool
+from vecmon_lab.classes.server import tab_requests
+from vecmon_lab.classes.server.worker_pool import WorkerEnded, WorkerPool
 
 pytestmark = pytest.mark.asyncio
 REPEATED = ".rept 300\naddi x5, x5, 1\n.endr\nebreak\n"

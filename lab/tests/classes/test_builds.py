@@ -13,10 +13,10 @@ from support.class_tabs import Tab, served
 from support.skips import NO_SANDBOX, leave_out
 from support.places import DATA, EXAMPLES
 from vecmon_lab import LabError
-from vecmon_lab.classes.builds import Builds
+from vecmon_lab.classes.server.builds import Builds
 from vecmon_lab.compilers.sandbox import sandboxed_compiler
-from vecmon_lab.classes.languages import LANGUAGES
-from vecmon_lab.classes.shared_machine import SEAT_BYTES
+from vecmon_lab.classes.core.languages import LANGUAGES
+from vecmon_lab.classes.core.shared_machine import SEAT_BYTES
 from vecmon_lab.compilers import sandbox
 from vecmon_lab.compilers.compiled import read_compiled_program
 from vecmon_lab.compilers.compiler import Compiler

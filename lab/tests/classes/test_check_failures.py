@@ -68,8 +68,8 @@ async def test_check_time_limit_starts_when_process_starts(
     tmp_path: pathlib.Path, monkeypatch: pytest.MonkeyPatch
 ) -> None:
     """A right answer that waits behind a full queue for longer than a check may take passes."""
-    monkeypatch.setattr("vecmon_lab.classes.checks.PLACES", 1)
-    monkeypatch.setattr("vecmon_lab.classes.checks.SECONDS", 0.5)
+    monkeypatch.setattr("vecmon_lab.classes.server.checks.PLACES", 1)
+    monkeypatch.setattr("vecmon_lab.classes.server.checks.SECONDS", 0.5)
     async with served(tmp_path / "class", exercises=DOUBLES) as room:
         tab = await room.sit("A1")
         assert room.members
@@ -103,13 +103,13 @@ async def test_check_fails_after_two_killed_checkers(tmp_path: pathlib.Path, mon
 
 
 async def test_check_fails_after_time_limit(tmp_path: pathlib.Path, monkeypatch: pytest.MonkeyPatch) -> None:
-    monkeypatch.setattr("vecmon_lab.classes.checks.SECONDS", 0.01)
+    monkeypatch.setattr("vecmon_lab.classes.server.checks.SECONDS", 0.01)
     async with served(tmp_path / "class", exercises=DOUBLES) as room:
         await check_not_counted(room, await check(await room.sit("A1")), "took more than 0.01 s")
 
 
 async def test_late_lesson_says_what_to_do(tmp_path: pathlib.Path, monkeypatch: pytest.MonkeyPatch) -> None:
-    monkeypatch.setattr("vecmon_lab.classes.checks.SECONDS", 0.01)
+    monkeypatch.setattr("vecmon_lab.classes.server.checks.SECONDS", 0.01)
     async with served(tmp_path / "class", exercises=DOUBLES) as room:
         status, text = await room.get("lesson/doubles")
     assert (status, text.decode().partition(": ")[2]) == (

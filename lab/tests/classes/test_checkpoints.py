@@ -10,9 +10,9 @@ import pytest
 from support.class_tabs import LOOP, Served, served
 from support.places import SUM
 from vecmon_lab import LabError
-from vecmon_lab.classes.live import is_servers
-from vecmon_lab.classes.solo import solo
-from vecmon_lab.classes.store import Store
+from vecmon_lab.classes.core.live import is_servers
+from vecmon_lab.classes.server.solo import solo
+from vecmon_lab.classes.server.store import Store
 from vecmon_lab.machine.program import find_program
 
 pytestmark = pytest.mark.asyncio

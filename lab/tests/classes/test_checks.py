@@ -15,12 +15,12 @@ import pytest_asyncio
 
 from support.class_tabs import SECONDS, Message, Served, Tab, passed, process, served
 from vecmon_lab import LabError
-from vecmon_lab.classes import checks as class_checks
-from vecmon_lab.classes.builds import Builds
-from vecmon_lab.classes.checks import Checks
-from vecmon_lab.classes.languages import LANGUAGES, C
-from vecmon_lab.classes.store import Store
-from vecmon_lab.classes.view import Class
+from vecmon_lab.classes.server import checks as class_checks
+from vecmon_lab.classes.server.builds import Builds
+from vecmon_lab.classes.server.checks import Checks
+from vecmon_lab.classes.core.languages import LANGUAGES, C
+from vecmon_lab.classes.server.store import Store
+from vecmon_lab.classes.server.view import Class
 from vecmon_lab.compilers.compiler import Compiler
 from vecmon_lab.exercises.exercise import OURS
 from vecmon_lab.machine.program import find_program

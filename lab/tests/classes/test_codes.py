@@ -1,6 +1,6 @@
 """The codes that open seats."""
 
-from vecmon_lab.classes.codes import CODE_LETTERS, Codes, new_code
+from vecmon_lab.classes.core.codes import CODE_LETTERS, Codes, new_code
 
 
 def test_renewed_code_replaces_old_code() -> None:

@@ -17,8 +17,8 @@ import pytest_asyncio
 from aiohttp import http_parser
 
 from support.class_tabs import SECONDS, Served, served
-from vecmon_lab.classes import connections
-from vecmon_lab.classes import server as class_server
+from vecmon_lab.classes.server import connections
+from vecmon_lab.classes.server import server as class_server
 
 pytestmark = pytest.mark.asyncio
 TABLE = pathlib.Path("/proc/self/net/tcp")

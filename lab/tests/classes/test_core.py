@@ -13,7 +13,7 @@ from support.desk import Desk, untimed
 from support.places import TOP
 
 BLOCKED = ["asyncio", "fcntl", "resource", "select", "socket", "subprocess", "threading"]
-MODULES = [f"classes.{name}" for name in names_in("### The synchronous core")]
+MODULES = [f"classes.core.{name}" for name in names_in("### The synchronous core")]
 OTHERS = ["assembler.trial", "exercises.check", "lessons.frames", "lessons.page", "machine.session"]
 BLOCK = f"""
 import importlib, json, pathlib, sys
@@ -51,11 +51,12 @@ def imported(*modules: str) -> str:
 
 
 def test_core_imports_without_server_libraries() -> None:
-    assert "classes.student" in MODULES and imported(*MODULES, *OTHERS) == ""
+    assert "classes.core.student" in MODULES and imported(*MODULES, *OTHERS) == ""
 
 
 @pytest.mark.parametrize(
-    "module, needed", [("classes.room", "asyncio"), ("classes.store", "fcntl"), ("machine.pipe", "select")]
+    "module, needed",
+    [("classes.server.room", "asyncio"), ("classes.server.store", "fcntl"), ("machine.pipe", "select")],
 )
 def test_server_module_outside_core_is_detected(module: str, needed: str) -> None:
     assert f"import of {needed} halted" in imported(module)

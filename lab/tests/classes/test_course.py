@@ -6,9 +6,9 @@ import pathlib
 import pytest
 
 from support.class_tabs import Tab, served
-from vecmon_lab.classes.builds import Builds
-from vecmon_lab.classes.checks import Checks
-from vecmon_lab.classes.store import Store
+from vecmon_lab.classes.server.builds import Builds
+from vecmon_lab.classes.server.checks import Checks
+from vecmon_lab.classes.server.store import Store
 from vecmon_lab.exercises.exercise import OURS
 from vecmon_lab.machine.program import find_program
 

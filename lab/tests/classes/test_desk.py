@@ -10,9 +10,9 @@ from typing import Any
 from support.class_tabs import SECONDS, patched
 from support.desk import Desk, untimed
 from support.desk_requests import Request, drawn_requests, exercise_requests, source_requests
-from vecmon_lab.classes.store import Store
-from vecmon_lab.classes.tab_requests import TabRequests
-from vecmon_lab.classes.view import Class, Tab
+from vecmon_lab.classes.server.store import Store
+from vecmon_lab.classes.server.tab_requests import TabRequests
+from vecmon_lab.classes.server.view import Class, Tab
 from vecmon_lab.exercises.exercise import OURS
 from vecmon_lab.machine.program import find_program
 

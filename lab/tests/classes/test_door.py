@@ -10,11 +10,11 @@ from collections.abc import AsyncIterator, Callable
 import pytest
 
 from support.class_tabs import SECONDS, served
-from vecmon_lab.classes import door as class_door
-from vecmon_lab.classes import server as class_server
-from vecmon_lab.classes.connections import Crowd
-from vecmon_lab.classes.door import Door
-from vecmon_lab.classes.tls import kind_of_start
+from vecmon_lab.classes.server import door as class_door
+from vecmon_lab.classes.server import server as class_server
+from vecmon_lab.classes.server.connections import Crowd
+from vecmon_lab.classes.server.door import Door
+from vecmon_lab.classes.server.tls import kind_of_start
 
 NEVER = 1e-6  # connections in a second
 

@@ -10,9 +10,9 @@ from typing import Any
 import pytest
 
 from support.class_tabs import SECONDS
-from vecmon_lab.classes import disk_files, durable, journal
-from vecmon_lab.classes.durable import FLUSH_SECONDS, Flusher
-from vecmon_lab.classes.server import KEEP_SECONDS
+from vecmon_lab.classes.server import disk_files, durable, journal
+from vecmon_lab.classes.server.durable import FLUSH_SECONDS, Flusher
+from vecmon_lab.classes.server.server import KEEP_SECONDS
 
 
 class Recorded:

@@ -3,8 +3,8 @@
 import pathlib
 
 from vecmon_lab.assembler.source import assemble
-from vecmon_lab.classes.example_sources import example_sources
-from vecmon_lab.classes.languages import LANGUAGES
+from vecmon_lab.classes.core.example_sources import example_sources
+from vecmon_lab.classes.core.languages import LANGUAGES
 from vecmon_lab.machine.session import Session
 
 

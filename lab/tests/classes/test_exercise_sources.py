@@ -8,8 +8,8 @@ from typing import Any
 import pytest
 
 from support.class_tabs import Tab, served
-from vecmon_lab.classes import durable
-from vecmon_lab.classes.languages import C
+from vecmon_lab.classes.server import durable
+from vecmon_lab.classes.core.languages import C
 from vecmon_lab.exercises.exercise import OURS
 
 pytestmark = pytest.mark.asyncio
@@ -151,8 +151,8 @@ async def test_source_of_earlier_server_is_restored(tmp_path: pathlib.Path) -> N
 
 async def test_stored_sources_are_text_files(tmp_path: pathlib.Path) -> None:
     """A damaged name of the open exercise is none."""
-    from vecmon_lab.classes.sources import kept_exercise
-    from vecmon_lab.classes.store import Store
+    from vecmon_lab.classes.core.sources import kept_exercise
+    from vecmon_lab.classes.server.store import Store
     from vecmon_lab.machine.program import find_program
 
     store = Store(tmp_path / "class", find_program())

@@ -16,8 +16,8 @@ from support.class_tabs import SECONDS, Tab
 from support.commands import Lab
 from support.skips import NO_SANDBOX, leave_out
 from support.places import EXAMPLES, TOP
-from vecmon_lab.classes.builds import builds_by
-from vecmon_lab.classes.languages import LANGUAGES
+from vecmon_lab.classes.server.builds import builds_by
+from vecmon_lab.classes.core.languages import LANGUAGES
 from vecmon_lab.compilers.compiler import Compiler
 
 GREY = EXAMPLES / "kernels" / "grey.c"

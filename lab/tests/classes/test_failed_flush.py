@@ -10,10 +10,10 @@ from typing import Any
 import pytest
 
 from support.disk import Disk
-from vecmon_lab.classes import disk_files, durable, journal, store
-from vecmon_lab.classes.durable import Flusher
-from vecmon_lab.classes.journal import Journal, recover
-from vecmon_lab.classes.store import ScriptFile
+from vecmon_lab.classes.server import disk_files, durable, journal, store
+from vecmon_lab.classes.server.durable import Flusher
+from vecmon_lab.classes.server.journal import Journal, recover
+from vecmon_lab.classes.server.store import ScriptFile
 
 
 @pytest.fixture

@@ -20,11 +20,11 @@ import pytest
 from support.class_tabs import LOOP, SECONDS, command, process, served
 from support.places import TOP
 from support.terminal import INTERRUPT, Terminal
-from vecmon_lab.classes.languages import SourceText
-from vecmon_lab.classes.requests import Lines
-from vecmon_lab.classes.machine_thread import Stopped
-from vecmon_lab.classes.store import Store
-from vecmon_lab.classes.view import Class
+from vecmon_lab.classes.core.languages import SourceText
+from vecmon_lab.classes.core.requests import Lines
+from vecmon_lab.classes.server.machine_thread import Stopped
+from vecmon_lab.classes.server.store import Store
+from vecmon_lab.classes.server.view import Class
 from vecmon_lab.machine import session as machine
 from vecmon_lab.machine.program import find_program
 

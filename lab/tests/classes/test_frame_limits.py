@@ -13,10 +13,10 @@ import pytest_asyncio
 from aiohttp.http import WebSocketError
 
 from support.class_tabs import LOOP, SECONDS, Served, served
-from vecmon_lab.classes.connections import excess, network_of
-from vecmon_lab.classes.frame_limits import FrameLimits, Rate
-from vecmon_lab.classes.seat_budget import SeatBudget
-from vecmon_lab.classes.tab_socket import BEAT
+from vecmon_lab.classes.server.connections import excess, network_of
+from vecmon_lab.classes.server.frame_limits import FrameLimits, Rate
+from vecmon_lab.classes.server.seat_budget import SeatBudget
+from vecmon_lab.classes.server.tab_socket import BEAT
 
 TEXT, CONTINUATION, PING = 0x1, 0x0, 0x9
 FINAL = 0x80

@@ -7,7 +7,7 @@ import time
 import pytest
 
 from support.class_tabs import served
-from vecmon_lab.classes.folder_report import folder_report
+from vecmon_lab.classes.server.folder_report import folder_report
 
 pytestmark = pytest.mark.asyncio
 

@@ -5,8 +5,8 @@ import pathlib
 import pytest
 
 from support.class_tabs import served
-from vecmon_lab.classes import headway
-from vecmon_lab.classes.headway import Headway
+from vecmon_lab.classes.server import headway
+from vecmon_lab.classes.server.headway import Headway
 
 START = 1_796_000_000.0
 

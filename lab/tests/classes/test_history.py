@@ -5,8 +5,8 @@ from collections.abc import Mapping, Sequence
 import pytest
 
 from support.class_tabs import LOOP
-from vecmon_lab.classes.history import History
-from vecmon_lab.classes.seats import LOG_ENTRIES, Seats
+from vecmon_lab.classes.core.history import History
+from vecmon_lab.classes.core.seats import LOG_ENTRIES, Seats
 from vecmon_lab.machine.session import Session
 
 SCRIPT = [f"{digit} {line}" for digit in "12" for line in LOOP] + ["2 break 10004", "2 go", "* slices 4", "* run 2"]

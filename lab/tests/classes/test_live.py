@@ -6,8 +6,8 @@ import pathlib
 import pytest
 
 from support.class_tabs import LOOP, Message, Served, Tab, served
-from vecmon_lab.classes import room as class_room
-from vecmon_lab.classes.live import is_servers, server_line
+from vecmon_lab.classes.server import room as class_room
+from vecmon_lab.classes.core.live import is_servers, server_line
 
 pytestmark = pytest.mark.asyncio
 

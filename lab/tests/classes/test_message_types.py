@@ -10,8 +10,8 @@ import pytest
 
 from support import message_types
 from support.message_schema import check_message, check_request, check_view
-from vecmon_lab.classes import requests
-from vecmon_lab.classes.request_forms import StudentRequestForm, TeacherRequestForm
+from vecmon_lab.classes.core import requests
+from vecmon_lab.classes.core.request_forms import StudentRequestForm, TeacherRequestForm
 
 Row = TypedDict("Row", {"numbers": Sequence[int], "names": Mapping[str, float]})
 ANSWER: dict[str, Any] = {"kind": "answer", "id": 1, "text": "nop", "language": 0}

@@ -5,7 +5,7 @@ import pathlib
 import pytest
 
 from support.class_tabs import LOOP, served
-from vecmon_lab.classes import shared_machine as class_room
+from vecmon_lab.classes.core import shared_machine as class_room
 
 pytestmark = pytest.mark.asyncio
 

@@ -5,8 +5,8 @@ from difflib import SequenceMatcher
 import pytest
 
 from vecmon_lab.assembler.source import read_source
-from vecmon_lab.classes import moved_breakpoints as module
-from vecmon_lab.classes.moved_breakpoints import MAX_EQUAL_PAIRS, moved_breakpoints
+from vecmon_lab.classes.core import moved_breakpoints as module
+from vecmon_lab.classes.core.moved_breakpoints import MAX_EQUAL_PAIRS, moved_breakpoints
 
 
 def moved(old: str, new: str, *addresses: int) -> list[int]:

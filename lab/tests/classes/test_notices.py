@@ -8,8 +8,8 @@ from typing import Any
 import pytest
 
 from support.class_tabs import served
-from vecmon_lab.classes.folder_report import folder_report
-from vecmon_lab.classes.notices import MAX_NOTICES
+from vecmon_lab.classes.server.folder_report import folder_report
+from vecmon_lab.classes.server.notices import MAX_NOTICES
 
 pytestmark = pytest.mark.asyncio
 

@@ -6,8 +6,8 @@ from contextlib import nullcontext
 import pytest
 
 from support.past_sequences import EXERCISE, ClassPage, DeskPage, Page, PlaygroundPage, check, dense_states, found
-from vecmon_lab.classes.moments import Budget
-from vecmon_lab.classes.requests import BadRequest
+from vecmon_lab.classes.core.moments import Budget
+from vecmon_lab.classes.core.requests import BadRequest
 from vecmon_lab.exercises.answer import settled
 from vecmon_lab.exercises.exercise import Exercise, read_exercise
 from vecmon_lab.replay.legs import Leg, Legs

@@ -12,13 +12,13 @@ import pytest
 
 from support.class_tabs import LOOP, SECONDS
 from support.disk import Contents, Disk
-from vecmon_lab.classes import checks, disk_files, durable, journal, store, view
-from vecmon_lab.classes.languages import SourceText
-from vecmon_lab.classes.live import is_servers
-from vecmon_lab.classes.requests import Lines
-from vecmon_lab.classes.server import KEEP_SECONDS
-from vecmon_lab.classes.store import BadFolder, Store, script_name
-from vecmon_lab.classes.view import Class
+from vecmon_lab.classes.server import checks, disk_files, durable, journal, store, view
+from vecmon_lab.classes.core.languages import SourceText
+from vecmon_lab.classes.core.live import is_servers
+from vecmon_lab.classes.core.requests import Lines
+from vecmon_lab.classes.server.server import KEEP_SECONDS
+from vecmon_lab.classes.server.store import BadFolder, Store, script_name
+from vecmon_lab.classes.server.view import Class
 from vecmon_lab.exercises.exercise import read_exercise
 
 TICK, TICKS = 0.05, 96  # seconds, and their number

@@ -20,8 +20,8 @@ import pytest
 
 from support.busy_host import PATIENCE
 from support.class_tabs import LOOP, Served, Tab, process
-from vecmon_lab.classes.store import Store
-from vecmon_lab.classes.view import Class
+from vecmon_lab.classes.server.store import Store
+from vecmon_lab.classes.server.view import Class
 
 IN_CI = os.environ.get("CI") and shutil.which("mkfs.ext4") and os.access("/dev/loop-control", os.W_OK)
 CUTS = int(os.environ.get("POWER_CUTS", "4" if IN_CI else "0"))

@@ -17,12 +17,12 @@ import pytest
 from classes.test_power_cut import passing_check, remove_others
 from support.class_tabs import LOOP, SECONDS
 from support.disk import Contents, Disk
-from vecmon_lab.classes import checks, disk_files, durable, journal, store, view
-from vecmon_lab.classes.languages import SourceText
-from vecmon_lab.classes.requests import Lines
-from vecmon_lab.classes.server import KEEP_SECONDS
-from vecmon_lab.classes.store import Store
-from vecmon_lab.classes.view import Class
+from vecmon_lab.classes.server import checks, disk_files, durable, journal, store, view
+from vecmon_lab.classes.core.languages import SourceText
+from vecmon_lab.classes.core.requests import Lines
+from vecmon_lab.classes.server.server import KEEP_SECONDS
+from vecmon_lab.classes.server.store import Store
+from vecmon_lab.classes.server.view import Class
 
 STATES = int(os.environ.get("CUT_STATES", "40"))
 SEATS = [f"{machine}{digit}" for machine in "AB" for digit in range(1, 9)]

@@ -6,7 +6,7 @@ from collections.abc import Iterator
 import pytest
 
 from support.desk import Desk, ask
-from vecmon_lab.classes.languages import C
+from vecmon_lab.classes.core.languages import C
 
 
 @pytest.fixture

@@ -7,8 +7,8 @@ import pytest
 
 from support.places import DOCS
 from vecmon_lab import LabError
-from vecmon_lab.classes.languages import LANGUAGES, SourceText
-from vecmon_lab.classes.requests import (
+from vecmon_lab.classes.core.languages import LANGUAGES, SourceText
+from vecmon_lab.classes.core.requests import (
     Compare,
     Lines,
     LookOver,

@@ -8,12 +8,12 @@ from typing import Any
 
 import pytest
 
-from vecmon_lab.classes import scripts
-from vecmon_lab.classes.worker_pool import WorkerPool
-from vecmon_lab.classes.requests import BadRequest, Lines
-from vecmon_lab.classes.room import Room
-from vecmon_lab.classes.seats import Seat
-from vecmon_lab.classes.store import ScriptFile
+from vecmon_lab.classes.server import scripts
+from vecmon_lab.classes.server.worker_pool import WorkerPool
+from vecmon_lab.classes.core.requests import BadRequest, Lines
+from vecmon_lab.classes.server.room import Room
+from vecmon_lab.classes.core.seats import Seat
+from vecmon_lab.classes.server.store import ScriptFile
 from vecmon_lab.machine.lines import is_look
 from vecmon_lab.machine.session import Session
 

@@ -7,9 +7,9 @@ import pytest
 
 from support.class_tabs import LOOP, Message, Tab, served
 from vecmon_lab.__main__ import arguments_of
-from vecmon_lab.classes import progress
-from vecmon_lab.classes import room as class_room
-from vecmon_lab.classes.seat_status import problems_status, status_of
+from vecmon_lab.classes.core import progress
+from vecmon_lab.classes.server import room as class_room
+from vecmon_lab.classes.core.seat_status import problems_status, status_of
 from vecmon_lab.exercises.exercise import OURS
 from vecmon_lab.page.state import State
 

@@ -18,8 +18,8 @@ import pytest_asyncio
 from support import class_tabs
 from support.class_tabs import LOOP, SECONDS, Served, Tab, process, served
 from support.places import SUM
-from vecmon_lab.classes import server as class_server
-from vecmon_lab.classes.tab_socket import BEAT
+from vecmon_lab.classes.server import server as class_server
+from vecmon_lab.classes.server.tab_socket import BEAT
 
 pytestmark = pytest.mark.asyncio
 

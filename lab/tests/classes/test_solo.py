@@ -9,8 +9,8 @@ import pytest
 
 from support.class_tabs import LOOP, SECONDS, served
 from support.places import SUM, TOP, TOURS
-from vecmon_lab.classes import room as class_room
-from vecmon_lab.classes.solo import OwnScript, own_lines
+from vecmon_lab.classes.server import room as class_room
+from vecmon_lab.classes.server.solo import OwnScript, own_lines
 from vecmon_lab.machine.lines import is_look
 from vecmon_lab.machine.session import Session
 

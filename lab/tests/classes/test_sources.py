@@ -9,7 +9,7 @@ import pytest
 import pytest_asyncio
 
 from support.class_tabs import Served, Tab, served
-from vecmon_lab.classes.view import Class
+from vecmon_lab.classes.server.view import Class
 
 pytestmark = pytest.mark.asyncio
 LOOP = "loop:   addi t0, t0, 1   # counts\n        li a0, 5\n        j loop\n"
@@ -201,7 +201,7 @@ async def test_versions_are_stored(room: Served, monkeypatch: pytest.MonkeyPatch
     await tab.ask("draft", text="typed", number=tab.view["source"]["number"])
     keep(members)
     assert (room.folder / "A1.s").read_text() == "typed" and len(tab.view["source"]["versions"]) == 2
-    monkeypatch.setattr("vecmon_lab.classes.sources.TYPING_SECONDS", 0)
+    monkeypatch.setattr("vecmon_lab.classes.core.sources.TYPING_SECONDS", 0)
     members.save()
     await tab.until(lambda view: len(view["source"]["versions"]) == 3)
     members.save()
@@ -218,7 +218,7 @@ async def test_clock_that_is_set_back_delays_no_version(room: Served, monkeypatc
     assert members
     await tab.ask("draft", text="typed", number=0)
     for name, value in (("TYPING_SECONDS", 0), ("time", SimpleNamespace(time=lambda: 1e9, monotonic=time.monotonic))):
-        monkeypatch.setattr(f"vecmon_lab.classes.sources.{name}", value)
+        monkeypatch.setattr(f"vecmon_lab.classes.core.sources.{name}", value)
     members.save()
     await tab.until(lambda view: [each["why"] for each in view["source"]["versions"]] == ["typed"])
 
@@ -254,8 +254,8 @@ async def test_full_disk_keeps_source_in_memory(room: Served, monkeypatch: pytes
         raise OSError(28, "No space left on device")
 
     with monkeypatch.context() as full:
-        full.setattr("vecmon_lab.classes.durable.replace_file", refuse)
-        full.setattr("vecmon_lab.classes.journal.Journal.append", refuse)
+        full.setattr("vecmon_lab.classes.server.durable.replace_file", refuse)
+        full.setattr("vecmon_lab.classes.server.journal.Journal.append", refuse)
         await tab.ask("source", text="nop")
         keep(members)
         members.save()

@@ -15,13 +15,13 @@ import pytest
 from support.class_tabs import LOOP, SECONDS, served
 from support.places import SUM
 from vecmon_lab.__main__ import main
-from vecmon_lab.classes import durable, journal
-from vecmon_lab.classes import server as class_server
-from vecmon_lab.classes.folder_report import folder_report
-from vecmon_lab.classes.stored_files import attempt
-from vecmon_lab.classes.store import BadFolder, ScriptFile, Store
-from vecmon_lab.classes.teacher_view import teacher_view
-from vecmon_lab.classes.view import Class, Tab
+from vecmon_lab.classes.server import durable, journal
+from vecmon_lab.classes.server import server as class_server
+from vecmon_lab.classes.server.folder_report import folder_report
+from vecmon_lab.classes.server.stored_files import attempt
+from vecmon_lab.classes.server.store import BadFolder, ScriptFile, Store
+from vecmon_lab.classes.server.teacher_view import teacher_view
+from vecmon_lab.classes.server.view import Class, Tab
 from vecmon_lab.machine.session import ProgramGone
 
 

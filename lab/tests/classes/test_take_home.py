@@ -12,8 +12,8 @@ import pytest
 
 from support.class_tabs import served
 from support.places import SUM
-from vecmon_lab.classes import room as class_room
-from vecmon_lab.classes.take_home import MAX_FRAMES, steps_of, zipped
+from vecmon_lab.classes.server import room as class_room
+from vecmon_lab.classes.server.take_home import MAX_FRAMES, steps_of, zipped
 from vecmon_lab.machine.program import find_program
 
 SOURCE = (

@@ -18,11 +18,11 @@ from support.class_tabs import LOOP, SECONDS, Tab, command, process
 from support.places import TOP
 from vecmon_lab import LabError
 from vecmon_lab.__main__ import arguments_of
-from vecmon_lab.classes import server
-from vecmon_lab.classes.command import run
-from vecmon_lab.classes.store import BadFolder, Store, renew_teacher
-from vecmon_lab.classes.tls import tls_context
-from vecmon_lab.classes.view import Class
+from vecmon_lab.classes.server import server
+from vecmon_lab.classes.server.command import run
+from vecmon_lab.classes.server.store import BadFolder, Store, renew_teacher
+from vecmon_lab.classes.server.tls import tls_context
+from vecmon_lab.classes.server.view import Class
 from vecmon_lab.machine.program import find_program
 
 pytestmark = pytest.mark.asyncio

@@ -8,11 +8,11 @@ import pytest
 import pytest_asyncio
 
 from support.class_tabs import LOOP, SECONDS
-from vecmon_lab.classes.folder_report import folder_report
-from vecmon_lab.classes.requests import Lines
-from vecmon_lab.classes.solo import solo
-from vecmon_lab.classes.store import BadFolder, Store
-from vecmon_lab.classes.view import Class
+from vecmon_lab.classes.server.folder_report import folder_report
+from vecmon_lab.classes.core.requests import Lines
+from vecmon_lab.classes.server.solo import solo
+from vecmon_lab.classes.server.store import BadFolder, Store
+from vecmon_lab.classes.server.view import Class
 
 SCRIPT = "".join(f"1 {line}\n" for line in [*LOOP, "step 7"]).encode()
 

@@ -10,7 +10,7 @@ import pytest_asyncio
 
 from support.class_tabs import LOOP, Message, Served, served
 from vecmon_lab.__main__ import arguments_of
-from vecmon_lab.classes import room as class_room
+from vecmon_lab.classes.server import room as class_room
 
 pytestmark = pytest.mark.asyncio
 

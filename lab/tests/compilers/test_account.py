@@ -14,7 +14,7 @@ import pytest
 from support.commands import Lab
 from support.places import EXAMPLES
 from vecmon_lab import LabError
-from vecmon_lab.classes.builds import builds_by
+from vecmon_lab.classes.server.builds import builds_by
 from vecmon_lab.compilers import sandbox, sandbox_files
 from vecmon_lab.compilers.account import OWN, Account, account_named
 from vecmon_lab.compilers.compiler import Compiler

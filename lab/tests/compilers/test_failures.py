@@ -14,7 +14,7 @@ import pytest
 from support.commands import Lab
 from support.places import EXAMPLES, TOP
 from support.processes import descendants
-from vecmon_lab.classes.builds import builds_by
+from vecmon_lab.classes.server.builds import builds_by
 from vecmon_lab.compilers import sandbox
 from vecmon_lab.compilers.compiled import read_compiled_program
 from vecmon_lab.compilers.compiler import Compiler

@@ -10,7 +10,7 @@ import pytest
 from support.browser import CONTRAST
 from support.class_pages import SIGNS, Served, Tab, look_at
 from support.layouts import SIZES, reset, resize
-from vecmon_lab.classes.progress import is_unsigned
+from vecmon_lab.classes.core.progress import is_unsigned
 from vecmon_lab.compilers.compiler import Compiler
 from vecmon_lab.exercises.exercise import OURS, read_exercise
 from vecmon_lab.tables.table import read_table

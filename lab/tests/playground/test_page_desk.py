@@ -11,7 +11,7 @@ import pytest
 
 from support.message_schema import check_message, check_request, check_view
 from support.places import DATA, SUM
-from vecmon_lab.classes.progress import starts_of
+from vecmon_lab.classes.core.progress import starts_of
 from vecmon_lab.exercises.answer import settled
 from vecmon_lab.exercises.exercise import Exercise, read_exercise
 from vecmon_lab.playground import page_desk

@@ -8,7 +8,7 @@ from typing import Any
 import pytest
 
 from playground.test_page_desk import SOURCE, Page
-from vecmon_lab.classes.progress import Start
+from vecmon_lab.classes.core.progress import Start
 from vecmon_lab.playground import page_desk
 from vecmon_lab.playground.kept_texts import KeptTexts
 from vecmon_lab.playground.page_source import PageSource

@@ -11,7 +11,7 @@ from support.places import EXAMPLES
 from support.skips import NO_BINUTILS, leave_out
 from support.sources import ARGUMENTS
 from vecmon_lab import CallStopped, Kernel, LabError
-from vecmon_lab.classes.explore import read
+from vecmon_lab.classes.server.explore import read
 from vecmon_lab.compilers.compiler import Compiler
 from vecmon_lab.harness.assembled import assembled_image
 

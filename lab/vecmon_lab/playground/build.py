@@ -16,7 +16,7 @@ from collections.abc import Mapping
 from itertools import pairwise
 
 from .. import LabError
-from ..classes.example_sources import ExampleSource, example_sources
+from ..classes.core.example_sources import ExampleSource, example_sources
 from ..lessons.frames import make_frames
 from ..lessons.script import read_assembled
 from ..machine.process import Vecmon

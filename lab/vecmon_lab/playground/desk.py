@@ -9,11 +9,11 @@ from collections.abc import Callable, Mapping
 from .. import LabError
 from ..assembler.source import Program
 from ..assembler.trial import read_tried_source, read_whole_source
-from ..classes.languages import SourceText
-from ..classes.messages import Answer, Changes, Hello, News, Result, Updates
-from ..classes.messages import answer_to, explain_refusals, request_of, with_changes
-from ..classes.progress import Exercises, Start, Try
-from ..classes.requests import (
+from ..classes.core.languages import SourceText
+from ..classes.core.messages import Answer, Changes, Hello, News, Result, Updates
+from ..classes.core.messages import answer_to, explain_refusals, request_of, with_changes
+from ..classes.core.progress import Exercises, Start, Try
+from ..classes.core.requests import (
     BadRequest,
     Check,
     Draft,
@@ -25,12 +25,12 @@ from ..classes.requests import (
     OpenExercise,
     ReadAnswer,
 )
-from ..classes.requests import ReadPast, ReadVersion, Request, RunProgram, Settings, Source, StepLine, StepProgram
-from ..classes.requests import ToggleBreakpoints, TryCase, Why, read_request
-from ..classes.shared_machine import Answers, MakeProgram, Returned, SharedMachine, Steps, Turn, WorkApart
-from ..classes.sources import SeatSource
-from ..classes.student import ClassView, Student, try_result
-from ..classes.text_store import TextStore
+from ..classes.core.requests import ReadPast, ReadVersion, Request, RunProgram, Settings, Source, StepLine, StepProgram
+from ..classes.core.requests import ToggleBreakpoints, TryCase, Why, read_request
+from ..classes.core.shared_machine import Answers, MakeProgram, Returned, SharedMachine, Steps, Turn, WorkApart
+from ..classes.core.sources import SeatSource
+from ..classes.core.student import ClassView, Student, try_result
+from ..classes.core.text_store import TextStore
 from ..exercises.check import check, lesson, lesson_before
 from ..exercises.exercise import Exercise
 from ..exercises.answer_cost import AnswerCost

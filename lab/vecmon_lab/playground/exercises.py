@@ -9,7 +9,7 @@ import pickle
 import sys
 from dataclasses import replace
 
-from ..classes.progress import starts_of
+from ..classes.core.progress import starts_of
 from ..exercises.answer import settled
 from ..exercises.exercise import Exercise, read_exercise, with_course
 

@@ -9,7 +9,7 @@ Changed = Callable[[str, str | None, float], object]
 
 
 class KeptTexts:
-    """A TextStore (classes/text_store.py) in memory."""
+    """A TextStore (classes/core/text_store.py) in memory."""
 
     def __init__(
         self, texts: Mapping[str, Sequence[object]] = {}, changed: Changed = lambda name, text, when: None

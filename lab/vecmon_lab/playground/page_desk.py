@@ -10,14 +10,14 @@ from functools import partial
 
 from .. import LabError, mistakes_in
 from ..checkpoints.checkpoint import checkpoint
-from ..classes.stored_files import attempt
-from ..classes.languages import SourceText
-from ..classes.messages import Hello, News, with_changes
-from ..classes.history import History
-from ..classes.progress import MAX_TRIES, Start, Try
-from ..classes.requests import BadRequest, Lines
-from ..classes.shared_machine import LEAVING, Answers
-from ..classes.text_store import TextStore
+from ..classes.server.stored_files import attempt
+from ..classes.core.languages import SourceText
+from ..classes.core.messages import Hello, News, with_changes
+from ..classes.core.history import History
+from ..classes.core.progress import MAX_TRIES, Start, Try
+from ..classes.core.requests import BadRequest, Lines
+from ..classes.core.shared_machine import LEAVING, Answers
+from ..classes.core.text_store import TextStore
 from ..compilers.compiled import program_of
 from ..compilers.debug import image_of
 from ..exercises.exercise import Exercise

@@ -10,10 +10,10 @@ import json
 import re
 from collections.abc import Mapping, Sequence
 
-from ..classes.languages import LANGUAGES, SourceText
-from ..classes.progress import Start
-from ..classes.sources import DRAFTS, OPEN, SeatSource, kept_source
-from ..classes.text_store import TextStore
+from ..classes.core.languages import LANGUAGES, SourceText
+from ..classes.core.progress import Start
+from ..classes.core.sources import DRAFTS, OPEN, SeatSource, kept_source
+from ..classes.core.text_store import TextStore
 
 FREE, UNSAVED = "free", "A1.unsaved"
 

@@ -1,0 +1,1 @@
+"""The server of a class: its connections, folder, machines and pages."""

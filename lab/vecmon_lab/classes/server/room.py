@@ -1,0 +1,243 @@
+"""One machine of a class: requests of its seats, and its clock, take turns at it. There is no transport here."""
+
+import asyncio
+import concurrent.futures
+import contextlib
+import pathlib
+from collections.abc import Callable, Container, Iterable, Mapping, Sequence
+from dataclasses import asdict, replace
+from functools import partial
+
+from ... import LabError
+from ...assembler.assembly import FileReader
+from ...assembler.source import Program
+from ...assembler import apart
+from ...assembler.trial import read_tried_source, read_whole_source
+from ...machine.lines import DIGITS, is_look
+from ...machine.session import Session
+from .worker_pool import WorkerEnded, WorkerPool
+from .builds import Builds
+from .clock import Clock
+from ..core.languages import SourceText
+from .machine_thread import MachineThread
+from ..core.moments import Budget
+from ..core.history import History
+from ..core.requests import BadRequest, Lines
+from .scripts import Scripts
+from ..core.seats import Seat
+from ..core.shared_machine import (
+    Answers,
+    MakeProgram,
+    Mistakes,
+    Replay,
+    Returned,
+    SharedMachine,
+    Steps,
+    Turn,
+    WorkApart,
+    own_lines,
+)
+from .stored_files import Notes
+from .store import ScriptFile
+
+WATCH_SECONDS = 0.5  # between looks at a program that runs
+REPLAYS = 2  # that execute at the same time
+UNSEEN_SECONDS = 60.0  # after which a program that runs is stopped, if nobody looks at it
+
+
+class Room:
+    """A machine, its seats, and its clock.
+
+    `changed` is called with the names of seats that have news; `watched` returns the seats that somebody looks at; `save`
+    saves notes, and returns whether that succeeded; `compile` compiles a seat's source.
+    """
+
+    def __init__(self, letter: str, session: Session, file: ScriptFile, makers: WorkerPool) -> None:
+        """makers: places where checkpoints are made"""
+        self.letter, self.machine, self.clock = letter, SharedMachine(letter, session, file), Clock(self._tick)
+        self.seats, self.own_slices = self.machine.seats, True
+        self.changed: Callable[[Iterable[str]], None] = lambda names: None
+        self.save: Callable[[Notes], bool] = lambda notes: False
+        self.watched: Callable[[], Container[str]] = set
+        self.compile = Builds().compile
+        self.assemblers = WorkerPool(1)  # in which sources are assembled that may take long
+        self.files: FileReader | None = None  # reads what a source includes, if that is your own
+        self.thread = MachineThread(self.machine, self._change_all, lambda: self.set_clock({"on": False}))
+        self.scripts = Scripts(self.thread, file, makers, lambda *it: self.save(self._notes(*it)))
+        self.shorten, self.begin_script = self.scripts.shorten, self.scripts.start_next
+        self.make_checkpoint = self.scripts.make_checkpoint
+        self._turns = {digit: asyncio.Lock() for digit in f"{DIGITS}*"}  # given first come, first served
+        self._apart = asyncio.Semaphore(1)  # work that needs no turn
+        self.replays = asyncio.Semaphore(REPLAYS)
+        self.machine.budgets = {digit: Budget() for digit in DIGITS}
+        self._assembler = concurrent.futures.ThreadPoolExecutor(1)  # which needs no machine
+        self._assembling = {digit: asyncio.Lock() for digit in DIGITS}  # one source of a seat waits for it at a time
+
+    @property
+    def session(self) -> Session:
+        """The machine."""
+        return self.machine.session
+
+    @property
+    def warning(self) -> str:
+        """What is wrong with the machine, or the disk."""
+        return self.thread.stopped or self.thread.down or self.thread.rebuilding or self.scripts.file.warning
+
+    def is_busy(self) -> bool:
+        """Whether somebody has the machine."""
+        return self.thread.lock.locked()
+
+    def restore(self, notes: Notes, progress: Callable[[str, int], object], lose: Callable[[str], object]) -> None:
+        """Brings the machine to where an earlier server left it. Raises BadFolder where it takes no script.
+
+        progress: is called with the machine's letter and the percentage of its script that is executed; lose: is called with sentences on lines that are lost
+        """
+        self.session.progress = partial(progress, self.letter)
+        self.scripts.set_up, self.scripts.stops = notes.scripts, notes.stops
+        history = History(notes.scripts[-1], notes.stops)
+        for block in self.scripts.file.replay(self.session, notes, lose):
+            history.add(*block)
+            self.machine.follow_restored(notes.scripts[-1], *block)
+        history.restore(self.seats, self.session)
+        self.own_slices = notes.own_slices
+        self.set_clock(notes.clock)
+
+    def notes(self) -> Notes:
+        """The notes that the class's folder keeps of the machine."""
+        return self._notes(self.session, self.scripts.set_up, self.scripts.stops)
+
+    async def run(self, seat: Seat, steps: Steps[Returned]) -> Returned:
+        """Executes the steps of a request; between them others have their turns. Raises LabError where the machine is down."""
+        made: Program | None = None
+        seat_turn, is_held = self._turns[seat.digit], False
+        try:
+            while True:
+                step, made = steps.send(made), None
+                if isinstance(step, Turn):
+                    async with self.thread.lock:
+                        await self.thread.execute(step)
+                elif isinstance(step, MakeProgram):
+                    made = await self._make(seat, step)
+                elif isinstance(step, Replay):
+                    async with self.replays:
+                        await asyncio.to_thread(step.call)
+                elif isinstance(step, WorkApart):
+                    async with self._apart:
+                        await asyncio.to_thread(step.call)
+                elif not is_held:
+                    is_held = await seat_turn.acquire()
+        except StopIteration as end:
+            self.changed([seat.name])
+            returned: Returned = end.value
+            return returned
+        finally:
+            if is_held:
+                seat_turn.release()
+
+    async def lines(self, seat: Seat, request: Lines, done: Answers) -> Answers:
+        """Executes lines, which join `done` with their answers; the answers to lines that look.
+
+        A student's own program is granted slices between them. Raises BadRequest where nothing is done, and LabError
+        where the machine is down.
+        """
+        slices = request.slices
+        if slices and (seat is self.seats.operator or not self.own_slices):
+            raise BadRequest("slices are the teacher's to grant")
+        is_operators = seat is self.seats.operator and not all(map(is_look, own_lines(seat, request.do)))
+        if self.scripts.is_behind() and (slices or is_operators):
+            raise BadRequest("programs have run much since the last checkpoint: slices wait for the next, some seconds")
+        looks = await self.run(seat, self.machine.lines(seat, request, done))
+        if not slices and "go" in request.do:
+            self.explain_waiting(seat)
+        return looks
+
+    def explain_waiting(self, seat: Seat) -> None:
+        """Explain in a seat's log why its program waits, if it runs and the clock is off."""
+        if not self.clock.settings.on and seat.state["run"] == "running":
+            own_way = ", or press Go on a little" if self.own_slices else ""
+            self.add_log_entry(seat, f"!The clock is off, so the program waits: the teacher can turn it on{own_way}.")
+
+    async def source(self, seat: Seat, source: SourceText | None) -> tuple[Mistakes, Mistakes]:
+        """Starts a seat's machine anew with a source; its mistakes, and a compiler's warnings. Raises as `run` does."""
+        return await self.run(seat, self.machine.write(seat, source))
+
+    def add_log_entry(self, seat: Seat, entry: str) -> None:
+        """Adds an entry to a seat's log, and sends it to the pages."""
+        seat.add_log_entry(entry)
+        self.changed([seat.name])
+
+    def set_clock(self, settings: Mapping[str, int]) -> None:
+        """Sets what is named of the clock's settings."""
+        self.clock.set(replace(self.clock.settings, **settings))
+        self.changed(self.seats.names())
+
+    def set_rights(self, own_slices: bool) -> None:
+        """Whether students may grant slices to their own programs."""
+        self.own_slices = own_slices
+        self.changed(self.seats.names())
+
+    async def watch(self) -> None:
+        """Shows programs that run to those who look at them, twice a second; goes for ever."""
+        while True:
+            await asyncio.sleep(WATCH_SECONDS)
+            has_run, self.machine.has_run = self.machine.has_run, False
+            for digit in sorted(self.seats.running()) if has_run else ():
+                await self._stop_unattended(self.seats.users[digit])
+
+    def end(self) -> None:
+        """Ends the machine, whatever it does."""
+        self.thread.end()
+        self.machine.histories.close()
+        self._assembler.shutdown(cancel_futures=True)
+        self.scripts.end()
+
+    async def _make(self, seat: Seat, step: MakeProgram) -> Program:
+        """The program of a source, with all its mistakes, which needs no turn of the machine's."""
+        source, loop = step.source, asyncio.get_running_loop()
+        if source.choice is not None:
+            return await self.compile(seat.name, source.text, source.choice, is_answer=step.is_answer)
+        vecmon, reader = pathlib.Path(self.session.command[0]), "tried" if step.is_tried else "whole"
+        async with self._assembling[seat.digit]:
+            if self.files:  # your own source
+                read_program = read_tried_source if step.is_tried else read_whole_source
+                return await loop.run_in_executor(self._assembler, read_program, source.text, vecmon, self.files)
+            small = await loop.run_in_executor(self._assembler, apart.read_small, reader, source.text, vecmon)
+            return small or await self._make_apart(reader, source.text, vecmon)
+
+    async def _make_apart(self, reader: str, text: str, vecmon: pathlib.Path) -> Program:
+        """The program of a source that may take long. Raises LabError if it takes too much."""
+        try:
+            output = await self.assemblers.run(apart.MODULE, reader, str(vecmon), script=apart.encoded(text))
+        except WorkerEnded as error:
+            raise LabError(apart.TOO_LONG) from error
+        return await asyncio.to_thread(apart.decoded, output)
+
+    async def _stop_unattended(self, seat: Seat) -> None:
+        """Shows a program that runs, if somebody looks at it. One that runs in vain is stopped, with a sentence."""
+        now, is_watched = asyncio.get_running_loop().time(), seat.name in self.watched()
+        seat.seen = now if is_watched or not seat.seen else seat.seen
+        why = f"nobody looked at it for {UNSEEN_SECONDS:g} s" if now - seat.seen > UNSEEN_SECONDS else ""
+        why = self.machine.has_run_long(seat, self.clock.settings.limit) or why
+        if why or is_watched:
+            with contextlib.suppress(LabError):  # the next request reports it
+                await self.run(seat, self.machine.show(seat, why, "server"))
+
+    async def _tick(self) -> None:
+        """Grants the clock's slices, if somebody's program runs."""
+        async with self.thread.lock:
+            settings = self.clock.settings
+            if settings.on and self.seats.running() and not self.scripts.is_behind():
+                try:
+                    await self.thread.execute(self.machine.grant(settings.slices))
+                except LabError as error:
+                    self.set_clock({"on": False})
+                    self.seats.operator.add_log_entry(f"!The clock was stopped: {error}.")
+
+    def _notes(self, session: Session, scripts: Sequence[int], stops: Mapping[str, str]) -> Notes:
+        """Notes of a session, whose script is the last one of these. stops: the last ones when that started, by digit"""
+        settings, digest = asdict(self.clock.settings), session.script_digest
+        return Notes(session.lines, session.digest, settings, self.own_slices, scripts, stops, digest)
+
+    def _change_all(self) -> None:
+        """All seats, and the operator's, have news."""
+        self.changed([self.letter, *self.seats.names()])

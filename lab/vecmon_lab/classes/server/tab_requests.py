@@ -1,0 +1,155 @@
+"""Requests of a class's tabs are answered, and news of the class collected for them (docs/CLASS_PROTOCOL.md)."""
+
+import logging
+import time
+import traceback
+from collections.abc import Mapping
+
+from ... import LabError
+from ..core.codes import TEACHER, WALL
+from ..core.messages import Answer, Changes, Hello, Result, answer_to, explain_refusals, request_of, with_changes
+from ..core.names import checked_name, checked_text
+from ..core.requests import (
+    BadRequest,
+    Check,
+    Compare,
+    Draft,
+    Edit,
+    FindLastRead,
+    FindProblems,
+    JsonObject,
+    Lines,
+    OpenExercise,
+    OpenOffer,
+)
+from ..core.requests import (
+    ReadAnswer,
+    ReadNotice,
+    ReadPast,
+    ReadVersion,
+    Request,
+    RunProgram,
+    SeatsRequest,
+    SetHand,
+    SetName,
+    Source,
+)
+from ..core.requests import StepLine, StepProgram, ToggleBreakpoints, TryCase, Why, read_request
+from ..core.seats import Seat
+from ..core.shared_machine import Answers
+from ..core.student import try_result
+from .teacher import execute_teachers
+from .teacher_view import teacher_view, wall_view
+from .view import Class, Tab
+
+LOGGER = logging.getLogger("vecmon_lab")
+
+
+class TabRequests:
+    """Executes the requests of a class's tabs."""
+
+    def __init__(self, members: Class) -> None:
+        self._members = members
+        self._faults = set[tuple[str, int | None]]()  # where exceptions were raised that the log has
+
+    def hello(self, tab: Tab) -> Hello:
+        """The first message to a tab, which joins the class; news follow it."""
+        self._members.tabs.add(tab)
+        self._members.tell([tab.who])
+        hello: Hello = {"kind": "hello", "who": tab.who, "time": time.time()}
+        return with_changes(hello, self.news(tab))
+
+    def leave(self, tab: Tab) -> None:
+        """The tab is gone."""
+        self._members.tabs.discard(tab)
+        self._members.tell([tab.who])
+
+    async def answer(self, tab: Tab, text: str, refusal: str = "") -> Answer:
+        """The answer to a request, with what is new. With a refusal, which is a sentence, nothing is done."""
+        number, done = 0, Answers()
+        message: JsonObject = {}
+        result: Result
+        try:
+            number, message = request_of(text)
+            if refusal:
+                raise BadRequest(refusal)
+            if tab.who == WALL:
+                raise BadRequest("the wall only looks")
+            if tab.who != TEACHER:
+                self._members.seat(tab.who).active = time.time()
+            result = await self._execute(tab, read_request(message, tab.who == TEACHER), done)
+        except (LabError, ValueError, RecursionError) as error:
+            result = {"error": str(error), "done": done}
+        except Exception as error:
+            self._log_fault(error)
+            result = {"error": f"this is a fault of the lab: {type(error).__name__}: {error}", "done": done}
+        result = explain_refusals(result, "*" if tab.who == TEACHER else tab.who[-1], message, done)
+        return answer_to(number, result, self.news(tab))
+
+    def _log_fault(self, error: Exception) -> None:
+        """Log an exception that is a fault of the lab with its traceback: once for each place, since clients may repeat it."""
+        place = [(frame.filename, frame.lineno) for frame in traceback.extract_tb(error.__traceback__)][-1]
+        if place not in self._faults:
+            self._faults.add(place)
+            LOGGER.error("a request of a tab failed, which is a fault of the lab", exc_info=error)
+
+    def news(self, tab: Tab) -> Changes:
+        """The changes for a tab: a patch of its view, and entries of logs."""
+        tab.changed.clear()
+        return tab.sent.news(self._view(tab), self._logs(tab))
+
+    def _view(self, tab: Tab) -> Mapping[str, object]:
+        """All that a tab shows, but logs."""
+        if tab.who == TEACHER:
+            return teacher_view(self._members, tab)
+        if tab.who == WALL:
+            return wall_view(self._members)
+        return self._members.student_view(self._members.student(tab.who))
+
+    def _logs(self, tab: Tab) -> list[Seat]:
+        """The seats whose logs a tab shows."""
+        if tab.who == WALL:
+            return []
+        if tab.who != TEACHER:
+            return [self._members.seat(tab.who)]
+        operators = [room.seats.operator for room in self._members.rooms.values()]
+        return operators if tab.shoulder is None else [*operators, tab.shoulder]
+
+    async def _execute(self, tab: Tab, request: Request, done: Answers) -> Result:
+        """Execute a request; return its result. Raises BadRequest, and LabError if no machine runs."""
+        members, is_teacher = self._members, tab.who == TEACHER
+        match request:
+            case Lines(machine):
+                seat = members.room(machine).seats.operator if is_teacher else members.seat(tab.who)
+                return {"do": done, "look": await members.rooms[seat.name[0]].lines(seat, request, done)}
+            case SetName(seat_name, name):
+                members.set_name(members.seat(seat_name if is_teacher else tab.who).name, checked_name(name))
+            case SetHand(up, text):
+                members.set_hand(tab.who, up, checked_text(text))
+            case ReadNotice(number):
+                members.read_notice(tab.who, number)
+            case OpenOffer(number):
+                members.open_offer(tab.who, number)
+            case Compare(source, other):
+                return {"listings": members.comparisons.ask(tab.who, source, other)}
+            case ReadAnswer(seat_name, name, number):
+                seat = members.seat(seat_name if is_teacher else tab.who)
+                return try_result(members.checks.answer(seat.name, name, number))
+            case Source() | FindProblems() | StepLine() | Why() | Draft() | OpenExercise() | ReadVersion() | ReadPast():
+                return await self._execute_for_seat(tab, request)
+            case Check() | TryCase() | StepProgram() | FindLastRead() | Edit() | ToggleBreakpoints():
+                return await self._execute_for_seat(tab, request)
+            case RunProgram():
+                result = await self._execute_for_seat(tab, request)
+                members.rooms[tab.who[0]].explain_waiting(members.seat(tab.who))
+                return result
+            case _:
+                return await execute_teachers(members, tab, request)
+        return {}
+
+    async def _execute_for_seat(self, tab: Tab, request: SeatsRequest) -> Result:
+        """Execute a request of a student, or a teacher's request for a version of the observed seat."""
+        observed = tab.shoulder.name if tab.shoulder else ""
+        student = self._members.student(observed if tab.who == TEACHER else tab.who)
+        result = await self._members.rooms[student.seat.name[0]].run(student.seat, student.execute(request))
+        return result
