@@ -266,7 +266,14 @@ def test_first_hundred_mistakes_are_reported() -> None:
 
 REFUSED = [
     ("  addi   s11, a0, 4096  # too much", 19, "4096 doesn't fit here"),
-    ("  addi   s11, a0, -2049", 19, "doesn't fit here"),
+    ("  addi   s11, a0, -2049", 19, "-2049 doesn't fit here"),
+    ("  lw  s11,  -2049(a0)", 13, "-2049 doesn't fit here"),
+    (
+        "  vadd.vi v1, v2, -17",
+        19,
+        "-17 doesn't fit here, as the machine reads it: vadd.vi v1, v2, -17; the form is "
+        "vadd.vi vd, vs2, imm[, v0.t], with imm from -16 to 15",
+    ),
     (
         "a: addi s11,s11,1,2",
         19,

@@ -49,7 +49,8 @@ def refusal(statement: Statement, column: int, written: str = "") -> SourceError
     written: the text that the source has, if the statement has another operand in place of one that doesn't fit
     """
     read = written or statement.text
-    token = re.match(r"[a-z0-9._]+|.", statement.text[column - 1 :])
+    is_negative = statement.text[: column - 1].endswith("-")  # the machine names the column of the digits
+    token = re.match(r"-[0-9]+|[a-z0-9._]+|.", statement.text[column - 1 - is_negative :])
     row = instruction_table().get(statement.text.split()[0])
     fix: Sequence[str] = ()
     form = f"; the form is {row.name} {row.operands}".replace("vtypei", _VECTOR_TYPE).rstrip() if row else ""
@@ -62,7 +63,8 @@ def refusal(statement: Statement, column: int, written: str = "") -> SourceError
     elif column == 1:
         message, fix = no_instruction(token[0], INSTRUCTION_NAMES), near_names(token[0], INSTRUCTION_NAMES)
     else:
-        limits = number_range(row, statement.text[: column - 1]) if row and token[0][0].isdecimal() else ""
+        is_number = token[0].lstrip("-")[:1].isdecimal()
+        limits = number_range(row, statement.text[: column - 1]) if row and is_number else ""
         message = f"{token[0]} doesn't fit here, as the machine reads it: {read}{form}{limits}"
     return SourceError(*statement.places[column - 1], message + chain(statement.within), "E15", fix)
 
