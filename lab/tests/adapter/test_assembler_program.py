@@ -165,6 +165,8 @@ def test_conditions_and_messages_decide_whether_a_breakpoint_stops(client: Clien
     assert "left: 13 (0xd), none: {there is no symbol nothing}\n" in printed and "left: 5 (0x5), " in printed
     (found,) = client.lines(SOURCE, MULTIPLY, condition="a0 = 5")
     assert not found["verified"] and "a0 = 5 is no expression" in found["message"]
+    (found,) = client.lines(SOURCE, MULTIPLY, hitCondition="2")
+    assert not found["verified"] and "hit counts aren't supported" in found["message"]
 
 
 def test_breakpoints_above_16_arent_verified(tmp_path: pathlib.Path) -> None:
@@ -277,6 +279,19 @@ def test_memory_is_read_and_written(client: Client) -> None:
     client.refused("writeMemory", memoryReference="x", data="no base64")
     client.refused("readMemory", memoryReference="nowhere", count=1)
     client.refused("readMemory", memoryReference="x", count=-1)
+
+
+def test_last_instruction_is_the_one_that_was_executed(client: Client) -> None:
+    client.move("continue")
+    client.move("next")
+    pc = int(client.value("pc").split()[0])
+    nop = base64.b64encode(bytes([0x13, 0, 0, 0])).decode()
+    assert client.ask("writeMemory", memoryReference=f"{pc - 4:#x}", data=nop) == {"bytesWritten": 4}
+    rows = client.rows(client.scope("Last instruction"))
+    assert rows["instruction"]["value"].startswith("vmacc.vx v9, x6, v8, v0.t ")
+    assert client.value("why v9[0]", context="repl").count("9 * 3 + 100 = 127") == 1
+    listed = client.ask("disassemble", memoryReference=f"{pc - 4:#x}", instructionCount=1)
+    assert listed["instructions"][0]["instruction"] == "addi x0, x0, 0"
 
 
 def test_instructions_are_listed_with_their_lines(client: Client) -> None:

@@ -42,6 +42,25 @@ int main(int argc, char **argv)
 }
 """
 
+MERGED = """\
+__attribute__((noinline)) static int twice(int number)
+{
+    __asm__ volatile("nop");
+    return 2 * number;
+}
+
+int main(int argc, char **argv)
+{
+    int got;
+    if (argv[0][0] == 'x')
+        got = twice(argc + 5) + 3;
+    else
+        got = twice(argc + 7) + 3;
+    return got;
+}
+"""
+"""The compiler merges the two calls, and gives line 0 to the call and to the addition after it."""
+
 SCALE = """\
 #include <riscv_vector.h>
 #include <stddef.h>
@@ -121,6 +140,23 @@ def test_inlined_function_is_left(above: Client) -> None:
     above.lines(ABOVE, ADD)
     above.move("reverseContinue")
     assert above.where() == ("sum", ADD)
+
+
+def test_step_out_ends_at_a_line(clang: Compiler, tmp_path: pathlib.Path) -> None:
+    source = tmp_path / "merged.c"
+    source.write_text(MERGED)
+    with Client.started() as client:
+        client.launch(source, options="O2", compiler=clang.name)
+        client.lines(source, line_of(source, "asm"))
+        client.begin()
+        assert client.where()[0] == "twice"
+        client.ask("stepOut", threadId=1, granularity="instruction")
+        client.event("stopped")
+        (frame, *_) = client.ask("stackTrace", threadId=1)["stackFrames"]
+        assert frame["name"] == "main" and "source" not in frame  # a premise
+        client.move("stepBack")
+        client.move("stepOut")
+        assert client.where() == ("main", line_of(source, "return got"))
 
 
 def test_exit_status_comes_after_the_stop_at_the_exit(above: Client) -> None:

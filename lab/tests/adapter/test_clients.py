@@ -3,6 +3,7 @@
 import os
 import pathlib
 import re
+import signal
 import socket
 import subprocess
 from collections.abc import Iterator
@@ -10,6 +11,7 @@ from typing import Any
 
 import pytest
 
+from support.busy_host import PATIENCE
 from support.dap_client import DAP, Body, Client
 from support.places import EXAMPLES, SUM, TOP
 from vecmon_lab.__main__ import main
@@ -99,6 +101,15 @@ def test_wrong_requests_are_refused_at_a_stop(client: Client) -> None:
         ("disassemble", {"memoryReference": "0x10000", "instructionCount": 1 << 30}),
         ("readMemory", {"memoryReference": "0x10000", "count": 1 << 40}),
         ("stepOut", {"threadId": 1, "granularity": "all"}),
+        ("setDataBreakpoints", {"breakpoints": [{"dataId": "10000:-8"}]}),
+        ("readMemory", {"memoryReference": "0x10000", "count": 4, "offset": 1 << 64}),
+        ("readMemory", {"memoryReference": "0x10000", "count": 4, "offset": -1 << 64}),
+        ("readMemory", {"memoryReference": "9" * 5000, "count": 4}),
+        ("writeMemory", {"memoryReference": f"{1 << 64:#x}", "data": "AAAA"}),
+        ("disassemble", {"memoryReference": "_start+18446744073709551616", "instructionCount": 1}),
+        ("disassemble", {"memoryReference": "0x10000", "instructionCount": 1, "instructionOffset": 1 << 62}),
+        ("setVariable", {"variablesReference": 1, "name": "pc", "value": "9" * 5000}),
+        ("dataBreakpointInfo", {"name": f"{1 << 64:#x}", "asAddress": True}),
     ]
     client.scope("Vector registers")
     for command, arguments in wrong:
@@ -164,6 +175,21 @@ def test_adapter_ends_with_its_client(client: Client, endless: pathlib.Path, is_
     assert client.program and client.program.stdin
     client.program.stdin.close()
     assert client.program.wait() == 0
+
+
+@pytest.mark.parametrize("number, is_running", [(signal.SIGTERM, True), (signal.SIGHUP, False)])
+def test_signal_ends_the_adapter_and_its_image(
+    endless: pathlib.Path, tmp_path: pathlib.Path, number: signal.Signals, is_running: bool
+) -> None:
+    folder = tmp_path / "temporary"
+    folder.mkdir()
+    with Client.started(env={**os.environ, "TMPDIR": f"{folder}"}) as client:
+        client.launch(endless, stopOnEntry=not is_running)
+        client.ask("configurationDone")
+        assert client.program and [*folder.iterdir()]
+        client.program.send_signal(number)
+        assert client.program.wait(PATIENCE) == 128 + number
+    assert not [*folder.iterdir()]
 
 
 def test_client_that_reads_nothing_more_ends_the_adapter(client: Client, endless: pathlib.Path) -> None:

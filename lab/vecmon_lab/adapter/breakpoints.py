@@ -5,6 +5,7 @@ The machine has 16 addresses for them. A breakpoint without room isn't verified,
 
 import itertools
 import pathlib
+import re
 from collections.abc import Callable, Iterable, Iterator, Mapping, Sequence
 from dataclasses import dataclass, replace
 
@@ -15,9 +16,11 @@ from ..machine.answers import Addresses
 from ..machine.session import TOGETHER
 from ..replay.watches import Watch
 from .program import Program
-from .requests import DataBreakpoint, FunctionBreakpoint, InstructionBreakpoint, SourceBreakpoint
+from .requests import BadArguments, DataBreakpoint, FunctionBreakpoint, InstructionBreakpoint, SourceBreakpoint
 
 FUNCTIONS, INSTRUCTIONS = "functions", "instructions"
+NO_HIT_CONDITIONS = "hit counts aren't supported: give it a condition instead, such as i == 5"
+_DATA_ID = re.compile("([0-9a-f]{1,16}):([1-9][0-9]{0,19})")  # the first address, and the number of bytes
 _ACCESSES = {"write": "watch", "read": "rwatch", "readWrite": "awatch"}
 
 Wanted = SourceBreakpoint | FunctionBreakpoint | InstructionBreakpoint
@@ -69,9 +72,12 @@ class Breakpoints:
     """
 
     def __init__(
-        self, check: Callable[[str], object], address_of: Callable[[str], int], changed: Callable[[Breakpoint], object]
+        self,
+        check: Callable[[str], object],
+        address_of: Callable[[str, int], int],
+        changed: Callable[[Breakpoint], object],
     ) -> None:
-        """check: raises LabError for a condition that can't be read; address_of: for a text that is no address or symbol
+        """check: raises LabError for a condition that can't be read; address_of: for a text and an offset that are no address
 
         changed: is given a breakpoint that has become verified, or isn't any more
         """
@@ -109,13 +115,16 @@ class Breakpoints:
         return self._all[kind]
 
     def replace_data(self, wanted: Sequence[DataBreakpoint]) -> Sequence[DataStop]:
-        """Set all data breakpoints in place of those before; return them in their order."""
+        """Set all data breakpoints in place of those before; return them in their order. Raises BadArguments."""
         found, room = list[DataStop](), TOGETHER
         for each in wanted:
-            digits, _, length = each.data_id.partition(":")
+            parts = _DATA_ID.fullmatch(each.data_id)
+            if parts is None:
+                raise BadArguments("dataId isn't one of dataBreakpointInfo")
+            digits, length = parts.groups()
             watch = Watch(_ACCESSES[each.access_type], int(digits, 16), int(length))
             lines = -(-watch.length // LINE_BYTES)
-            problem = self._problem_of(each.condition)
+            problem = self._problem_of(each)
             if not problem and lines > room:
                 problem = f"data breakpoints watch {TOGETHER * LINE_BYTES:,} bytes at most, in blocks of {LINE_BYTES}"
             room -= 0 if problem else lines
@@ -146,11 +155,13 @@ class Breakpoints:
         if self._program:
             self._program.timeline.watches = [each.watch for each in self.data if not each.problem]
 
-    def _problem_of(self, condition: str) -> str:
-        """Why a condition can't be read, or ""."""
+    def _problem_of(self, wanted: Wanted | DataBreakpoint) -> str:
+        """Why a condition can't be read or isn't supported, or ""."""
+        if wanted.hit_condition:
+            return NO_HIT_CONDITIONS
         try:
-            if condition:
-                self._check(condition)
+            if wanted.condition:
+                self._check(wanted.condition)
         except LabError as error:
             return str(error)
         return ""
@@ -160,7 +171,7 @@ class Breakpoints:
         blank = replace(each, addresses=(), file="", line=0, problem="")
         if self._program is None:
             return replace(blank, problem="there is no program yet")
-        if problem := self._problem_of(each.condition):
+        if problem := self._problem_of(each.wanted):
             return replace(blank, problem=problem)
         match each.wanted:
             case SourceBreakpoint(line):
@@ -195,7 +206,7 @@ class Breakpoints:
     def _found_address(self, blank: Breakpoint, program: Program, reference: str, offset: int) -> Breakpoint:
         """As `_found`, of an address."""
         try:
-            address = self._address_of(reference) + offset
+            address = self._address_of(reference, offset)
         except LabError as error:
             return replace(blank, problem=str(error))
         if address % 4 or not 0 <= address < 1 << 48:

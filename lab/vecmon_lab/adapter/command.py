@@ -4,6 +4,7 @@ import argparse
 import os
 
 from ..arguments import between
+from ..end_signals import ended_by_signals
 from ..output import write_out
 from ..port import HOST, one_client
 from .session import Session
@@ -18,9 +19,10 @@ def add_arguments(parser: argparse.ArgumentParser) -> None:
 
 def run(arguments: argparse.Namespace) -> int:
     """Serve a client until it ends the session. Raises LabError for input that has no requests, and OSError if the port is taken."""
-    if arguments.port is None:
-        Session(Wire(os.dup(0), write_out)).serve()
+    with ended_by_signals():
+        if arguments.port is None:
+            Session(Wire(os.dup(0), write_out)).serve()
+            return 0
+        with one_client(arguments.port) as connection:
+            Session(Wire(connection.fileno(), connection.sendall)).serve()
         return 0
-    with one_client(arguments.port) as connection:
-        Session(Wire(connection.fileno(), connection.sendall)).serve()
-    return 0

@@ -21,7 +21,8 @@ from .vectors import group_at
 
 _VECTOR = re.compile(r"v(\d|[12]\d|3[01])")
 _COMMAND = re.compile(r"(why|help)\b\s*(.*)")
-_NUMBER = re.compile(r"(?:0[xX][0-9a-fA-F]+|[0-9]+)")
+_NUMBER = re.compile(r"0[xX][0-9a-fA-F]+|[0-9]+")
+_MAX_DIGITS = 20  # of a decimal number with 64 bits
 
 
 @dataclass(frozen=True)
@@ -36,14 +37,23 @@ def address_of(program: Program, text: str) -> int:
     name, sign, offset = text.strip().partition("+")
     if sign and not _NUMBER.fullmatch(offset.strip()):
         raise LabError(f"{text.strip()} is no address: 0x10000 and main+8 are some")
-    more = int(offset, 0) if sign else 0
+    more = _number(offset.strip()) if sign else 0
     if _NUMBER.fullmatch(name):
-        return int(name, 0) + more
+        return _number(name) + more
     if len(places := program.symbols.places_of.get(name, ())) > 1:
         raise LabError(f"{name} names {len(places)} places: {', '.join(f'{at:#x}' for at in sorted(places))}")
     if name not in program.symbols.addresses:
         raise LabError(f"there is no symbol {name}")
     return program.symbols.addresses[name] + more
+
+
+def _number(text: str) -> int:
+    """The number of digits, which are hexadecimal after 0x. Raises LabError."""
+    if text[:2] in ("0x", "0X"):
+        return int(text, 16)
+    if len(text) > _MAX_DIGITS:
+        raise LabError("an address has 64 bits, and a number has more digits than that")
+    return int(text)
 
 
 def evaluate(instant: Instant, frame: Frame, text: str, context: str, is_hex: bool) -> Item:

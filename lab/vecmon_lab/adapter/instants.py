@@ -95,16 +95,14 @@ class Instant:
         """The instruction that was executed last; None if there was none. Raises LabError."""
         guest, stop = self.program.guest, self._stop
         if stop and stop.kind == "fault":
-            return self._last(guest.pc, self.registers, "illegal" if stop.cause == ILLEGAL else "fault")
+            return self._last(guest, self.registers, "illegal" if stop.cause == ILLEGAL else "fault")
         with self.program.timeline.before(self._is_due) as earlier:
-            if earlier is None:
-                return None
-            before = _registers(earlier)
-            return self._last(earlier.pc, before, "ran")
+            return self._last(earlier, _registers(earlier), "ran") if earlier else None
 
-    def _last(self, pc: int, before: Registers, end: End) -> LastInstruction:
-        guest, now = self.program.guest, self.registers
-        word, text = guest.word_at(pc)
+    def _last(self, earlier: Guest, before: Registers, end: End) -> LastInstruction:
+        """The instruction that was next at an earlier instant, or that is at a fault. Its word may have been overwritten since."""
+        guest, now, pc = self.program.guest, self.registers, earlier.pc
+        word, text = earlier.word_at(pc)
         executed, explanation = None, None
         if vector_instruction(word, before.control.vtype):
             state = Before(pc, word, before.x, before.control, bytes(before.v), False)

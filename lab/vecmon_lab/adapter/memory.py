@@ -64,6 +64,8 @@ def disassemble(
     """
     if not 0 <= count <= MAX_INSTRUCTIONS:
         raise BadArguments(f"instructionCount is 0 to {MAX_INSTRUCTIONS:,}")
+    if abs(start) >= 1 << 64:
+        raise BadArguments(f"there is no instruction at {start:#x}: addresses have 64 bits")
     addresses: Sequence[int] = range(start, start + 4 * count, 4)
     inside = [address for address in addresses if 0 <= address < _ADDRESSES]
     words = program.words(inside)

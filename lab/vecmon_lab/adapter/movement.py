@@ -100,7 +100,7 @@ class Movement:
     def step(self, kind: StepKind, by_lines: bool) -> Halt:
         """Step the program by a line, or by an instruction, into calls or over them; or out of the present function."""
         if kind == "out":
-            return self._moved(self._step_out)
+            return self._moved(lambda: self._step_out() or (self._to_line() if by_lines else None))
         return self._moved(lambda: self._step_line(kind == "over") if by_lines else self._step_call(kind == "over"))
 
     def back(self, by_lines: bool) -> Halt:
@@ -311,6 +311,16 @@ class Movement:
             if halt := self._step_call(True):
                 return halt
         return self._step_once()
+
+    def _to_line(self) -> Halt | None:
+        """Execute instructions up to one that has a line, if this one has none in a function that has lines."""
+        function, stack = self._program.place(self._guest.pc).partition("+")[0], self._frames()[0].stack
+        if function not in self._program.symbols.source.functions or stack is None:
+            return None
+        while self._line() is None and self._stack() < stack:
+            if halt := self._step_part(True, None):
+                return halt
+        return None
 
     def _leave_copy(self, number: int) -> Halt | None:
         """Execute instructions up to one outside an inlined copy."""

@@ -66,6 +66,7 @@ class SourceBreakpoint:
 
     line: int
     condition: str = ""
+    hit_condition: str = ""
     log_message: str = ""
 
 
@@ -92,6 +93,7 @@ class FunctionBreakpoint:
 
     name: str
     condition: str = ""
+    hit_condition: str = ""
 
 
 @dataclass(frozen=True)
@@ -108,6 +110,7 @@ class InstructionBreakpoint:
     instruction_reference: str
     offset: int = 0
     condition: str = ""
+    hit_condition: str = ""
 
 
 @dataclass(frozen=True)
@@ -135,6 +138,7 @@ class DataBreakpoint:
     data_id: str
     access_type: Literal["read", "write", "readWrite"] = "write"
     condition: str = ""
+    hit_condition: str = ""
 
 
 @dataclass(frozen=True)

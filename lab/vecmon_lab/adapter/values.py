@@ -5,6 +5,7 @@ import re
 from .. import LabError
 
 _NUMBER = re.compile(r"[+-]?(?:0[xX][0-9a-fA-F]+|0[bB][01]+|[0-9]+)")
+_MAX_LETTERS = 100  # of a number, which then has more than 64 bits
 _CHARACTER = re.compile(r"'(\\?.)'")
 
 
@@ -43,8 +44,8 @@ def read_number(text: str, bits: int) -> int:
     word, *_ = [*text.strip().split(), ""]
     if character := _CHARACTER.fullmatch(text.strip()):
         return ord(character[1][-1]) & (1 << bits) - 1
-    if not _NUMBER.fullmatch(word):
-        raise LabError(f"{text.strip()} is no number: 12, -3 and 0xff are some")
+    if len(word) > _MAX_LETTERS or not _NUMBER.fullmatch(word):
+        raise LabError(f"{text.strip()[:_MAX_LETTERS]} is no number: 12, -3 and 0xff are some")
     number = int(word, 10 if re.fullmatch("[+-]?[0-9]+", word) else 0)
     if not -(1 << bits - 1 if bits > 1 else 0) <= number < 1 << bits:
         raise LabError(f"{word} needs more than {bits} bit{'s' * (bits > 1)}")

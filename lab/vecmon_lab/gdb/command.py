@@ -18,6 +18,7 @@ from collections.abc import Callable, Iterator, Sequence
 from .. import LabError
 from ..arguments import SOURCES, add_program, between
 from ..assembler.commands import explain_refusal
+from ..end_signals import ended_by_signals
 from ..guest.guest import Guest, started
 from ..guest.input import input_of
 from ..guest.runner import Reporter
@@ -67,10 +68,11 @@ def add_arguments(parser: argparse.ArgumentParser) -> None:
 
 def run(arguments: argparse.Namespace) -> int:
     """Serve gdb until it disconnects. Raises LabError and OSError for a bad image, and OSError for a port that is taken."""
-    if arguments.port is None:
-        return _serve(arguments, Link())
-    with one_client(arguments.port) as connection:
-        return _serve(arguments, Link(connection.fileno(), connection.sendall))
+    with ended_by_signals():
+        if arguments.port is None:
+            return _serve(arguments, Link())
+        with one_client(arguments.port) as connection:
+            return _serve(arguments, Link(connection.fileno(), connection.sendall))
 
 
 def _serve(arguments: argparse.Namespace, link: Link) -> int:
