@@ -19,6 +19,7 @@ recorder = crates/vecmon_record/out/vecmon_record
 site =
 
 lab_files = lab/vecmon_lab/py.typed $(filter-out %.pyc, $(wildcard lab/vecmon_lab/*.py lab/vecmon_lab/*.txt lab/vecmon_lab/*/*.* \
+    lab/vecmon_lab/*/*/*.py lab/vecmon_lab/page/web/*.* lab/vecmon_lab/page/web/*/*.* \
     lab/vecmon_lab/compilers/runtime/* lab/vecmon_lab/tables/meanings/* lab/vecmon_lab/exercises/given/*/*.* lab/vecmon_lab/exercises/given/*/wrong/* \
     lab/vecmon_lab/lessons/tours/* lab/examples/*.* lab/examples/*/*.*)) \
     $(filter-out %/good %/short, $(wildcard tests/command_lines/data/images/*))

@@ -101,7 +101,7 @@ def lab_table() -> Iterator[str]:
     yield "| lab | lines |\n|---|---|"
     yield row("`vecmon_lab/*.py`", [folder_lines("vecmon_lab", "*.py")])
     for room in rooms:
-        yield row(f"`vecmon_lab/{room}/*.py`", [folder_lines(f"vecmon_lab/{room}", "*.py")])
+        yield row(f"`vecmon_lab/{room}/**/*.py`", [folder_lines(f"vecmon_lab/{room}", "**/*.py")])
     yield row("all of them", [folder_lines("vecmon_lab", "**/*.py")])
     yield row("HTML, CSS and JavaScript", [folder_lines("vecmon_lab", "**/*.[hcj]*[ls]", page_lines)])
     for folder in ("tests", "support", "tools"):

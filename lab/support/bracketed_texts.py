@@ -2,7 +2,7 @@
 
 from collections.abc import Mapping
 
-from vecmon_lab.page import texts
+from vecmon_lab.page.build import texts
 
 IMPORT = "from support.bracketed_texts import bracket_texts; bracket_texts(); "
 READ = texts.read_texts

@@ -6,8 +6,8 @@ import subprocess
 from collections.abc import Sequence
 from typing import Any
 
-from vecmon_lab.page.modules import join_modules
-from vecmon_lab.page.pages import page_file
+from vecmon_lab.page.build.modules import join_modules
+from vecmon_lab.page.build.pages import WEB, page_file
 
 NAMES = {
     "columns": "columnsOf, fit, stripsOf",
@@ -48,9 +48,8 @@ def shown_columns(views: Sequence[Any], folder: pathlib.Path) -> list[dict[str, 
     folder: for the script
     """
     script = folder / "shown.js"
-    script.write_text(
-        join_modules("shown", lambda name: IMPORTS + SHOWN if name == script.name else page_file(name)), "utf-8"
-    )
+    entry = str(WEB / "elements" / script.name)
+    script.write_text(join_modules(entry, lambda path: IMPORTS + SHOWN if path == entry else page_file(path)), "utf-8")
     done = subprocess.run(["node", str(script)], input=json.dumps(views), stdout=subprocess.PIPE, text=True, check=True)
     found: list[dict[str, Any]] = json.loads(done.stdout)
     return found

@@ -1,6 +1,6 @@
 """Write the JSON Schema and the TypeScript declarations of a class's messages from their Python types: `python -m support.message_types`.
 
-It writes docs/CLASS_PROTOCOL.schema.json and lab/vecmon_lab/page/messages.d.ts.
+It writes docs/CLASS_PROTOCOL.schema.json and lab/vecmon_lab/page/web/messages.d.ts.
 """
 
 import inspect
@@ -19,7 +19,7 @@ from vecmon_lab.lessons.page import LessonData
 from vecmon_lab.playground.page_desk import PageHello
 
 SCHEMA = TOP / "docs" / "CLASS_PROTOCOL.schema.json"
-DECLARATIONS = TOP / "lab" / "vecmon_lab" / "page" / "messages.d.ts"
+DECLARATIONS = TOP / "lab" / "vecmon_lab" / "page" / "web" / "messages.d.ts"
 ROOTS: Mapping[str, Any] = {
     "StudentRequestForm": StudentRequestForm,
     "TeacherRequestForm": TeacherRequestForm,

@@ -1,7 +1,8 @@
-"""The rooms of the lab and the modules of a class, as in docs/ARCHITECTURE.md: each uses only those above it."""
+"""The rooms of the lab, modules of a class and folders of pages, as in docs/ARCHITECTURE.md: each uses only those above it."""
 
 import ast
 import pathlib
+import re
 from collections.abc import Sequence
 
 from support.architecture import names_in
@@ -52,3 +53,13 @@ def test_class_modules_import_only_modules_above() -> None:
     assert misplaced(core + server) == []
     assert misplaced([*core[:-2], core[-1], core[-2]]) == [CORE[-1]]
     assert misplaced([*server, *core])
+
+
+def test_folders_of_pages_import_only_folders_above() -> None:
+    """JavaScript of pages, and its types."""
+    order = names_in("### The pages")
+    web = LAB / "page" / "web"
+    assert sorted(order) == sorted(path.name for path in web.iterdir() if path.is_dir())
+    for path in web.rglob("*.js"):
+        place = order.index(path.parent.name)
+        assert set(re.findall(r'"\.\./(\w+)/\w+(?:\.js)?"', path.read_text("utf-8"))) <= set(order[:place]), path

@@ -14,7 +14,7 @@ from support.documents import Block, Chain, blocks_of, chains_of, misplaced
 from support.skips import NO_TOOL, leave_out
 from support.places import SUM, TOP
 from vecmon_lab.machine.program import find_recorder
-from vecmon_lab.page.pages import page_file
+from vecmon_lab.page.build.pages import PAGES as PAGE_FILES, page_file
 
 PAGES = [TOP / "README.md", TOP / "CONTRIBUTING.md", *sorted((TOP / "docs").glob("*.md"))]
 OPTIONAL = {"parallel", "riscv64-linux-gnu-gcc", "riscv64-unknown-elf-gcc"}
@@ -153,4 +153,6 @@ def test_examples_command_copies_examples(lab: Lab, tmp_path: pathlib.Path) -> N
 
 def test_sources_page_has_the_functions_that_print_numbers() -> None:
     """*File …*, *Print numbers* adds the same text."""
-    assert f"```text\n{page_file('number_output.s')}```\n" in (TOP / "docs" / "SOURCES.md").read_text("utf-8")
+    assert f"```text\n{page_file(PAGE_FILES / 'number_output.s')}```\n" in (TOP / "docs" / "SOURCES.md").read_text(
+        "utf-8"
+    )

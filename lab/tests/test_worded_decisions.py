@@ -25,7 +25,7 @@ EXCEPTIONS = {  # the files with such decisions, and the reason for each
     "lab/vecmon_lab/classes/core/live.py": "the mark of the server's own lines, which the same module writes",
     "lab/vecmon_lab/classes/core/requests.py": "a message is a mapping there, and its keys are tested",
     "lab/vecmon_lab/meanings/describe.py": "a search for a reader's words",
-    "lab/vecmon_lab/page/lines.js": "a field in which a person types lines; the next test compares its commands",
+    "lab/vecmon_lab/page/web/seat/lines.js": "a field in which a person types lines; the next test compares its commands",
     "lab/support/golden_equations.py": "the independent reader of sentences that are shown",
 }
 
@@ -48,7 +48,9 @@ def test_no_module_decides_by_words() -> None:
 
 def test_page_takes_labels_in_commands_that_start_with_an_address() -> None:
     forms = [form.split() for section, form, *_ in read_table("commands") if not section.startswith("Commands of")]
-    (listed,) = re.findall(r"\^\(\\s\*\(\?:([a-z|]+)\)", (TOP / "lab/vecmon_lab/page/lines.js").read_text("utf-8"))
+    (listed,) = re.findall(
+        r"\^\(\\s\*\(\?:([a-z|]+)\)", (TOP / "lab/vecmon_lab/page/web/seat/lines.js").read_text("utf-8")
+    )
     assert listed.split("|") == sorted(name for name, *arguments in forms if arguments[:1] == ["ADDR"])
 
 

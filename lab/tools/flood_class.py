@@ -22,7 +22,7 @@ from support.class_tabs import Served, Tab, process
 
 SECONDS, SOCKETS, STUDENTS = 20.0, 1200, 12
 SIT_SECONDS, MEDIAN_SECONDS = 1.0, 0.050
-FIRST_PAUSE = 0.5  # seconds; of a page after its connection has ended (page/connection.js)
+FIRST_PAUSE = 0.5  # seconds; of a page after its connection has ended (page/web/common/connection.js)
 RELOAD_SECONDS = 5.0
 CLOSE = {"Connection": "close"}
 FRAGMENTS = b"\x01\x80\0\0\0\0" + b"\x00\x80\0\0\0\0" * 10_000

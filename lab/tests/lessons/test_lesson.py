@@ -25,7 +25,7 @@ from vecmon_lab.lessons.page import lesson_page
 from vecmon_lab.lessons.script import read_assembled, read_script
 from vecmon_lab.lessons.tour import TOURS, tours
 from vecmon_lab.machine.session import Session
-from vecmon_lab.page.pages import FILES, merge_patch
+from vecmon_lab.page.build.pages import PAGES, WEB, merge_patch
 from vecmon_lab.tables.table import read_table
 
 
@@ -256,8 +256,8 @@ def test_merge_patch_restores_new_state(old: dict[str, Any], new: dict[str, Any]
 
 
 def test_page_files_do_not_close_their_elements() -> None:
-    paths = list(FILES.glob("*.js"))
-    assert FILES / "lesson.js" in paths
+    paths = list(WEB.rglob("*.js"))
+    assert PAGES / "lesson.js" in paths
     for path in paths:
         assert "</script" not in path.read_text("utf-8") and "<!--" not in path.read_text("utf-8")
         assert not re.search(r"innerHTML|outerHTML|insertAdjacentHTML|document\.write", path.read_text("utf-8"))

@@ -10,16 +10,18 @@ import pytest
 
 from vecmon_lab import LabError
 from vecmon_lab.__main__ import arguments_of
-from vecmon_lab.page.modules import join_modules
-from vecmon_lab.page.pages import FILES, PIECES, Page, page_with_data, page_file
+from vecmon_lab.page.build.modules import join_modules
+from vecmon_lab.page.build.pages import CODEMIRROR, PAGES, PIECES, WEB, Page, page_with_data, page_file
 
-PAGES = sorted(
-    path.stem for path in FILES.glob("*.html") if path.stem not in PIECES and path.with_suffix(".js").exists()
+NAMES = sorted(
+    path.stem for path in PAGES.glob("*.html") if path.stem not in PIECES and path.with_suffix(".js").exists()
 )
+FILES = {path.stem: path for path in [CODEMIRROR, *WEB.rglob("*.js")]}
 FILE = {
-    "main.js": 'import { half } from "./numbers.js";\nimport { say, Loud } from "./words.js";\n\nsay(half(4));\n',
+    "pages/main.js": 'import { half } from "../numbers.js";\nimport { say, Loud } from "../said/words.js";\n\nsay(half(4));\n',
     "numbers.js": "// Numbers.\n// Some copyright\n\nexport const half = (number) => number / 2;\nconst own = 1;\n",
-    "words.js": 'import { half } from "./numbers.js";\n\nexport function say() {}\nexport class Loud {}\n',
+    "said/numbers.js": "export const twice = 2;\n",
+    "said/words.js": 'import { half } from "../numbers.js";\n\nexport function say() {}\nexport class Loud {}\n',
 }
 JOINED = """\
 const $numbers = (() => {
@@ -77,40 +79,43 @@ class Elements(html.parser.HTMLParser):
 
 
 def test_modules_are_joined_in_import_order() -> None:
-    assert join_modules("main", FILE.__getitem__) == JOINED
+    assert join_modules("pages/main.js", FILE.__getitem__) == JOINED
 
 
 @pytest.mark.parametrize(
     "name, text, expected",
     [
-        ("numbers.js", 'import { say } from "./words.js";\nexport const half = 1;\n', "numbers, words, numbers"),
+        ("numbers.js", 'import { say } from "./said/words.js";\nexport const half = 1;\n', "numbers, words, numbers"),
         ("numbers.js", 'import { half } from "./numbers.js";\n', "numbers, numbers"),
         ("numbers.js", "const half = 2;\n", "main.js imports what numbers.js doesn't export: half"),
-        ("words.js", "export const say = 1;\n", "main.js imports what words.js doesn't export: Loud"),
+        ("said/words.js", "export const say = 1;\n", "main.js imports what words.js doesn't export: Loud"),
+        (
+            "said/words.js",
+            'import { twice } from "./numbers.js";\nexport const say = twice;\nexport class Loud {}\n',
+            "two modules have the same name: numbers.js, said/numbers.js",
+        ),
     ],
 )
 def test_unjoinable_module_is_refused(name: str, text: str, expected: str) -> None:
     with pytest.raises(ValueError, match=re.escape(expected)):
-        join_modules("main", (FILE | {name: text}).__getitem__)
+        join_modules("pages/main.js", (FILE | {name: text}).__getitem__)
 
 
-@pytest.mark.parametrize("name", PAGES)
+@pytest.mark.parametrize("name", NAMES)
 def test_page_has_every_module_once_after_its_imports(name: str) -> None:
-    script = join_modules(name, page_file)
+    script = join_modules(str(PAGES / f"{name}.js"), page_file)
     modules = re.findall(r"^const \$(\w+) = ", script, re.MULTILINE)
     assert not re.search(r"^\s*(import|export)\b", script, re.MULTILINE)  # of another form than those that are joined
     assert modules[-1] == name and len(modules) == len(set(modules)) > 1
     for place, module in enumerate(modules):
-        imported = re.findall(r'^import .* from "\./(\w+)\.js";$', page_file(f"{module}.js"), re.MULTILINE)
+        imported = re.findall(r'^import .* from ".*/(\w+)\.js";$', page_file(FILES[module]), re.MULTILINE)
         assert set(imported) <= set(modules[:place])
 
 
 def test_every_module_is_used_by_page() -> None:
-    assert {"class", "lesson", "profile"} <= set(PAGES)
-    scripts = "".join(join_modules(name, page_file) for name in PAGES)
-    assert {"codemirror", *(path.stem for path in FILES.glob("*.js"))} == set(
-        re.findall(r"^const \$(\w+) = ", scripts, re.MULTILINE)
-    )
+    assert {"class", "lesson", "profile"} <= set(NAMES)
+    scripts = "".join(join_modules(str(PAGES / f"{name}.js"), page_file) for name in NAMES)
+    assert set(FILES) == set(re.findall(r"^const \$(\w+) = ", scripts, re.MULTILINE))
 
 
 def test_missing_library_of_editor_is_reported(monkeypatch: pytest.MonkeyPatch, tmp_path: pathlib.Path) -> None:
@@ -128,7 +133,7 @@ def test_missing_library_of_editor_is_reported(monkeypatch: pytest.MonkeyPatch, 
     assert not (tmp_path / "class").exists()
 
 
-@pytest.mark.parametrize("name", PAGES)
+@pytest.mark.parametrize("name", NAMES)
 def test_content_policy_names_one_script(name: str) -> None:
     page = Page(name)
     texts = [page.text("x"), page_with_data(name, "x", ["</script><script>alert(1)</script>"])]
@@ -151,4 +156,6 @@ def named(text: str) -> str:
 def test_documentation_is_left_out() -> None:
     """Comments on lines of their own and types aren't in the script; the code after a type is."""
     code = "const twice = (one) => (2 * one);\nclass Some {\n  used = new Set();\n}\n"
-    assert join_modules("main", lambda name: DOCUMENTED) == f"const $main = (() => {{\n{code}return {{  }};\n}})();\n"
+    assert (
+        join_modules("main.js", lambda path: DOCUMENTED) == f"const $main = (() => {{\n{code}return {{  }};\n}})();\n"
+    )

@@ -4,7 +4,7 @@ import json
 import re
 
 from support.places import DOCS
-from vecmon_lab.page.reference import reference, reference_text
+from vecmon_lab.page.build.reference import reference, reference_text
 
 
 def test_reference_lists_manual_entries() -> None:

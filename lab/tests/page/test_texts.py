@@ -10,12 +10,12 @@ import pytest
 
 from prose_texts import c_blocks
 from support.text_keys import DECLARATIONS
-from vecmon_lab.page import texts
-from vecmon_lab.page.modules import join_modules
-from vecmon_lab.page.pages import FILES, Page, page_file
+from vecmon_lab.page.build import texts
+from vecmon_lab.page.build.modules import join_modules
+from vecmon_lab.page.build.pages import WEB, Page, page_file
 from vecmon_lab.tables.table import read_table
 
-LAB = FILES.parent
+LAB = WEB.parents[1]
 TABLES = sorted(path.stem for path in (LAB / "tables").glob("texts.*.txt"))
 SOURCES = {
     path: path.read_text("utf-8") for path in sorted([*LAB.rglob("*.html"), *LAB.rglob("*.js"), *LAB.rglob("*.py")])
@@ -46,7 +46,7 @@ TABLE = {
         ["step.many", "{count} kroków"],
     ],
 }
-SCRIPT = """import { contentOf, textOf } from "./texts.js";
+SCRIPT = """import { contentOf, textOf } from "./common/texts.js";
 const counts = [1, 3, 5].map((count) => textOf("step", { count }));
 const pieces = contentOf(
   "stop", { line: /** @type {any} */ ({ node: 7 }) });
@@ -165,7 +165,8 @@ def test_markup_of_html(language: str) -> None:
 )
 def test_texts_of_scripts(language: str, steps: list[str]) -> None:
     """Plural forms of English and Polish; a text that the table of a language lacks is English."""
-    script = join_modules("main", lambda name: texts.fill(name, SCRIPT) if name == "main.js" else page_file(name))
+    entry = str(WEB / "main.js")
+    script = join_modules(entry, lambda path: texts.fill(path, SCRIPT) if path == entry else page_file(path))
     done = subprocess.run(["node", "-e", script], stdout=subprocess.PIPE, text=True, check=True)
     stop = '"Stopped & <em>ended</em> at `7`.",["Stopped & <em>ended</em> at `",{"node":7},"`."],"late"]'
     assert done.stdout == f"[{str(steps).replace(chr(39), chr(34)).replace(', ', ',')},{stop}\n"

@@ -20,7 +20,7 @@ from vecmon_lab.lessons.series import Entry
 from vecmon_lab.lessons.series_links import Series
 from vecmon_lab.lessons.strip import Strip
 from vecmon_lab.lessons.tour import tour_page
-from vecmon_lab.page import pages, texts
+from vecmon_lab.page.build import pages, texts
 from vecmon_lab.runs.callers import CallFrame
 from vecmon_lab.runs.profile_page import profile_page
 from vecmon_lab.runs.tick_profile import Table, TableRow

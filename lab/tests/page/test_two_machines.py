@@ -1,12 +1,13 @@
 """Two machines on one page: the panels of each find their elements below their own root."""
 
 import json
+import os.path
 import pathlib
 from typing import TYPE_CHECKING
 
 import pytest
 
-from vecmon_lab.page.pages import Page
+from vecmon_lab.page.build.pages import WEB, Page
 
 if TYPE_CHECKING:
     from selenium.webdriver import Chrome
@@ -19,8 +20,8 @@ $bench
 <script type="application/json" id="data">$data</script>
 """
 SCRIPT = """\
-import { byId } from "./elements.js";
-import { MachineView } from "./view.js";
+import { byId } from "WEB/common/dom.js";
+import { MachineView } from "WEB/panels/view.js";
 
 for (const [place, state] of JSON.parse(byId("data").textContent).entries()) {
   const root = document.querySelectorAll(".host")[place].attachShadow({ mode: "open" });
@@ -54,7 +55,7 @@ def state(x5: str, line: str, output: str) -> dict[str, object]:
 def pair(browser: "Chrome", tmp_path: pathlib.Path) -> "Chrome":
     """A page with two machines, each in a shadow tree of its own."""
     (tmp_path / "pair.html").write_text(BODY, "utf-8")
-    (tmp_path / "pair.js").write_text(SCRIPT, "utf-8")
+    (tmp_path / "pair.js").write_text(SCRIPT.replace("WEB", os.path.relpath(WEB, tmp_path)), "utf-8")
     states = [state("7", "00128293 addi x5, x5, 1", "61"), state("1f", "00730313 addi x6, x6, 7", "62")]
     (tmp_path / "page.html").write_text(Page("pair", tmp_path).text("x", json.dumps(states)), "utf-8")
     browser.get((tmp_path / "page.html").as_uri())

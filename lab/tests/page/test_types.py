@@ -3,9 +3,9 @@
 import html.parser
 import re
 
-from vecmon_lab.page.pages import FILES
+from vecmon_lab.page.build.pages import PAGES, WEB
 
-WEB = FILES.parent / "playground" / "web"
+PLAYGROUND = WEB.parents[1] / "playground" / "web"
 KINDS = {  # HTML Living Standard, section 3: the interface of each kind of element
     "a": "HTMLAnchorElement",
     "button": "HTMLButtonElement",
@@ -44,9 +44,9 @@ class Ids(html.parser.HTMLParser):
 
 def test_declared_parts_are_those_of_pages() -> None:
     pages = Ids()
-    for path in sorted([*FILES.glob("*.html"), *WEB.glob("*.html")]):
+    for path in sorted([*PAGES.glob("*.html"), *PLAYGROUND.glob("*.html")]):
         pages.feed(path.read_text("utf-8"))
-    text = (FILES / "parts.d.ts").read_text("utf-8").partition("export type Parts =")[2]
+    text = (WEB / "parts.d.ts").read_text("utf-8").partition("export type Parts =")[2]
     declared = {
         name: set(kinds.split(" | "))
         for kinds, names in GROUP.findall(text)

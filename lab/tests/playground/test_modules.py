@@ -1,6 +1,7 @@
 """Modules of the page under node: links that carry sources, and files of exported work, malformed ones among them."""
 
 import json
+import pathlib
 import shutil
 import subprocess
 from typing import Any
@@ -9,20 +10,20 @@ import pytest
 
 from support.skips import NO_NODE, leave_out
 from support.places import TOP
-from vecmon_lab.page.modules import join_modules
-from vecmon_lab.page.pages import page_file
+from vecmon_lab.page.build.modules import join_modules
+from vecmon_lab.page.build.pages import WEB, page_file
 
-WEB = TOP / "lab" / "vecmon_lab" / "playground" / "web"
+PLAYGROUND = TOP / "lab" / "vecmon_lab" / "playground" / "web"
 OPTIONS = '{options: [{text: "assembler"}, {text: "C, O2"}]}'
 
 pytestmark = pytest.mark.site
 
 
-def evaluated(module: str, script: str) -> Any:
+def evaluated(module: pathlib.Path, script: str) -> Any:
     """The JSON output of a script, in which the module is `it`."""
     if not shutil.which("node"):
         leave_out(NO_NODE)
-    whole = f"{join_modules(module, lambda name: page_file(name, WEB))}const it = ${module}; {script}"
+    whole = f"{join_modules(str(module), page_file)}const it = ${module.stem}; {script}"
     done = subprocess.run(["node", "--input-type=module"], input=whole, stdout=subprocess.PIPE, text=True, check=True)
     return json.loads(done.stdout)
 
@@ -43,7 +44,7 @@ def test_links() -> None:
         console.log(JSON.stringify([it.sourceOf(link, {OPTIONS}), /^#source=[\\w-]+$/.test(link),
             it.linkOf({{text: "x".repeat(90000), language: 0}}, {OPTIONS}), ...{json.dumps(hashes)}.map((hash) => it.sourceOf(hash, {OPTIONS}))]));
     """
-    source, is_plain, *others = evaluated("links", script)
+    source, is_plain, *others = evaluated(WEB / "editor" / "links.js", script)
     assert (source, is_plain) == ({"text": text, "language": 1}, True) and others == [None] * 7
 
 
@@ -66,7 +67,7 @@ def test_files_of_exported_work() -> None:
         await it.textsOf({{size: 1e9, name: "large.json"}}).catch((error) => refusals.push(error.message));
         console.log(JSON.stringify([await it.textsOf(file), refusals]));
     """
-    found, refusals = evaluated("kept_work", script)
+    found, refusals = evaluated(PLAYGROUND / "kept_work.js", script)
     assert found == {name: entry for name, entry in texts.items() if name.startswith(("A1", "sources"))}
     assert refusals == [
         "work.json isn't a file of exported work.",

@@ -20,7 +20,7 @@ from vecmon_lab.lessons.frames import make_frames
 from vecmon_lab.lessons.script import read_assembled, send
 from vecmon_lab.machine.answers import ScalarRegisters
 from vecmon_lab.machine.session import Session
-from vecmon_lab.page.pages import page_file
+from vecmon_lab.page.build.pages import PAGES, page_file
 from vecmon_lab import LabError
 
 CALLS = """# A function with a prologue and an epilogue before main, as compilers write them.
@@ -169,7 +169,7 @@ def test_functions_that_print_numbers(lab: Lab, tmp_path: pathlib.Path) -> None:
     )
     line = "line: li a0, 1\nla a1, newline\nli a2, 1\nli a7, 64\necall\nret\n.data\nnewline: .byte 10\n.text\n"
     path = tmp_path / "own.s"
-    path.write_text(f"main: {calls}li a7, 93\nli a0, 0\necall\n{line}{page_file('number_output.s')}", "utf-8")
+    path.write_text(f"main: {calls}li a7, 93\nli a0, 0\necall\n{line}{page_file(PAGES / 'number_output.s')}", "utf-8")
     texts = [text for number in NUMBERS for text in printed(number)]
     assert lab("run", path) == (0, "".join(f"{text}\n" for text in texts).encode(), "")
 

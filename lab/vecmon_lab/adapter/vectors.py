@@ -11,7 +11,7 @@ from ..guest.guest import Guest
 from ..instructions.accesses import REGISTER_BYTES
 from ..machine.answers import ControlRegisters, Refused, elements_in
 from ..meanings.instruction import ExecutedInstruction
-from ..page.texts import LANGUAGE, read_texts
+from ..page.build.texts import LANGUAGE, read_texts
 from .instants import Instant
 from .values import read_number
 

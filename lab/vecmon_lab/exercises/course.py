@@ -10,9 +10,9 @@ from ..lessons.series import Entry, make_series
 from ..lessons.series_links import lesson_link, read_mark
 from ..lessons.strip import strip_picture
 from ..machine.program import find_program
-from ..page.html_elements import Html, content_of, element, joined, prose
-from ..page.pages import filled_page, write_pages
-from ..page.texts import html_text, page_text
+from ..page.build.html_elements import Html, content_of, element, joined, prose
+from ..page.build.pages import filled_page, write_pages
+from ..page.build.texts import html_text, page_text
 from ..tables.table import read_table
 from .check import script_before
 from .exercise import OURS, Exercise, read_exercise

@@ -7,7 +7,7 @@ from typing import TypedDict
 
 from ..assembler.data_runs import DataRun
 from ..assembler.source import Program
-from ..page.texts import page_text
+from ..page.build.texts import page_text
 from .frames import Frame
 from .script import Script
 

@@ -12,9 +12,9 @@ from itertools import islice, pairwise
 from ..compilers.compiled import CompiledProgram, read_compiled_program
 from ..guest.guest import Guest
 from ..machine.session import Session
-from ..page.html_elements import Html, cell, element, elements_bar, joined, legend
-from ..page.pages import filled_page
-from ..page.texts import page_text
+from ..page.build.html_elements import Html, cell, element, elements_bar, joined, legend
+from ..page.build.pages import filled_page
+from ..page.build.texts import page_text
 from ..runs.initial_state import initial_state_at
 from ..runs.counts import CountedWord
 from ..runs.profile import summary_of

@@ -4,8 +4,8 @@ from collections.abc import Mapping, Sequence
 from typing import NotRequired, TypedDict
 
 from ..compilers.compiled import CompiledProgram
-from ..page.html_elements import Html, element, joined, prose
-from ..page.pages import merge_patch, page_with_data
+from ..page.build.html_elements import Html, element, joined, prose
+from ..page.build.pages import merge_patch, page_with_data
 from ..page.state import SourceNames
 from ..page.variables import shown_variables
 from .about import about

@@ -3,8 +3,8 @@
 from collections.abc import Sequence
 from typing import TypedDict
 
-from ..page.html_elements import Html, element, joined
-from ..page.texts import page_text
+from ..page.build.html_elements import Html, element, joined
+from ..page.build.texts import page_text
 
 
 class SeriesLesson(TypedDict):

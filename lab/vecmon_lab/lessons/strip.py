@@ -4,10 +4,10 @@ from collections.abc import Iterator, Sequence
 from itertools import pairwise
 from typing import TypedDict
 
-from ..page.html_elements import Html, content_of, element
+from ..page.build.html_elements import Html, content_of, element
 from ..page.register_groups import element_width
 from ..page.state import ABSENT, State
-from ..page.texts import page_text
+from ..page.build.texts import page_text
 from .frames import Frame
 
 VLEN, MAX_CELLS, MAX_WORDS = 256, 16, 6

@@ -10,9 +10,9 @@ from itertools import islice
 from ..compilers.variables import read_variables
 from ..machine.lines import is_look, words_of
 from ..machine.program import find_program
-from ..page.html_elements import Html, element, joined, prose
-from ..page.pages import filled_page, write_pages
-from ..page.texts import page_text
+from ..page.build.html_elements import Html, element, joined, prose
+from ..page.build.pages import filled_page, write_pages
+from ..page.build.texts import page_text
 from ..tables.table import read_table
 from .script import Script, Step, add_line, read_assembled
 from .series import Entry, make_series

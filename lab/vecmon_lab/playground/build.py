@@ -21,11 +21,11 @@ from ..lessons.frames import make_frames
 from ..lessons.script import read_assembled
 from ..machine.process import Vecmon
 from ..machine.program import find_program
-from ..page.modules import join_modules
-from ..page.pages import Page, merge_patch, page_file
-from ..page.reference import reference_text
+from ..page.build.modules import join_modules
+from ..page.build.pages import CONNECTION, Page, merge_patch, page_file
+from ..page.build.reference import reference_text
 from ..page.state import State
-from ..page.texts import page_text
+from ..page.build.texts import page_text
 from ..places import EXAMPLES
 
 WEB = pathlib.Path(__file__).with_name("web")
@@ -119,7 +119,7 @@ def playground(page: Page, entries: Mapping[str, object], words: str, connect: s
         ]
     )
     meta = f'<meta http-equiv="Content-Security-Policy" content="{html.escape(policy)}">'
-    worker = join_modules("worker", lambda name: page_file(name, WEB))
+    worker = join_modules(str(WEB / "worker.js"), page_file)
     return page.text(page_text("playground.page"), reference_text(), meta) + "".join(
         f'<script type="application/json" id="{name}">{_as_json(it)}</script>\n'
         for name, it in (("parts", {"files": entries, "about": words, "examples": examples()}), ("worker", worker))
@@ -128,7 +128,7 @@ def playground(page: Page, entries: Mapping[str, object], words: str, connect: s
 
 def build(folder: pathlib.Path, out: pathlib.Path) -> None:
     """Writes the pages. Raises LabError and OSError."""
-    parts, page = parts_of(folder), Page("class", WEB)
+    parts, page = parts_of(folder), Page("class", replaced={CONNECTION: WEB / "connection.js"})
     provenance = (folder / "PROVENANCE").read_text("utf-8")
     words = about(provenance)
     packed = {name: gzip.compress(part, 9, mtime=0) for name, part in parts.items()}

@@ -9,7 +9,7 @@ from collections.abc import Iterator
 from .. import LabError
 from ..arguments import add_image, check_outputs, image_path
 from ..guest.symbols import Symbols
-from ..page.texts import page_text
+from ..page.build.texts import page_text
 from ..tables.table import spreadsheet_row, table_lines
 from .counts import Counts
 from .profile_page import profile_page

@@ -3,9 +3,9 @@
 import itertools
 from collections.abc import Iterator, Sequence
 
-from ..page.html_elements import Html, bar, cell, element, elements_bar, joined, legend, share_text
-from ..page.pages import filled_page
-from ..page.texts import page_text
+from ..page.build.html_elements import Html, bar, cell, element, elements_bar, joined, legend, share_text
+from ..page.build.pages import filled_page
+from ..page.build.texts import page_text
 from .callers import CallFrame
 from .tick_profile import Table, TableRow
 

@@ -1,7 +1,7 @@
 // What a step did in words, by states written by hand.
 import assert from "node:assert/strict";
 import { test } from "node:test";
-import { announcementOf } from "../../../vecmon_lab/page/announcement.js";
+import { announcementOf } from "../../../vecmon_lab/page/web/panels/announcement.js";
 
 const registers = (/** @type {Record<string, string>} */ own = {}) =>
   ({ ...Object.fromEntries(Array.from({ length: 32 }, (_, number) => [number, "0"])), ...own });

@@ -1,7 +1,7 @@
 // The connection of a page: beats, requests that wait, and what is sent again.
 import assert from "node:assert/strict";
 import { test } from "node:test";
-import { Connection } from "../../../vecmon_lab/page/connection.js";
+import { Connection } from "../../../vecmon_lab/page/web/common/connection.js";
 
 const HELLO = { kind: "hello", who: "A1", time: 0 };
 

@@ -1,11 +1,11 @@
 // Merge patches, requests and their answers, lines of the monitor, entries of the transcript, and files of exported work.
 import assert from "node:assert/strict";
 import { test } from "node:test";
-import { nameOf } from "../../../vecmon_lab/page/connection.js";
-import { addressOfLabel, requestsOf, unfitLines, withAddresses } from "../../../vecmon_lab/page/lines.js";
-import { patched } from "../../../vecmon_lab/page/patches.js";
-import { Pending } from "../../../vecmon_lab/page/pending.js";
-import { entryParts } from "../../../vecmon_lab/page/transcript.js";
+import { nameOf } from "../../../vecmon_lab/page/web/common/connection.js";
+import { addressOfLabel, requestsOf, unfitLines, withAddresses } from "../../../vecmon_lab/page/web/seat/lines.js";
+import { patched } from "../../../vecmon_lab/page/web/common/patches.js";
+import { Pending } from "../../../vecmon_lab/page/web/common/pending.js";
+import { entryParts } from "../../../vecmon_lab/page/web/panels/transcript.js";
 import { isEntry, textsOf } from "../../../vecmon_lab/playground/web/kept_work.js";
 
 const RFC_7396 = [ // appendix A: the original, the patch and the result

@@ -1,7 +1,7 @@
 // The arrangement of panes that a browser keeps.
 import assert from "node:assert/strict";
 import { test } from "node:test";
-import { keptArrangement } from "../../../vecmon_lab/page/panes.js";
+import { keptArrangement } from "../../../vecmon_lab/page/web/panels/panes.js";
 
 const NONE = { sizes: {}, folded: {} };
 const kept = (text) => ((globalThis.localStorage = { getItem: () => text }), keptArrangement("panes"));

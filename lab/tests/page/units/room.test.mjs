@@ -2,7 +2,7 @@
 
 import assert from "node:assert/strict";
 import test from "node:test";
-import { roomText } from "../../../vecmon_lab/page/room.js";
+import { roomText } from "../../../vecmon_lab/page/web/editor/room.js";
 
 test("the room of a script is shown below a tenth of the share", () => {
   assert.equal(roomText({ of: 1500000, used: 2403 }), "");

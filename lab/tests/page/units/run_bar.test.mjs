@@ -2,7 +2,7 @@
 
 import assert from "node:assert/strict";
 import test from "node:test";
-import { keyOf, keyText } from "../../../vecmon_lab/page/keys.js";
+import { keyOf, keyText } from "../../../vecmon_lab/page/web/common/keys.js";
 
 /** A key that is pressed with others held: C for Ctrl, A for Alt, S for Shift, M for Meta. */
 const press = (key, code = key, held = "") =>

@@ -1,9 +1,9 @@
 // The search in the reference, on entries of several sections.
 import assert from "node:assert/strict";
 import { test } from "node:test";
-import { search } from "../../../vecmon_lab/page/search.js";
+import { search } from "../../../vecmon_lab/page/web/panels/search.js";
 
-/** @type {Record<string, import("../../../vecmon_lab/page/search.js").Entry[]>} */
+/** @type {Record<string, import("../../../vecmon_lab/page/web/panels/search.js").Entry[]>} */
 const SECTIONS = {
   Commands: [["vlenb", "vlenb", "prints the bytes of a register"], ["load", "load NAME", "loads an image"], ["run", "* run U", "runs a program"]],
   Instructions: [

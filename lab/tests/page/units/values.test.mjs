@@ -1,15 +1,15 @@
 // Vector types, numbers, places of rows and lines, edits and links: values worked out by hand from the RISC-V manuals.
 import assert from "node:assert/strict";
 import { test } from "node:test";
-import { titleOf } from "../../../vecmon_lab/page/edits.js";
-import { isLink, languageOf, linkOf, sourceOf, suffixOf } from "../../../vecmon_lab/page/links.js";
-import { inOrder, placesOf } from "../../../vecmon_lab/page/rows.js";
-import { placeName } from "../../../vecmon_lab/page/scalars.js";
-import { lineBegins, startOf, stoppedLines } from "../../../vecmon_lab/page/source_lines.js";
-import { cutRows } from "../../../vecmon_lab/page/memory.js";
-import { littleEndian } from "../../../vecmon_lab/page/numbers.js";
-import { numberText } from "../../../vecmon_lab/page/variables.js";
-import { saysMore, signedText, typeText, typeWords, vectorType, withNames } from "../../../vecmon_lab/page/words.js";
+import { titleOf } from "../../../vecmon_lab/page/web/panels/edits.js";
+import { isLink, languageOf, linkOf, sourceOf, suffixOf } from "../../../vecmon_lab/page/web/editor/links.js";
+import { inOrder, placesOf } from "../../../vecmon_lab/page/web/panels/rows.js";
+import { placeName } from "../../../vecmon_lab/page/web/panels/scalars.js";
+import { lineBegins, startOf, stoppedLines } from "../../../vecmon_lab/page/web/panels/source_lines.js";
+import { cutRows } from "../../../vecmon_lab/page/web/panels/memory.js";
+import { littleEndian } from "../../../vecmon_lab/page/web/common/numbers.js";
+import { numberText } from "../../../vecmon_lab/page/web/panels/variables.js";
+import { saysMore, signedText, typeText, typeWords, vectorType, withNames } from "../../../vecmon_lab/page/web/common/words.js";
 
 test("vtype has vlmul in bits 2 to 0, vsew in bits 5 to 3, vta, vma, and vill in bit 63", () => {
   const types = { d0: ["e32, m1, ta, ma", 8], c3: ["e8, m8, ta, ma", 256], 7: ["e8, mf2, tu, mu", 16], 58: ["e64, m1, ta, mu", 4] };

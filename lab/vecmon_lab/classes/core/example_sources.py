@@ -6,7 +6,7 @@ from collections.abc import Iterable
 from typing import TypedDict
 
 from ...exercises.exercise import OURS
-from ...page.texts import page_text
+from ...page.build.texts import page_text
 from ...places import EXAMPLES
 from ...tables.table import read_table
 from .languages import C

@@ -7,7 +7,7 @@ from typing import Literal, NotRequired, TypedDict, TypeVar, cast
 from ...assembler.commands import refusal_on_pages
 from ...assembler.mistakes import Mistake
 from ...exercises.check import CheckResult
-from ...page.pages import merge_patch
+from ...page.build.pages import merge_patch
 from ...page.state import State
 from .moments import PastResult
 from .requests import BadRequest, JsonObject

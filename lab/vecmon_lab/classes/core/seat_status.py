@@ -5,7 +5,7 @@ from typing import Literal, NotRequired, TypedDict
 from ...instructions.reasons import has_elements
 from ...machine.answers import Stop, read
 from ...page.state import State
-from ...page.texts import page_text
+from ...page.build.texts import page_text
 
 StatusKind = Literal[
     "none", "problems", "running", "paused", "breakpoint", "ebreak", "ended", "output", "fault", "limit"

@@ -8,7 +8,7 @@ from ... import LabError
 from ...assembler.mistakes import mistakes_json
 from ...assembler.source import Program
 from ...page.state import State
-from ...page.texts import page_text
+from ...page.build.texts import page_text
 from .edits import breakpoint_lines, edit_line, setting_lines
 from .example_sources import ExampleSource
 from .languages import LANGUAGES, SourceText

@@ -12,7 +12,7 @@ from ...arguments import add_any_vlen, between
 from ...compilers.account import account_named, add_account
 from ...exercises.exercise import with_course
 from ...machine.program import find_program, images_of
-from ...page import codemirror
+from ...page.build import codemirror
 from .builds import builds_by
 from ..core.codes import LETTERS
 from .folder_report import folder_report

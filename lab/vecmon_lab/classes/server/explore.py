@@ -13,7 +13,7 @@ from ...assembler.own_files import files_beside
 from ...compilers.account import account_named, add_account
 from ...compilers.compiler import PREPROCESSED_SUFFIX, choice_for, find_compilers, refuse_cxx
 from ...machine.program import find_program
-from ...page.texts import page_text
+from ...page.build.texts import page_text
 from .builds import builds_by
 from ..core.example_sources import example_sources
 from ..core.languages import LANGUAGES, SourceText

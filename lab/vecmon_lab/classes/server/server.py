@@ -25,9 +25,9 @@ from aiohttp.http import HttpProcessingError
 
 from ... import LabError
 from ...compilers.failures import ToolError
-from ...page.pages import Page
-from ...page.texts import page_text
-from ...page.reference import reference_text
+from ...page.build.pages import Page
+from ...page.build.texts import page_text
+from ...page.build.reference import reference_text
 from ..core.codes import TEACHER
 from .connections import Connections, Crowd, address_of
 from .door import Door, DoorSite

@@ -1,14 +1,14 @@
 // The way to the lab, which is in this page: a worker with Python and the machine, one message for each request.
 
-import { ask, byId, button, make, offerFile, put } from "./elements.js";
+import { ask, byId, button, make, offerFile, put } from "../../page/web/common/dom.js";
 import { KeptWork, fileOf, jsonFile, textsOf } from "./kept_work.js";
-import { Pending } from "./pending.js";
-import { textOf } from "./texts.js";
+import { Pending } from "../../page/web/common/pending.js";
+import { textOf } from "../../page/web/common/texts.js";
 
 /** @typedef {import("./playground").FromWorker} FromWorker */
 /** @typedef {import("./playground").PageData} PageData */
 /** @typedef {import("./playground").Texts} Texts */
-/** @typedef {import("./types").Connection} Channel */
+/** @typedef {import("../../page/web/types").Connection} Channel */
 
 const MOST_IMAGE_BYTES = 1 << 20;
 const elementText = (/** @type {string} */ id) => document.getElementById(id)?.textContent ?? "";
@@ -58,7 +58,7 @@ export class Connection {
   damaged = button(textOf("playground.damaged"), textOf("playground.damaged.label"), this.saveRest);
   words = Object.assign(make("p", ""), { id: "stored", hidden: true });
 
-  /** @param {string} code of the only seat @param {import("./types").Listener} listener */
+  /** @param {string} code of the only seat @param {import("../../page/web/types").Listener} listener */
   constructor(code, listener) {
     current = this;
     this.listener = listener;
@@ -133,7 +133,7 @@ export class Connection {
     if (names.length && !this.work.isFull) this.say(textOf("playground.joined"));
   }
 
-  keepUnsaved = (/** @type {import("./types").UnsavedSource} */ source) => this.work.keepUnsaved(source);
+  keepUnsaved = (/** @type {import("../../page/web/types").UnsavedSource} */ source) => this.work.keepUnsaved(source);
 
   fail(/** @type {string} */ words) {
     Object.assign(this, { isReady: false, isStarting: false });
@@ -165,7 +165,7 @@ export class Connection {
   }
 
   /** The lab's answer to a request; null if the lab isn't there. With `keep` the lab sends all changes first. */
-  /** @type {(request: import("./types").Request, kept?: { keep?: boolean }) => ReturnType<Channel["ask"]>} */
+  /** @type {(request: import("../../page/web/types").Request, kept?: { keep?: boolean }) => ReturnType<Channel["ask"]>} */
   async ask(request, kept = {}) {
     if (!this.isReady) return null;
     const { request: numbered, answer } = this.pending.add(request);

@@ -1,11 +1,11 @@
 // The work of this page in the browser's storage (IndexedDB): texts by name, each with its time in seconds since 1970; and files of them.
 
-import { store, stored } from "./preferences.js";
-import { textOf } from "./texts.js";
+import { store, stored } from "../../page/web/common/preferences.js";
+import { textOf } from "../../page/web/common/texts.js";
 
 /** @typedef {import("./playground").Entry} Entry */
 /** @typedef {import("./playground").Texts} Texts */
-/** @typedef {import("./types").UnsavedSource} UnsavedSource */
+/** @typedef {import("../../page/web/types").UnsavedSource} UnsavedSource */
 /** @typedef {UnsavedSource & { page: string, time: number }} WaitingSource of a tab that doesn't save; page: as that of KeptWork */
 
 const [DATABASE, STORE] = ["vecmon playground", "texts"]; // the tab that saves holds a lock of the database's name

@@ -1,6 +1,6 @@
 // Types of the playground: texts that the browser stores, parts of the page, and messages between it and its worker.
 
-import type { ExampleSource, Message } from "../../page/messages";
+import type { ExampleSource, Message } from "../../page/web/messages";
 
 /** Texts by name, each with its time in seconds since 1970. */
 export type Texts = Record<string, [text: string, time: number]>;

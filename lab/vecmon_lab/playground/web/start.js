@@ -1,13 +1,13 @@
 // The start page of the site: a loop that is stepped through stored frames, and the text about the machine.
 
-import { byId, make, prose, put } from "./elements.js";
-import { Lanes } from "./lanes.js";
-import { afterEach } from "./patches.js";
-import { inOrder } from "./rows.js";
-import { textOf } from "./texts.js";
-import { withNames } from "./words.js";
+import { byId, make, prose, put } from "../../page/web/common/dom.js";
+import { Lanes } from "../../page/web/elements/lanes.js";
+import { afterEach } from "../../page/web/common/patches.js";
+import { inOrder } from "../../page/web/panels/rows.js";
+import { textOf } from "../../page/web/common/texts.js";
+import { withNames } from "../../page/web/common/words.js";
 
-/** @typedef {import("./types").MachineState} MachineState */
+/** @typedef {import("../../page/web/types").MachineState} MachineState */
 
 /**
  * states: each a merge patch of the one before; first: the place of the one that is shown first

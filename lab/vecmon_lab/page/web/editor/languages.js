@@ -1,0 +1,21 @@
+// Lists to choose from. Of the languages of a source, the first one is the assembler, all others take a compiler.
+
+import { make, renew } from "../common/dom.js";
+import { textOf } from "../common/texts.js";
+
+/** Offers names below a list's title, if there are any. */
+/** @type {(list: HTMLSelectElement, title: string, names: string[]) => void} */
+export function offer(list, title, names) {
+  renew(list, [title, ...names].map((name) => make("option", "", name)));
+  Object.assign(list, { hidden: !names.length, selectedIndex: 0 });
+}
+
+/** Offers languages once; C is hidden in a class or page that takes none, and the list's title says why. */
+/** @type {(select: HTMLSelectElement, view: { languages: string[], no_c: string }) => void} */
+export function offerLanguages(select, { languages, no_c: why }) {
+  if (select.length === languages.length) return;
+  select.replaceChildren(...languages.map((name) => make("option", "", name)));
+  [...select.options].forEach((option, number) => (option.hidden = option.disabled = number > 0 && why !== ""));
+  select.title = why ? textOf("languages.no-c", { why }) : "";
+  select.selectedIndex = Number(sessionStorage.getItem(select.id)); // as before a reload
+}

@@ -1,0 +1,50 @@
+// The source of a lesson as it was written: its lines, with those that were executed last and come next marked, and those with breakpoints.
+
+import { elementsIn, make, part, unseen } from "../common/dom.js";
+import { lineOf } from "./source_lines.js";
+import { textOf } from "../common/texts.js";
+
+const MARGIN = 60; // px above a line that is scrolled into sight
+
+/** The signs of a line, with texts for those who don't see them. The executed line has its ground for a sign, as in the editor. */
+function signs(/** @type {boolean} */ isStop, /** @type {boolean} */ isExecuted, /** @type {boolean} */ isNext) {
+  return [
+    ...(isStop ? [make("span", "breakpoint", "●"), unseen(textOf("listing.breakpoint"))] : []),
+    ...(isNext ? [make("span", "arrow", "▶"), unseen(textOf("listing.next"))] : []),
+    ...(isExecuted ? [unseen(textOf("listing.executed"))] : []),
+  ];
+}
+
+export class WrittenSource {
+  next = 0; // the number of the line that was brought into sight
+
+  /** @param {ParentNode} root has the box of the lines @param {string} text of the source */
+  constructor(root, text) {
+    this.box = part(root, "written");
+    this.lines = text.replace(/\n$/, "").split("\n").map((line) => make("li", "", make("span", "marks"), make("span", "text", line)));
+    elementsIn(this.box, "ol")[0].replaceChildren(...this.lines);
+  }
+
+  /** Marks the lines of a state, and brings the next one into sight. */
+  paint(/** @type {import("../messages").State} */ state) {
+    const [executed, next] = [lineOf(state, state.instruction), lineOf(state, state.pc)];
+    const stops = new Set(state.breaks?.map((address) => lineOf(state, address)));
+    this.lines.forEach((line, place) => {
+      const number = place + 1;
+      line.classList.toggle("executed", number === executed);
+      line.classList.toggle("next", number === next);
+      line.ariaCurrent = number === next ? "step" : null;
+      line.children[0].replaceChildren(...signs(stops.has(number), number === executed, number === next));
+    });
+    if (next !== this.next) this.bringIntoSight(next);
+  }
+
+  bringIntoSight(/** @type {number} */ number) {
+    const { box, lines } = this;
+    const line = lines[number - 1];
+    if (!line || !box.clientHeight) return;
+    this.next = number;
+    const isSeen = line.offsetTop >= box.scrollTop && line.offsetTop + line.offsetHeight <= box.scrollTop + box.clientHeight;
+    if (!isSeen) box.scrollTop = line.offsetTop - MARGIN;
+  }
+}
