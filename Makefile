@@ -2,9 +2,10 @@
 #
 #     make install|uninstall [prefix=/usr/local] [bindir=..] [mandir=..] [docdir=..] [DESTDIR=..] [program=..] [recorder=..] [site=..]
 #
-# `site` is the folder that tools/site has written, for `vecmon-lab site`; without it the playground isn't installed. `program` and `recorder`
-# are the two programs; by default those of crates/*/out. `install-programs`, `install-lab` and `install-documents` install a part each: the
-# Debian packages vecmon, vecmon-lab and vecmon-doc (debian/rules).
+# `site` is the folder that tools/site has written, for `vecmon-lab site`; its book is also that of the documents. Without it the playground
+# isn't installed, and tools/book builds the book. `program` and `recorder` are the two programs; by default those of crates/*/out.
+# `install-programs`, `install-lab` and `install-documents` install a part each: the Debian packages vecmon, vecmon-lab and vecmon-doc
+# (debian/rules).
 #
 # `uninstall` takes away the files that FILES lists. The lab lies in share/vecmon with all that it reads, as in the repository, so that it
 # needs no documents to run.
@@ -18,11 +19,9 @@ program = crates/vecmon/out/vecmon
 recorder = crates/vecmon_record/out/vecmon_record
 site =
 
-lab_files = lab/vecmon_lab/py.typed $(filter-out %.pyc, $(wildcard lab/vecmon_lab/*.py lab/vecmon_lab/*.txt lab/vecmon_lab/*/*.* \
-    lab/vecmon_lab/*/*/*.py lab/vecmon_lab/page/web/*.* lab/vecmon_lab/page/web/*/*.* \
-    lab/vecmon_lab/compilers/runtime/* lab/vecmon_lab/tables/meanings/* lab/vecmon_lab/exercises/given/*/*.* lab/vecmon_lab/exercises/given/*/wrong/* \
-    lab/vecmon_lab/lessons/tours/* lab/examples/*.* lab/examples/*/*.*)) \
-    $(filter-out %/good %/short, $(wildcard tests/command_lines/data/images/*))
+# All of the lab but what builds the site, what only `tsc` reads, and images of tests alone
+lab_files := $(shell find lab/vecmon_lab lab/examples tests/command_lines/data/images -type f ! -path '*/__pycache__/*' ! -name '*.pyc' ! -name '*.d.ts' \
+    ! -path 'lab/vecmon_lab/playground/web/*' ! -path lab/vecmon_lab/package.json ! -path '*/images/good' ! -path '*/images/short')
 documents = README.md CHANGELOG.md CONTRIBUTING.md SECURITY.md CITATION.cff LICENSE-MIT LICENSE-APACHE crates.txt crates/monitor_script/src/script.rt $(wildcard docs/*.md docs/*.csv docs/*.json docs/pictures/* editors/*/*)
 # Outside of the folders that are vecmon's alone, $(lab) and $(docdir)
 commands = $(shell sed -n 's/^\([a-z][a-z]*\) .*/\1/p' lab/vecmon_lab/tables/lab_commands.txt)
@@ -65,7 +64,7 @@ install-lab:
 	$(link) "$(DESTDIR)$(completions)/vecmon" "$(DESTDIR)$(completions)/vecmon-lab"
 
 install-documents:
-	@/usr/bin/python3 -c 'import sphinx, myst_parser, furo' 2> /dev/null || { echo 'make install: sphinx, myst-parser or furo not found: they make the book; run tools/debian_packages book' >&2; exit 2; }
+	@test -n "$(site)" || /usr/bin/python3 -c 'import sphinx, myst_parser, furo' 2> /dev/null || { echo 'make install: sphinx, myst-parser or furo not found: they make the book; run tools/debian_packages book' >&2; exit 2; }
 	install -d "$(DESTDIR)$(docdir)/examples"
 	for file in $(documents); do $(copy) $$file "$(DESTDIR)$(docdir)/$$file" || exit; done
 	$(link) "$(DESTDIR)$(lab)/lab" "$(DESTDIR)$(docdir)/lab"
@@ -73,7 +72,8 @@ install-documents:
 	$(link) "$(DESTDIR)$(lab)/lab/vecmon_lab/exercises/given" "$(DESTDIR)$(docdir)/examples/exercises"
 	$(link) "$(DESTDIR)$(lab)/lab/vecmon_lab/lessons/tours" "$(DESTDIR)$(docdir)/examples/tour"
 	umask 022; tools/vsix "$(DESTDIR)$(docdir)/vecmon.vsix"
-	tools/book "$(DESTDIR)$(docdir)/html"
+	test -n "$(site)" || tools/book "$(DESTDIR)$(docdir)/html"
+	umask 022; test -z "$(site)" || { rm -rf "$(DESTDIR)$(docdir)/html" && cp -r --no-preserve=mode,ownership "$(site)/book" "$(DESTDIR)$(docdir)/html"; }
 
 # Writes FILES: the path of each file and link from $(prefix) on.
 list:

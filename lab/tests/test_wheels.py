@@ -8,6 +8,7 @@ from collections.abc import Mapping, Sequence
 
 import pytest
 
+from support.lab_files import packaged_files
 from support.places import TOP
 from vecmon_lab.check import first_script
 from vecmon_lab.machine.program import find_recorder
@@ -82,6 +83,7 @@ def test_wheels_have_programs_and_files(wheels: Mapping[str, pathlib.Path]) -> N
         with zipfile.ZipFile(path) as archive:
             modes = {it.filename.partition("/packaged/")[2]: it.external_attr >> 16 for it in archive.infolist()}
             record = archive.read("vecmon_lab/packaged/PROVENANCE").decode()
+            assert not {name.removeprefix("lab/") for name in packaged_files("lab/vecmon_lab")} - {*archive.namelist()}
         assert modes["bin/vecmon"] == modes["bin/vecmon-record"] == EXECUTABLE
         assert {"codemirror/lib/codemirror.js", "lab/examples/strip_mined.s", "site/play/index.html"} <= set(modes)
         assert "tests/command_lines/data/images/sum" in modes and "tests/command_lines/data/images/good" not in modes
