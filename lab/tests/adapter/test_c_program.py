@@ -42,6 +42,36 @@ int main(int argc, char **argv)
 }
 """
 
+PARTS = """\
+#include <riscv_vector.h>
+#include <stddef.h>
+#include <stdint.h>
+
+struct pair { int first; unsigned char second; };
+struct node {
+    struct node *next;
+    struct pair both;
+    union { int32_t whole; uint8_t bytes[4]; };
+    unsigned low : 3;
+    int high : 5;
+};
+static struct node nodes[2] = {{nodes + 1, {1, 'x'}, {258}, 5, -3}, {NULL, {2, 'y'}, {513}, 7, 15}};
+static int table[3];
+
+int main(void)
+{
+    struct node *at = nodes;
+    void *any = at;
+    size_t vl = __riscv_vsetvl_e32m2(11);
+    vint32m2_t x = __riscv_vsub(__riscv_vreinterpret_i32m2(__riscv_vid_v_u32m2(vl)), 4, vl);
+    vbool16_t below = __riscv_vmslt(x, 0, vl);
+    vuint8mf2_t bytes = __riscv_vid_v_u8mf2(vl);
+    __riscv_vse32_v_i32m1(table, __riscv_vget_i32m1(x, 0), 3);
+    table[0] += __riscv_vcpop(below, vl) + (int)__riscv_vmv_x(bytes) + (any != NULL);
+    return at->low + table[0];
+}
+"""
+
 MERGED = """\
 __attribute__((noinline)) static int twice(int number)
 {
@@ -265,6 +295,61 @@ def test_pointers_have_elements(clang: Compiler, tmp_path: pathlib.Path) -> None
         assert client.value("*(y + 1)") == "-7 (0xfffffffffffffff9)"
         for text in ("n[0]", "*n", "x - y", "scale[0]"):
             client.refused("evaluate", expression=text)
+
+
+@pytest.fixture
+def parts(clang: Compiler, tmp_path: pathlib.Path) -> Iterator[Client]:
+    """A client with structures, pointers and vectors on the stack, stopped before `main` returns."""
+    source = tmp_path / "parts.c"
+    source.write_text(PARTS)
+    with Client.started() as client:
+        client.launch(source, options="O0", compiler=clang.name)
+        client.lines(source, line_of(source, "return at->low"))
+        client.begin()
+        yield client
+
+
+def test_structures_pointers_and_vectors_have_parts(parts: Client) -> None:
+    """The values are those of the initializers; vl is 11, and the elements of x are their indices less 4."""
+    own, nodes = parts.rows(parts.scope("Locals")), parts.rows(parts.scope("Globals"))["nodes"]
+    second = "{next = 0x0, both = {first = 2, second = 121}, whole = 513, bytes = {1, 2, 0, 0}, low = 7, high = 15}"
+    (pointed,) = parts.rows(own["at"]["variablesReference"]).values()
+    assert pointed["name"] == "*at" and pointed["value"].endswith(
+        "both = {first = 1, second = 120}, whole = 258, " "bytes = {2, 1, 0, 0}, low = 5, high = -3}"
+    )
+    fields = parts.rows(pointed["variablesReference"])
+    assert [*fields] == ["next", "both", "whole", "bytes", "low", "high"] and fields["high"]["value"] == "-3"
+    (after,) = parts.rows(fields["next"]["variablesReference"]).values()
+    assert after["value"] == second == parts.value(after["evaluateName"])
+    assert nodes["indexedVariables"] == 2
+    assert parts.rows(nodes["variablesReference"])["[1]"]["value"] == second
+    assert parts.rows(parts.rows(nodes["variablesReference"])["[1]"]["variablesReference"])["next"]["value"] == "0x0"
+    assert own["any"]["variablesReference"] == 0
+    x = [row["value"] for row in parts.rows(own["x"]["variablesReference"]).values()]
+    assert len(x) == 16 and x[:11] == [f"{index - 4}" for index in range(11)]
+    below = [row["value"] for row in parts.rows(own["below"]["variablesReference"], count=11).values()]
+    assert below == [f"{int(index < 4)}" for index in range(11)]
+    assert [parts.value(f"bytes[{index}]") for index in (0, 10)] == ["0", "10"] and own["bytes"][
+        "indexedVariables"
+    ] == 16
+    assert parts.value("at->next->both.second + x[0]") == "117 (0x75)" and parts.value("(*at).low == 5") == "1 (0x1)"
+    parts.ask("setExpression", expression="at->both.first", value="-9")
+    assert parts.value("nodes[0].both") == "{first = -9, second = 120}"
+    info = parts.ask("dataBreakpointInfo", name="nodes[1].both.second")
+    assert info["dataId"] == f"{int(after['memoryReference'], 16) + 12:x}:1"
+    for text in (
+        "at->nothing",
+        "at.next",
+        "*any",
+        "nodes[2]",
+        "x[16]",
+        "any->next",
+        "at->low.x",
+        "((int *)at)->low",
+        "a0.x",
+    ):
+        parts.refused("evaluate", expression=text)
+    parts.refused("setExpression", expression="at->low", value="1")  # a bit field
 
 
 @pytest.mark.parametrize("image", TOTAL)

@@ -12,8 +12,15 @@ POINTERS = {"short_at": "i16", "long_at": "u64"}
 class Names:
     """Some names; an element is its index, and a number in memory is its address."""
 
-    def value(self, name: str, indices: tuple[int, ...]) -> expressions.Value:
-        """The value of a name or an element."""
+    def value(self, name: str, path: expressions.Path) -> expressions.Value:
+        """The value of a name or an element. `pair` has a field `second`, which is 7, and `pair_at` points to it."""
+        if (name, path) in (("pair", ("second",)), ("pair_at", (0, "second"))):
+            return expressions.Value(7)
+        indices = [part for part in path if isinstance(part, int)]
+        if len(indices) < len(path) or path and name in NAMES:
+            raise LabError(f"{name} has no such part")
+        if name in POINTERS and indices:
+            return self.load(0x1000 + indices[0] * int(POINTERS[name][1:]) // 8, POINTERS[name])
         if name in POINTERS:
             return expressions.Value(0x1000, POINTERS[name])
         return expressions.Value(sum(indices) if indices else NAMES[name])
@@ -84,6 +91,9 @@ def test_values_are_those_of_c(text: str, value: int) -> None:
         ("((uint8_t*)a0)[3]", 8),
         ("((int *)long_at)[1]", 0x1004),
         ("(long *)a0 + 1", 13),
+        ("*short_at + short_at[3]", 0x2006),
+        ("pair.second * 2 + pair_at->second", 21),
+        ("(*pair_at).second == -(-7)", 1),
     ],
 )
 def test_pointers_count_what_they_point_to(text: str, value: int) -> None:
@@ -103,6 +113,11 @@ def test_pointers_count_what_they_point_to(text: str, value: int) -> None:
         "2 ** 9",
         "__import__('os')",
         "a0.x",
+        "a0->x",
+        "(a0 + 1).x",
+        "pair.",
+        "pair.2",
+        "pair->",
         "[1, 2]",
         "'text'",
         "1.5",
@@ -133,6 +148,8 @@ def test_what_is_no_expression_is_refused(text: str) -> None:
 def test_names_are_told_from_other_expressions() -> None:
     assert expressions.name_in("x[2][0x10]", Names()) == ("x", (2, 16))
     assert expressions.name_in("x[a0 - 1]", Names()) == ("x", (4,))
+    assert expressions.name_in("(*x[1]).y->z[2]", Names()) == ("x", (1, 0, "y", 0, "z", 2))
+    assert expressions.is_name("*x") and expressions.is_name("x->y") and not expressions.is_name("(x + 1)[0]")
     assert [expressions.is_name(text) for text in ("a0", "v8[1]", "a0 + 1", "5", "a b")] == [
         True,
         True,

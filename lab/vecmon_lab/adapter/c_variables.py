@@ -1,14 +1,14 @@
 """Variables of C in a frame, by the debug data: where they lie, and their numbers."""
 
 import functools
-import math
 from collections.abc import Callable, Iterator, Sequence
 from dataclasses import dataclass, replace
 
 from .. import LabError
 from ..assembler.commands import explain_refusal
 from ..compilers.locations import FRAME, Location
-from ..compilers.variables import Variable
+from ..compilers.layouts import Field, Layout
+from ..compilers.variables import TypedVariable
 from ..guest.guest import pokes
 from ..instructions.accesses import REGISTER_BYTES
 from ..machine.answers import Memory, Refused, elements_in
@@ -16,6 +16,7 @@ from .instants import Frame, Instant
 from .values import read_number, typed_text
 
 _SHOWN, _LETTERS = 16, 80  # elements in the text of an array, and letters of a string
+_DEPTH = 3  # of arrays and structures in a text
 _ADDRESSES = 1 << 64
 
 OPTIMIZED_OUT = "optimized out"
@@ -26,7 +27,7 @@ UNREADABLE = "unreadable memory"
 
 @dataclass(frozen=True)
 class CVariable:
-    """A variable, or an element of an array.
+    """A variable, a field, or an element of an array.
 
     name, type: as C writes them; expression: that evaluates to it
     kind: of its numbers with their bits, as `i32`, or "" where it has none; counts: an array's dimensions
@@ -34,7 +35,8 @@ class CVariable:
     address: where it lies; None if that isn't in memory
     put: gives a number new bytes; None for what can't be changed
     target: the kind of the numbers that a pointer points to, or "" where that is no number
-    pointed: returns the number of this kind at an address; None of other variables
+    layout: its type in the debug data; None if that has none
+    at: returns a variable in memory, from one without bytes, its address, and its number of bytes; None of numbers alone
     """
 
     name: str
@@ -46,12 +48,13 @@ class CVariable:
     address: int | None = None
     put: Callable[[bytes], None] | None = None
     target: str = ""
-    pointed: "Callable[[int, str], CVariable] | None" = None
+    layout: Layout | None = None
+    at: "Callable[[CVariable, int, int], CVariable] | None" = None
 
     @property
     def is_known(self) -> bool:
-        """Whether it has a value."""
-        return not isinstance(self.data, str) and bool(self.kind)
+        """Whether it has a value: a number, an array, or fields."""
+        return not isinstance(self.data, str) and bool(self.kind or self.fields or self.counts and self.layout)
 
     @property
     def count(self) -> int:
@@ -61,17 +64,22 @@ class CVariable:
     @property
     def can_change(self) -> bool:
         """Whether it is a number that can be changed."""
-        return self.put is not None and self.is_known and not self.counts
+        return self.put is not None and self.is_known and bool(self.kind) and not self.counts
 
     @property
     def pointer(self) -> int | None:
         """The address in a pointer; None of other variables."""
-        return self.number() if self.is_known and not self.counts and self.kind[0] == "x" else None
+        return self.number() if self.is_known and not self.counts and self.kind[:1] == "x" else None
 
     @property
     def place(self) -> tuple[int, int] | None:
         """Its address and number of bytes; None if it isn't in memory."""
         return (self.address, len(self.data)) if self.address is not None and self.is_known else None
+
+    @property
+    def fields(self) -> Sequence[Field]:
+        """The fields of a structure; none of an array of them."""
+        return self.layout.fields if self.layout and not self.counts and not isinstance(self.data, str) else ()
 
     def number(self) -> int:
         """Its unsigned number. Raises LabError if it has none."""
@@ -86,51 +94,111 @@ class CVariable:
         number, bits = self.number(), int(self.kind[1:])
         return number - (1 << bits) if self.kind[0] in "ic" and number >> bits - 1 else number
 
-    def text(self, is_hex: bool) -> str:
-        """Its value."""
+    def text(self, is_hex: bool, depth: int = 0) -> str:
+        """Its value; of structures the fields as gdb writes them."""
         if isinstance(self.data, str):
             return self.data
-        if not self.kind:
+        if not self.is_known:
             return f"at {self.address:#x}" if self.address is not None else self.data.hex(" ")
-        if not self.counts:
-            return typed_text(self.kind, self.number(), is_hex)
         if self.kind == "c8" and len(self.counts) == 1:
             return _string(self.data)
-        first = [each.text(is_hex) for each in self.elements(0, _SHOWN)]
-        return "{" + ", ".join(first) + ", …" * (self.count > len(first)) + "}"
+        if self.kind and not self.counts:
+            return typed_text(self.kind, self.number(), is_hex)
+        if depth == _DEPTH:
+            return "{…}"
+        if self.counts:
+            parts = [each.text(is_hex, depth + 1) for each in self.elements(0, _SHOWN)]
+        else:
+            first = self.fields[:_SHOWN]
+            parts = [f"{each.name} = {self.field(each.name).text(is_hex, depth + 1)}" for each in first]
+        return "{" + ", ".join(parts) + ", …" * (max(self.count, len(self.fields)) > len(parts)) + "}"
 
     def elements(self, start: int, count: int) -> "list[CVariable]":
         """The elements of an array from one on; all others if the count is 0."""
-        stop = min(self.count, start + count) if count else self.count
+        stop = min(start + count if count else self.count, self.count)
         return [self.element(index) for index in range(start, stop)]
 
     def element(self, index: int) -> "CVariable":
-        """An element of an array, or a number that a pointer points to. Raises LabError if there is none."""
-        if self.pointer is not None and self.pointed:
-            return self._pointed_number(index, self.pointer, self.pointed)
+        """An element of an array, or what a pointer points to. Raises LabError if there is none."""
+        if self.pointer is not None and self.at:
+            return self._pointed(index, self.pointer, self.at)
         if isinstance(self.data, str):
             raise LabError(f"{self.name} is {self.data}")
         if not 0 <= index < self.count:
             raise LabError(f"{self.name} has no element {index}")
         size = len(self.data) // self.count
-        put = functools.partial(_put_part, self.put, self.data, index * size) if self.put else None
         return replace(
-            self,
+            self._part(index * size, size),
             name=f"[{index}]",
             type="",
             expression=f"{self.expression}[{index}]",
             counts=self.counts[1:],
-            data=self.data[index * size : (index + 1) * size],
-            address=None if self.address is None else self.address + index * size,
-            put=put,
+            layout=self.layout if self.counts[1:] or not self.layout else self.layout.element,
         )
 
-    def _pointed_number(self, index: int, pointer: int, pointed: "Callable[[int, str], CVariable]") -> "CVariable":
-        """The number that a pointer points to, or one after or before it. Raises LabError if its type isn't known as a number."""
-        if not self.target:
-            raise LabError(f"{self.name} points to no number")
-        found = pointed((pointer + index * (int(self.target[1:]) // 8)) % _ADDRESSES, self.target)
-        return replace(found, name=f"[{index}]", expression=f"{self.expression}[{index}]")
+    def field(self, name: str) -> "CVariable":
+        """The field of this name. Raises LabError if there is none."""
+        if isinstance(self.data, str):
+            raise LabError(f"{self.name} is {self.data}")
+        found = next((each for each in self.fields if each.name == name), None)
+        if found is None:
+            raise LabError(f"{self.expression} has no field {name}")
+        layout = found.layout
+        part = replace(
+            self._part(found.offset, layout.size),
+            name=name,
+            type=layout.declaration(name),
+            expression=f"{self._operand}.{name}",
+            kind=layout.kind,
+            counts=layout.counts,
+            target=layout.pointed_kind,
+            layout=layout,
+        )
+        return _bit_field(part, self.data, *found.bits) if found.bits else part
+
+    @property
+    def has_pointee(self) -> bool:
+        """Whether it is a pointer, other than a null pointer, to something of a known type."""
+        return bool(self.pointer and self.layout and self.layout.pointee and self.layout.pointee.size)
+
+    def pointee(self) -> "CVariable | None":
+        """What a pointer points to; None if there is none."""
+        if not self.has_pointee:
+            return None
+        return replace(self.element(0), name=f"*{self.name}", expression=f"*{self._operand}")
+
+    @property
+    def _operand(self) -> str:
+        """Its expression, in parentheses if it has an operator before it."""
+        return f"({self.expression})" if self.expression.startswith("*") else self.expression
+
+    def _part(self, at: int, size: int) -> "CVariable":
+        """A part of its bytes."""
+        assert not isinstance(self.data, str)
+        return replace(
+            self,
+            data=self.data[at : at + size],
+            address=None if self.address is None else self.address + at,
+            put=functools.partial(_put_part, self.put, self.data, at) if self.put else None,
+        )
+
+    def _pointed(self, index: int, pointer: int, at: "Callable[[CVariable, int, int], CVariable]") -> "CVariable":
+        """What a pointer points to, or one after or before it. Raises LabError if its type isn't known."""
+        layout = self.layout.pointee if self.layout else None
+        size = layout.size if layout else int(self.target[1:] or 0) // 8
+        if not size:
+            raise LabError(f"{self.name} points to nothing of a known type")
+        blank = replace(
+            self,
+            name=f"[{index}]",
+            type=layout.declaration() if layout else "",
+            expression=f"{self._operand}[{index}]",
+            kind=layout.kind if layout else self.target,
+            counts=layout.counts if layout else [],
+            target=layout.pointed_kind if layout else "",
+            layout=layout,
+        )
+        return at(blank, (pointer + index * size) % _ADDRESSES, size)
 
     def set(self, text: str) -> None:
         """Give it the number of a text. Raises LabError."""
@@ -142,12 +210,13 @@ class CVariable:
 
 def c_variables(instant: Instant, frame: Frame) -> tuple[list[CVariable], list[CVariable]]:
     """The variables of a frame's function, and those of all functions; of several with a name the one in the innermost block."""
-    inside, names, shared = frame.call.inside, dict[str, Variable](), dict[str, Variable]()
+    inside, names, shared = frame.call.inside, dict[str, TypedVariable](), dict[str, TypedVariable]()
     for each in instant.program.variables:
-        if not each.function:
-            shared[each.name] = each
-        elif each.function == frame.name and any(first <= inside < end for first, end in each.scopes):
-            names[each.name] = each
+        variable = each.variable
+        if not variable.function:
+            shared[variable.name] = each
+        elif variable.function == frame.name and any(first <= inside < end for first, end in variable.scopes):
+            names[variable.name] = each
     return [[_placed(each, instant, frame) for each in found.values()] for found in (names, shared)]  # type: ignore[return-value]
 
 
@@ -159,20 +228,22 @@ def find_variable(instant: Instant, frame: Frame, name: str) -> CVariable | None
 def number_at(instant: Instant, address: int, kind: str) -> CVariable:
     """The number of a kind at an address."""
     blank = CVariable(f"the number at {address:#x}", "", "", kind, [], "")
-    return _in_memory(blank, instant, address, int(kind[1:]) // 8)
+    return _in_memory(instant, blank, address, int(kind[1:]) // 8)
 
 
-def _placed(variable: Variable, instant: Instant, frame: Frame) -> CVariable:
+def _placed(typed: TypedVariable, instant: Instant, frame: Frame) -> CVariable:
     """A variable with its bytes."""
+    variable, layout = typed
     blank = CVariable(
         variable.name,
         variable.declaration,
         variable.name,
-        variable.element,
-        variable.counts,
+        layout.kind if layout else variable.element,
+        layout.counts if layout else variable.counts,
         "",
         target=variable.target,
-        pointed=functools.partial(number_at, instant),
+        layout=layout,
+        at=functools.partial(_in_memory, instant),
     )
     place = next((it for it in variable.locations if it.first <= frame.call.inside < it.end), None)
     if place is None:
@@ -185,18 +256,20 @@ def _placed(variable: Variable, instant: Instant, frame: Frame) -> CVariable:
     if base is None:
         return replace(blank, data=CHANGED)
     address = (base + (int(place.offset, 16) if place.kind != "register" else 0)) % _ADDRESSES
-    size = int(variable.element[1:]) // 8 * math.prod(variable.counts) if variable.element else 0
+    size = layout.size if layout else 0
     if place.kind == "memory":
-        return _in_memory(blank, instant, address, size)
+        return _mask(_in_memory(instant, blank, address, size))
     put = (
         functools.partial(_put_register, instant, place)
         if place.kind == "register" and frame.call.is_innermost
         else None
     )
-    return replace(blank, data=address.to_bytes(8, "little")[:size], put=put if not variable.counts else None)
+    return replace(
+        blank, data=address.to_bytes(8, "little")[:size], put=put if blank.kind and not blank.counts else None
+    )
 
 
-def _in_memory(blank: CVariable, instant: Instant, address: int, size: int) -> CVariable:
+def _in_memory(instant: Instant, blank: CVariable, address: int, size: int) -> CVariable:
     """A variable in memory."""
     guest = instant.program.guest
     answers = guest.ask(f"peek {address:x} 1", f"peek {address + max(1, size) - 1:x} 1") if address < 1 << 48 else []
@@ -212,14 +285,31 @@ def _in_memory(blank: CVariable, instant: Instant, address: int, size: int) -> C
 
 
 def _in_vector_register(blank: CVariable, instant: Instant, frame: Frame, register: int) -> CVariable:
-    """A variable in vector registers, whose elements are those of the vector type."""
+    """A variable in vector registers: with the elements of its type, or else with those of the vector type in force."""
     if not frame.call.is_innermost:
         return replace(blank, data=CHANGED)
+    v, layout = bytes(instant.registers.v[register * REGISTER_BYTES :]), blank.layout
+    if layout and layout.is_vector and layout.kind and layout.size <= len(v):
+        return _mask(replace(blank, data=v[: layout.size]))
     control = instant.registers.control
     size = REGISTER_BYTES * (1 if control.vtype >> 63 else max(1, int(control.lmul)))
-    data = bytes(instant.registers.v[register * REGISTER_BYTES :][:size])
     width = 8 if control.vtype >> 63 else control.sew
-    return replace(blank, kind=f"u{width}", counts=[len(elements_in(data, width))], data=data)
+    return replace(blank, kind=f"u{width}", counts=[len(elements_in(v[:size], width))], data=v[:size])
+
+
+def _mask(variable: CVariable) -> CVariable:
+    """A variable of a mask type with a bit as each element; others as they are."""
+    if not variable.layout or not variable.layout.is_mask or isinstance(variable.data, str):
+        return variable
+    bits = elements_in(variable.data, 1)
+    return replace(variable, kind="u8", counts=[len(bits)], data=bytes(bits), address=None, put=None, layout=None)
+
+
+def _bit_field(part: CVariable, data: bytes, first: int, count: int) -> CVariable:
+    """A field with the number of some bits of a structure's bytes. It can't be changed, and has no address."""
+    number = int.from_bytes(data, "little") >> first & (1 << count) - 1
+    kind = f"{part.kind[:1]}{count}" if part.kind else ""
+    return replace(part, kind=kind, data=number.to_bytes(8, "little"), address=None, put=None)
 
 
 def _put_register(instant: Instant, place: Location, data: bytes) -> None:

@@ -86,20 +86,22 @@ class FrameNames:
     instant: Instant
     frame: Frame
 
-    def value(self, name: str, indices: tuple[int, ...]) -> expressions.Value:
-        """Return the value of a name, with the indices after it. Raises LabError."""
+    def value(self, name: str, path: expressions.Path) -> expressions.Value:
+        """Return the value of a name, with the indices and fields after it. Raises LabError."""
         if found := _VECTOR.fullmatch(name):
             group = group_at(self.instant, int(found[1]))
-            if len(indices) != 1 or not 0 <= indices[0] < len(group.values):
-                raise LabError(f"{name} has elements: {name}[0] to {name}[{len(group.values) - 1}] are some")
-            return expressions.Value(group.values[indices[0]])
-        if variable := _variable(self.instant, self.frame, name, indices):
+            match path:
+                case (int(index),) if 0 <= index < len(group.values):
+                    return expressions.Value(group.values[index])
+            raise LabError(f"{name} has elements: {name}[0] to {name}[{len(group.values) - 1}] are some")
+        if variable := _variable(self.instant, self.frame, name, path):
             target = variable.target if variable.pointer is not None else ""
             return expressions.Value(variable.value(), target, variable.place)
-        if indices:
-            raise LabError(f"{name} has no elements; ((int32_t *){name})[{indices[0]}] is a number of the memory there")
         value = _register(self.instant, self.frame, name)
-        return expressions.Value(address_of(self.instant.program, name) if value is None else value)
+        address = address_of(self.instant.program, name) if value is None else value
+        if path:
+            raise LabError(f"{name} has no parts; ((int32_t *){name})[0] is a number of the memory there")
+        return expressions.Value(address)
 
     def load(self, address: int, kind: str) -> expressions.Value:
         """Return the number of a kind at an address. Raises LabError."""
@@ -118,22 +120,22 @@ def set_expression(instant: Instant, frame: Frame, text: str, value: str) -> Non
 def completions(instant: Instant, frame: Frame, start: str) -> list[str]:
     """The names that begin with a text."""
     names: Iterable[str] = [*REGISTERS, *(f"v{number}" for number in range(32)), *instant.program.symbols.addresses]
-    own = [each.name for each in instant.program.variables]
+    own = [each.variable.name for each in instant.program.variables]
     return sorted({name for name in [*names, *own, "why", "help"] if name.startswith(start)})
 
 
-def _item(instant: Instant, frame: Frame, name: str, indices: tuple[int, ...], is_hex: bool) -> Item:
-    """The row of a name with indices. Raises LabError."""
+def _item(instant: Instant, frame: Frame, name: str, path: expressions.Path, is_hex: bool) -> Item:
+    """The row of a name with indices and fields. Raises LabError."""
     if found := _VECTOR.fullmatch(name):
         row = group_item(group_at(instant, int(found[1])), is_hex)
-        if not indices:
+        if not path:
             return row
-        FrameNames(instant, frame).value(name, indices)
-        assert row.children
-        return row.children(indices[0], 1, is_hex)[0]
-    if variable := _variable(instant, frame, name, indices):
+        FrameNames(instant, frame).value(name, path)
+        assert row.children and isinstance(path[0], int)
+        return row.children(path[0], 1, is_hex)[0]
+    if variable := _variable(instant, frame, name, path):
         return variable_item(variable, is_hex)
-    value = FrameNames(instant, frame).value(name, indices).number
+    value = FrameNames(instant, frame).value(name, path).number
     change: Callable[[str], None] | None = None
     register, guest = REGISTERS.get(name, ""), instant.program.guest
     if frame.call.is_innermost and re.fullmatch("x[1-9][0-9]*", register):
@@ -143,11 +145,11 @@ def _item(instant: Instant, frame: Frame, name: str, indices: tuple[int, ...], i
     return Item(name, number_text(value, 64, is_hex), expression=name, address=value, change=change)
 
 
-def _variable(instant: Instant, frame: Frame, name: str, indices: tuple[int, ...]) -> CVariable | None:
-    """The variable of a name, or its element; None if there is no such variable. Raises LabError if there is no such element."""
+def _variable(instant: Instant, frame: Frame, name: str, path: expressions.Path) -> CVariable | None:
+    """The variable of a name, or a part of it; None if there is no such variable. Raises LabError if there is no such part."""
     found = find_variable(instant, frame, name)
-    for index in indices if found else ():
-        found = found.element(index) if found else None
+    for part in path if found else ():
+        found = found and (found.field(part) if isinstance(part, str) else found.element(part))
     return found
 
 

@@ -45,7 +45,7 @@ _LEVELS: Sequence[Sequence[str]] = (
 )
 _PRECEDENCES = {sign: level for level, signs in enumerate(_LEVELS) for sign in signs}  # C11, section 6.5
 _TOKEN = re.compile(
-    r"\s*(?:(0[xX][0-9a-fA-F]+|0[bB][01]+|0|[1-9][0-9]*)\b|([^\W\d]\w*)|(&&|\|\||[=!<>]=|<<|>>|[-+*/%&|^!~<>()\[\]]))"
+    r"\s*(?:(0[xX][0-9a-fA-F]+|0[bB][01]+|0|[1-9][0-9]*)\b|([^\W\d]\w*)|(&&|\|\||[=!<>]=|<<|>>|->|[-+*/%&|^!~<>()\[\].]))"
 )
 _KINDS = {f"{'u' * (sign == 'u')}int{bits}_t": f"{sign}{bits}" for sign in "iu" for bits in (8, 16, 32, 64)}
 _KINDS |= {"char": "c8", "short": "i16", "int": "i32", "long": "i64"}
@@ -65,11 +65,15 @@ class Value(NamedTuple):
     place: tuple[int, int] | None = None
 
 
+Path = tuple[int | str, ...]
+"""What is after a name: indices of elements, and names of fields. What a pointer points to has index 0."""
+
+
 class Names(Protocol):
     """What names in an expression mean, and what the memory has."""
 
-    def value(self, name: str, indices: tuple[int, ...]) -> Value:
-        """Return the value of a name, with the indices after it. Raises LabError."""
+    def value(self, name: str, path: Path) -> Value:
+        """Return the value of a name, with the indices and fields after it. Raises LabError."""
 
     def load(self, address: int, kind: str) -> Value:
         """Return the number of a kind at an address. Raises LabError."""
@@ -89,6 +93,15 @@ class _Name:
 class _Element:
     of: "_Node"
     index: "_Node"
+
+
+@dataclass(frozen=True)
+class _Field:
+    """A field of a structure, or of the one that a pointer points to."""
+
+    of: "_Node"
+    name: str
+    is_pointed: bool
 
 
 @dataclass(frozen=True)
@@ -112,7 +125,7 @@ class _Binary:
     right: "_Node"
 
 
-_Node = _Number | _Name | _Element | _Cast | _Unary | _Binary
+_Node = _Number | _Name | _Element | _Field | _Cast | _Unary | _Binary
 
 
 def check(text: str) -> None:
@@ -126,22 +139,20 @@ def evaluate(text: str, names: Names) -> Value:
 
 
 def is_name(text: str) -> bool:
-    """Whether an expression is a name, perhaps with indices."""
+    """Whether an expression is a name, perhaps with indices, fields, or `*` before it."""
     try:
         node = _parsed(text)
     except LabError:
         return False
-    while isinstance(node, _Element):
-        node = node.of
-    return isinstance(node, _Name)
+    return _is_path(node)
 
 
-def name_in(text: str, names: Names) -> tuple[str, tuple[int, ...]]:
-    """Return the name that an expression is, and the numbers in brackets after it. Raises LabError if it is another one."""
-    name, indices = _indexed(_parsed(text), names)
+def name_in(text: str, names: Names) -> tuple[str, Path]:
+    """Return the name that an expression is, and the indices and fields after it. Raises LabError if it is another one."""
+    name, path = _path(_parsed(text), names)
     if not isinstance(name, _Name):
         raise LabError(f"{text.strip()} isn't a name, as a0, v8[3] or x[2] are")
-    return name.name, indices
+    return name.name, path
 
 
 class _Parser:
@@ -198,7 +209,7 @@ class _Parser:
             self._at += 4
             node = _Cast(kind, self._unary())
         else:
-            node = self._with_indices(self._primary())
+            node = self._with_parts(self._primary())
         self._depth -= 1
         return node
 
@@ -219,11 +230,17 @@ class _Parser:
             raise ValueError
         return _Name(token)
 
-    def _with_indices(self, node: _Node) -> _Node:
-        while self._next() == "[":
+    def _with_parts(self, node: _Node) -> _Node:
+        """Read indices and fields after a node."""
+        while (sign := self._next()) in ("[", ".", "->"):
             self._take()
-            node = _Element(node, self._binary(0))
-            self._expect("]")
+            if sign == "[":
+                node = _Element(node, self._binary(0))
+                self._expect("]")
+            elif (name := self._take()).isidentifier():
+                node = _Field(node, name, sign == "->")
+            else:
+                raise ValueError
         return node
 
 
@@ -238,13 +255,28 @@ def _parsed(text: str) -> _Node:
         raise LabError(f"{written} is no expression: a0, v8[3], vl < 8 or x[2] == 5 are some") from error
 
 
-def _indexed(node: _Node, names: Names) -> tuple[_Node, tuple[int, ...]]:
-    """What indices are after, and their numbers. Raises LabError."""
-    indices = list[int]()
-    while isinstance(node, _Element):
-        indices.insert(0, _value(node.index, names).number)
-        node = node.of
-    return node, tuple(indices)
+def _is_path(node: _Node) -> bool:
+    """Whether a node is a name, with what `_path` takes."""
+    match node:
+        case _Element(of, _) | _Field(of, _, _) | _Unary("*", of):
+            return _is_path(of)
+    return isinstance(node, _Name)
+
+
+def _path(node: _Node, names: Names) -> tuple[_Node, Path]:
+    """What indices, fields and `*` are at, and their path. Raises LabError."""
+    parts = list[int | str]()
+    while True:
+        match node:
+            case _Element(of, index):
+                parts.append(_value(index, names).number)
+            case _Field(of, name, is_pointed):
+                parts += [name, 0] if is_pointed else [name]
+            case _Unary("*", of):
+                parts.append(0)
+            case _:
+                return node, tuple(reversed(parts))
+        node = of
 
 
 def _value(node: _Node, names: Names) -> Value:
@@ -252,12 +284,10 @@ def _value(node: _Node, names: Names) -> Value:
     match node:
         case _Number(number):
             return Value(number)
-        case _Name() | _Element():
-            return _value_of_element(*_indexed(node, names), names)
+        case _Name() | _Element() | _Field() | _Unary("*", _):
+            return _value_of_path(node, names)
         case _Cast(kind, operand):
             return Value(_value(operand, names).number, kind)
-        case _Unary("*", operand):
-            return _load(_value(operand, names), 0, names)
         case _Unary(sign, operand):
             return Value(_UNARY[sign](_value(operand, names).number))
         case _Binary("&&", left, right):
@@ -268,13 +298,16 @@ def _value(node: _Node, names: Names) -> Value:
             return _calculate(sign, _value(left, names), _value(right, names))
 
 
-def _value_of_element(node: _Node, indices: tuple[int, ...], names: Names) -> Value:
-    """The value of a name with indices, or of a pointer with them. Raises LabError."""
-    if isinstance(node, _Name):
-        return names.value(node.name, indices)
-    found = _value(node, names)
-    for index in indices:
-        found = _load(found, index, names)
+def _value_of_path(node: _Node, names: Names) -> Value:
+    """The value of a name with indices and fields, or of a pointer with indices. Raises LabError."""
+    start, path = _path(node, names)
+    if isinstance(start, _Name):
+        return names.value(start.name, path)
+    found = _value(start, names)
+    for part in path:
+        if isinstance(part, str):
+            raise LabError(f"only a variable has a field {part}")
+        found = _load(found, part, names)
     return found
 
 

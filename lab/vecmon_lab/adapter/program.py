@@ -15,7 +15,7 @@ from ..assembler.own_files import files_beside
 from ..assembler.trial import read_tried_source
 from ..compilers.compiler import ASSEMBLER_SUFFIXES, C_SUFFIX, CHOICES, RUNTIME, install_compilers
 from ..compilers.compiling import read_own_source
-from ..compilers.variables import Variable, variables_of
+from ..compilers.variables import TypedVariable, typed_variables
 from ..guest.guest import Guest, started
 from ..guest.runner import Report
 from ..guest.symbols import Symbols
@@ -137,12 +137,12 @@ class Program:
         return next((path.resolve() for path in places if path.is_file()), shown)
 
     @cached_property
-    def variables(self) -> Sequence[Variable]:
+    def variables(self) -> Sequence[TypedVariable]:
         """The variables of the sources, without those of the lab's runtime."""
         from elftools.elf.elffile import ELFFile
 
         with self.image.open("rb") as file:
-            return variables_of(ELFFile(file), _is_own, has_frames=True)
+            return typed_variables(ELFFile(file), _is_own, has_frames=True)
 
     @cached_property
     def call_frames(self) -> CallFrames:

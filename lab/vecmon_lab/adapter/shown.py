@@ -142,7 +142,7 @@ class Shown:
         if item.children:
             path = () if is_root else (*parent.path, item.name)
             number = self._number(_Reference(parent.frame, parent.root, parent.is_scope, path))
-            shown |= {"variablesReference": number, "indexedVariables": item.count}
+            shown |= {"variablesReference": number} | ({"indexedVariables": item.count} if item.count else {})
         elif item.change is None:
             shown["presentationHint"] = {"attributes": ["readOnly"]}
         return shown

@@ -152,17 +152,29 @@ def _element_item(group: VectorGroup, index: int, is_hex: bool) -> Item:
 
 
 def variable_item(variable: CVariable, is_hex: bool) -> Item:
-    """A variable of C, with the elements of an array below it."""
+    """A variable of C; below it the elements of an array, the fields of a structure, or what a pointer points to."""
 
     def elements(start: int, count: int, is_hex: bool) -> list[Item]:
         return [variable_item(each, is_hex) for each in variable.elements(start, count)]
 
+    def fields(is_hex: bool) -> list[Item]:
+        return [variable_item(variable.field(each.name), is_hex) for each in variable.fields]
+
+    def pointee(is_hex: bool) -> list[Item]:
+        pointed = variable.pointee()
+        return [variable_item(pointed, is_hex)] if pointed else []
+
+    children: Callable[[int, int, bool], list[Item]] | None = elements if variable.count else None
+    if variable.fields:
+        children = _all(fields)
+    elif variable.has_pointee:
+        children = _all(pointee)
     return Item(
         variable.name,
         variable.text(is_hex),
         variable.type,
         variable.expression if variable.is_known else "",
-        elements if variable.count else None,
+        children,
         variable.count,
         variable.pointer if variable.pointer is not None else variable.address,
         variable.set if variable.can_change else None,

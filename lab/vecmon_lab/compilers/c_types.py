@@ -7,8 +7,8 @@ from ..guest.entries import entry_at, name_of
 if TYPE_CHECKING:
     from elftools.dwarf.die import DIE
 
-_QUALIFIERS = {f"DW_TAG_{word}_type": word for word in ("const", "volatile", "restrict")}
-_QUALIFIERS["DW_TAG_atomic_type"] = "_Atomic"
+QUALIFIERS = {f"DW_TAG_{word}_type": word for word in ("const", "volatile", "restrict")}
+QUALIFIERS["DW_TAG_atomic_type"] = "_Atomic"
 _KINDS = {"DW_TAG_structure_type": "struct ", "DW_TAG_union_type": "union ", "DW_TAG_enumeration_type": "enum "}
 _NUMBERS = {2: "u", 5: "i", 6: "i", 7: "u", 8: "u"}  # by how a base type is encoded (DW_ATE_boolean and so on)
 _CHARACTERS = (6, 8)
@@ -51,7 +51,7 @@ def integer(entry: "DIE | None") -> Integer | None:
         return None
     if entry.tag in _POINTERS:
         return WORD
-    if entry.tag in (*_QUALIFIERS, "DW_TAG_typedef"):
+    if entry.tag in (*QUALIFIERS, "DW_TAG_typedef"):
         return integer(entry_at(entry, "DW_AT_type"))
     if entry.tag == "DW_TAG_enumeration_type" and "DW_AT_type" in entry.attributes:
         return integer(entry_at(entry, "DW_AT_type"))
@@ -84,9 +84,9 @@ def declaration(entry: "DIE | None", inner: str) -> str:
         case "DW_TAG_array_type" | "DW_TAG_subroutine_type":
             behind = "".join(f"[{count or ''}]" for count in _counts(entry)) or "()"
             return declaration(of, f"({inner}){behind}" if inner.startswith("*") else f"{inner}{behind}")
-        case tag if tag in _QUALIFIERS:
-            word = _QUALIFIERS[tag]
-            if of is not None and of.tag in ("DW_TAG_pointer_type", *_QUALIFIERS):
+        case tag if tag in QUALIFIERS:
+            word = QUALIFIERS[tag]
+            if of is not None and of.tag in ("DW_TAG_pointer_type", *QUALIFIERS):
                 return declaration(of, f"{word} {inner}")
             return f"{word} {declaration(of, inner)}"
     return f"{_KINDS.get(entry.tag, '')}{name_of(entry)} {inner}"
@@ -111,7 +111,7 @@ def shape(entry: "DIE | None") -> tuple[str, list[int]]:
         case "DW_TAG_array_type" if "DW_AT_GNU_vector" not in entry.attributes:
             element, counts = shape(entry_at(entry, "DW_AT_type"))
             return element, [*_counts(entry), *counts]
-        case tag if tag in (*_QUALIFIERS, "DW_TAG_typedef"):
+        case tag if tag in (*QUALIFIERS, "DW_TAG_typedef"):
             return shape(entry_at(entry, "DW_AT_type"))
     return "", []
 
@@ -127,7 +127,7 @@ def pointed_kind(entry: "DIE | None") -> str:
     if entry.tag == "DW_TAG_pointer_type":
         kind, counts = shape(of)
         return "" if counts else kind
-    return pointed_kind(of) if entry.tag in (*_QUALIFIERS, "DW_TAG_typedef", "DW_TAG_array_type") else ""
+    return pointed_kind(of) if entry.tag in (*QUALIFIERS, "DW_TAG_typedef", "DW_TAG_array_type") else ""
 
 
 def _counts(entry: "DIE") -> list[int]:

@@ -2,7 +2,10 @@
 
 import re
 from collections.abc import Sequence
-from typing import NamedTuple
+from typing import TYPE_CHECKING, NamedTuple
+
+if TYPE_CHECKING:
+    from elftools.dwarf.structs import DWARFStructs
 
 CODE_END = 1 << 48  # no code is as high
 MAX_BYTES = 64  # of an expression
@@ -50,6 +53,18 @@ def location(first: int, end: int, operations: Sequence[Operation], frame: Sum |
     return Location(first, end, kind, register, f"{offset % (1 << 64):x}")
 
 
+def constant(structs: "DWARFStructs", expression: Sequence[int]) -> int:
+    """The number of an expression without registers but `vlenb`. Raises ValueError for another one."""
+    from elftools.dwarf.dwarf_expr import DWARFExprParser
+
+    if len(expression) > MAX_BYTES:
+        raise ValueError("the expression is long")
+    register, number = _sum([*DWARFExprParser(structs).parse_expr(expression)], None)
+    if register:
+        raise ValueError("the expression has a register")
+    return number
+
+
 def _sum(operations: Sequence[Operation], frame: Sum | None) -> Sum:
     """The stack after operations. Raises ValueError and IndexError."""
     stack = list[Sum]()
@@ -68,7 +83,7 @@ def _sum(operations: Sequence[Operation], frame: Sum | None) -> Sum:
                 stack.append((frame[0], frame[1] + number))
             case "plus_uconst", [number]:
                 stack.append(_of("plus", stack.pop(), (0, number)))
-            case "plus" | "minus" | "mul", []:
+            case "plus" | "minus" | "mul" | "div", []:
                 other = stack.pop()
                 stack.append(_of(kind, stack.pop(), other))
             case _:
@@ -87,4 +102,6 @@ def _of(sign: str, one: Sum, other: Sum) -> Sum:
             return register, number - less
         case "mul", (0, number), (0, times):
             return 0, number * times
+        case "div", (0, number), (0, by) if by > 0:
+            return 0, number // by
     raise ValueError(f"{sign} of two registers")

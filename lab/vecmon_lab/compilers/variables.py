@@ -7,6 +7,7 @@ from typing import TYPE_CHECKING, Any, NamedTuple
 
 from .c_types import declaration, pointed_kind, shape
 from .compiler import C_SOURCE
+from .layouts import Layout
 from ..guest.entries import NAME_LETTERS, entry_at, name_of, ranges_of
 from ..guest.source_lines import units_of
 from .locations import CODE_END, FRAME, MAX_BYTES, Location, Operation, Sum, location
@@ -46,15 +47,25 @@ class Variable(NamedTuple):
     target: str = ""
 
 
-def variables_of(
-    elf: "ELFFile", is_own: Callable[[str], bool] = lambda name: name == C_SOURCE, has_frames: bool = False
-) -> list[Variable]:
+class TypedVariable(NamedTuple):
+    """A variable with its type; None if the debug data has none."""
+
+    variable: Variable
+    layout: Layout | None
+
+
+def variables_of(elf: "ELFFile") -> list[Variable]:
+    """The variables of the source that a class compiles, as `typed_variables` finds them."""
+    return [each.variable for each in typed_variables(elf, lambda name: name == C_SOURCE)]
+
+
+def typed_variables(elf: "ELFFile", is_own: Callable[[str], bool], has_frames: bool = False) -> list[TypedVariable]:
     """The variables of the source, MAX_VARIABLES at most; those up to where the debug data is damaged.
 
     is_own: whether the file of this name, as the compiler was given it, is a source whose variables are wanted
     has_frames: whether locations may have FRAME in place of a register
     """
-    found = list[Variable]()
+    found = list[TypedVariable]()
     try:
         for debug, unit in units_of(elf):
             if is_own(name_of(top := unit.get_top_DIE())):
@@ -92,7 +103,7 @@ class _Unit:
 
     def variables(
         self, entry: "DIE", function: str = "", scopes: Sequence[Sum] = (), frame: Sum | None = None
-    ) -> Iterator[Variable]:
+    ) -> Iterator[TypedVariable]:
         """Those within an entry of this function, of these scopes, and with this base of its frame, if it is known."""
         for child in entry.iter_children():
             if child.tag in _VARIABLES:
@@ -150,7 +161,7 @@ class _Unit:
         return Location(first, end, "untold")
 
 
-def _variable(entry: "DIE", function: str, scopes: Sequence[Sum], locations: Sequence[Location]) -> Variable:
+def _variable(entry: "DIE", function: str, scopes: Sequence[Sum], locations: Sequence[Location]) -> TypedVariable:
     """A variable by its entry."""
     name, kind = name_of(entry), entry_at(entry_at(entry, "DW_AT_abstract_origin") or entry, "DW_AT_type")
     try:
@@ -158,7 +169,8 @@ def _variable(entry: "DIE", function: str, scopes: Sequence[Sum], locations: Seq
         target = pointed_kind(kind)
     except Exception:  # pylint: disable=broad-except  # types that are damaged, or have themselves in them
         words, element, counts, target = name, "", [], ""
-    return Variable(name, words[:NAME_LETTERS], element, counts, function, scopes, locations, target)
+    variable = Variable(name, words[:NAME_LETTERS], element, counts, function, scopes, locations, target)
+    return TypedVariable(variable, Layout(kind) if kind else None)
 
 
 def _dropped(entry: "DIE") -> list["DIE"]:
