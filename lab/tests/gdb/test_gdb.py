@@ -485,14 +485,17 @@ def test_manual_session_is_reproduced(gdb: Callable[..., str]) -> None:
 
 def test_gdb_shows_vector_state_in_words(gdb: Callable[..., str]) -> None:
     """vtype 0xd1 is SEW 32, LMUL 2, ta and ma (the manual's section 3.4); v10 has the squares of 0 to 15."""
-    commands = ("print $vtype", "break 23", "continue", "print $vtype", "print/x $vtype", "monitor vector")
-    output = gdb(SUM_DWARF4, *commands)
+    script = subprocess.run([*GDB, "--script"], cwd=TOP, stdout=subprocess.PIPE, check=True).stdout.decode().strip()
+    commands = ("print $vtype", "break 23", "continue", "print $vtype", "print/x $vtype", f"source {script}")
+    output = gdb(SUM_DWARF4, *commands, "info vector", "echo again\\n", "monitor vector", "disconnect", "info vector")
     assert "$1 = [ lmul=m1 sew=e8 vill ]\n" in output
     assert "$2 = [ lmul=m2 sew=e32 ta ma ]\n$3 = 0xd1\n" in output
     assert "vl=16 vtype=d1 (e32,m2,ta,ma) vstart=0 vxrm=0 (rnu) vxsat=0 policy=keep\n" in output
+    output, again = output[output.index("vl=16") :].split("again\n")
     rows = dict(re.findall(r"^(v\d+) +(.*)$", output, re.MULTILINE))
     assert [*rows] == [f"v{number}" for number in range(0, 32, 2)]
     assert rows["v10"].split() == [f"{number * number:08x}" for number in range(16)]
+    assert again.startswith(output) and "The program has no registers now." in again
 
 
 def test_port_serves_one_gdb() -> None:

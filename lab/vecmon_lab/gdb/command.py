@@ -54,6 +54,7 @@ FIRST_INSTANT, LAST_INSTANT = "T05replaylog:begin;", "T05replaylog:end;"
 WATCHES = {"2": "watch", "3": "rwatch", "4": "awatch"}  # by the number in a packet
 PACKET_BYTES = 512  # so that what gdb writes at once, in two digits a byte, isn't too much for `poke`
 DESCRIPTION = pathlib.Path(__file__).with_name("registers.xml").read_text("ascii")
+SCRIPT = pathlib.Path(__file__).with_name("info_vector.py")
 PC, FIRST_CONTROL = 32, 33  # numbers of registers: x0 to x31, pc, the control registers, v0 to v31, vcsr
 FIRST_VECTOR = FIRST_CONTROL + len(CONTROL)
 VCSR = FIRST_VECTOR + 32
@@ -64,6 +65,8 @@ def add_arguments(parser: argparse.ArgumentParser) -> None:
     add_program(parser, f"the image that the machine loads, or {SOURCES}", assembles=True)
     help_text = f"wait for gdb or LLDB at this port of {HOST}; 0 chooses one, which is printed"
     parser.add_argument("--port", metavar="N", type=between(0, 65535), help=help_text)
+    help_text = "print the path of a file for gdb's source, with which `info vector` prints register groups"
+    parser.add_argument("--script", action="version", version=f"{SCRIPT}", help=help_text)
 
 
 def run(arguments: argparse.Namespace) -> int:
