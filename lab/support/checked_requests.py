@@ -6,6 +6,7 @@ import jsonschema
 
 from support.message_schema import check_request
 from vecmon_lab.classes.core import requests
+from vecmon_lab.classes.core.request_fields import JsonObject
 from vecmon_lab.classes.server import tab_requests
 
 HEAD = "a request isn't as docs/CLASS_PROTOCOL.schema.json has it:"
@@ -14,7 +15,7 @@ HEAD = "a request isn't as docs/CLASS_PROTOCOL.schema.json has it:"
 def check_requests() -> None:
     """Have this process print a line to standard error for each accepted request that isn't as the schema has it."""
 
-    def read_request(message: requests.JsonObject, is_teacher: bool) -> requests.Request:
+    def read_request(message: JsonObject, is_teacher: bool) -> requests.Request:
         request = requests.read_request(message, is_teacher)
         try:
             check_request("teacher" if is_teacher else "A1", message)

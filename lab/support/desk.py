@@ -7,7 +7,8 @@ from typing import Any
 from vecmon_lab.classes.core.messages import Changes, Result
 from vecmon_lab.classes.core.names import checked_name
 from vecmon_lab.classes.core.progress import starts_of
-from vecmon_lab.classes.core.requests import BadRequest, Request, SetName
+from vecmon_lab.classes.core.bad_request import BadRequest
+from vecmon_lab.classes.core.requests import NameRequest, Request
 from vecmon_lab.classes.core.shared_machine import Answers
 from vecmon_lab.classes.core.student import ClassView
 from vecmon_lab.exercises.exercise import Exercise
@@ -47,7 +48,7 @@ class Desk(PageDesk):
     def execute(self, request: Request, done: Answers) -> Result:
         """Executes a request that a page without a server refuses. Raises BadRequest."""
         match request:
-            case SetName(_, name):
+            case NameRequest(name=name):
                 self._name = checked_name(name)
                 return {}
         raise BadRequest("a desk doesn't do that")

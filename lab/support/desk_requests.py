@@ -112,7 +112,7 @@ def drawn_requests(draws: random.Random, number: int) -> Iterator[Request]:
             case 6:
                 yield {"ask": "name", "name": draws.choice(("Ada", "Grace", "", "a\0"))}
             case 7:
-                yield {"ask": "step-line"}
+                yield {"ask": "step", "by": "line"}
             case 8:
                 yield _lines("setpc 10000", "go", slices=draws.choice((1, 5)))
             case _:

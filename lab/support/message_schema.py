@@ -21,7 +21,7 @@ def check_message(message: Mapping[str, Any]) -> None:
 
 def check_request(role: str, request: Mapping[str, Any]) -> None:
     """Raises ValidationError for a request of a seat or the teacher that isn't as the schema has it."""
-    _check_one("TeacherRequestForm" if role == "teacher" else "StudentRequestForm", request, {"ask"})
+    _check_one("TeacherRequest" if role == "teacher" else "StudentRequest", request, {"ask"})
 
 
 def check_view(role: str, view: Mapping[str, Any], patch: Mapping[str, Any] | None = None) -> None:

@@ -1,18 +1,18 @@
 """Write the JSON Schema and the TypeScript declarations of a class's messages from their Python types: `python -m support.message_types`.
 
-It writes docs/CLASS_PROTOCOL.schema.json and lab/vecmon_lab/page/web/messages.d.ts.
+It writes docs/CLASS_PROTOCOL.schema.json, lab/vecmon_lab/page/web/messages.d.ts, and the table of requests in docs/CLASS_PROTOCOL.md.
 """
 
 import inspect
 import json
+import textwrap
 import types
 from collections.abc import Iterable, Mapping, Sequence
 from typing import Any, Literal, Union, get_args, get_origin, get_type_hints, is_typeddict
 
 from support.places import TOP
-from vecmon_lab.classes.core import request_forms
+from support.request_types import PROTOCOL, TEXTS, protocol, requests_of, wrapped
 from vecmon_lab.classes.core.messages import Answer, Hello, Message, News
-from vecmon_lab.classes.core.request_forms import StudentRequestForm, TeacherRequestForm
 from vecmon_lab.classes.core.student import StudentView
 from vecmon_lab.classes.server.teacher_view import TeacherView, WallView
 from vecmon_lab.lessons.page import LessonData
@@ -21,8 +21,8 @@ from vecmon_lab.playground.page_desk import PageHello
 SCHEMA = TOP / "docs" / "CLASS_PROTOCOL.schema.json"
 DECLARATIONS = TOP / "lab" / "vecmon_lab" / "page" / "web" / "messages.d.ts"
 ROOTS: Mapping[str, Any] = {
-    "StudentRequestForm": StudentRequestForm,
-    "TeacherRequestForm": TeacherRequestForm,
+    "StudentRequest": requests_of("student"),
+    "TeacherRequest": requests_of("teacher"),
     "Hello": Hello,
     "News": News,
     "Answer": Answer,
@@ -88,10 +88,16 @@ def object_schema(kind: Any) -> Schema:
     schema: Schema = {
         "description": description_of(kind),
         "type": "object",
-        "properties": {name: schema_of(each) for name, each in get_type_hints(kind).items()},
+        "properties": {name: with_text(kind, name, schema_of(each)) for name, each in get_type_hints(kind).items()},
         "required": sorted(kind.__required_keys__),
     }
-    return schema if kind.__module__ == request_forms.__name__ else {**schema, "additionalProperties": False}
+    return schema if kind in TEXTS else {**schema, "additionalProperties": False}
+
+
+def with_text(kind: Any, name: str, schema: Schema) -> Schema:
+    """The schema of a key of a request with its text, if there is one."""
+    text = TEXTS.get(kind, {}).get(name)
+    return schema if text is None else {"description": text, **schema}
 
 
 def declared(kind: Any) -> str:
@@ -116,8 +122,9 @@ def declared(kind: Any) -> str:
 
 def declared_object(kind: Any) -> str:
     """The declaration of a type of objects."""
+    texts = TEXTS.get(kind, {})
     fields = [
-        f"  {name}{'' if name in kind.__required_keys__ else '?'}: {declared(each)};\n"
+        f"{indented(texts.get(name, ''))}  {name}{'' if name in kind.__required_keys__ else '?'}: {declared(each)};\n"
         for name, each in get_type_hints(kind).items()
     ]
     return f"{comment(description_of(kind))}export interface {kind.__name__} {{\n{''.join(fields)}}}\n"
@@ -129,6 +136,11 @@ def comment(text: str) -> str:
     if len(lines) == 1:
         return f"/** {text} */\n" if text else ""
     return "/**\n" + "".join(f" * {line}".rstrip() + "\n" for line in lines) + " */\n"
+
+
+def indented(text: str) -> str:
+    """The comment of a key; empty without a text."""
+    return textwrap.indent(comment("\n".join(wrapped(text))), "  ")
 
 
 def declared_union(name: str, kind: Any) -> str:
@@ -164,7 +176,8 @@ def declarations() -> str:
 
 
 def main() -> None:
-    """Write both files."""
+    """Write the files."""
+    PROTOCOL.write_text(protocol(), "utf-8")
     SCHEMA.write_text(schema(), "utf-8")
     DECLARATIONS.write_text(declarations(), "utf-8")
 

@@ -23,6 +23,7 @@ EXCEPTIONS = {  # the files with such decisions, and the reason for each
     "lab/vecmon_lab/machine/script.py": "a fast choice of lines, whose commands are read afterwards",
     "lab/vecmon_lab/checkpoints/machine_state.py": "a fast choice of lines, whose commands are read afterwards",
     "lab/vecmon_lab/classes/core/live.py": "the mark of the server's own lines, which the same module writes",
+    "lab/vecmon_lab/classes/core/request_fields.py": "a message is a mapping there, and its keys are tested",
     "lab/vecmon_lab/classes/core/requests.py": "a message is a mapping there, and its keys are tested",
     "lab/vecmon_lab/meanings/describe.py": "a search for a reader's words",
     "lab/vecmon_lab/page/web/seat/lines.js": "a field in which a person types lines; the next test compares its commands",

@@ -99,8 +99,8 @@ async def test_stock_assembler_source_builds(tmp_path: pathlib.Path, builds: Bui
         assert LANGUAGES[0].choice is None and (await tab.ask("source", text=MACRO))["mistakes"]
         assert (await tab.ask("source", text=MACRO, language=STOCK))["mistakes"] == []
         assert sorted(tab.view["state"]["starts"].values()) == [0, 4, 5, 6]
-        await tab.ask("step-line")
-        await tab.ask("step-line")
+        await tab.ask("step", by="line")
+        await tab.ask("step", by="line")
         assert tab.view["state"]["x"]["10"] == "6"
         reply = await tab.ask("source", text='nop\n.incbin "/etc/passwd"\n', language=STOCK)
         assert [each["line"] for each in reply["mistakes"]] == [2] and "/etc" not in str(reply["mistakes"])
@@ -138,12 +138,12 @@ async def test_line_step_stops_at_next_line(tmp_path: pathlib.Path, builds: Buil
 
     async with served(tmp_path / "class", builds=builds) as room:
         tab = await room.sit("A1")
-        assert "only a stopped program" in (await tab.ask("step-line"))["error"]
+        assert "there is no program" in (await tab.ask("step", by="line"))["error"]
         await tab.ask("source", text=LOOPS, language=plain)
         starts = tab.view["state"]["starts"]
 
         async def step() -> int:
-            assert "error" not in await tab.ask("step-line")
+            assert "error" not in await tab.ask("step", by="line")
             pc = int(tab.view["state"]["pc"], 16)
             return int(starts[max((each for each in starts if int(each, 16) <= pc), key=lambda each: int(each, 16))])
 
@@ -153,7 +153,7 @@ async def test_line_step_stops_at_next_line(tmp_path: pathlib.Path, builds: Buil
         assert (await run(tab))[0].startswith("break") and [await step() for _ in range(3)] == [3, 4, 12]
         assert tab.view["state"]["variables"]
         while tab.view["state"]["run"] == "stopped" and not tab.view["stop"].startswith("exit"):
-            await tab.ask("step-line")
+            await tab.ask("step", by="line")
         assert tab.view["stop"].startswith("exit 2")
         await room.check_replay()
 

@@ -7,7 +7,7 @@ import pytest
 
 from support.desk import Desk, ask
 from vecmon_lab.classes.core.edits import breakpoint_lines, edit_line, setting_lines
-from vecmon_lab.classes.core.requests import BadRequest
+from vecmon_lab.classes.core.bad_request import BadRequest
 from vecmon_lab.exercises.exercise import OURS, read_exercise
 
 V = {"1": "00112233445566778899aabbccddeeff" * 2}

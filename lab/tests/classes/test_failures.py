@@ -21,7 +21,7 @@ from support.class_tabs import LOOP, SECONDS, command, process, served
 from support.places import TOP
 from support.terminal import INTERRUPT, Terminal
 from vecmon_lab.classes.core.languages import SourceText
-from vecmon_lab.classes.core.requests import Lines
+from vecmon_lab.classes.core.requests import LinesRequest
 from vecmon_lab.classes.server.machine_thread import Stopped
 from vecmon_lab.classes.server.store import Store
 from vecmon_lab.classes.server.view import Class
@@ -241,12 +241,12 @@ async def test_differing_replay_stops_class(tmp_path: pathlib.Path) -> None:
     members = Class(Store(tmp_path / "class", program), SECONDS)
     room = members.rooms["A"]
     for line in LOOP:
-        await room.lines(room.seats.users["1"], Lines("", [line], 0, []), [])
+        await room.lines(room.seats.users["1"], LinesRequest([line]), [])
     word.write_text("00128294")
     room.session.close()
     for _ in range(2):
         with pytest.raises(Stopped, match="in doubt.*line 3, '1 asm 10000 .*now with '1 0000000000010000 00128294'"):
-            await room.lines(room.seats.users["1"], Lines("", ["step 1"], 0, []), [])
+            await room.lines(room.seats.users["1"], LinesRequest(["step 1"]), [])
     with pytest.raises(Stopped):
         await room.source(room.seats.users["1"], SourceText("nop"))
     assert "in doubt" in room.warning and room.session.lines == len(LOOP)
@@ -259,17 +259,17 @@ async def test_temporarily_missing_program_is_retried(tmp_path: pathlib.Path) ->
     shutil.copy(find_program(), program)
     members = Class(Store(tmp_path / "class", program), SECONDS)
     room = members.rooms["A"]
-    await room.lines(room.seats.users["1"], Lines("", LOOP, 0, []), [])
+    await room.lines(room.seats.users["1"], LinesRequest(LOOP), [])
     program.rename(tmp_path / "elsewhere")
     assert room.session.process
     os.kill(room.session.process, signal.SIGKILL)
     room.set_clock({"on": True})
     with pytest.raises(machine.ProgramGone):
-        await room.lines(room.seats.users["1"], Lines("", ["step 1"], 0, []), [])
+        await room.lines(room.seats.users["1"], LinesRequest(["step 1"]), [])
     assert "is down" in room.warning
     (tmp_path / "elsewhere").rename(program)
     done: list[list[str]] = []
-    await room.lines(room.seats.users["1"], Lines("", ["step 1"], 0, []), done)
+    await room.lines(room.seats.users["1"], LinesRequest(["step 1"]), done)
     assert done == [["stepped 1 pc=0000000000010004"]] and room.warning == ""
     members.end()
     assert (tmp_path / "class" / "A.script").read_bytes() == room.session.script
@@ -306,7 +306,7 @@ async def test_files_at_end_are_consistent(tmp_path: pathlib.Path) -> None:
     """A server that ends while its clock grants slices keeps no number of lines with a digest of others."""
     members, notes = Class(Store(tmp_path / "class", find_program()), SECONDS), tmp_path / "class" / "A.json"
     room = members.rooms["A"]
-    await room.lines(room.seats.users["1"], Lines("", [*LOOP, "go"], 0, []), [])
+    await room.lines(room.seats.users["1"], LinesRequest([*LOOP, "go"]), [])
     members.save()
     members.store.flush()
     stored, process = notes.read_text(), room.session.process

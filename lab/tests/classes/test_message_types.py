@@ -1,7 +1,7 @@
 """The types of messages: the generated schema and declarations, and what the schema refuses."""
 
+import dataclasses
 import json
-import typing
 from collections.abc import Mapping, Sequence
 from typing import Any, TypedDict
 
@@ -10,8 +10,8 @@ import pytest
 
 from support import message_types
 from support.message_schema import check_message, check_request, check_view
-from vecmon_lab.classes.core import requests
-from vecmon_lab.classes.core.request_forms import StudentRequestForm, TeacherRequestForm
+from support.request_types import PROTOCOL, keys_of, message_type, of, protocol, row
+from vecmon_lab.classes.core.requests import KINDS, GiveRequest, MachineLinesRequest, PastRequest, Request, read_request
 
 Row = TypedDict("Row", {"numbers": Sequence[int], "names": Mapping[str, float]})
 ANSWER: dict[str, Any] = {"kind": "answer", "id": 1, "text": "nop", "language": 0}
@@ -20,6 +20,7 @@ MISTAKE: dict[str, Any] = {"line": 3, "column": 5, "length": 3, "severity": "err
 
 def test_generated_files_are_current() -> None:
     advice = "run .venv/bin/python -m support.message_types"
+    assert PROTOCOL.read_text("utf-8") == protocol(), advice
     assert message_types.SCHEMA.read_text("utf-8") == message_types.schema(), advice
     assert message_types.DECLARATIONS.read_text("utf-8") == message_types.declarations(), advice
 
@@ -47,11 +48,58 @@ def test_type_becomes_schema_and_declaration() -> None:
         message_types.schema_of(tuple[int, str])
 
 
-@pytest.mark.parametrize("form, readers", [(StudentRequestForm, "_OF_STUDENTS"), (TeacherRequestForm, "_OF_TEACHERS")])
-def test_each_request_has_a_form(form: Any, readers: str) -> None:
-    kinds = [typing.get_args(typing.get_type_hints(each)["ask"])[0] for each in typing.get_args(form)]
-    twice = ["open"] if form == StudentRequestForm else []  # an exercise, or an offered source
-    assert sorted(kinds) == sorted([*getattr(requests, readers), *twice])
+def test_request_becomes_schema_declaration_and_row() -> None:
+    """By hand, from the class: its fields with their defaults and texts."""
+    kind = message_types.objects_in([message_types.ROOTS["StudentRequest"]])["PastRequest"]
+    count = "The number of instructions since the machine began. A negative number counts from the present."
+    to_break = "Whether to find the next state after that one at a breakpoint."
+    assert message_types.object_schema(kind) == {
+        "description": "Find an earlier state of the program.",
+        "type": "object",
+        "properties": {
+            "id": {"type": "integer"},
+            "ask": {"enum": ["past"]},
+            "at": {"description": count, "type": "integer"},
+            "to_break": {"description": to_break, "type": "boolean"},
+        },
+        "required": ["ask", "at", "id"],
+    }
+    assert message_types.declared_object(kind) == (
+        "/** Find an earlier state of the program. */\nexport interface PastRequest {\n"
+        f'  id: number;\n  ask: "past";\n  /** {count} */\n  at: number;\n  /** {to_break} */\n  to_break?: boolean;\n}}\n'
+    )
+    meaning = f"Find an earlier state of the program. `at`: t{count[1:]} `to_break`: w{to_break[1:]} See [below](#earlier-states)."
+    assert row(PastRequest).startswith(f'| both | `{{"id": 7, "ask": "past", "at": 41}}` | {meaning} | `number` of')
+
+
+@pytest.mark.parametrize(
+    "request_, keys, required",
+    [
+        (MachineLinesRequest, {"do", "look", "slices", "machine"}, {"machine"}),
+        (GiveRequest, {"seat", "seats", "text", "language", "how", "title"}, {"text"}),
+    ],
+)
+def test_request_has_keys_of_fields(request_: type[Request], keys: set[str], required: set[str]) -> None:
+    kind = message_type(request_)
+    assert kind.__required_keys__ == {"id", "ask", *required}
+    assert kind.__required_keys__ | kind.__optional_keys__ == {"id", "ask", *keys}
+
+
+@pytest.mark.parametrize("request_", KINDS, ids=[each.__name__ for each in KINDS])
+def test_example_is_request_of_its_class(request_: type[Request]) -> None:
+    """The examples in the table of requests, for each that may send one; others are refused, or have another class."""
+    message = {"id": 7, "ask": KINDS[request_].ask, **KINDS[request_].example}
+    for who, is_teacher in (("student", False), ("teacher", True)):
+        if KINDS[request_].sender in (who, "both"):
+            check_request(who, message)
+            assert type(read_request(message, is_teacher)) is request_
+
+
+def test_fields_of_requests_have_distinct_keys() -> None:
+    """Each key of a message belongs to one field."""
+    for each in KINDS:
+        keys = [key for field in dataclasses.fields(of(each)) for key in keys_of(field)]
+        assert len(keys) == len({"id", "ask", *keys}) - 2, each
 
 
 @pytest.mark.parametrize(

@@ -12,7 +12,7 @@ from support.class_tabs import LOOP, served
 from vecmon_lab.__main__ import arguments_of
 from vecmon_lab.classes.server.command import run
 from vecmon_lab.classes.core.names import as_csv, checked_name
-from vecmon_lab.classes.core.requests import BadRequest
+from vecmon_lab.classes.core.bad_request import BadRequest
 from vecmon_lab.classes.server.store import BadFolder, forget
 
 NAME = "Zoë O'Brien-Šarić Jr. 2"

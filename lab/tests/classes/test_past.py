@@ -7,7 +7,7 @@ import pytest
 
 from support.past_sequences import EXERCISE, ClassPage, DeskPage, Page, PlaygroundPage, check, dense_states, found
 from vecmon_lab.classes.core.moments import Budget
-from vecmon_lab.classes.core.requests import BadRequest
+from vecmon_lab.classes.core.bad_request import BadRequest
 from vecmon_lab.exercises.answer import settled
 from vecmon_lab.exercises.exercise import Exercise, read_exercise
 from vecmon_lab.replay.legs import Leg, Legs

@@ -15,7 +15,7 @@ from support.disk import Contents, Disk
 from vecmon_lab.classes.server import checks, disk_files, durable, journal, store, view
 from vecmon_lab.classes.core.languages import SourceText
 from vecmon_lab.classes.core.live import is_servers
-from vecmon_lab.classes.core.requests import Lines
+from vecmon_lab.classes.core.requests import LinesRequest
 from vecmon_lab.classes.server.server import KEEP_SECONDS
 from vecmon_lab.classes.server.store import BadFolder, Store, script_name
 from vecmon_lab.classes.server.view import Class
@@ -94,7 +94,7 @@ class Lesson:
 
     async def _do(self, *lines: str) -> None:
         room = self.members.rooms["A"]
-        await room.lines(room.seats.users["1"], Lines("", list(lines), 0, []), [])
+        await room.lines(room.seats.users["1"], LinesRequest(list(lines)), [])
         self.done.lines += [f"1 {line}" for line in lines]
 
     async def _step(self) -> None:

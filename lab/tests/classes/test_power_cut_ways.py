@@ -19,7 +19,7 @@ from support.class_tabs import LOOP, SECONDS
 from support.disk import Contents, Disk
 from vecmon_lab.classes.server import checks, disk_files, durable, journal, store, view
 from vecmon_lab.classes.core.languages import SourceText
-from vecmon_lab.classes.core.requests import Lines
+from vecmon_lab.classes.core.requests import LinesRequest
 from vecmon_lab.classes.server.server import KEEP_SECONDS
 from vecmon_lab.classes.server.store import Store
 from vecmon_lab.classes.server.view import Class
@@ -69,7 +69,7 @@ class BusyLesson:
         for seat in SEATS:
             room = self.members.rooms[seat[0]]
             lines = [f"step {self.number}"] if self.number > 1 else LOOP
-            await room.lines(room.seats.users[seat[1]], Lines("", lines, 0, []), [])
+            await room.lines(room.seats.users[seat[1]], LinesRequest(lines), [])
             source = self.members.students[seat].source
             source.draft(SourceText(f"draft {self.number}"), source.number)
             self.members.set_name(seat, f"Ada {self.number}")

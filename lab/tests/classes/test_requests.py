@@ -9,42 +9,47 @@ from support.places import DOCS
 from vecmon_lab import LabError
 from vecmon_lab.classes.core.languages import LANGUAGES, SourceText
 from vecmon_lab.classes.core.requests import (
-    Compare,
-    Lines,
-    LookOver,
-    Renew,
+    ClockRequest,
+    LinesRequest,
+    ListingsRequest,
+    MachineLinesRequest,
+    RenewRequest,
     Request,
-    SetClock,
-    SetRights,
-    Source,
+    RightsRequest,
+    ShoulderRequest,
+    SourceRequest,
     read_request,
 )
 
 SHARED: list[tuple[dict[str, object], bool, Request]] = [
-    ({"ask": "lines"}, False, Lines("", [], 0, [])),
+    ({"ask": "lines"}, False, LinesRequest()),
     (
         {"ask": "lines", "machine": "B", "do": ["enter"], "slices": 100, "look": ["regs"]},
         False,
-        Lines("", ["enter"], 100, ["regs"]),
+        LinesRequest(["enter"], ["regs"], 100),
     ),
     (
         {"ask": "lines", "machine": "B", "do": ["slices 1"], "look": ["list"]},
         True,
-        Lines("B", ["slices 1"], 0, ["list"]),
+        MachineLinesRequest(["slices 1"], ["list"], machine="B"),
     ),
-    ({"ask": "source", "text": "nop"}, False, Source(SourceText("nop"))),
-    ({"ask": "source", "text": "int x;", "language": 2}, False, Source(SourceText("int x;", 2))),
+    ({"ask": "source", "text": "nop"}, False, SourceRequest(SourceText("nop"))),
+    ({"ask": "source", "text": "int x;", "language": 2}, False, SourceRequest(SourceText("int x;", 2))),
     (
         {"ask": "listings", "text": "int x;", "language": 2, "other": 5},
         False,
-        Compare(SourceText("int x;", 2), 5),
+        ListingsRequest(SourceText("int x;", 2), 5),
     ),
-    ({"ask": "clock", "machine": "A", "on": True, "ms": 10}, True, SetClock("A", {"on": True, "ms": 10})),
-    ({"ask": "clock", "machine": "A", "on": False, "slices": 1000}, True, SetClock("A", {"on": False, "slices": 1000})),
-    ({"ask": "rights", "machine": "A", "own_slices": False}, True, SetRights("A", False)),
-    ({"ask": "renew", "seat": "A3"}, True, Renew("A3")),
-    ({"ask": "shoulder", "seat": ""}, True, LookOver("")),
-    ({"ask": "shoulder"}, True, LookOver("")),
+    ({"ask": "clock", "machine": "A", "on": True, "ms": 10}, True, ClockRequest("A", {"on": True, "ms": 10})),
+    (
+        {"ask": "clock", "machine": "A", "on": False, "slices": 1000},
+        True,
+        ClockRequest("A", {"on": False, "slices": 1000}),
+    ),
+    ({"ask": "rights", "machine": "A", "own_slices": False}, True, RightsRequest("A", False)),
+    ({"ask": "renew", "seat": "A3"}, True, RenewRequest("A3")),
+    ({"ask": "shoulder", "seat": ""}, True, ShoulderRequest("")),
+    ({"ask": "shoulder"}, True, ShoulderRequest("")),
 ]
 
 
@@ -108,7 +113,7 @@ def values_of_other_types() -> Iterator[tuple[bool, dict[str, object]]]:
     """Requests with one value of another type than the schema's: whether they are a teacher's, and the messages."""
     definitions = json.loads((DOCS / "CLASS_PROTOCOL.schema.json").read_text())["$defs"]
     samples: dict[str, object] = {"string": "a", "boolean": True, "integer": 1, "array": []}
-    for is_teacher, form in ((False, "StudentRequestForm"), (True, "TeacherRequestForm")):
+    for is_teacher, form in ((False, "StudentRequest"), (True, "TeacherRequest")):
         for reference in definitions[form]["anyOf"]:
             properties = definitions[reference["$ref"].rpartition("/")[2]]["properties"]
             kinds = {name: each["type"] for name, each in properties.items() if name != "id" and "type" in each}

@@ -10,7 +10,8 @@ import pytest
 
 from vecmon_lab.classes.server import scripts
 from vecmon_lab.classes.server.worker_pool import WorkerPool
-from vecmon_lab.classes.core.requests import BadRequest, Lines
+from vecmon_lab.classes.core.bad_request import BadRequest
+from vecmon_lab.classes.core.requests import LinesRequest
 from vecmon_lab.classes.server.room import Room
 from vecmon_lab.classes.core.seats import Seat
 from vecmon_lab.classes.server.store import ScriptFile
@@ -59,7 +60,7 @@ class Machine:
 
     def ask(self, seat: Seat, *lines: str) -> "asyncio.Task[Any]":
         """A request that is under way."""
-        return asyncio.create_task(self.room.lines(seat, Lines("", list(lines), 0, []), []))
+        return asyncio.create_task(self.room.lines(seat, LinesRequest(list(lines)), []))
 
     async def order(self, count: int, *tasks: "asyncio.Task[Any]") -> str:
         """The users whose lines were executed, in order, after this number of turns."""
@@ -113,8 +114,8 @@ async def test_slices_wait_for_late_checkpoint(tmp_path: pathlib.Path, monkeypat
     await asyncio.sleep(0)
     session.weight = 3.5  # of a script that gets a checkpoint from 1 on
     for seat, request in (
-        (room.seats.operator, Lines("", ["slices 1000"], 0, [])),
-        (room.seats.users["8"], Lines("", [], 5, [])),
+        (room.seats.operator, LinesRequest(["slices 1000"])),
+        (room.seats.users["8"], LinesRequest(slices=5)),
     ):
         with pytest.raises(BadRequest, match="slices wait"):
             await room.lines(seat, request, [])
@@ -122,7 +123,7 @@ async def test_slices_wait_for_late_checkpoint(tmp_path: pathlib.Path, monkeypat
     clock = asyncio.create_task(room.clock.run())
     await asyncio.sleep(0.1)
     assert session.order == [] and not room.is_busy()
-    assert await room.lines(room.seats.operator, Lines("", [], 0, ["list"]), []) == [["E05"]]
+    assert await room.lines(room.seats.operator, LinesRequest(look=["list"]), []) == [["E05"]]
     room.seats.users["8"].state = {"run": "running", "pc": "0"}
     session.weight = 0.5
     while not room.is_busy():

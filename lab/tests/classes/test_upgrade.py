@@ -9,7 +9,7 @@ import pytest_asyncio
 
 from support.class_tabs import LOOP, SECONDS
 from vecmon_lab.classes.server.folder_report import folder_report
-from vecmon_lab.classes.core.requests import Lines
+from vecmon_lab.classes.core.requests import LinesRequest
 from vecmon_lab.classes.server.solo import solo
 from vecmon_lab.classes.server.store import BadFolder, Store
 from vecmon_lab.classes.server.view import Class
@@ -21,7 +21,7 @@ async def do(members: Class, *lines: str) -> list[list[str]]:
     """The answers to lines of seat A1."""
     room = members.rooms["A"]
     answers = list[list[str]]()
-    await room.lines(room.seats.users["1"], Lines("", [*lines], 0, []), answers)
+    await room.lines(room.seats.users["1"], LinesRequest([*lines]), answers)
     return answers
 
 

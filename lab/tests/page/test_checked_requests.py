@@ -31,5 +31,5 @@ def test_invalid_request_fails_a_test(program: pathlib.Path, tmp_path: pathlib.P
     assert "error" in asyncio.run(_ask(served, ask="unknown"))  # which is no request to check
     assert served.invalid_requests() == []
     assert "error" not in asyncio.run(_ask(served, ask="hand"))
-    with pytest.raises(AssertionError, match="no alternative of StudentRequestForm"):
+    with pytest.raises(AssertionError, match="no alternative of StudentRequest"):
         served.end()

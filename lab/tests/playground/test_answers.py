@@ -107,7 +107,7 @@ def test_an_image_has_its_symbols_lines_and_variables(
         "-static",
     ]
     subprocess.run([clang.name, *words, "-fuse-ld=lld", "source.c", "-o", str(image)], check=True, cwd=tmp_path)
-    requests: list[Request] = [{"image": "small", "path": str(image)}, {"ask": "step-line"}, {"reload": True}]
+    requests: list[Request] = [{"image": "small", "path": str(image)}, {"ask": "step", "by": "line"}, {"reload": True}]
     loaded, stepped, again = answered_by_page(parts, requests)[1:]
     state = loaded[0]["patch"]["state"]
     assert "_start" in str(state["labels"]) and "x" in str(state["variables"]) and state["starts"]

@@ -13,20 +13,16 @@ from ..classes.core.languages import SourceText
 from ..classes.core.messages import Answer, Changes, Hello, News, Result, Updates
 from ..classes.core.messages import answer_to, explain_refusals, request_of, with_changes
 from ..classes.core.progress import Exercises, Start, Try
+from ..classes.core.bad_request import BadRequest
+from ..classes.core.request_fields import JsonObject
 from ..classes.core.requests import (
-    BadRequest,
-    Check,
-    Draft,
-    Edit,
-    FindLastRead,
-    FindProblems,
-    JsonObject,
-    Lines,
-    OpenExercise,
-    ReadAnswer,
+    AnswerRequest,
+    LinesRequest,
+    Request,
+    SeatsRequest,
+    Settings,
+    read_request,
 )
-from ..classes.core.requests import ReadPast, ReadVersion, Request, RunProgram, Settings, Source, StepLine, StepProgram
-from ..classes.core.requests import ToggleBreakpoints, TryCase, Why, read_request
 from ..classes.core.shared_machine import Answers, MakeProgram, Returned, SharedMachine, Steps, Turn, WorkApart
 from ..classes.core.sources import SeatSource
 from ..classes.core.student import ClassView, Student, try_result
@@ -142,7 +138,7 @@ class Desk:
         """Takes up the result of a check."""
         self.exercises.take(self.seat.name, name, done)
 
-    def lines(self, request: Lines, done: Answers) -> Answers:
+    def lines(self, request: LinesRequest, done: Answers) -> Answers:
         """Executes lines, which join `done` with their answers; the answers to lines that look. Raises LabError."""
         return self.run(self.machine.lines(self.seat, request, done))
 
@@ -192,14 +188,12 @@ class Desk:
     def _execute(self, request: Request, done: Answers) -> Result:
         """Execute a request; return its result. Raises BadRequest."""
         match request:
-            case Lines():
+            case LinesRequest():
                 return {"do": done, "look": self.lines(request, done)}
-            case ReadAnswer(_, name, number):
+            case AnswerRequest(exercise=name, number=number):
                 self.exercises.exercise(name)
                 return try_result(self.try_of(name, number))
-            case Source() | FindProblems() | StepLine() | Why() | Draft() | OpenExercise() | ReadVersion() | ReadPast():
-                return self.run(self.student.execute(request))
-            case Check() | TryCase() | RunProgram() | StepProgram() | FindLastRead() | Edit() | ToggleBreakpoints():
+            case SeatsRequest():
                 return self.run(self.student.execute(request))
         return self.execute(request, done)
 

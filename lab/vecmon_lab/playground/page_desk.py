@@ -15,7 +15,8 @@ from ..classes.core.languages import SourceText
 from ..classes.core.messages import Hello, News, with_changes
 from ..classes.core.history import History
 from ..classes.core.progress import MAX_TRIES, Start, Try
-from ..classes.core.requests import BadRequest, Lines
+from ..classes.core.bad_request import BadRequest
+from ..classes.core.requests import LinesRequest
 from ..classes.core.shared_machine import LEAVING, Answers
 from ..classes.core.text_store import TextStore
 from ..compilers.compiled import program_of
@@ -112,12 +113,12 @@ class PageDesk(Desk):
         try:
             with mistakes_in(name):
                 own = self._add_image(name, content)
-            self.lines(Lines("", [*LEAVING[self.seat.state["run"]], "enter", f"load {own}"], 0, []), [])
+            self.lines(LinesRequest([*LEAVING[self.seat.state["run"]], "enter", f"load {own}"]), [])
         except LabError as error:
             self.seat.add_log_entry(f"!{error}")
         return with_changes(News(kind="news"), self.news())
 
-    def lines(self, request: Lines, done: Answers) -> Answers:
+    def lines(self, request: LinesRequest, done: Answers) -> Answers:
         """As any desk's. Symbols, lines and variables of an image that was loaded are the seat's."""
         looks = super().lines(request, done)
         words = [

@@ -5,7 +5,7 @@ from bisect import bisect_left
 from collections.abc import Mapping, Sequence
 
 from .moved_breakpoints import MAX_BREAKPOINTS
-from .requests import BadRequest
+from .bad_request import BadRequest
 
 _EDIT = re.compile(r"setpc|poke [0-9a-f]+|set x[0-9]{1,2}|vset v([0-9]{1,2}) (1|8|16|32|64) ([0-9]{1,4}) (\w+)")
 _DECIMAL, _HEXADECIMAL = re.compile(r"-?[0-9]{1,20}"), re.compile(r"(0x)?[0-9A-Fa-f]{1,16}")

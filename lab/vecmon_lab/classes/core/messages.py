@@ -10,7 +10,8 @@ from ...exercises.check import CheckResult
 from ...page.build.pages import merge_patch
 from ...page.state import State
 from .moments import PastResult
-from .requests import BadRequest, JsonObject
+from .bad_request import BadRequest
+from .request_fields import JsonObject
 from .seats import Seat
 from .shared_machine import Answers
 from .sources import SeatSource, Version

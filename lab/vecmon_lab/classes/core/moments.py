@@ -11,7 +11,7 @@ from ...page.state import State, WatchSet, add_last_instruction, look_at, with_r
 from ...replay.histories import UserHistory
 from ...replay.history import IsDue
 from ...replay.own_lines import Instant
-from .requests import BadRequest
+from .bad_request import BadRequest
 from .seats import Condition, Seat, condition_after, output_blocks
 
 SHARE = 500_000_000  # instructions that a seat's replays may execute at once

@@ -8,7 +8,7 @@ import unicodedata
 from collections.abc import Iterable
 
 from ...tables.table import spreadsheet_row
-from .requests import BadRequest
+from .bad_request import BadRequest
 
 NAMES = "names.json"  # by seat
 MAX_LETTERS = 40

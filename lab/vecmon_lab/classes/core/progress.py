@@ -10,7 +10,7 @@ from ...exercises.check import CaseRows, CheckResult, case_rows, passes_all
 from ...exercises.exercise import Case, Exercise
 from .codes import new_code
 from .languages import NUMBERS, C, SourceText
-from .requests import BadRequest
+from .bad_request import BadRequest
 from .seats import TriedCase
 
 MAX_TRIES = 200  # of a seat at an exercise

@@ -29,7 +29,8 @@ from .last_run import Run, run_at, state_before
 from .live import server_line, with_output
 from .moments import Budget, HistoryView, PastResult, moment_at
 from .moved_breakpoints import moved_breakpoints
-from .requests import BadRequest, Lines
+from .bad_request import BadRequest
+from .requests import LinesRequest
 from .seat_status import LIMIT_STATUS
 from .seats import Done, Seat, Seats, may_change
 
@@ -119,7 +120,7 @@ class SharedMachine:
         # By the user's digit: the session, and the number of the script's line that ended the last run.
         self._runs: dict[str, tuple[Session, int]] = {}
 
-    def lines(self, seat: Seat, request: Lines, done: Answers) -> Steps[Answers]:
+    def lines(self, seat: Seat, request: LinesRequest, done: Answers) -> Steps[Answers]:
         """Executes lines, which join `done` with their answers, and slices; the answers to lines that look.
 
         Raises BadRequest where the seat's share of the script has no room; then nothing is done.
@@ -353,7 +354,7 @@ class SharedMachine:
         elif words[:1] == ["step"] and not is_refusal(answer):
             self._runs[digit] = self.session, number
 
-    def _lines(self, seat: Seat, request: Lines, done: Answers, turn: Turn) -> None:
+    def _lines(self, seat: Seat, request: LinesRequest, done: Answers, turn: Turn) -> None:
         """Executes lines, then slices of the seat's own program, then lines that look."""
         own = own_lines(seat, request.do)
         try:

@@ -19,7 +19,7 @@ from ...assembler.source import Program, read_source
 from ...compilers.compiled import CompiledProgram, read_compiled_program
 from ...compilers.debug import MAX_BYTES
 from .languages import LANGUAGES, NUMBERS, SourceText
-from .requests import BadRequest
+from .bad_request import BadRequest
 from .text_store import TextStore
 
 MADE, CASE, OPEN, DRAFTS = "written.json", "case", "exercise", "drafts"

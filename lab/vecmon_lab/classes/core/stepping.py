@@ -10,7 +10,9 @@ from ...assembler.commands import refusal_on_pages
 from ...compilers.compiled import CompiledProgram
 from ...guest.jumps import is_call, is_return
 from ...machine.answers import Listing, Position, Refused, ScalarRegisters, Word, read
-from .requests import BadRequest, Lines, StepKind
+from .bad_request import BadRequest
+from .request_fields import StepKind
+from .requests import LinesRequest
 from .seats import Seat
 from .shared_machine import Answers, SharedMachine, Steps, Turn
 
@@ -70,16 +72,6 @@ def step_until(machine: SharedMachine, seat: Seat, line: int) -> Steps[None]:
     raise BadRequest(f"The program went through {MAX_LINES:,} lines, but not through line {line}: {advice}.")
 
 
-def step_line(machine: SharedMachine, seat: Seat) -> Steps[None]:
-    """Step a program to another line of its compiled source, to a stop, or through LINE_BLOCKS blocks of code.
-
-    Raises BadRequest where there is no line to step, or no room in the seat's share of the script.
-    """
-    if not isinstance(seat.program, CompiledProgram) or seat.state["run"] != "stopped":
-        raise BadRequest("only a stopped program of a compiled source can step a line")
-    yield from _walk(machine, seat, "into", by_lines=True)
-
-
 def _check_stopped(seat: Seat) -> None:
     """Raises BadRequest where a seat has no stopped program."""
     if seat.state["run"] == "absent":
@@ -91,7 +83,7 @@ def _check_stopped(seat: Seat) -> None:
 def execute_line(machine: SharedMachine, seat: Seat, line: str) -> Steps[bool]:
     """Execute a line; return whether the program goes on from there. Raises BadRequest where the machine refuses it."""
     answers: Answers = []
-    yield from machine.lines(seat, Lines("", [line], 0, []), answers)
+    yield from machine.lines(seat, LinesRequest([line]), answers)
     parts = [f"{seat.digit} {part}" for part in answers[0]]
     if isinstance(read(parts), Refused):
         raise BadRequest(refusal_on_pages(f"{seat.digit} {line}", parts))

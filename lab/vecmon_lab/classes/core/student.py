@@ -15,31 +15,31 @@ from .languages import LANGUAGES, SourceText
 from .messages import Hand, Notice, Result, SourceResult, SourceView, TextResult, TryResult, shown, source_view
 from .moments import HistoryView, PastResult
 from .progress import Exercises, ExerciseView, Try, source_of
+from .bad_request import BadRequest
 from .requests import (
-    BadRequest,
-    Check,
-    Draft,
-    Edit,
-    FindLastRead,
-    FindProblems,
-    Lines,
-    OpenExercise,
-    ReadPast,
-    ReadVersion,
-    RunProgram,
+    AgainRequest,
+    BreakpointRequest,
+    CaseRequest,
+    CheckRequest,
+    DraftRequest,
+    EditRequest,
+    LastInstructionRequest,
+    LinesRequest,
+    OpenRequest,
+    PastRequest,
+    ProblemsRequest,
+    RunRequest,
     SeatsRequest,
-    Source,
-    StepLine,
-    StepProgram,
-    ToggleBreakpoints,
-    TryCase,
-    Why,
+    SourceRequest,
+    StepRequest,
+    VersionRequest,
+    WhyRequest,
 )
 from .seat_status import problems_status
 from .seats import Condition, Seat, TriedCase
 from .shared_machine import SEAT_BYTES, MakeProgram, Mistakes, SharedMachine, Steps
 from .sources import SeatSource, kept_program
-from .stepping import execute_line, run, step, step_line, step_until
+from .stepping import execute_line, run, step, step_until
 from .text_store import TextStore
 
 
@@ -166,40 +166,40 @@ class Student:
         Lines are the operator's as well: `SharedMachine.lines`.
         """
         match request:
-            case Source(source, number, breaks):
+            case SourceRequest(source, number, breaks):
                 return (yield from self._write(source, number, breaks))
-            case FindProblems(source):
+            case ProblemsRequest(source):
                 return (yield from self._find_problems(source))
-            case RunProgram(source, number, breaks):
+            case AgainRequest():
+                return (yield from self._write(None))
+            case RunRequest(number, source, breaks):
                 return (yield from self._run(source, number, breaks))
-            case StepProgram():
+            case StepRequest():
                 return (yield from self._step(request))
-            case StepLine():
-                yield from step_line(self.machine, self.seat)
-            case Edit(edit, text, is_decimal):
+            case EditRequest(edit, text, is_decimal):
                 line = edit_line(edit, text, is_decimal, self.seat.state.get("v", {}))
                 yield from execute_line(self.machine, self.seat, line)
-            case ToggleBreakpoints(number, is_only_set):
+            case BreakpointRequest(number, is_only_set):
                 yield from self._toggle_breakpoints(number, is_only_set)
-            case FindLastRead():
+            case LastInstructionRequest():
                 yield from self.machine.find_last_read(self.seat)
-            case ReadPast(at, to_break):
+            case PastRequest(at, to_break):
                 return (yield from self._read_past(at, to_break))
-            case Why(name, notation):
+            case WhyRequest(name, notation):
                 return {"why": (yield from self.machine.why(self.seat, name, notation))}
-            case Draft():
+            case DraftRequest():
                 self._draft(request)
-            case OpenExercise(name):
+            case OpenRequest(name):
                 if name or not self.source.has_free_program:
                     self.exercises.exercise(name)
                 self.source.open(name)
-            case ReadVersion(number):
+            case VersionRequest(number):
                 return text_of(self.source.version(number))
-            case Check(name, source):
+            case CheckRequest(name, source):
                 self._check(self.seat.name, name, source)
                 if name == self.source.exercise:
                     self.source.open(name)  # also where the page hasn't asked for it
-            case TryCase():
+            case CaseRequest():
                 return (yield from self._try(request))
         return {}
 
@@ -219,13 +219,13 @@ class Student:
             yield from run(self.machine, self.seat)
         return problems
 
-    def _step(self, request: StepProgram) -> Steps[SourceResult]:
+    def _step(self, request: StepRequest) -> Steps[SourceResult]:
         """Steps a source, up to an instruction or by a count; the problems that the source has."""
         problems = yield from self._build(request.source, request.number, request.breaks)
         if not problems["mistakes"] and request.until:
             yield from step_until(self.machine, self.seat, request.until)
         elif not problems["mistakes"]:
-            yield from step(self.machine, self.seat, request.kind, request.by_lines, request.count)
+            yield from step(self.machine, self.seat, request.kind, request.by == "line", request.count)
         return problems
 
     def _read_past(self, at: int, to_break: bool) -> Steps[PastResult]:
@@ -251,14 +251,14 @@ class Student:
         if refusals:
             raise BadRequest(" ".join([*refusals, page_text("breakpoints.loaded")]))
 
-    def _draft(self, draft: Draft) -> None:
+    def _draft(self, draft: DraftRequest) -> None:
         """Keeps the text in the editor, and its caret's line. Raises BadRequest for an unknown exercise."""
         if draft.exercise and draft.exercise not in self.exercises.known:
             raise BadRequest("there is no such exercise")
-        self.source.draft(draft.source, draft.number, draft.exercise, draft.is_kept, draft.window)
+        self.source.draft(draft.source, draft.number, draft.exercise, draft.keep, draft.window)
         self.source.caret = draft.line
 
-    def _try(self, tried: TryCase) -> Steps[SourceResult]:
+    def _try(self, tried: CaseRequest) -> Steps[SourceResult]:
         """Starts the machine anew with a case of an exercise, at its call; the problems that the source has."""
         case = self.exercises.case(self.seat.name, tried.exercise, tried.case, tried.source)
         return (yield from self._write(tried.source, breaks=tried.breaks, case=case))
@@ -292,7 +292,7 @@ class Student:
         elif case:
             self.seat.case = case
             entry = int(self.seat.state["pc"], 16)
-            yield from self.machine.lines(self.seat, Lines("", case.commands(entry), 0, []), [])
+            yield from self.machine.lines(self.seat, LinesRequest(case.commands(entry)), [])
         self.problems = problems_json(source or self.seat.written, mistakes, warnings)
         if not mistakes:
             yield from self._set_breakpoints(breaks)

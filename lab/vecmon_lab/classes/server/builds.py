@@ -15,7 +15,7 @@ from ...compilers.compiling import words_for
 from ...compilers.failures import ToolError
 from ...compilers.sandbox import run_in_sandbox_async, sandboxed_compiler
 from .worker_pool import exclusive
-from ..core.requests import BadRequest
+from ..core.bad_request import BadRequest
 
 
 class Builds:

@@ -31,7 +31,7 @@ from .builds import Builds
 from .stored_files import attempt, pending_check, texts
 from ..core.languages import SourceText
 from ..core.names import local_time
-from ..core.requests import BadRequest
+from ..core.bad_request import BadRequest
 from .store import BadFolder, Store
 from ..core.progress import MAX_TRIES, Exercises, PendingCheck, SeatResult, Try, source_of, starts_of
 from ...tables.table import read_table

@@ -9,7 +9,7 @@ from .worker_pool import WorkerPool
 from .builds import Builds
 from ..core.codes import new_code
 from ..core.languages import SourceText
-from ..core.requests import BadRequest
+from ..core.bad_request import BadRequest
 
 MOST = 20  # that are kept of those that were asked for
 

@@ -11,7 +11,7 @@ from typing import cast
 
 from ..core.languages import LANGUAGES, SourceText
 from ..core.messages import Notice, Offer, SentNotice
-from ..core.requests import BadRequest
+from ..core.bad_request import BadRequest
 from .store import Store
 
 NOTICES = "notices.json"

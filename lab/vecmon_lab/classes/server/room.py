@@ -22,7 +22,8 @@ from ..core.languages import SourceText
 from .machine_thread import MachineThread
 from ..core.moments import Budget
 from ..core.history import History
-from ..core.requests import BadRequest, Lines
+from ..core.bad_request import BadRequest
+from ..core.requests import LinesRequest
 from .scripts import Scripts
 from ..core.seats import Seat
 from ..core.shared_machine import (
@@ -134,7 +135,7 @@ class Room:
             if is_held:
                 seat_turn.release()
 
-    async def lines(self, seat: Seat, request: Lines, done: Answers) -> Answers:
+    async def lines(self, seat: Seat, request: LinesRequest, done: Answers) -> Answers:
         """Executes lines, which join `done` with their answers; the answers to lines that look.
 
         A student's own program is granted slices between them. Raises BadRequest where nothing is done, and LabError

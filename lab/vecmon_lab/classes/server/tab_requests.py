@@ -9,32 +9,22 @@ from ... import LabError
 from ..core.codes import TEACHER, WALL
 from ..core.messages import Answer, Changes, Hello, Result, answer_to, explain_refusals, request_of, with_changes
 from ..core.names import checked_name, checked_text
+from ..core.bad_request import BadRequest
+from ..core.request_fields import JsonObject
 from ..core.requests import (
-    BadRequest,
-    Check,
-    Compare,
-    Draft,
-    Edit,
-    FindLastRead,
-    FindProblems,
-    JsonObject,
-    Lines,
-    OpenExercise,
-    OpenOffer,
-)
-from ..core.requests import (
-    ReadAnswer,
-    ReadNotice,
-    ReadPast,
-    ReadVersion,
+    AnswerRequest,
+    HandRequest,
+    LinesRequest,
+    ListingsRequest,
+    MachineLinesRequest,
+    NameRequest,
+    OpenOfferRequest,
+    ReadRequest,
     Request,
-    RunProgram,
+    RunRequest,
     SeatsRequest,
-    SetHand,
-    SetName,
-    Source,
+    read_request,
 )
-from ..core.requests import StepLine, StepProgram, ToggleBreakpoints, TryCase, Why, read_request
 from ..core.seats import Seat
 from ..core.shared_machine import Answers
 from ..core.student import try_result
@@ -119,30 +109,27 @@ class TabRequests:
         """Execute a request; return its result. Raises BadRequest, and LabError if no machine runs."""
         members, is_teacher = self._members, tab.who == TEACHER
         match request:
-            case Lines(machine):
-                seat = members.room(machine).seats.operator if is_teacher else members.seat(tab.who)
+            case LinesRequest():
+                if isinstance(request, MachineLinesRequest):
+                    seat = members.room(request.machine).seats.operator
+                else:
+                    seat = members.seat(tab.who)
                 return {"do": done, "look": await members.rooms[seat.name[0]].lines(seat, request, done)}
-            case SetName(seat_name, name):
+            case NameRequest(seat=seat_name, name=name):
                 members.set_name(members.seat(seat_name if is_teacher else tab.who).name, checked_name(name))
-            case SetHand(up, text):
+            case HandRequest(up=up, text=text):
                 members.set_hand(tab.who, up, checked_text(text))
-            case ReadNotice(number):
+            case ReadRequest(number):
                 members.read_notice(tab.who, number)
-            case OpenOffer(number):
+            case OpenOfferRequest(number):
                 members.open_offer(tab.who, number)
-            case Compare(source, other):
+            case ListingsRequest(source, other):
                 return {"listings": members.comparisons.ask(tab.who, source, other)}
-            case ReadAnswer(seat_name, name, number):
+            case AnswerRequest(seat=seat_name, exercise=name, number=number):
                 seat = members.seat(seat_name if is_teacher else tab.who)
                 return try_result(members.checks.answer(seat.name, name, number))
-            case Source() | FindProblems() | StepLine() | Why() | Draft() | OpenExercise() | ReadVersion() | ReadPast():
+            case SeatsRequest():
                 return await self._execute_for_seat(tab, request)
-            case Check() | TryCase() | StepProgram() | FindLastRead() | Edit() | ToggleBreakpoints():
-                return await self._execute_for_seat(tab, request)
-            case RunProgram():
-                result = await self._execute_for_seat(tab, request)
-                members.rooms[tab.who[0]].explain_waiting(members.seat(tab.who))
-                return result
             case _:
                 return await execute_teachers(members, tab, request)
         return {}
@@ -151,5 +138,8 @@ class TabRequests:
         """Execute a request of a student, or a teacher's request for a version of the observed seat."""
         observed = tab.shoulder.name if tab.shoulder else ""
         student = self._members.student(observed if tab.who == TEACHER else tab.who)
-        result = await self._members.rooms[student.seat.name[0]].run(student.seat, student.execute(request))
+        room = self._members.rooms[student.seat.name[0]]
+        result = await room.run(student.seat, student.execute(request))
+        if isinstance(request, RunRequest):
+            room.explain_waiting(student.seat)
         return result

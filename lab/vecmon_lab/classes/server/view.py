@@ -24,7 +24,7 @@ from .hands import Hands
 from .headway import Headway
 from ..core.names import NAMES, as_csv, local_time
 from .notices import Notices
-from ..core.requests import BadRequest
+from ..core.bad_request import BadRequest
 from .room import Room
 from ..core.seats import Seat
 from .stored_files import Notes, texts

@@ -7,7 +7,7 @@ export interface Access {
   kind: "read" | "write";
 }
 
-/** The loaded source in a new machine, with the breakpoints. */
+/** Write the loaded source into a new machine, with the breakpoints, and with the case that is tried. */
 export interface AgainRequest {
   id: number;
   ask: "again";
@@ -18,12 +18,14 @@ export interface AnswerCost {
   work: number;
 }
 
-/** An answer to an exercise, numbered from 1. seat: whose; a student's own without it */
+/** Return an answer of a seat to an exercise. */
 export interface AnswerRequest {
   id: number;
   ask: "answer";
+  /** The seat. A student's own seat without it. */
   seat?: string;
   exercise: string;
+  /** The number of the try, from 1 on. */
   number: number;
 }
 
@@ -32,32 +34,26 @@ export interface Beat {
   kind: "beat";
 }
 
-/**
- * All breakpoints of a line of the loaded source, which are set, or removed if any is there.
- *
- * line: its number; a line without instructions has those of the next line with one
- * set: whether breakpoints that are there stay, by default not
- */
+/** Set all breakpoints of a line of the loaded source, or remove those that are there. None is set if not all can be. */
 export interface BreakpointRequest {
   id: number;
   ask: "breakpoint";
+  /** Its number. A line without instructions has the breakpoints of the next line with one. */
   line: number;
+  /** Whether breakpoints that are there stay. */
   set?: boolean;
 }
 
-/**
- * A source for a new machine with the inputs of a case.
- *
- * case: its place in `cases`, from 0 on; by default the first failed one
- * breaks: as in SourceRequest
- */
+/** Write a source into a new machine with the inputs of a case that isn't hidden. */
 export interface CaseRequest {
   id: number;
+  ask: "case";
+  /** Its place in `cases`, from 0 on; by default the first failed one. */
+  case?: number;
+  exercise: string;
   text: string;
   language?: number;
-  ask: "case";
-  exercise: string;
-  case?: number;
+  /** As in `source`. */
   breaks?: number[];
 }
 
@@ -88,13 +84,13 @@ export interface CheckFailure {
   cause: string;
 }
 
-/** An answer to check. */
+/** Check an answer to an exercise. Each seat has one check at a time. */
 export interface CheckRequest {
   id: number;
-  text: string;
-  language?: number;
   ask: "check";
   exercise: string;
+  text: string;
+  language?: number;
 }
 
 /**
@@ -123,7 +119,12 @@ export interface CheckResult {
   good?: AnswerCost;
 }
 
-/** The settings of a machine's clock; those that are missing stay. */
+/**
+ * Set a machine's clock. Settings that are missing stay.
+ *
+ * `slices` is how many it grants at once, 1 to 1,000; `ms` its pause between them, 10 to 10,000 milliseconds; `limit` the number of
+ * ticks after which the server stops a program, about, 100,000 to 10^12.
+ */
 export interface ClockRequest {
   id: number;
   ask: "clock";
@@ -152,46 +153,46 @@ export interface CodesAnswer {
   pictures?: { [name: string]: string };
 }
 
-/** The code of a seat or the wall, or all. pictures: whether with pictures to print */
+/** Return the code of a seat or of `wall`. */
 export interface CodesRequest {
   id: number;
-  seat: string;
   ask: "codes";
+  /** The seat; "" for all but the teacher's. */
+  seat: string;
+  /** Whether to add pictures to print. */
   pictures?: boolean;
 }
 
-/**
- * The source that a student types.
- *
- * number: that the seat's source had; exercise: for which it was typed, by default the open one
- * keep: whether it becomes a version; line: the number of the caret's line, by default unknown
- * window: a name of the window, if another one has changed the source: with another number than the source has, the text becomes one
- *     version, which later drafts by this name replace; with that number, the source, and the one there becomes a version
- */
+/** Store the source that a student types. It becomes the seat's source if number and exercise are still those of the seat, else a version. */
 export interface DraftRequest {
   id: number;
+  ask: "draft";
   text: string;
   language?: number;
-  ask: "draft";
+  /** The number of the seat's source when this one was typed. */
   number: number;
+  /** The exercise for which it was typed, by default the open one. */
   exercise?: string;
+  /** Whether it becomes a version as well. */
   keep?: boolean;
+  /** The number of the caret's line, for the teacher. */
   line?: number;
+  /**
+   * A name of the window, if another window has changed the source: with a number that the source doesn't have, the text becomes one
+   * version, which later drafts by this name replace; with the source's number it becomes the source, and the one there a version.
+   */
   window?: string;
 }
 
-/**
- * A typed value for a place in the machine.
- *
- * edit: `setpc`, `poke 20000`, `set x5`, or `vset v1 32 3 signed`: a vector register, an element's bits (1 for a bit of a mask) and index,
- *     and the form in which the page shows it: `hexadecimal`, or another one
- * text: the value as it was typed; decimal: whether the page shows scalar registers in decimal, by default not
- */
+/** Write a typed value to a place in the machine. */
 export interface EditRequest {
   id: number;
   ask: "edit";
+  /** `setpc`, `poke 20000`, `set x5`, or `vset v1 32 3 signed`: register, bits of an element (1 in a mask), index, and the shown form. */
   edit: string;
+  /** The value as it was typed. */
   text: string;
+  /** Whether the page shows scalar registers in decimal. */
   decimal?: boolean;
 }
 
@@ -252,10 +253,11 @@ export interface ExerciseView {
   lesson: string;
 }
 
-/** The exercises that students have from now on, in this order; others are off. */
+/** Choose the exercises that students have from now on, out of those in `course`. */
 export interface ExercisesRequest {
   id: number;
   ask: "exercises";
+  /** Their names, in order. Others are off. */
   on: string[];
 }
 
@@ -269,19 +271,17 @@ export interface FrameData {
   states: { [name: string]: unknown };
 }
 
-/**
- * A source for seats.
- *
- * how: whether it replaces their sources, the default, or is offered in a message; title: of an offer, by default none
- */
+/** Give a source, which isn't blank, to seats: `seat` is one, or "" for all, and `seats` a list of one or more in place of it. */
 export interface GiveRequest {
   id: number;
+  ask: "give";
   seat?: string;
   seats?: string[];
   text: string;
   language?: number;
-  ask: "give";
+  /** Whether it replaces the sources of the seats, the default, or is offered in a message. */
   how?: "replace" | "offer";
+  /** The title of an offer, of at most 400 characters. */
   title?: string;
 }
 
@@ -297,12 +297,13 @@ export interface Hand {
   text: string;
 }
 
-/** A student's raised or lowered hand. text: for the teacher, by default none */
+/** Raise or lower the student's hand. */
 export interface HandRequest {
   id: number;
   ask: "hand";
-  up: boolean;
+  /** A question for the teacher, of at most 400 characters. */
   text?: string;
+  up: boolean;
 }
 
 /**
@@ -330,7 +331,7 @@ export interface HistoryView {
   end?: number;
 }
 
-/** That `read` and `accessed` of the state are completed after a run. */
+/** Complete `read` and `accessed` of the state after a run. */
 export interface LastInstructionRequest {
   id: number;
   ask: "last-instruction";
@@ -369,13 +370,16 @@ export interface LinesAnswer {
   words?: string[];
 }
 
-/** A student's lines. */
+/** Execute lines, grant slices to the student's own program, then execute read-only lines. */
 export interface LinesRequest {
   id: number;
-  do?: string[];
-  slices?: number;
-  look?: string[];
   ask: "lines";
+  /** Lines without digits. */
+  do?: string[];
+  /** Lines that only look. */
+  look?: string[];
+  /** A number from 0 to 100. */
+  slices?: number;
 }
 
 /** The answer to `listings`. */
@@ -387,29 +391,33 @@ export interface ListingsAnswer {
   listings: string;
 }
 
-/** Side-by-side listings of a C source. other: a compiler by its number in `against` */
+/** Compare the listing of a C source with that of another compiler. */
 export interface ListingsRequest {
   id: number;
+  ask: "listings";
   text: string;
   language?: number;
-  ask: "listings";
+  /** The other compiler by its number in `against`. */
   other: number;
 }
 
-/** A seat whose hand the teacher lowers. */
+/** Lower a seat's hand. */
 export interface LowerHandRequest {
   id: number;
-  seat: string;
   ask: "hand";
+  seat: string;
 }
 
-/** The teacher's lines for a machine. */
+/** Execute the teacher's lines at a machine. */
 export interface MachineLinesRequest {
   id: number;
-  do?: string[];
-  slices?: number;
-  look?: string[];
   ask: "lines";
+  /** Lines without digits. */
+  do?: string[];
+  /** Lines that only look. */
+  look?: string[];
+  /** A number from 0 to 100. */
+  slices?: number;
   machine: string;
 }
 
@@ -466,11 +474,13 @@ export interface Moment {
   condition: "Not begun" | "Ready" | "Running" | "Paused" | "Ended" | "Fault";
 }
 
-/** A student's name, "" for none. seat: at which seat; the student's own without it */
+/** Set the name of the student at a seat. */
 export interface NameRequest {
   id: number;
   ask: "name";
+  /** The seat. A student's own seat without it. */
   seat?: string;
+  /** The name; "" for none. */
   name: string;
 }
 
@@ -519,17 +529,19 @@ export interface OfferedExercise {
   on: boolean;
 }
 
-/** A message of the teacher's whose source replaces that of the seat. */
+/** Replace the source by one that the teacher offers, as `give` does, and mark the message as opened and read. */
 export interface OpenOfferRequest {
   id: number;
   ask: "open";
+  /** The number of the message. */
   number: number;
 }
 
-/** An exercise to open in all tabs of the seat. */
+/** Open an exercise in all tabs of the seat. */
 export interface OpenRequest {
   id: number;
   ask: "open";
+  /** Its name. In the playground, "" opens the program outside the exercises. */
   exercise: string;
 }
 
@@ -579,25 +591,22 @@ export interface PastAnswer {
   language?: number;
 }
 
-/**
- * An earlier state of the program. The answer says how much of a long replay is done; the same request goes on with it.
- *
- * at: the number of instructions since the machine began; a negative one counts from the present
- * to_break: whether to show the next state after that one at a breakpoint, by default not
- */
+/** Find an earlier state of the program. */
 export interface PastRequest {
   id: number;
   ask: "past";
+  /** The number of instructions since the machine began. A negative number counts from the present. */
   at: number;
+  /** Whether to find the next state after that one at a breakpoint. */
   to_break?: boolean;
 }
 
-/** A source whose problems are found; the machine stays as it is. */
+/** Find the problems of a source. Nothing changes. */
 export interface ProblemsRequest {
   id: number;
+  ask: "problems";
   text: string;
   language?: number;
-  ask: "problems";
 }
 
 /**
@@ -616,7 +625,7 @@ export interface ReadRegisters {
   vstart?: number;
 }
 
-/** A message of the teacher's that the student has read. */
+/** Mark a message of the teacher as read. */
 export interface ReadRequest {
   id: number;
   ask: "read";
@@ -634,11 +643,11 @@ export interface RefusedAnswer {
   words?: string[];
 }
 
-/** A new code for a seat, or the wall. */
+/** Replace the code of a seat, or of `wall`. */
 export interface RenewRequest {
   id: number;
-  seat: string;
   ask: "renew";
+  seat: string;
 }
 
 /** The answer to `give` and `take-back`. */
@@ -650,14 +659,14 @@ export interface ReplacedAnswer {
   replaced: number;
 }
 
-/** A seat whose machine ends. */
+/** End a seat's machine, by `leave`. */
 export interface ResetRequest {
   id: number;
-  seat: string;
   ask: "reset";
+  seat: string;
 }
 
-/** Whether a machine's students may grant slices to their own programs. */
+/** Set whether a machine's students may grant slices to their own programs. */
 export interface RightsRequest {
   id: number;
   ask: "rights";
@@ -665,17 +674,15 @@ export interface RightsRequest {
   own_slices: boolean;
 }
 
-/**
- * A program to run; it is built first where there is a source that isn't in the machine, and one that has ended starts again.
- *
- * number, breaks: as in SourceRequest
- */
+/** Run a program: that of the source, which is built unless it is loaded, or the loaded one. One that has ended starts again. */
 export interface RunRequest {
   id: number;
   ask: "run";
+  /** As in `source`. */
+  number?: number;
   text?: string;
   language?: number;
-  number?: number;
+  /** As in `source`. */
   breaks?: number[];
 }
 
@@ -762,11 +769,12 @@ export interface Share {
   of: number;
 }
 
-/** The seat to look at, or none. */
+/** Look over the shoulder of a seat. */
 export interface ShoulderRequest {
   id: number;
-  seat: string;
   ask: "shoulder";
+  /** The seat; "" ends it. */
+  seat: string;
 }
 
 /**
@@ -943,18 +951,15 @@ export interface SourceAnswer {
   warnings: Mistake[];
 }
 
-/**
- * A source for a new machine.
- *
- * number: that the seat's source had where it was typed
- * breaks: the numbers of lines that get breakpoints once the program is loaded, by default none
- */
+/** Write a source into a new machine. */
 export interface SourceRequest {
   id: number;
+  ask: "source";
   text: string;
   language?: number;
-  ask: "source";
+  /** The number of the seat's source when this one was typed. If it is missing or has changed, the seat's becomes a version first. */
   number?: number;
+  /** The numbers of lines that get breakpoints once the program is loaded. */
   breaks?: number[];
 }
 
@@ -1051,29 +1056,23 @@ export interface State {
   data?: { [name: string]: ShownData };
 }
 
-/** A step to another source line. */
-export interface StepLineRequest {
-  id: number;
-  ask: "step-line";
-}
-
-/**
- * A program to step, built first as in RunRequest.
- *
- * kind: into calls (by default), over them, or out of a function; by: by default an instruction
- * count: of instructions or lines, 1 to 256, by default 1
- * until: a line's number: the program is stepped by lines, into calls, until that line is next, through 1,000 lines at most
- */
+/** Step a program: that of the source, which is built unless it is loaded, or the loaded one. */
 export interface StepRequest {
   id: number;
   ask: "step";
+  /** Into calls, the default, over them, or out of a function. */
+  kind?: "into" | "over" | "out";
+  /** By instructions, the default, or by lines of the source. */
+  by?: "instruction" | "line";
+  /** The number of steps: 1 to 256, 1 by default. */
+  count?: number;
+  /** As in `source`. */
+  number?: number;
   text?: string;
   language?: number;
-  number?: number;
+  /** As in `source`. */
   breaks?: number[];
-  kind?: "into" | "over" | "out";
-  by?: "instruction" | "line";
-  count?: number;
+  /** The number of a line: the program is stepped by lines, into calls, until that line is next, through 1,000 lines at most. */
   until?: number;
 }
 
@@ -1106,12 +1105,12 @@ export interface StudentView {
   examples?: ExampleSource[];
 }
 
-/** The source before the last one given, at seats. */
+/** Restore the sources that seats had before the last one given, unless they were changed since. Seats are named as in `give`. */
 export interface TakeBackRequest {
   id: number;
+  ask: "take-back";
   seat?: string;
   seats?: string[];
-  ask: "take-back";
 }
 
 /**
@@ -1172,7 +1171,7 @@ export interface TryAnswer {
   told: CheckResult;
 }
 
-/** A message to take back from the seats that haven't read it. */
+/** Take a message back from the seats that haven't read it. */
 export interface UnsendRequest {
   id: number;
   ask: "unsend";
@@ -1194,7 +1193,7 @@ export interface UsedRegisters {
   v: number[];
 }
 
-/** A version of the source of the own or the observed seat. */
+/** Return a version of the source of the own or the observed seat. */
 export interface VersionRequest {
   id: number;
   ask: "version";
@@ -1211,11 +1210,12 @@ export interface VersionView {
   title: string;
 }
 
-/** The seat on the wall, or none. */
+/** Show a seat on the wall. */
 export interface WallRequest {
   id: number;
-  seat: string;
   ask: "wall";
+  /** The seat; "" for none. */
+  seat: string;
 }
 
 /** The wall's view: the seat that it shows, or "", its state and its last stop line; and a text for a banner, or "". */
@@ -1236,64 +1236,65 @@ export interface WhyAnswer {
 }
 
 /**
- * The reason for the value of a register or an element, such as `v8[5]`.
+ * Explain why a register or an element has its value after the last single step.
  *
- * form: of numbers, signed by default; abi: whether scalar registers are a0 in place of x10
+ * `form` is that of numbers in the answer, by default `signed`. With `abi` scalar registers have names such as `a0` in place of `x10`.
  */
 export interface WhyRequest {
   id: number;
   ask: "why";
+  /** A name such as `x5` or `v8[5]`. */
   name: string;
   form?: "signed" | "unsigned" | "hexadecimal";
   abi?: boolean;
 }
 
-/** A message to seats. */
+/** Send a message to seats, which are named as in `give`. */
 export interface WriteRequest {
   id: number;
+  ask: "write";
   seat?: string;
   seats?: string[];
-  ask: "write";
+  /** 1 to 400 characters. */
   text: string;
 }
 
-export type StudentRequestForm =
+export type StudentRequest =
   | LinesRequest
   | SourceRequest
   | AgainRequest
   | ProblemsRequest
   | RunRequest
   | StepRequest
-  | StepLineRequest
   | EditRequest
   | BreakpointRequest
+  | PastRequest
   | LastInstructionRequest
   | WhyRequest
   | ListingsRequest
   | DraftRequest
+  | OpenOfferRequest
   | OpenRequest
   | VersionRequest
-  | PastRequest
   | CheckRequest
   | CaseRequest
   | AnswerRequest
   | NameRequest
   | HandRequest
-  | ReadRequest
-  | OpenOfferRequest;
+  | ReadRequest;
 
-export type TeacherRequestForm =
+export type TeacherRequest =
   | MachineLinesRequest
-  | VersionRequest
   | PastRequest
+  | VersionRequest
   | AnswerRequest
   | NameRequest
+  | LowerHandRequest
   | GiveRequest
   | TakeBackRequest
   | WriteRequest
   | UnsendRequest
   | ExercisesRequest
-  | LowerHandRequest
   | ResetRequest
   | ClockRequest
   | RightsRequest

@@ -21,7 +21,7 @@ export interface SourceText {
 export type UnsavedSource = SourceText & { exercise: string };
 
 /** A request without the number that the connection gives it. */
-export type Request = Without<Messages.StudentRequestForm | Messages.TeacherRequestForm, "id">;
+export type Request = Without<Messages.StudentRequest | Messages.TeacherRequest, "id">;
 
 /** A request with the source in an editor, without that source. */
 export type SourceAction = Without<Messages.SourceRequest | Messages.CaseRequest | Messages.ListingsRequest, "id" | keyof SourceText>;
