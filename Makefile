@@ -3,7 +3,7 @@
 #     make install|uninstall [prefix=/usr/local] [bindir=..] [mandir=..] [docdir=..] [DESTDIR=..] [program=..] [recorder=..] [site=..]
 #
 # `site` is the folder that tools/site has written, for `vecmon-lab site`; its book is also that of the documents. Without it the playground
-# isn't installed, and tools/book builds the book. `program` and `recorder` are the two programs; by default those of crates/*/out.
+# isn't installed, and tools/documents/book builds the book. `program` and `recorder` are the two programs; by default those of crates/*/out.
 # `install-programs`, `install-lab` and `install-documents` install a part each: the Debian packages vecmon, vecmon-lab and vecmon-doc
 # (debian/rules).
 #
@@ -38,7 +38,7 @@ install: install-programs install-lab install-documents
 install-programs:
 	@test -x "$(program)" || { echo 'make install: $(program) not found: build it with `cd crates/vecmon && rt run < stdin` (docs/MEASUREMENTS.md has the times)' >&2; exit 2; }
 	@test -x "$(recorder)" || { echo 'make install: $(recorder) not found: build it with `cd crates/vecmon_record && rt run < stdin`' >&2; exit 2; }
-	@command -v lowdown > /dev/null || { echo 'make install: lowdown not found: it makes the manual pages; run tools/debian_packages packaging' >&2; exit 2; }
+	@command -v lowdown > /dev/null || { echo 'make install: lowdown not found: it makes the manual pages; run tools/building/debian_packages packaging' >&2; exit 2; }
 	install -d "$(DESTDIR)$(bindir)" "$(DESTDIR)$(mandir)/man1" "$(DESTDIR)$(mandir)/man5" "$(DESTDIR)$(mandir)/man7"
 	install -m 755 "$(program)" "$(DESTDIR)$(bindir)/vecmon"
 	install -m 755 "$(recorder)" "$(DESTDIR)$(bindir)/vecmon-record"
@@ -52,8 +52,8 @@ install-programs:
 	$(link) "$(DESTDIR)$(completions)/vecmon" "$(DESTDIR)$(completions)/vecmon-record"
 
 install-lab:
-	@command -v lowdown > /dev/null || { echo 'make install: lowdown not found: it makes the manual pages; run tools/debian_packages packaging' >&2; exit 2; }
-	@command -v help2man > /dev/null || { echo 'make install: help2man not found: it makes the manual pages of the lab; run tools/debian_packages packaging' >&2; exit 2; }
+	@command -v lowdown > /dev/null || { echo 'make install: lowdown not found: it makes the manual pages; run tools/building/debian_packages packaging' >&2; exit 2; }
+	@command -v help2man > /dev/null || { echo 'make install: help2man not found: it makes the manual pages of the lab; run tools/building/debian_packages packaging' >&2; exit 2; }
 	install -d "$(DESTDIR)$(mandir)/man1" "$(DESTDIR)$(completions)"
 	install -D -m 755 packaging/vecmon-lab -t "$(DESTDIR)$(bindir)"
 	sed -i 's,\.\./share/vecmon,$(shell realpath -m --relative-to="$(bindir)" "$(lab)"),' "$(DESTDIR)$(bindir)/vecmon-lab"
@@ -64,15 +64,15 @@ install-lab:
 	$(link) "$(DESTDIR)$(completions)/vecmon" "$(DESTDIR)$(completions)/vecmon-lab"
 
 install-documents:
-	@test -n "$(site)" || /usr/bin/python3 -c 'import sphinx, myst_parser, furo' 2> /dev/null || { echo 'make install: sphinx, myst-parser or furo not found: they make the book; run tools/debian_packages book' >&2; exit 2; }
+	@test -n "$(site)" || /usr/bin/python3 -c 'import sphinx, myst_parser, furo' 2> /dev/null || { echo 'make install: sphinx, myst-parser or furo not found: they make the book; run tools/building/debian_packages book' >&2; exit 2; }
 	install -d "$(DESTDIR)$(docdir)/examples"
 	for file in $(documents); do $(copy) $$file "$(DESTDIR)$(docdir)/$$file" || exit; done
 	$(link) "$(DESTDIR)$(lab)/lab" "$(DESTDIR)$(docdir)/lab"
 	$(link) "$(DESTDIR)$(lab)/lab/examples" "$(DESTDIR)$(docdir)/examples/sources"
 	$(link) "$(DESTDIR)$(lab)/lab/vecmon_lab/exercises/given" "$(DESTDIR)$(docdir)/examples/exercises"
 	$(link) "$(DESTDIR)$(lab)/lab/vecmon_lab/lessons/tours" "$(DESTDIR)$(docdir)/examples/tour"
-	umask 022; tools/vsix "$(DESTDIR)$(docdir)/vecmon.vsix"
-	test -n "$(site)" || tools/book "$(DESTDIR)$(docdir)/html"
+	umask 022; tools/releasing/vsix "$(DESTDIR)$(docdir)/vecmon.vsix"
+	test -n "$(site)" || tools/documents/book "$(DESTDIR)$(docdir)/html"
 	umask 022; test -z "$(site)" || { rm -rf "$(DESTDIR)$(docdir)/html" && cp -r --no-preserve=mode,ownership "$(site)/book" "$(DESTDIR)$(docdir)/html"; }
 
 # Writes FILES: the path of each file and link from $(prefix) on.

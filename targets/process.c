@@ -1,6 +1,6 @@
 // Functions of the kit's C library that the programs call, for all native targets: arguments and error numbers of the process.
 //
-// ORIGIN is a text about the module that the program is built from; the section .comment has it (tools/native_program.py).
+// ORIGIN is a text about the module that the program is built from; the section .comment has it (tools/building/native_program.py).
 #include "process.h"
 
 #include <errno.h>

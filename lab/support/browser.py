@@ -65,7 +65,7 @@ def _start(command: str, more: tuple[str, ...]) -> "Chrome":
     from selenium.webdriver.chrome.service import Service
 
     path, driver = shutil.which(command), shutil.which("chromedriver")
-    assert path and driver, f"{command} or chromedriver not found: run tools/debian_packages browser"
+    assert path and driver, f"{command} or chromedriver not found: run tools/building/debian_packages browser"
     options = ChromeOptions()
     is_shell = command == HEADLESS_SHELL.name and os.access(HEADLESS_SHELL, os.X_OK)
     options.binary_location = str(HEADLESS_SHELL) if is_shell else path

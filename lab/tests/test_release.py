@@ -53,7 +53,8 @@ def clone(tmp_path: pathlib.Path) -> pathlib.Path:
     folder = tmp_path / "clone"
     (folder / "tools").mkdir(parents=True)
     shutil.copy2(TOP / "tools/release", folder / "tools")
-    digest = folder / "tools/source_digest"
+    digest = folder / "tools/building/source_digest"
+    digest.parent.mkdir()
     digest.write_text("#!/bin/sh\n[ $# -eq 0 ] && echo 0 || exit 1\n")
     digest.chmod(0o755)
     for words in (["init", "-q"], ["add", "."], ["commit", "-q", "-m", "a"]):
@@ -82,7 +83,7 @@ def test_release_is_refused(clone: pathlib.Path, words: Sequence[str], reason: s
 
 
 def test_missing_log_is_refused(clone: pathlib.Path) -> None:
-    (clone / "tools/source_digest").write_text("#!/bin/sh\n")
+    (clone / "tools/building/source_digest").write_text("#!/bin/sh\n")
     subprocess.run([*GIT, "commit", "-q", "-a", "-m", "a"], cwd=clone, check=True)
     ran = run([clone / "tools/release", "new"], clone.parent)
     reason = "tools/release: crates/vecmon/out/gate not found: run tools/test, or name its output with --log\n"
@@ -90,14 +91,14 @@ def test_missing_log_is_refused(clone: pathlib.Path) -> None:
 
 
 def test_changed_tree_is_refused(clone: pathlib.Path) -> None:
-    (clone / "tools/source_digest").write_text("")
+    (clone / "tools/building/source_digest").write_text("")
     ran = run([clone / "tools/release", "new"], clone.parent)
     assert (ran.returncode, ran.stderr) == (2, "tools/release: there are changes that aren't committed\n")
 
 
 STAND_INS = {
-    "debian_packages": "",
-    "programs": """
+    "building/debian_packages": "",
+    "building/programs": """
         target=$2 out=$3
         mkdir -p $out
         case $target in
@@ -118,7 +119,7 @@ STAND_INS = {
         for it in FILES; do echo "$it" > $out/$it; done
         dpkg-deb --root-owner-group --build tree $out/vecmon_2.0.0+9.g1_amd64.deb > told
         echo sums > $out/vecmon-2.0.0+9.g1.sha256""",
-    "wheels": """
+    "releasing/wheels": """
         out=$2
         mkdir $out
         for it in WHEELS; do echo "$it" > $out/$it; done
@@ -133,17 +134,19 @@ def proved(clone: pathlib.Path) -> pathlib.Path:
     """A clone with the stand-ins, and with proved programs and the last line of their gate."""
     packages = [name for name in FILES if name.startswith("vecmon") and not name.endswith((".whl", ".zip"))]
     wheels = [name for name in FILES if name.endswith(".whl")]
+    unused = shutil.ignore_patterns("__pycache__")
+    shutil.copytree(TOP / "tools/releasing", clone / "tools/releasing", ignore=unused)
+    shutil.copy2(TOP / "tools/__init__.py", clone / "tools")
     for name, code in STAND_INS.items():
         code = code.replace("FILES", " ".join(packages)).replace("WHEELS", " ".join(wheels))
         code = code.replace("$2 = LOG", '"$(cat $2)" = "5 passed, 0 failed"')
         (clone / "tools" / name).write_text(f"#!/bin/sh\nset -eu\nout=${{1-}}\n{code}\n")
         (clone / "tools" / name).chmod(0o755)
-    shutil.copy2(TOP / "tools/release_page.py", clone / "tools")
-    (clone / "tools/source_digest").write_text("#!/bin/sh\n")
+    (clone / "tools/building/source_digest").write_text("#!/bin/sh\n")
     for name in ("LICENSE-MIT", "LICENSE-APACHE", "docs/PROGRAM.md", "docs/COMMANDS.md", ".gitignore"):
         (clone / name).parent.mkdir(exist_ok=True)
         (clone / name).write_text(f"{name}\n")
-    (clone / ".gitignore").write_text("out/\ntree/\ntold\n")
+    (clone / ".gitignore").write_text("__pycache__/\nout/\ntree/\ntold\n")
     for words in (["add", "."], ["commit", "-q", "-m", "a"]):
         subprocess.run([*GIT, *words], cwd=clone, check=True)
     for name in ("vecmon/out/vecmon", "vecmon_record/out/vecmon_record", "vecmon/out/gate"):
@@ -176,16 +179,18 @@ def test_release_has_all_files_and_digests(proved: pathlib.Path) -> None:
 
 def test_failed_step_is_one_line_and_writes_nothing(proved: pathlib.Path) -> None:
     """The messages of the steps come before it."""
-    (proved / "tools/wheels").write_text("#!/bin/sh\necho tools/wheels: no pip >&2\nexit 2\n")
+    (proved / "tools/releasing/wheels").write_text("#!/bin/sh\necho tools/releasing/wheels: no pip >&2\nexit 2\n")
     subprocess.run([*GIT, "commit", "-q", "-a", "-m", "a"], cwd=proved, check=True)
     ran = run([proved / "tools/release", "new"], proved.parent)
-    assert (ran.returncode, ran.stdout) == (2, "") and ran.stderr.endswith("\ntools/release: tools/wheels: no pip\n")
+    assert (ran.returncode, ran.stdout) == (2, "") and ran.stderr.endswith(
+        "\ntools/release: tools/releasing/wheels: no pip\n"
+    )
     assert not (proved.parent / "new").exists()
 
 
 def write_page(folder: pathlib.Path) -> subprocess.CompletedProcess[str]:
     """Writes the page of a release of some version."""
-    return run([sys.executable, TOP / "tools/release_page.py", folder, "2.0.0+9.g1"], folder)
+    return run([sys.executable, TOP / "tools/releasing/release_page", folder, "2.0.0+9.g1"], folder)
 
 
 def test_page_names_each_file_once(tmp_path: pathlib.Path) -> None:

@@ -1,4 +1,4 @@
-"""What tools/site, tools/programs and `tools/test crates` build and run. Stand-ins record their arguments, and take no time."""
+"""What tools/site, tools/building/programs and `tools/test crates` build and run. Stand-ins record their arguments, and take no time."""
 
 import os
 import pathlib
@@ -12,19 +12,8 @@ import pytest
 
 from support.places import TOP
 
+PROGRAMS = "building/programs"
 RECORD = '#!/bin/sh\necho "$(basename "$0") $*" >> RECORD\n'
-PROGRAMS = (
-    "programs",
-    "build_steps.py",
-    "linked_kit.py",
-    "native_program.py",
-    "program_modules.py",
-    "retarget.py",
-    "wasm_binary.py",
-    "wasm_program.py",
-)
-"""The files of tools/programs."""
-
 CRATES = "low:\nmiddle: low\nvecmon: middle\nrecording: low\nvecmon_record: recording\ntest_low: low\nother:\n"
 
 
@@ -33,9 +22,16 @@ class Tools:
 
     def __init__(self, top: pathlib.Path, *names: str) -> None:
         self.top, self.record = top, top / "record"
-        (top / "tools").mkdir()
         for name in names:
-            shutil.copy(TOP / "tools" / name, top / "tools")
+            (top / "tools" / name).parent.mkdir(parents=True, exist_ok=True)
+            shutil.copy(TOP / "tools" / name, top / "tools" / name)
+
+    def copy_modules(self) -> None:
+        """Copies the Python modules that build."""
+        for path in [TOP / "tools/__init__.py", *(TOP / "tools/building").glob("*.py")]:
+            copy = self.top / path.relative_to(TOP)
+            copy.parent.mkdir(parents=True, exist_ok=True)
+            shutil.copy(path, copy)
 
     def stand_in(self, *names: str, then: str = "") -> None:
         """Writes commands that record their arguments, and then run a line of shell."""
@@ -60,8 +56,10 @@ class Tools:
 def test_site_builds_one_module(tmp_path: pathlib.Path) -> None:
     """Of vecmon, proved or else without proofs; no native program, and nothing of the recorder."""
     tools = Tools(tmp_path, "site")
-    tools.stand_in("tools/debian_packages")
-    tools.stand_in("tools/programs", then='echo "tools/programs: no module" >&2; [ "$3" = --unproved ]')
+    tools.stand_in("tools/building/debian_packages")
+    tools.stand_in(
+        "tools/building/programs", then='echo "tools/building/programs: no module" >&2; [ "$3" = --unproved ]'
+    )
     ran = tools.run("tools/site", "out")
     assert ran.returncode == 2 and "has no vecmon.wasm and PROVENANCE" in ran.stderr
     packages, *calls = tools.calls()
@@ -80,13 +78,14 @@ def test_programs_makes_modules_and_no_native_program(
     tmp_path: pathlib.Path, options: list[str], crates: list[str]
 ) -> None:
     """The first module that can't be read ends it; without --program the recorder's would be the second."""
-    tools = Tools(tmp_path, *PROGRAMS)
+    tools = Tools(tmp_path, PROGRAMS)
+    tools.copy_modules()
     tools.stand_in("path/wasm-ld-19", "path/wasm-opt")
-    (tmp_path / "tools" / "unproved_build.py").write_text(
+    (tmp_path / "tools/building/unproved_build").write_text(
         "import pathlib, sys\nkind, crate, module = sys.argv[1:]\npathlib.Path(module).write_text('no module')\n"
         f"with open({str(tools.record)!r}, 'a') as record:\n    print(kind, crate, file=record)\n"
     )
-    ran = tools.run("python3", "tools/programs", "--target", "wasm32", "--unproved", *options, "out")
+    ran = tools.run("python3", "tools/building/programs", "--target", "wasm32", "--unproved", *options, "out")
     assert ran.returncode == 2 and ran.stderr.endswith(".ll isn't a module of a Rattle kit\n")
     both = [] if options else ["--module vecmon_record"]
     assert tools.calls() == [*(f"--module {crate}" for crate in crates), *both]
@@ -100,32 +99,36 @@ def test_programs_makes_modules_and_no_native_program(
     ],
 )
 def test_programs_refuses_unknown_names(tmp_path: pathlib.Path, options: list[str], choices: str) -> None:
-    ran = Tools(tmp_path, *PROGRAMS).run("python3", "tools/programs", *options, "out")
+    tools = Tools(tmp_path, PROGRAMS)
+    tools.copy_modules()
+    ran = tools.run("python3", "tools/building/programs", *options, "out")
     assert ran.returncode == 2 and choices in ran.stderr
 
 
 def test_programs_refuses_a_missing_linker(tmp_path: pathlib.Path) -> None:
-    tools = Tools(tmp_path, *PROGRAMS)
-    tools.stand_in("tools/unproved_build.py")
+    tools = Tools(tmp_path, PROGRAMS)
+    tools.copy_modules()
+    tools.stand_in("tools/building/unproved_build")
     ran = tools.run(
-        "env", f"PATH={tmp_path}", sys.executable, "tools/programs", "--target", "windows", "--unproved", "out"
+        "env", f"PATH={tmp_path}", sys.executable, "tools/building/programs", "--target", "windows", "--unproved", "out"
     )
-    refusal = "tools/programs: x86_64-w64-mingw32-gcc not found: run tools/debian_packages windows\n"
+    refusal = "tools/building/programs: x86_64-w64-mingw32-gcc not found: run tools/building/debian_packages windows\n"
     assert (ran.returncode, ran.stdout, ran.stderr) == (2, "", refusal) and tools.calls() == []
 
 
 @pytest.fixture
 def tested(tmp_path: pathlib.Path) -> Tools:
     """A folder in which tools/test runs, with stand-ins for all that it calls."""
-    tools = Tools(tmp_path, "test", "crates_above", "proved_build.py", "linked_kit.py")
-    tools.stand_in("tools/keep_modules", then="echo /a/kit\n")
-    tools.stand_in("tools/gate_part", then=f'echo "${{PATH%%:*}}" >> {shlex.quote(str(tools.record))}\n')
+    tools = Tools(tmp_path, "test", "building/crates_above")
+    tools.copy_modules()
+    tools.stand_in("tools/building/keep_modules", then="echo /a/kit\n")
+    tools.stand_in("tools/checks/gate_part", then=f'echo "${{PATH%%:*}}" >> {shlex.quote(str(tools.record))}\n')
     tools.stand_in(".venv/bin/python")
-    for name in ("lab/setup", "tools/check_kit", "tools/left_behind.py"):
+    silent = ("lab/setup", "tools/building/unproved_build", "tools/checks/check_kit", "tools/checks/check_left_behind")
+    for name in silent:
         (tmp_path / name).parent.mkdir(exist_ok=True)
         (tmp_path / name).write_text("#!/bin/sh\n")
         (tmp_path / name).chmod(0o755)
-    (tmp_path / "tools" / "unproved_build.py").write_text("")
     (tmp_path / "crates.txt").write_text(CRATES)
     return tools
 
@@ -156,8 +159,8 @@ def test_crates_are_tested_with_those_above(tested: Tools, names: list[str], pro
 @pytest.mark.parametrize(
     "words, refusal",
     [
-        (["crates", "low", "lower"], "tools/crates_above: crates.txt has no crate lower"),
-        (["crates", "--all"], "tools/crates_above: crates.txt has no crate --all"),
+        (["crates", "low", "lower"], "tools/building/crates_above: crates.txt has no crate lower"),
+        (["crates", "--all"], "tools/building/crates_above: crates.txt has no crate --all"),
         (["crates"], "tools/test: usage: tools/test [quick | crates NAME...]"),
         (["slow"], "tools/test: usage: tools/test [quick | crates NAME...]"),
         (["quick", "low"], "tools/test: usage: tools/test [quick | crates NAME...]"),

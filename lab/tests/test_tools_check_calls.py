@@ -1,4 +1,4 @@
-"""`tools/check_calls.py` finds memory that is allocated after `Machine::new`, recursion, and calls that it couldn't follow."""
+"""`tools/checks/check_calls` finds memory that is allocated after `Machine::new`, recursion, and calls that it couldn't follow."""
 
 import subprocess
 import sys
@@ -6,7 +6,7 @@ from pathlib import Path
 
 import pytest
 
-TOOL = Path(__file__).resolve().parents[2] / "tools" / "check_calls.py"
+TOOL = Path(__file__).resolve().parents[2] / "tools/checks/check_calls"
 
 # A module with two lines of a script: one that answers by a helper, and one that the operator gives. `opened` allocates before them.
 MODULE = """\

@@ -1,4 +1,4 @@
-"""tools/check_definitions.py --write, which writes the counts of docs/DEFINITIONS.md."""
+"""tools/checks/check_definitions --write, which writes the counts of docs/DEFINITIONS.md."""
 
 import contextlib
 import os
@@ -8,7 +8,7 @@ import sys
 
 from support.places import TOP
 
-WRITE = "import sys; from definition_figures import with_counts; sys.stdout.write(with_counts(sys.stdin.read()))"
+WRITE = "import sys; from tools.definitions.definition_figures import with_counts; sys.stdout.write(with_counts(sys.stdin.read()))"
 
 
 def test_counts_are_written() -> None:
@@ -17,7 +17,7 @@ def test_counts_are_written() -> None:
     counts = r"[\d,]+(?= lines in \d+ files)|(?<= lines in )\d+|(?<=In all )[\d,]+(?= lines)|(?<=` \()\d+(?=\))"
     changed = re.sub(rf"{counts}|(?<=\| )[\d,]+(?= \|)", "7", page)
     assert len([*re.finditer(r"\b7\b", changed)]) > 50
-    variables = {**os.environ, "PYTHONPATH": "tools", "PYTHONUTF8": "1"}
+    variables = {**os.environ, "PYTHONPATH": ".", "PYTHONUTF8": "1"}
     command = [sys.executable, "-c", WRITE]
     with contextlib.chdir(TOP):
         completed = subprocess.run(

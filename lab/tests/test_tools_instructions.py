@@ -9,12 +9,12 @@ import sys
 
 import pytest
 
-import instruction_places
-from instruction_files import FILE_ERRORS, changes, parts_by_file, part_lines
-from instruction_parts import replaced
-from instruction_records import Record, RecordError, read_records
 from support.places import TOP
 from support.values_by_hand import HandValue, hand_values
+from tools.records import instruction_places
+from tools.records.instruction_files import FILE_ERRORS, changes, parts_by_file, part_lines
+from tools.records.instruction_parts import replaced
+from tools.records.instruction_records import Record, RecordError, read_records
 
 TOOL = TOP / "tools" / "instructions"
 RECORDS = TOP / "instructions"

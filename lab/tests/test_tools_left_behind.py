@@ -1,4 +1,4 @@
-"""tools/left_behind.py, which ends tools/test; and what ends the processes of a browser."""
+"""tools/checks/check_left_behind, which ends tools/test; and what ends the processes of a browser."""
 
 import os
 import pathlib
@@ -11,7 +11,13 @@ import pytest
 from support.places import TOP
 from support.processes import alive, descendants, end_all
 
-TOOL = TOP / "tools" / "left_behind.py"
+WITHOUT_WAIT = """\
+import pathlib, sys
+sys.path.insert(0, sys.argv[1])
+from tools.checks import check_left_behind
+check_left_behind.SECONDS = 0
+sys.exit(check_left_behind.main(sys.argv[2], pathlib.Path(sys.argv[3])))
+"""
 
 
 @pytest.fixture
@@ -23,13 +29,8 @@ def folder(tmp_path: pathlib.Path) -> pathlib.Path:
 
 def left(mark: str, folder: pathlib.Path) -> tuple[int, str]:
     """The tool's status and output, where it waits for nothing."""
-    code = f"import sys; sys.path.insert(0, {str(TOOL.parent)!r}); import left_behind; left_behind.SECONDS = 0; "
-    command = [
-        sys.executable,
-        "-c",
-        f"{code}sys.exit(left_behind.main(*sys.argv[1:2], left_behind.pathlib.Path(sys.argv[2])))",
-    ]
-    completed = subprocess.run([*command, mark, str(folder)], capture_output=True, text=True)
+    command = [sys.executable, "-c", WITHOUT_WAIT, str(TOP), mark, str(folder)]
+    completed = subprocess.run(command, capture_output=True, text=True)
     assert completed.stderr == ""
     return completed.returncode, completed.stdout
 
@@ -44,7 +45,7 @@ def sleeper() -> Iterator[subprocess.Popen[bytes]]:
 
 
 def test_process_of_run_is_reported(sleeper: subprocess.Popen[bytes], folder: pathlib.Path) -> None:
-    assert left("one", folder) == (1, f"tools/left_behind.py: left: process {sleeper.pid}: sleep 600\n")
+    assert left("one", folder) == (1, f"tools/checks/check_left_behind: left: process {sleeper.pid}: sleep 600\n")
     assert left("two", folder) == (0, "") and left("on", folder) == (0, "")
     sleeper.kill()
     sleeper.wait()
@@ -55,12 +56,12 @@ def test_process_in_folder_is_reported(folder: pathlib.Path) -> None:
     with subprocess.Popen(["sleep", "600"], cwd=folder / "pytest-of-root") as process:
         shown = left("none", folder)
         process.kill()
-    assert shown == (1, f"tools/left_behind.py: left: process {process.pid}: sleep 600\n")
+    assert shown == (1, f"tools/checks/check_left_behind: left: process {process.pid}: sleep 600\n")
 
 
 def test_left_folder_is_reported(folder: pathlib.Path) -> None:
     (folder / "scoped_dir1").mkdir()
-    assert left("none", folder) == (1, f"tools/left_behind.py: left: folder or file {folder}/scoped_dir1\n")
+    assert left("none", folder) == (1, f"tools/checks/check_left_behind: left: folder or file {folder}/scoped_dir1\n")
 
 
 def test_process_tree_is_ended() -> None:

@@ -24,7 +24,7 @@ from vecmon_lab import check
 BUILD = """\
 import pathlib, sys, time
 kind, source, out, *level = sys.argv[1:]
-top = pathlib.Path(__file__).parents[1]
+top = pathlib.Path(__file__).parents[2]
 step = " ".join([kind.removeprefix("--"), pathlib.Path(source).stem, *level])
 with (top / "builds").open("a") as builds:
     print(step, file=builds)
@@ -78,10 +78,13 @@ class Clone:
         }
         self.write("rattle/rt", RT.replace("TOP", shlex.quote(str(top))).replace("PROGRAM", shlex.quote(str(program))))
         self.write("lab/setup", SET_UP)
-        self.write("tools/debian_packages", "#!/bin/sh\n")
-        self.write("tools/unproved_build.py", BUILD.replace("PROGRAM", str(program)))
-        for name in ("run", "complete_build", "source_digest", "proved_build.py", "linked_kit.py", "front_end.py"):
-            shutil.copy(TOP / "tools" / name, top / "tools" / name)
+        self.write("tools/building/debian_packages", "#!/bin/sh\n")
+        self.write("tools/building/unproved_build", BUILD.replace("PROGRAM", str(program)))
+        shutil.copy(TOP / "tools/run", self.run_tool)
+        shutil.copy(TOP / "tools/__init__.py", top / "tools")
+        commands = ("complete_build", "proved_build", "source_digest")
+        for path in [*(TOP / "tools/building").glob("*.py"), *(TOP / "tools/building" / name for name in commands)]:
+            shutil.copy(path, top / "tools/building")
         self.write("HANDLES", "Handles allowed: none.\n")
         self.write("crates.txt", "low: arrayvec\nvecmon: low # a comment\nvecmon_record: low\nother: low\n")
         for crate in ("low", "vecmon", "vecmon_record", "other"):
@@ -151,8 +154,8 @@ class Clone:
         return True
 
     def digest(self, *arguments: str) -> Run:
-        """Runs tools/source_digest."""
-        command = [str(self.top / "tools" / "source_digest"), *arguments]
+        """Runs tools/building/source_digest."""
+        command = [str(self.top / "tools/building/source_digest"), *arguments]
         return subprocess.run(command, env=self.environment, capture_output=True, text=True)
 
     def builds(self) -> list[str]:
@@ -256,13 +259,13 @@ def test_a_failed_proof_builds_and_records_nothing(clone: Clone) -> None:
     [(["lower"], "crates.txt has no crate lower"), (["--jobs", "0"], "--jobs takes a number above 0")],
 )
 def test_bad_arguments_of_proved_build(clone: Clone, words: list[str], message: str) -> None:
-    command = [sys.executable, str(clone.top / "tools" / "proved_build.py"), *words]
+    command = [sys.executable, str(clone.top / "tools/building/proved_build"), *words]
     ran = subprocess.run(command, env=clone.environment, capture_output=True, text=True)
     assert ran.returncode == 2 and ran.stderr.endswith(f"error: {message}\n") and clone.proofs() == []
 
 
 def test_one_crate_alone(clone: Clone) -> None:
-    command = [sys.executable, str(clone.top / "tools" / "proved_build.py"), "--jobs", "7", "other"]
+    command = [sys.executable, str(clone.top / "tools/building/proved_build"), "--jobs", "7", "other"]
     subprocess.run(command, env=clone.environment, check=True)
     assert clone.proofs() == ["all check --jobs 7 in crates"]
     (copy,) = (clone.top / "cache" / "vecmon" / "kit-logic-0123" / "proved").iterdir()
@@ -364,9 +367,9 @@ def test_sources_select_program(clone: Clone) -> None:
         ("rattle/rt", "#!/bin/sh\necho kit logic 4567\n"),
         ("crates.txt", "low: hex\nvecmon: low\nvecmon_record: low\n"),
         ("crates/vecmon/proofs/new.antt", "new\n"),
-        ("tools/unproved_build.py", "pass\n"),
-        ("tools/linked_kit.py", "pass\n"),
-        ("tools/front_end.py", "pass\n"),
+        ("tools/building/unproved_build.py", "pass\n"),
+        ("tools/building/linked_kit.py", "pass\n"),
+        ("tools/building/front_end.py", "pass\n"),
     ],
 )
 def test_digest_follows_sources(clone: Clone, name: str, text: str) -> None:
@@ -583,7 +586,7 @@ def test_missing_rt_is_reported(clone: Clone) -> None:
 
 
 def test_missing_packages_are_reported(clone: Clone) -> None:
-    for name in ("lab/setup", "tools/debian_packages"):
+    for name in ("lab/setup", "tools/building/debian_packages"):
         shutil.copy(TOP / name, clone.top / name)
     clone.write("rattle/id", "#!/bin/sh\necho 1000\n")
     clone.write("rattle/sudo", "#!/bin/sh\nexit 1\n")
@@ -591,7 +594,7 @@ def test_missing_packages_are_reported(clone: Clone) -> None:
     completed = clone.run()
     packages = "python3-pip python3-setuptools python3-aiohttp python3-prompt-toolkit python3-pyelftools python3-segno libjs-codemirror"
     command = f"apt-get update && apt-get install --no-install-recommends {packages}"
-    expected = f"tools/debian_packages: missing packages; as root, run: {command}\n"
+    expected = f"tools/building/debian_packages: missing packages; as root, run: {command}\n"
     assert (completed.returncode, completed.stdout, completed.stderr) == (2, "", expected)
     assert clone.builds() == []
 

@@ -4,8 +4,6 @@ The prover's output is recorded from runs of the kit over the example of `tools/
 """
 
 import hashlib
-import importlib.machinery
-import importlib.util
 import json
 import pathlib
 import shutil
@@ -17,18 +15,16 @@ from typing import Any
 
 import pytest
 
-import check_edits
-import edit_clauses
-import edit_libraries
-import edit_self_test
-import gate_times
-from edit_checks import Check, Outcome, Prover, Result, refusal
-from edit_plans import Edit, Function, batches, joined, name_of_impl, read_edit, with_bodies
-from edit_self_test import CRATE, EXPECTED, write_example
-from edit_stubs import stub_body, stubs
-from edit_trials import Options, Trial, Trials
 from support.places import TOP
-from tried_edits import TriedEdits
+from tools.checks import check_edits
+from tools.editing import edit_clauses, edit_libraries, edit_self_test, try_edits
+from tools.editing.edit_checks import Check, Outcome, Prover, Result, refusal
+from tools.editing.edit_plans import Edit, Function, batches, joined, name_of_impl, read_edit, with_bodies
+from tools.editing.edit_self_test import CRATE, EXPECTED, write_example
+from tools.editing.edit_stubs import stub_body, stubs
+from tools.editing.edit_trials import Options, Trial, Trials
+from tools.editing.tried_edits import TriedEdits
+from tools.measuring import gate_times
 
 TOOL = TOP / "tools" / "try_edits"
 OPEN = "note: src/lib.rt:6:1: it is not proved that what the function ensures holds when it returns (`returns`)"
@@ -359,27 +355,16 @@ def test_command_line(example: list[pathlib.Path]) -> None:
     assert command() == (2, f"{error}there are no edits in crates/*/edits: run it at the top of the repository")
 
 
-def loaded() -> Any:
-    """The tool as a module."""
-    loader = importlib.machinery.SourceFileLoader("try_edits", str(TOOL))
-    spec = importlib.util.spec_from_loader("try_edits", loader)
-    assert spec
-    module = importlib.util.module_from_spec(spec)
-    loader.exec_module(module)
-    return module
-
-
 def test_counts_and_status(example: list[pathlib.Path], capsys: pytest.CaptureFixture[str]) -> None:
     trials = tried(FakeProver({"harmless wrong": BOTH, "harmless": HARMLESS}), example)
     capsys.readouterr()
-    tool = loaded()
-    assert tool.print_results(trials) == 1
+    assert try_edits.print_results(trials) == 1
     assert capsys.readouterr().out.split("\n")[-3:] == [
         "FAILED: sums/harmless",
         "tools/try_edits: refused edits: 1 of 2; crates: 1; refused in earlier runs: 0",
         "",
     ]
-    assert tool.print_results(trials[1:]) == 0
+    assert try_edits.print_results(trials[1:]) == 0
     assert capsys.readouterr().out == (
         f"sums/wrong: refused: next: {OPEN}\n"
         "tools/try_edits: refused edits: 1 of 1; crates: 1; refused in earlier runs: 0\n"

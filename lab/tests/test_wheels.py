@@ -1,4 +1,4 @@
-"""Python packages with the programs in them: tools/wheels makes one twice, and pip installs it without a network."""
+"""Python packages with the programs in them: tools/releasing/wheels makes one twice, and pip installs it without a network."""
 
 import pathlib
 import shutil
@@ -13,7 +13,13 @@ from support.places import TOP
 from vecmon_lab.check import first_script
 from vecmon_lab.machine.program import find_recorder
 
-PARTS = ("lab/vecmon_lab", "lab/examples", "tests/command_lines/data/images", "pyproject.toml", "tools/wheels")
+PARTS = (
+    "lab/vecmon_lab",
+    "lab/examples",
+    "tests/command_lines/data/images",
+    "pyproject.toml",
+    "tools/releasing/wheels",
+)
 """The files of the repository that the packages are made from."""
 
 SITE = ("index.html", "playground.html", "play/index.html")
@@ -56,7 +62,7 @@ def made(tmp_path_factory: pytest.TempPathFactory, program: pathlib.Path) -> pat
 @pytest.fixture(scope="module")
 def wheels(made: pathlib.Path) -> Mapping[str, pathlib.Path]:
     """The wheels by the last part of their tags."""
-    ran = run(["clone/tools/wheels", "site", "out", "x86_64=native", "wasm32=node"], made)
+    ran = run(["clone/tools/releasing/wheels", "site", "out", "x86_64=native", "wasm32=node"], made)
     assert ran.returncode == 0, ran.stderr
     paths = {path.stem.rpartition("-")[2]: path for path in (made / "out").iterdir()}
     assert ran.stdout.split() == sorted(path.name for path in paths.values())
@@ -93,7 +99,7 @@ def test_wheels_have_programs_and_files(wheels: Mapping[str, pathlib.Path]) -> N
 
 def test_same_commit_and_programs_give_same_bytes(made: pathlib.Path, wheels: Mapping[str, pathlib.Path]) -> None:
     shutil.copytree(made / "clone", made / "another folder", dirs_exist_ok=True)
-    command = 'umask 077; exec "another folder/tools/wheels" site second wasm32=node'
+    command = 'umask 077; exec "another folder/tools/releasing/wheels" site second wasm32=node'
     ran = run(["sh", "-c", command], made, TZ="Asia/Tokyo")
     assert ran.returncode == 0, ran.stderr
     assert (made / "second" / wheels["any"].name).read_bytes() == wheels["any"].read_bytes()
@@ -139,7 +145,7 @@ def test_missing_library_names_pip(installed: pathlib.Path, tmp_path: pathlib.Pa
 @pytest.mark.parametrize(
     "words, reason",
     [
-        (["site", "new"], "usage: tools/wheels SITE OUT TARGET=FOLDER..."),
+        (["site", "new"], "usage: tools/releasing/wheels SITE OUT TARGET=FOLDER..."),
         (["site", "new", "arm=native"], "arm=native isn't TARGET=FOLDER with x86_64, aarch64, riscv64 or wasm32"),
         (["site", "new", "x86_64=site"], "site has no vecmon and vecmon-record"),
         (["native", "new", "x86_64=native"], "native is no built site: run tools/site"),
@@ -147,10 +153,12 @@ def test_missing_library_names_pip(installed: pathlib.Path, tmp_path: pathlib.Pa
     ],
 )
 def test_wrong_arguments_are_refused(made: pathlib.Path, words: Sequence[str], reason: str) -> None:
-    ran = run(["clone/tools/wheels", *words], made)
+    ran = run(["clone/tools/releasing/wheels", *words], made)
     assert ran.returncode == 2 and ran.stdout == "" and not (made / "new").exists()
     assert (
-        ran.stderr.startswith("tools/wheels: ") and ran.stderr.endswith(f"{reason}\n") and ran.stderr.count("\n") == 1
+        ran.stderr.startswith("tools/releasing/wheels: ")
+        and ran.stderr.endswith(f"{reason}\n")
+        and ran.stderr.count("\n") == 1
     )
 
 
@@ -159,5 +167,5 @@ def test_uncommitted_changes_are_refused(made: pathlib.Path) -> None:
     shutil.copytree(made / "clone", changed, dirs_exist_ok=True)
     with (changed / "pyproject.toml").open("a") as file:
         file.write("\n")
-    ran = run([changed / "tools/wheels", "site", "new", "x86_64=native"], made)
-    assert (ran.returncode, ran.stderr) == (2, "tools/wheels: there are changes that aren't committed\n")
+    ran = run([changed / "tools/releasing/wheels", "site", "new", "x86_64=native"], made)
+    assert (ran.returncode, ran.stderr) == (2, "tools/releasing/wheels: there are changes that aren't committed\n")

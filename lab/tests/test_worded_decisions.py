@@ -17,7 +17,7 @@ EXCEPTIONS = {  # the files with such decisions, and the reason for each
     "lab/vecmon_lab/compilers/container.py": OTHERS,  # setpriv
     "lab/vecmon_lab/compilers/hints.py": OTHERS,  # compilers and linkers
     "lab/vecmon_lab/compilers/sandbox_main.py": OTHERS,  # compilers, linkers and the dynamic loader
-    "tools/build_steps.py": OTHERS,  # linkers
+    "tools/building/build_steps.py": OTHERS,  # linkers
     "lab/vecmon_lab/runs/recorder.py": "vecmon-record refuses in words, which tests/recordings states",
     "lab/vecmon_lab/machine/answers.py": "the reader of answers, whose format docs/COMMANDS.md fixes",
     "lab/vecmon_lab/machine/script.py": "a fast choice of lines, whose commands are read afterwards",

@@ -3,7 +3,7 @@
 SITE is the output folder of tools/site. In each browser, `chromium`, `firefox` or `webkit`, it works at the page from a server: the
 page, a reload, an exercise failed and passed, a lesson, an image. It prints a row for MEASUREMENTS.md, in milliseconds: the first
 interaction cold and warm, a step, and 10,000,000 instructions by Run; and the MB of Python's memory. The packages are those of
-`tools/debian_packages other-browsers`; WebKitGTK needs a display, for instance that of `xvfb-run`.
+`tools/building/debian_packages other-browsers`; WebKitGTK needs a display, for instance that of `xvfb-run`.
 """
 
 import base64

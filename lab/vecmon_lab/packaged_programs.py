@@ -1,4 +1,4 @@
-"""The commands `vecmon` and `vecmon-record` of a Python package (tools/wheels): they become the programs inside it."""
+"""The commands `vecmon` and `vecmon-record` of a Python package (tools/releasing/wheels): they become the programs inside it."""
 
 import os
 import sys

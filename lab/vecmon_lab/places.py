@@ -4,7 +4,7 @@ import pathlib
 
 LAB = pathlib.Path(__file__).resolve().parent
 IN_PACKAGE = LAB / "packaged"
-"""In a Python package, whose builder is tools/wheels: what a Debian package has in share/vecmon, the programs and CodeMirror."""
+"""In a Python package, whose builder is tools/releasing/wheels: what a Debian package has in share/vecmon, the programs and CodeMirror."""
 
 IS_PYTHON_PACKAGE = IN_PACKAGE.is_dir()
 TOP = IN_PACKAGE if IS_PYTHON_PACKAGE else LAB.parents[1]

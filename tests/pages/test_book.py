@@ -1,4 +1,4 @@
-"""tools/book: its list of pages, its sources, its lexers, and its refusals. Stage 1 of tools/test builds the whole book."""
+"""tools/documents/book: its list of pages, its sources, its lexers, and its refusals. Stage 1 of tools/test builds the whole book."""
 
 import re
 import subprocess
@@ -8,11 +8,11 @@ import pytest
 
 pytest.importorskip("pygments")
 
-from book_html.build import run_sphinx
-from book_html.lexers import RattleLexer, TranscriptLexer
-from book_html.navigation import NavigationError, first_sentence, index_page, read_groups
-from book_html.sources import linked_paths, stage_sources
-from book_html.theme import finished_styles, join_scripts
+from tools.documents.book_html.build import run_sphinx
+from tools.documents.book_html.lexers import RattleLexer, TranscriptLexer
+from tools.documents.book_html.navigation import NavigationError, first_sentence, index_page, read_groups
+from tools.documents.book_html.sources import linked_paths, stage_sources
+from tools.documents.book_html.theme import finished_styles, join_scripts
 
 TOP = Path(__file__).resolve().parents[2]
 
@@ -138,9 +138,9 @@ def test_search_has_texts_of_pages_and_each_title_once(small: Path, tmp_path_fac
 
 def test_folder_without_book_is_refused(tmp_path: Path) -> None:
     (tmp_path / "mine").write_text("x")
-    completed = subprocess.run([TOP / "tools/book", tmp_path], capture_output=True, text=True, check=False)
+    completed = subprocess.run([TOP / "tools/documents/book", tmp_path], capture_output=True, text=True, check=False)
     assert completed.returncode == 2 and (tmp_path / "mine").read_text() == "x"
     assert (
         "exists and isn't a book; name a new folder" in completed.stderr
-        or "run tools/debian_packages book" in completed.stderr
+        or "run tools/building/debian_packages book" in completed.stderr
     )

@@ -1,4 +1,4 @@
-"""The book's pages of definitions: each name links to its definition, and the text is that of `tools/definitions.py --print`."""
+"""The book's pages of definitions: each name links to its definition, and the text is that of `tools/definitions/definitions --print`."""
 
 import html
 import re
@@ -6,9 +6,9 @@ from pathlib import Path
 from urllib.parse import unquote
 
 import pytest
-from book_html.definition_pages import ADDITION_PAGE, linked, reading_page, title_of
-from definition_texts import texts
-from definitions import Name, Text
+from tools.definitions.definition_texts import texts
+from tools.definitions.definitions import Name, Text
+from tools.documents.book_html.definition_pages import ADDITION_PAGE, linked, reading_page, title_of
 
 TOP = Path(__file__).resolve().parents[2]
 

@@ -1,12 +1,12 @@
-"""tools/check_prose.py: which texts it reads of each kind of file, and its figures, counted by hand."""
+"""tools/checks/check_prose: which texts it reads of each kind of file, and its figures, counted by hand."""
 
 from pathlib import Path
 
 import pytest
 
-import check_prose
-from book_html.navigation import read_groups
-from prose_texts import READERS, Block
+from tools.checks import check_prose
+from tools.checks.prose_texts import READERS, Block
+from tools.documents.book_html.navigation import read_groups
 
 
 def texts(suffix: str, text: str, comment: bool = False) -> list[str]:
@@ -103,7 +103,7 @@ def test_every_page_is_in_group() -> None:
 def test_comments_of_all_folders_are_read() -> None:
     top = Path(__file__).resolve().parents[2]
     found = {name: check_prose.paths_of(top, patterns) for name, patterns in check_prose.COMMENTS.items()}
-    assert {"tools/pages", "tools/check_prose.py"} <= set(found["comments of tools"])
+    assert {"tools/documents/pages", "tools/checks/check_prose"} <= set(found["comments of tools"])
     assert "tools/test" not in found["comments of tools"] and "tests/program.py" in found["comments of tests"]
     assert {Path(it).suffix for it in found["comments of crates"]} == {".rt", ".antt", ".edit"}
 

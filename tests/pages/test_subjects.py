@@ -1,4 +1,4 @@
-"""tools/check_subjects.py: subjects that it accepts and refuses, and clones in which it leaves the check out."""
+"""tools/checks/check_subjects: subjects that it accepts and refuses, and clones in which it leaves the check out."""
 
 import os
 import subprocess
@@ -6,7 +6,7 @@ from pathlib import Path
 
 import pytest
 
-import check_subjects
+from tools.checks import check_subjects
 
 
 def git(folder: Path, *arguments: str) -> str:

@@ -6,7 +6,7 @@
   `llvm-mc`, for each name of docs/INSTRUCTIONS.md and for random words;
 - `programs`: random programs whose registers and memory are summed after each ten instructions, on QEMU.
 
-With the packages (`tools/debian_packages peers`), at the top of the repository:
+With the packages (`tools/building/debian_packages peers`), at the top of the repository:
 
     .venv/bin/python -m tests.peers                    all comparisons, in their full size, on all cores
     .venv/bin/python -m tests.peers encodings --seed 5 one of them, with other words

@@ -71,5 +71,5 @@ def test_failed_step_is_one_line(message: str, reason: str) -> None:
 
 def test_missing_tool_names_its_packages(monkeypatch: pytest.MonkeyPatch, tmp_path: Path) -> None:
     monkeypatch.setenv("PATH", str(tmp_path))
-    with pytest.raises(NATIVE.Refusal, match="^clang-19 not found: run tools/debian_packages aarch64$"):
+    with pytest.raises(NATIVE.Refusal, match="^clang-19 not found: run tools/building/debian_packages aarch64$"):
         NATIVE.check_tools(NATIVE.TARGETS["aarch64"])

@@ -63,7 +63,7 @@ def test_pointer_pair_is_retargeted() -> None:
     ],
 )
 def test_other_pointer_size_is_refused(line: str) -> None:
-    with pytest.raises(RETARGET.Unsupported, match="tools/retarget.py doesn't support pointers in: "):
+    with pytest.raises(RETARGET.Unsupported, match="tools/building/retarget.py doesn't support pointers in: "):
         retargeted(line)
 
 

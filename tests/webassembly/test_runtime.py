@@ -1,4 +1,5 @@
-"""128-bit shifts and products of webassembly/runtime.c, compiled as tools/programs does and run by node, against Python's integers."""
+"""128-bit shifts and products of webassembly/runtime.c, compiled as tools/building/programs does and run by node, against Python's
+integers."""
 
 import json
 import random
@@ -40,7 +41,7 @@ pytestmark = pytest.mark.skipif(not all(map(shutil.which, (LINKER, "node"))), re
 
 
 def compiler() -> list[str]:
-    """The compiler of webassembly/runtime.c with its options, as tools/wasm_program.py has them."""
+    """The compiler of webassembly/runtime.c with its options, as tools/building/wasm_program.py has them."""
     tool = load("wasm_program")
     return [f"{tool.installed_kit()}/toolchain/bin/clang", *tool.CLANG, *tool.RUNTIME]
 

@@ -1,4 +1,4 @@
--- Cases of vector operations and of the instructions that set the vector length and type. tools/golden_theorems writes this file from lab/tests/data/golden_vectors.
+-- Cases of vector operations and of the instructions that set the vector length and type. tools/golden/golden_theorems writes this file from lab/tests/data/golden_vectors.
 pub mod FixedPoint
 pub mod Masks
 pub mod OneWidth

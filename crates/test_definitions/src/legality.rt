@@ -1,4 +1,4 @@
-//! Illegal instructions, for each rule of legality and major opcode. tools/golden_theorems writes this file from lab/tests/data/golden_vectors.
+//! Illegal instructions, for each rule of legality and major opcode. tools/golden/golden_theorems writes this file from lab/tests/data/golden_vectors.
 ghost use Rattle.test_definitions.specs.States.{Agrees};
 ghost use Rattle.test_definitions.specs.Legality.{vrgatherei16_vv_illegal, vluxseg2ei64_v_illegal, vssseg8e16_v_illegal, vlseg3e32_v_illegal, vwsub_vv_illegal, vsoxseg2ei8_v_illegal};
 ghost use Rattle.test_definitions.specs.Legality.{vmslt_vv_illegal, vloxei8_v_illegal, vsse64_v_illegal, vsext_vf2_illegal, vlseg2e64_v_illegal, vssseg6e8_v_illegal};

@@ -1,4 +1,4 @@
-//! Cases of scalar instructions. tools/golden_theorems writes this file from lab/tests/data/golden_vectors.
+//! Cases of scalar instructions. tools/golden/golden_theorems writes this file from lab/tests/data/golden_vectors.
 mod branches;
 mod control_registers;
 mod scalars;

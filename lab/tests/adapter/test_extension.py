@@ -102,7 +102,7 @@ def test_each_vector_instruction_is_coloured() -> None:
 def test_package_has_all_files_and_is_reproducible(tmp_path: pathlib.Path) -> None:
     packed = []
     for name in ("one.vsix", "other.vsix"):
-        subprocess.run(["tools/vsix", tmp_path / name], cwd=TOP, check=True)
+        subprocess.run(["tools/releasing/vsix", tmp_path / name], cwd=TOP, check=True)
         packed.append((tmp_path / name).read_bytes())
     assert packed[0] == packed[1]
     with zipfile.ZipFile(tmp_path / "one.vsix") as archive:

@@ -298,7 +298,7 @@ def test_other_program_is_refused(program: str) -> None:
 
 
 def test_missing_node_is_reported(tmp_path: pathlib.Path) -> None:
-    """The command of a program as WebAssembly ends so, as tools/programs writes it."""
+    """The command of a program as WebAssembly ends so, as tools/building/programs writes it."""
     with pytest.raises(NoProgram, match="^vecmon needs node 18 or later on PATH: install nodejs$"):
         Session(stand_in(tmp_path, "echo vecmon needs node 18 or later on PATH: install nodejs >&2; exit 69"))
 

@@ -8,8 +8,8 @@ from collections.abc import Iterator
 
 import pytest
 
-from prose_texts import c_blocks
 from support.text_keys import DECLARATIONS
+from tools.checks.prose_texts import c_blocks
 from vecmon_lab.page.build import texts
 from vecmon_lab.page.build.modules import join_modules
 from vecmon_lab.page.build.pages import WEB, Page, page_file

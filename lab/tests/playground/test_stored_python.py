@@ -1,4 +1,4 @@
-"""The stored CPython for the playground belongs to its sources, and tools/python_wasm refuses another one."""
+"""The stored CPython for the playground belongs to its sources, and tools/building/python_wasm refuses another one."""
 
 import hashlib
 import lzma
@@ -37,10 +37,11 @@ def test_digests() -> None:
 def test_a_change_is_refused(file: str, message: str, tmp_path: pathlib.Path) -> None:
     clone = tmp_path / "clone"
     shutil.copytree(STORED, clone / "webassembly")
-    (clone / "tools").mkdir()
-    for tool in ("python_wasm", "debian_packages"):
-        shutil.copy(TOP / "tools" / tool, clone / "tools")
-    command = [clone / "tools" / "python_wasm", tmp_path / "out"]
+    tools = clone / "tools/building"
+    tools.mkdir(parents=True)
+    for name in ("python_wasm", "debian_packages"):
+        shutil.copy(TOP / "tools/building" / name, tools)
+    command = [tools / "python_wasm", tmp_path / "out"]
     done = subprocess.run(command, capture_output=True, text=True)
     assert (done.returncode, done.stderr) == (0, "") and recorded()["python.wasm"] in done.stdout
     with open(clone / file, "r+b") as changed:
@@ -48,4 +49,4 @@ def test_a_change_is_refused(file: str, message: str, tmp_path: pathlib.Path) ->
         changed.write(b"\0")
     done = subprocess.run(command, capture_output=True, text=True)
     refusal = done.stderr.splitlines()[-1]
-    assert done.returncode == 2 and refusal.startswith(f"tools/python_wasm: {message}") and done.stdout == ""
+    assert done.returncode == 2 and refusal.startswith(f"tools/building/python_wasm: {message}") and done.stdout == ""

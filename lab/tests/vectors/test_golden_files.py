@@ -6,7 +6,7 @@ import pathlib
 
 import pytest
 
-from golden_cases import changed_files
+from tools.golden.golden_cases import changed_files
 
 LINES = b'{"id": 1, "word": "00000013", "after": {"end": "ran", "pc": "10000804"}}\n'
 ROW = "| `{}` | {} |\n"

@@ -31,7 +31,7 @@ MIN_CLANG, MIN_GCC = 17, 14  # which have the intrinsics of vectors by their pre
 COMPILERS_ADVICE = tools_advice("clang-19", "lld-19", "bubblewrap")
 """How to install the compilers of sources in C, and their sandbox."""
 
-INSTALLER = pathlib.Path(__file__).resolve().parents[3] / "tools" / "debian_packages"
+INSTALLER = pathlib.Path(__file__).resolve().parents[3] / "tools/building/debian_packages"
 """The tool of a clone that installs Debian packages. An installed vecmon has no such file."""
 
 _ALL = (MARCH, "-mabi=lp64", "-ffreestanding", "-fno-pic", "-nostdlib", "-static", "-Wl,--build-id=none")

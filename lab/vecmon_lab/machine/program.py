@@ -25,7 +25,7 @@ HOW_TO_BUILD = dict(read_table("how_to_build"))
 
 PT_LOAD = 1
 NO_NODE = 69
-"""The exit status of a program as WebAssembly, which tools/programs writes, if there is no node to run it."""
+"""The exit status of a program as WebAssembly, which tools/building/programs writes, if there is no node to run it."""
 
 
 class NoProgram(LabError):

@@ -1,6 +1,6 @@
 """Builds the site from its parts: `python3 -m vecmon_lab.playground.build PARTS OUT`.
 
-PARTS has python.wasm and its snapshot `memory`, vecmon.wasm and the file PROVENANCE of tools/programs, later.zip, and the
+PARTS has python.wasm and its snapshot `memory`, vecmon.wasm and the file PROVENANCE of tools/building/programs, later.zip, and the
 folder lessons. OUT gets playground.html, which is one file, play/, the same page with its parts as files, and index.html.
 The same parts give the same bytes.
 """
@@ -73,7 +73,7 @@ def parts_of(folder: pathlib.Path) -> dict[str, bytes]:
 def about(provenance: str) -> str:
     """The text about the machine and the checks, in the playground's Help and at the foot of index.html.
 
-    provenance: the text of tools/programs
+    provenance: the text of tools/building/programs
     """
     is_proved = "of the proved program" in provenance
     machine = page_text("playground.proved") if is_proved else page_text("playground.unproved")

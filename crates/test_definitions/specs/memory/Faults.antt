@@ -1,4 +1,4 @@
--- Loads and stores that fault. tools/golden_theorems writes this file from lab/tests/data/golden_vectors.
+-- Loads and stores that fault. tools/golden/golden_theorems writes this file from lab/tests/data/golden_vectors.
 use Rattle.std.specs.Prelude.{[], ◌∷◌, ◌++◌, true, false}
 use Rattle.rv_model.specs.declared.vector.policy.Policy.TheVariants.{Ones}
 use Rattle.rv_model.specs.declared.vector.state.RoundingMode.TheVariants.{NearestEven, Down, Odd}

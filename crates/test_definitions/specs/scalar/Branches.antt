@@ -1,4 +1,4 @@
--- Branches, jumps, `auipc`, `fence` and `ebreak`. tools/golden_theorems writes this file from lab/tests/data/golden_vectors.
+-- Branches, jumps, `auipc`, `fence` and `ebreak`. tools/golden/golden_theorems writes this file from lab/tests/data/golden_vectors.
 use Rattle.std.specs.Prelude.{[], ◌∷◌, true, false}
 use Rattle.rv_model.specs.declared.vector.state.RoundingMode.TheVariants.{NearestEven, Down, Odd}
 use Rattle.rv_model.specs.declared.vector.types.Lmul.TheVariants.{M1, M2, M4, M8, Mf4}

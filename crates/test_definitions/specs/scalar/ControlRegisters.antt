@@ -1,4 +1,4 @@
--- Accesses to control registers. tools/golden_theorems writes this file from lab/tests/data/golden_vectors.
+-- Accesses to control registers. tools/golden/golden_theorems writes this file from lab/tests/data/golden_vectors.
 use Rattle.std.specs.Prelude.{[], ◌∷◌, true, false}
 use Rattle.rv_model.specs.declared.vector.state.RoundingMode.TheVariants.{NearestUp, NearestEven, Odd}
 use Rattle.rv_model.specs.declared.vector.types.Lmul.TheVariants.{M4, Mf4, Mf2}

@@ -1,4 +1,4 @@
--- Fixed-point arithmetic. tools/golden_theorems writes this file from lab/tests/data/golden_vectors.
+-- Fixed-point arithmetic. tools/golden/golden_theorems writes this file from lab/tests/data/golden_vectors.
 use Rattle.std.specs.Prelude.{[], ◌∷◌, true, false}
 use Rattle.rv_model.specs.declared.vector.policy.Policy.TheVariants.{Ones}
 use Rattle.rv_model.specs.declared.vector.state.RoundingMode.TheVariants.{NearestEven, Down, Odd}

@@ -1,4 +1,4 @@
--- Vector integer arithmetic with operands of two widths. tools/golden_theorems writes this file from lab/tests/data/golden_vectors.
+-- Vector integer arithmetic with operands of two widths. tools/golden/golden_theorems writes this file from lab/tests/data/golden_vectors.
 use Rattle.std.specs.Prelude.{[], ◌∷◌, true, false}
 use Rattle.rv_model.specs.declared.vector.policy.Policy.TheVariants.{Ones}
 use Rattle.rv_model.specs.declared.vector.state.RoundingMode.TheVariants.{NearestEven, Down, Odd}

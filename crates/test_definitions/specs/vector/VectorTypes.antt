@@ -1,4 +1,4 @@
--- Instructions that set the vector length and type. tools/golden_theorems writes this file from lab/tests/data/golden_vectors.
+-- Instructions that set the vector length and type. tools/golden/golden_theorems writes this file from lab/tests/data/golden_vectors.
 use Rattle.std.specs.Prelude.{[], ◌∷◌, true, false, None}
 use Rattle.rv_model.specs.declared.vector.state.RoundingMode.TheVariants.{NearestEven, Down, Odd}
 use Rattle.rv_model.specs.declared.vector.types.Lmul.TheVariants.{M1, M2, M4, M8, Mf8, Mf4, Mf2}

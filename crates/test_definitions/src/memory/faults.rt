@@ -1,4 +1,4 @@
-//! Loads and stores that fault. tools/golden_theorems writes this file from lab/tests/data/golden_vectors.
+//! Loads and stores that fault. tools/golden/golden_theorems writes this file from lab/tests/data/golden_vectors.
 ghost use Rattle.test_definitions.specs.Memories.{LoadAgrees, StoreAgrees};
 ghost use Rattle.test_definitions.specs.memory.Faults.{lb_fault, lbu_fault, ld_fault, lh_fault, lhu_fault, lw_fault};
 ghost use Rattle.test_definitions.specs.memory.Faults.{lwu_fault, vle16_v_fault, vle8_v_fault, vle16ff_v_fault, vlm_v_fault, vlm_v_fault_2};

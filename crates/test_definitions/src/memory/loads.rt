@@ -1,4 +1,4 @@
-//! Vector loads. tools/golden_theorems writes this file from lab/tests/data/golden_vectors.
+//! Vector loads. tools/golden/golden_theorems writes this file from lab/tests/data/golden_vectors.
 ghost use Rattle.test_definitions.specs.Memories.{LoadAgrees};
 ghost use Rattle.test_definitions.specs.memory.Loads.{vl1re8_v, vl2re8_v, vl4re64_v, vl8re64_v, vle16_v, vle16ff_v};
 ghost use Rattle.test_definitions.specs.memory.Loads.{vle32_v, vle32ff_v, vle32ff_v_2, vle64_v, vle64ff_v, vle64ff_v_2};

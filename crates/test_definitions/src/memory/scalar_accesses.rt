@@ -1,4 +1,4 @@
-//! Scalar loads and stores. tools/golden_theorems writes this file from lab/tests/data/golden_vectors.
+//! Scalar loads and stores. tools/golden/golden_theorems writes this file from lab/tests/data/golden_vectors.
 ghost use Rattle.test_definitions.specs.Memories.{LoadAgrees, StoreAgrees};
 ghost use Rattle.test_definitions.specs.memory.ScalarAccesses.{lb, lbu, ld, lh, lhu, lw};
 ghost use Rattle.test_definitions.specs.memory.ScalarAccesses.{lwu, sb, sd, sh, sw};

@@ -1,4 +1,4 @@
-//! Vector stores. tools/golden_theorems writes this file from lab/tests/data/golden_vectors.
+//! Vector stores. tools/golden/golden_theorems writes this file from lab/tests/data/golden_vectors.
 ghost use Rattle.test_definitions.specs.Memories.{StoreAgrees};
 ghost use Rattle.test_definitions.specs.memory.Stores.{vs1r_v, vs2r_v, vs4r_v, vs8r_v, vse16_v, vse32_v};
 ghost use Rattle.test_definitions.specs.memory.Stores.{vse64_v, vse8_v, vsm_v, vsoxei16_v, vsoxei32_v, vsoxei64_v};

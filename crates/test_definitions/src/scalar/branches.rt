@@ -1,4 +1,4 @@
-//! Branches, jumps, `auipc`, `fence` and `ebreak`. tools/golden_theorems writes this file from lab/tests/data/golden_vectors.
+//! Branches, jumps, `auipc`, `fence` and `ebreak`. tools/golden/golden_theorems writes this file from lab/tests/data/golden_vectors.
 ghost use Rattle.test_definitions.specs.States.{Agrees};
 ghost use Rattle.test_definitions.specs.scalar.Branches.{ebreak, auipc, beq, bge, bgeu, blt};
 ghost use Rattle.test_definitions.specs.scalar.Branches.{bltu, bne, fence, jal, jalr, beq_misaligned};

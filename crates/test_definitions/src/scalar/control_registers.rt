@@ -1,4 +1,4 @@
-//! Accesses to control registers. tools/golden_theorems writes this file from lab/tests/data/golden_vectors.
+//! Accesses to control registers. tools/golden/golden_theorems writes this file from lab/tests/data/golden_vectors.
 ghost use Rattle.test_definitions.specs.States.{Agrees};
 ghost use Rattle.test_definitions.specs.scalar.ControlRegisters.{csrrc, csrrci, csrrs, csrrsi, csrrw, csrrwi};
 

@@ -1,4 +1,4 @@
-//! Scalar arithmetic. tools/golden_theorems writes this file from lab/tests/data/golden_vectors.
+//! Scalar arithmetic. tools/golden/golden_theorems writes this file from lab/tests/data/golden_vectors.
 ghost use Rattle.test_definitions.specs.States.{Agrees};
 ghost use Rattle.test_definitions.specs.scalar.Scalars.{add, addi, addiw, addw, and, andi};
 ghost use Rattle.test_definitions.specs.scalar.Scalars.{div, divu, divuw, divw, lui, mul};

@@ -1,4 +1,4 @@
-//! Fixed-point arithmetic. tools/golden_theorems writes this file from lab/tests/data/golden_vectors.
+//! Fixed-point arithmetic. tools/golden/golden_theorems writes this file from lab/tests/data/golden_vectors.
 ghost use Rattle.test_definitions.specs.States.{Agrees};
 ghost use Rattle.test_definitions.specs.vector.FixedPoint.{vaadd_vv, vaaddu_vx, vasub_vv, vasubu_vv, vnclip_wx, vnclip_wi};
 ghost use Rattle.test_definitions.specs.vector.FixedPoint.{vnclipu_wv, vnclipu_wv_2, vsadd_vi, vsadd_vv, vsaddu_vx, vsaddu_vi};

@@ -1,4 +1,4 @@
-//! Operations on masks, comparisons and carries. tools/golden_theorems writes this file from lab/tests/data/golden_vectors.
+//! Operations on masks, comparisons and carries. tools/golden/golden_theorems writes this file from lab/tests/data/golden_vectors.
 ghost use Rattle.test_definitions.specs.States.{Agrees};
 ghost use Rattle.test_definitions.specs.vector.Masks.{vcpop_m, vfirst_m, vid_v, viota_m, vmadc_vx, vmadc_vxm};
 ghost use Rattle.test_definitions.specs.vector.Masks.{vmand_mm, vmandn_mm, vmnand_mm, vmnor_mm, vmor_mm, vmorn_mm};

@@ -1,4 +1,4 @@
-//! Vector integer arithmetic with operands of one width. tools/golden_theorems writes this file from lab/tests/data/golden_vectors.
+//! Vector integer arithmetic with operands of one width. tools/golden/golden_theorems writes this file from lab/tests/data/golden_vectors.
 ghost use Rattle.test_definitions.specs.States.{Agrees};
 ghost use Rattle.test_definitions.specs.vector.OneWidth.{vadc_vxm, vadd_vx, vand_vv, vdiv_vv, vdivu_vx, vmacc_vx};
 ghost use Rattle.test_definitions.specs.vector.OneWidth.{vmadd_vv, vmax_vx, vmaxu_vv, vmerge_vim, vmin_vv, vminu_vx};

@@ -1,4 +1,4 @@
-//! Permutations and moves. tools/golden_theorems writes this file from lab/tests/data/golden_vectors.
+//! Permutations and moves. tools/golden/golden_theorems writes this file from lab/tests/data/golden_vectors.
 ghost use Rattle.test_definitions.specs.States.{Agrees};
 ghost use Rattle.test_definitions.specs.vector.Permutations.{vmv_s_x, vmv_x_s, vmv1r_v, vmv2r_v, vmv4r_v, vmv8r_v};
 ghost use Rattle.test_definitions.specs.vector.Permutations.{vcompress_vm, vrgather_vx, vrgatherei16_vv, vslide1down_vx, vslide1up_vx, vslidedown_vi};

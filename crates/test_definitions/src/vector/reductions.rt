@@ -1,4 +1,4 @@
-//! Reductions. tools/golden_theorems writes this file from lab/tests/data/golden_vectors.
+//! Reductions. tools/golden/golden_theorems writes this file from lab/tests/data/golden_vectors.
 ghost use Rattle.test_definitions.specs.States.{Agrees};
 ghost use Rattle.test_definitions.specs.vector.Reductions.{vredand_vs, vredmax_vs, vredmaxu_vs, vredmin_vs, vredminu_vs, vredor_vs};
 ghost use Rattle.test_definitions.specs.vector.Reductions.{vredsum_vs, vredxor_vs, vwredsum_vs, vwredsumu_vs};

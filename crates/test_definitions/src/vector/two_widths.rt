@@ -1,4 +1,4 @@
-//! Vector integer arithmetic with operands of two widths. tools/golden_theorems writes this file from lab/tests/data/golden_vectors.
+//! Vector integer arithmetic with operands of two widths. tools/golden/golden_theorems writes this file from lab/tests/data/golden_vectors.
 ghost use Rattle.test_definitions.specs.States.{Agrees};
 ghost use Rattle.test_definitions.specs.vector.TwoWidths.{vsext_vf2, vsext_vf4, vsext_vf8, vzext_vf2, vzext_vf4, vzext_vf8};
 ghost use Rattle.test_definitions.specs.vector.TwoWidths.{vnsra_wv, vnsrl_wx, vwadd_vx, vwadd_wv, vwaddu_vx, vwaddu_wx};

@@ -1,4 +1,4 @@
-//! Instructions that set the vector length and type. tools/golden_theorems writes this file from lab/tests/data/golden_vectors.
+//! Instructions that set the vector length and type. tools/golden/golden_theorems writes this file from lab/tests/data/golden_vectors.
 ghost use Rattle.test_definitions.specs.States.{Agrees};
 ghost use Rattle.test_definitions.specs.vector.VectorTypes.{vsetivli, vsetivli_2, vsetvl, vsetvl_2, vsetvl_3, vsetvl_4};
 ghost use Rattle.test_definitions.specs.vector.VectorTypes.{vsetvl_5, vsetvl_6, vsetvli, vsetvli_2, vsetvli_3, vsetvli_4};

@@ -1,0 +1,1 @@
+"""Programs that build, check, measure and release the repository. README.md lists them."""

@@ -1,0 +1,1 @@
+"""Builds the programs, with and without proofs, for this host and other targets."""

@@ -1,0 +1,1 @@
+"""Checks of sources, pages, programs, packages and releases."""

@@ -1,0 +1,1 @@
+"""Counts and prints the definitions that contracts rest on."""

@@ -1,0 +1,1 @@
+"""Makes the pages that programs print, and the book."""

@@ -1,0 +1,1 @@
+"""Tries edits that must fail, and lists the clauses that they break."""

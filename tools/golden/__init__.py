@@ -1,0 +1,1 @@
+"""Golden vectors: derives them again, and writes theorems from them."""

@@ -1,0 +1,1 @@
+"""Measures sizes, times and machine instructions."""

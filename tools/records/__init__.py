@@ -1,0 +1,1 @@
+"""Writes and compares what repeats the records of instructions."""

@@ -1,0 +1,1 @@
+"""Makes packages of other kinds, and the page of a release."""
