@@ -33,7 +33,7 @@ impl<A: Allocator> Machine<'_, A> {
         ensures adds_up { SlicesAddUp self.old user self.new reply.new }
     {
         reply.clear();
-        self.users.slice(user, self.quantum, reply)
+        self.users.grant(user, self.quantum, reply)
     }
 
     /// Grant at most `count` slices in turn to users whose programs are running; fewer only if none
@@ -54,21 +54,9 @@ impl<A: Allocator> Machine<'_, A> {
             let Some(user) = self.users.take_turn() else {
                 return granted;
             };
-            self.users.slice(user, self.quantum, reply);
+            self.users.grant(user, self.quantum, reply);
         }
         count
-    }
-
-    /// `* slices N`: grant slices in turn, and reply with their number.
-    fn execute_slices(&mut self, count: usize, reply: &mut Reply)
-        ensures world { self.new.world
-            ≡ after_events self.old.setup self.old.world (granted self.old.setup count self.old.world) }
-        ensures setup { self.new.setup ≡ self.old.setup }
-        ensures reply { reply.new ≡ printed_by_events self.old.setup self.old.world (granted self.old.setup count self.old.world)
-            ++ text 42 (granted_line (length (granted self.old.setup count self.old.world)) ∷ []) }
-    {
-        let granted = self.grant_slices(count, reply);
-        monitor_cmds::granted_line(reply, granted);
     }
 
     /// `* run U`: grant a slice to a user, if the user's program is running, and reply with the
@@ -84,7 +72,7 @@ impl<A: Allocator> Machine<'_, A> {
             ++ text 42 (granted_line (length (grants self.old.setup self.old.world (OperatorCommand.Run user))) ∷ []) }
     {
         reply.clear();
-        let ran = self.users.slice(user, self.quantum, reply);
+        let ran = self.users.grant(user, self.quantum, reply);
         monitor_cmds::granted_line(reply, usize::from(ran));
     }
 
@@ -97,7 +85,10 @@ impl<A: Allocator> Machine<'_, A> {
             ++ text 42 (operator_line self.old.setup self.old.world (Ok command) ∷ []) }
     {
         match command {
-            OperatorCommand::Slices(count) => self.execute_slices(count.get(), reply),
+            OperatorCommand::Slices(count) => {
+                let granted = self.grant_slices(count.get(), reply);
+                monitor_cmds::granted_line(reply, granted);
+            }
             OperatorCommand::Run(user) => self.execute_run(user, reply),
             OperatorCommand::List => {
                 reply.clear();

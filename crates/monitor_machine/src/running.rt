@@ -8,7 +8,7 @@ ghost use Rattle.monitor_machine.specs.CommandOutcomes.{LeavesContext, LeavesPar
 use crate::answers::refuse;
 use crate::context::Context;
 use crate::parts::Parts;
-use crate::stepping::steps;
+use crate::stepping::run_steps;
 use crate::trace::Trace;
 use monitor_cmds::{Reply, Tag};
 use rv_model::{Refusal, RunningCommand, User};
@@ -34,7 +34,7 @@ pub(crate) fn execute<A: Allocator>(
     match command {
         RunningCommand::Step(count) => {
             let count = count.get();
-            let stop = steps(parts, trace, count);
+            let stop = run_steps(parts, trace, count);
             monitor_cmds::step_line(reply, tag, count, parts.context.scalar.pc, stop);
         }
         RunningCommand::Go => {

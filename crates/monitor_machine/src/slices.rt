@@ -1,5 +1,5 @@
 //! A slice of one user.
-ghost use Rattle.std.specs.Prelude.{◌≡◌, ◌+◌, ◌≤◌, ◌++◌, true, length};
+ghost use Rattle.std.specs.Prelude.{◌≡◌, ◌+◌, ◌≤◌, ◌++◌, length};
 ghost use Rattle.lazy_context.specs.LazyUnit.{record_of};
 ghost use Rattle.rv_model.specs.machine.Cuts.{IsConfigured};
 ghost use Rattle.rv_model.specs.machine.Grants.{runs};
@@ -15,35 +15,10 @@ use crate::trace::Trace;
 use monitor_cmds::{Reply, Tag};
 use std::alloc::Allocator;
 
-/// Run a slice of `quantum` ticks of a user whose program is running, and append the stop line to
-/// the reply if the program stopped.
-#[tactic(auto, unfolding(rv_model::specs::machine::World::sliced), using(crate::proofs::Steps::present))]
-fn run_slice<A: Allocator>(
-    parts: &mut Parts<'_, '_, '_, A>,
-    trace: &mut Trace<A>,
-    quantum: usize,
-    reply: &mut Reply,
-)
-    requires entered { parts.old.context.now.entered ≡ true }
-    requires running { parts.old.context.now.running ≡ true }
-    requires room { length reply.old + 80 ≤ 4096 }
-    ensures next { machine_of parts.new trace.new ≡ (sliced quantum (machine_of parts.old trace.old)).next }
-    ensures parts { PartsMove parts.old parts.new (unit_after_uses parts.old.user
-        (sliced quantum (machine_of parts.old trace.old)).uses (record_of parts.old.unit.now)) }
-    ensures reply { reply.new
-        ≡ reply.old ++ text (48 + parts.old.user) (sliced quantum (machine_of parts.old trace.old)).lines }
-    ensures bound { length reply.new + stop_line_bound (machine_of parts.new trace.new) ≤ length reply.old + 80 }
-{
-    if let Some(stop) = stepping::slice(parts, trace, quantum) {
-        parts.context.running = false;
-        monitor_cmds::stop_line(reply, Tag::User(parts.user), parts.context.scalar.pc, stop);
-    }
-}
-
-/// Grant a slice of `quantum` ticks to a user, if the user's program is running, and append the
-/// stop line to the reply if the program stopped. Return whether the program was running.
+/// Run a slice of `quantum` ticks of a user, if the user's program is running, and append the stop
+/// line to the reply if the program stopped. Return whether the program was running.
 #[tactic(auto, unfolding(rv_model::specs::machine::World::sliced), using(crate::proofs::Steps::granting))]
-pub(crate) fn grant<A: Allocator>(
+pub(crate) fn run_slice<A: Allocator>(
     parts: &mut Parts<'_, '_, '_, A>,
     trace: &mut Trace<A>,
     quantum: usize,
@@ -65,6 +40,9 @@ pub(crate) fn grant<A: Allocator>(
     if !parts.context.is_running() {
         return false;
     }
-    run_slice(parts, trace, quantum, reply);
+    if let Some(stop) = stepping::run_ticks(parts, trace, quantum) {
+        parts.context.running = false;
+        monitor_cmds::stop_line(reply, Tag::User(parts.user), parts.context.scalar.pc, stop);
+    }
     true
 }

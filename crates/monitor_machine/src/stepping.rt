@@ -114,9 +114,9 @@ fn try_instruction<A: Allocator, M: UserBytes>(
     (stop_of(end), ticks)
 }
 
-/// Execute `steps` on the state that a user's instructions borrow.
+/// Execute `run_steps` on the state that a user's instructions borrow.
 #[inline(always)]
-fn steps_lent<A: Allocator, M: UserBytes>(
+fn run_steps_lent<A: Allocator, M: UserBytes>(
     context: &mut Context,
     trace: &mut Trace<A>,
     vectors: &mut UserVectors<'_>,
@@ -150,7 +150,7 @@ fn steps_lent<A: Allocator, M: UserBytes>(
 
 /// Execute at most `count` instructions; fewer if one stops the program, or if a breakpoint is at
 /// one other than the first. Return why the program stopped, if it did.
-pub(crate) fn steps<A: Allocator>(
+pub(crate) fn run_steps<A: Allocator>(
     parts: &mut Parts<'_, '_, '_, A>,
     trace: &mut Trace<A>,
     count: usize,
@@ -170,13 +170,13 @@ pub(crate) fn steps<A: Allocator>(
         unit: &mut *parts.unit,
         user,
     };
-    steps_lent(&mut *parts.context, trace, &mut vectors, &mut memory, count)
+    run_steps_lent(&mut *parts.context, trace, &mut vectors, &mut memory, count)
 }
 
-/// Execute `slice` on the state that a user's instructions borrow. The user has no breakpoint
+/// Execute `run_ticks` on the state that a user's instructions borrow. The user has no breakpoint
 /// unless `watched`.
 #[inline(always)]
-fn slice_lent<A: Allocator, M: UserBytes>(
+fn run_ticks_lent<A: Allocator, M: UserBytes>(
     context: &mut Context,
     trace: &mut Trace<A>,
     vectors: &mut UserVectors<'_>,
@@ -213,7 +213,7 @@ fn slice_lent<A: Allocator, M: UserBytes>(
 /// Execute the instructions of `quantum` ticks; fewer if one stops the program, or if a breakpoint
 /// stops it. A program that skips the breakpoint once skips it at the first instruction. Return why
 /// the program stopped, if it did.
-pub(crate) fn slice<A: Allocator>(
+pub(crate) fn run_ticks<A: Allocator>(
     parts: &mut Parts<'_, '_, '_, A>,
     trace: &mut Trace<A>,
     quantum: usize,
@@ -236,8 +236,8 @@ pub(crate) fn slice<A: Allocator>(
     let context = &mut *parts.context;
     // Two copies of the loop; the second one tests no breakpoints.
     if context.is_watched() {
-        slice_lent(context, trace, &mut vectors, &mut memory, quantum, true)
+        run_ticks_lent(context, trace, &mut vectors, &mut memory, quantum, true)
     } else {
-        slice_lent(context, trace, &mut vectors, &mut memory, quantum, false)
+        run_ticks_lent(context, trace, &mut vectors, &mut memory, quantum, false)
     }
 }

@@ -18,7 +18,7 @@ use crate::commands::execute;
 use crate::context::Context;
 use crate::image::Image;
 use crate::parts::Parts;
-use crate::slices::grant;
+use crate::slices::run_slice;
 use crate::trace::Trace;
 use lazy_context::Unit;
 use monitor_cmds::{Reply, parse};
@@ -159,7 +159,7 @@ impl<A: Allocator> Users<A> {
     /// Grant a slice of `quantum` ticks to a user, if the user's program is running, and append the
     /// stop line to the reply if the program stopped. Return whether the program was running.
     #[tactic(auto, using(crate::proofs::PartLaws::part_put_back))]
-    pub(crate) fn slice(&mut self, user: User, quantum: usize, reply: &mut Reply) -> bool
+    pub(crate) fn grant(&mut self, user: User, quantum: usize, reply: &mut Reply) -> bool
         requires { length reply.old + stop_lines_bound self.old.parts ≤ 4096 }
         ensures world { self.new ≡ after_slice quantum user self.old }
         ensures reply { reply.new ≡ reply.old ++ text (48 + user) (sliced quantum (user_machine user self.old)).lines }
@@ -178,7 +178,7 @@ impl<A: Allocator> Users<A> {
             pool: &mut self.pool,
             user,
         };
-        grant(&mut parts, &mut self.traces[index], quantum, reply)
+        run_slice(&mut parts, &mut self.traces[index], quantum, reply)
     }
 
     /// Give the turn to the first user with a running program, in the order of turns after the user

@@ -37,18 +37,18 @@ loop-granted-preserved g c =
     let setup = c.args.self.now.setup in
     let now = c.loop-granted.self-inside.users in
     let turned = c.take_turn.new.self in
-    let next = c.slice.new.self in
+    let next = c.grant.new.self in
     let user : ℕ = c.in-Some.user in
     let left : ℕ = c.args.count - (c.loop-granted.granted + 1) in
     let one_less : c.args.count - c.loop-granted.granted ≡ suc left = omega arith in
     let quantum : c.loop-granted.self-inside.quantum ≡ setup.quantum = ap (λ (s : Setup). s.quantum) c.loop-granted.invariant.same in
     let turns = sym c.take_turn.ensures.user ∙ c.in-Some.is in
     let turn = c.in-Some.ensures.turn in
-    let moved = c.slice.ensures.world ∙ ap (λ (q : ℕ). after_slice q user turned) quantum in
+    let moved = c.grant.ensures.world ∙ ap (λ (q : ℕ). after_slice q user turned) quantum in
     record {
       same = c.loop-granted.invariant.same;
       eight =
-          ap (λ (w : World). length w.parts) c.slice.ensures.world
+          ap (λ (w : World). length w.parts) c.grant.ensures.world
           ∙ length-set turned.parts (user - 1) _
           ∙ ap (λ (w : World). length w.parts) turn
           ∙ c.loop-granted.invariant.eight;
@@ -57,11 +57,11 @@ loop-granted-preserved g c =
           ∙ ap (λ (n : ℕ). after_events setup now (granted setup n now)) (sym one_less)
           ∙ c.loop-granted.invariant.world;
       printed_by_line =
-          sym (printed_granted_on setup left user now turned next c.loop-granted.reply c.slice.new.reply turns turn moved (c.slice.ensures.reply ∙ ap (λ (q : ℕ). c.loop-granted.reply ++ text (48 + user) (sliced q (user_machine user turned)).lines) quantum))
+          sym (printed_granted_on setup left user now turned next c.loop-granted.reply c.grant.new.reply turns turn moved (c.grant.ensures.reply ∙ ap (λ (q : ℕ). c.loop-granted.reply ++ text (48 + user) (sliced q (user_machine user turned)).lines) quantum))
           ∙ ap (λ (n : ℕ). c.loop-granted.reply ++ printed_by_events setup now (granted setup n now)) (sym one_less)
           ∙ c.loop-granted.invariant.printed_by_line;
       number = omega (arith, count_granted_on setup left user now turned next turns turn moved, ap (λ (n : ℕ). length (granted setup n now)) one_less, c.loop-granted.invariant.number);
-      room = omega (arith, c.slice.ensures.bound, c.loop-granted.invariant.room, ap (λ (w : World). stop_lines_bound w.parts) turn);
+      room = omega (arith, c.grant.ensures.bound, c.loop-granted.invariant.room, ap (λ (w : World). stop_lines_bound w.parts) turn);
     }
 
 -- all slices were granted

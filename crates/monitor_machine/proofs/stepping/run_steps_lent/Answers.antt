@@ -4,7 +4,7 @@ use Rattle.rv_model.specs.declared.step.step_end.Stop.TheVariants as stop
 use Rattle.monitor_machine.specs.Lent.{Lent, TriesTo, lent}
 use Rattle.monitor_machine.proofs.StepLaws.{no_steps, steps_go_on, steps_broken, steps_stop}
 use Rattle.monitor_machine.proofs.UnitSteps.{lent_twice}
-use Rattle.monitor_machine.proofs.stepping.steps_lent.Goals as goal
+use Rattle.monitor_machine.proofs.stepping.run_steps_lent.Goals as goal
 
 -- an instruction stops the program
 pub returns-in-Some-clause-run : goal.returns-in-Some-clause-run

@@ -4,7 +4,7 @@ use Rattle.rv_model.specs.declared.step.step_end.Stop.TheVariants as stop
 use Rattle.monitor_machine.specs.Lent.{Lent, TriesTo, lent}
 use Rattle.monitor_machine.proofs.StepLaws.{no_ticks, slices_add_up, slice_held, slice_stops, took_some}
 use Rattle.monitor_machine.proofs.UnitSteps.{lent_twice}
-use Rattle.monitor_machine.proofs.stepping.slice_lent.Goals as goal
+use Rattle.monitor_machine.proofs.stepping.run_ticks_lent.Goals as goal
 
 -- an instruction stops the program
 pub returns-in-Some-clause-run : goal.returns-in-Some-clause-run

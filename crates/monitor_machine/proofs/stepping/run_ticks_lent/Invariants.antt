@@ -1,7 +1,7 @@
 use Rattle.std.proofs.Common.{◌≡◌, false, true, nat_le, length, Option}
 use Rattle.rv_model.specs.declared.step.step_end.Stop.{Stop}
 use Rattle.monitor_machine.specs.Lent.{Lent, TicksTo, VectorsMove, lent}
-use Rattle.monitor_machine.proofs.stepping.slice_lent.Given as goal
+use Rattle.monitor_machine.proofs.stepping.run_ticks_lent.Given as goal
 
 -- the result for the remaining ticks is the result for all ticks
 abbrev pub invariant-loop-left : goal.invariant-loop-left

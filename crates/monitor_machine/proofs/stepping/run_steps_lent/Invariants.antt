@@ -1,7 +1,7 @@
 use Rattle.std.proofs.Common.{◌≡◌, ◌-◌, Option, true}
 use Rattle.rv_model.specs.declared.step.step_end.Stop.{Stop}
 use Rattle.monitor_machine.specs.Lent.{Lent, StepsTo, VectorsMove, lent}
-use Rattle.monitor_machine.proofs.stepping.steps_lent.Given as goal
+use Rattle.monitor_machine.proofs.stepping.run_steps_lent.Given as goal
 
 -- the result for the remaining steps is the result for all steps
 abbrev pub invariant-loop : goal.invariant-loop
