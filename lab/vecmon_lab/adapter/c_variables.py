@@ -162,7 +162,7 @@ class CVariable:
         return bool(self.pointer and self.layout and self.layout.pointee and self.layout.pointee.size)
 
     def pointee(self) -> "CVariable | None":
-        """What a pointer points to; None if there is none."""
+        """The value behind a pointer; None if there is none."""
         if not self.has_pointee:
             return None
         return replace(self.element(0), name=f"*{self.name}", expression=f"*{self._operand}")
@@ -183,7 +183,7 @@ class CVariable:
         )
 
     def _pointed(self, index: int, pointer: int, at: "Callable[[CVariable, int, int], CVariable]") -> "CVariable":
-        """What a pointer points to, or one after or before it. Raises LabError if its type isn't known."""
+        """The value behind a pointer, or one after or before it. Raises LabError if its type isn't known."""
         layout = self.layout.pointee if self.layout else None
         size = layout.size if layout else int(self.target[1:] or 0) // 8
         if not size:
