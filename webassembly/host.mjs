@@ -47,9 +47,9 @@ const host = {
   open: (address, flags, mode) => attempt(() => fs.openSync(pathAt(address), flags, mode)),
   read: (descriptor, address, size) => attempt(() => fs.readSync(descriptor, bytes(address, size))),
   write: (descriptor, address, size) => attempt(() => fs.writeSync(descriptor, bytes(address, size))),
-  close: (descriptor) => attempt(() => (fs.closeSync(descriptor), 0)),
+  close: (descriptor) => attempt(() => fs.closeSync(descriptor) ?? 0),
   seek: () => BigInt(NO_SEEK), // node has no lseek
-  truncate: (descriptor, size) => attempt(() => (fs.ftruncateSync(descriptor, Number(size)), 0)),
+  truncate: (descriptor, size) => attempt(() => fs.ftruncateSync(descriptor, Number(size)) ?? 0),
   stat: (address, numbers) =>
     attempt(() => {
       const found = fs.statSync(pathAt(address), { bigint: true });

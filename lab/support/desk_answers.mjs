@@ -10,12 +10,18 @@ const { Machine } = await import(path.resolve(web, "machine.js"));
 const { Python } = await import(path.resolve(web, "python.js"));
 const part = (name) => fs.readFileSync(path.join(parts, name));
 const module = new WebAssembly.Module(part("machine"));
-const [machines, files, pythonFiles, kept] = [new Map(), {}, { "later.zip": part("later") }, {}];
+const machines = new Map();
+const files = {};
+const pythonFiles = { "later.zip": part("later") };
+const kept = {};
 const host = {
   start: (number, words) => machines.set(number, new Machine(module, words, files)),
   machine: (number, lines) => machines.get(number)?.ask(lines) ?? null,
   end: (number) => machines.delete(number),
-  file: (name, content) => (files[name] = pythonFiles[name.slice(1)] = content),
+  file(name, content) {
+    files[name] = content;
+    pythonFiles[name.slice(1)] = content;
+  },
   keep(entry) {
     const [name, text, when] = JSON.parse(entry);
     if (text === null) delete kept[name];

@@ -4,7 +4,9 @@
 import fs from "node:fs";
 
 const STACK_BYTES = 65536; // for the frames that are unwound
-const [NORMAL, UNWINDING, REWINDING] = [0, 1, 2];
+const NORMAL = 0;
+const UNWINDING = 1;
+const REWINDING = 2;
 const [, , file, script] = process.argv;
 
 const lines = fs.readFileSync(script, "latin1").split(/(?<=\n)/);

@@ -7,7 +7,9 @@ const HELLO = { kind: "hello", who: "A1", time: 0 };
 
 /** A connection whose sockets, timers and listener are kept in lists. */
 function begin(code = "code") {
-  const [sockets, timers, banners] = [[], [], []];
+  const sockets = [];
+  const timers = [];
+  const banners = [];
   globalThis.location = { protocol: "http:", host: "here" };
   globalThis.WebSocket = class WebSocket extends EventTarget {
     static OPEN = 1;

@@ -47,13 +47,17 @@ class Browser {
   }
 
   transaction() {
-    const [changes, transaction] = [[], { error: null }];
+    const changes = [];
+    const transaction = { error: null };
     const end = () => {
       if (changes.some(([, entry]) => entry?.text.length > this.most)) {
         transaction.error = new DOMException("full", "QuotaExceededError");
         return transaction.onabort?.();
       }
-      for (const [name, entry] of changes) entry ? this.stored.set(name, entry) : this.stored.delete(name);
+      for (const [name, entry] of changes) {
+        if (entry) this.stored.set(name, entry);
+        else this.stored.delete(name);
+      }
       return transaction.oncomplete?.();
     };
     setImmediate(end);
@@ -67,7 +71,8 @@ class Browser {
 
 /** The work of a tab; `said` has all that it has reported, `taken` the texts with which it took over. */
 async function open() {
-  const [said, taken] = [[], []];
+  const said = [];
+  const taken = [];
   const work = new KeptWork((words) => said.push(words), (stored) => taken.push(stored));
   await work.open();
   return { work, said, taken };
@@ -113,7 +118,8 @@ test("the second tab saves nothing before the first one is closed, and then gets
   first.work.keep("A1.s", "base", 1);
   first.work.keep("A.stop", "ebreak", 1);
   await settled();
-  const [second, third] = [await open(), await open()];
+  const second = await open();
+  const third = await open();
   first.work.keep("A1.s", "first", 2);
   first.work.keep("A.stop", null, 2);
   second.work.keep("A1.s", "second", 3);

@@ -4,7 +4,12 @@ import { test } from "node:test";
 import { keptArrangement } from "../../../vecmon_lab/page/web/panels/panes.js";
 
 const NONE = { sizes: {}, folded: {} };
-const kept = (text) => ((globalThis.localStorage = { getItem: () => text }), keptArrangement("panes"));
+
+/** The arrangement that a page takes up from a text in the browser's storage. */
+function kept(text) {
+  globalThis.localStorage = { getItem: () => text };
+  return keptArrangement("panes");
+}
 
 test("sizes and folds of this version are taken", () => {
   const text = '{"version": 1, "sizes": {"middle": 30.5}, "folded": {"dock": true}}';

@@ -66,7 +66,10 @@ export class Connection {
     this.addElements();
     document.addEventListener("click", (event) => this.openLesson(event), true);
     document.addEventListener("dragover", (event) => event.preventDefault());
-    document.addEventListener("drop", (event) => (event.preventDefault(), this.drop(event.dataTransfer?.files[0])));
+    document.addEventListener("drop", (event) => {
+      event.preventDefault();
+      this.drop(event.dataTransfer?.files[0]);
+    });
     addEventListener("pagehide", () => this.send({ keep: true }));
     this.listener.gone(textOf("playground.starts"));
     this.work.open().then(() => this.begin());
@@ -78,7 +81,10 @@ export class Connection {
   addElements() {
     byId("home").title = textOf("playground.take-home.title");
     const choose = Object.assign(make("input", ""), { type: "file", accept: ".json", ariaLabel: textOf("playground.file.label"), hidden: true });
-    choose.addEventListener("change", () => (this.bring(choose.files?.[0]), (choose.value = "")));
+    choose.addEventListener("change", () => {
+      this.bring(choose.files?.[0]);
+      choose.value = "";
+    });
     this.damaged.hidden = true;
     byId("home").after(button(textOf("playground.bring"), textOf("playground.bring.label"), () => choose.click()), choose, this.damaged);
     byId("banner").append(this.words);
@@ -143,7 +149,10 @@ export class Connection {
 
   hear(/** @type {FromWorker} */ message) {
     if (message.kind === "keep") return this.work.keep(...message.entry);
-    if (message.kind === "memory") return void (document.body.dataset.memory = `${message.bytes}`); // for lab/tools/other_browsers.py
+    if (message.kind === "memory") {
+      document.body.dataset.memory = `${message.bytes}`; // for lab/tools/other_browsers.py
+      return undefined;
+    }
     if (message.kind === "failed") return this.fail(message.text);
     if (message.kind === "lesson") return this.showLesson(message);
     if (message.kind === "hello") {

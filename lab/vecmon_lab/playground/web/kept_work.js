@@ -8,14 +8,19 @@ import { textOf } from "../../page/web/common/texts.js";
 /** @typedef {import("../../page/web/types").UnsavedSource} UnsavedSource */
 /** @typedef {UnsavedSource & { page: string, time: number }} WaitingSource of a tab that doesn't save; page: as that of KeptWork */
 
-const [DATABASE, STORE] = ["vecmon playground", "texts"]; // the tab that saves holds a lock of the database's name
-const [FORMAT, FORMAT_VERSION] = ["vecmon work", 1];
-const [NEWER, ELSEWHERE] = [textOf("playground.newer"), textOf("playground.elsewhere")];
-const [UNSAVED, UNSAVED_KEY] = ["A1.unsaved", "vecmon-unsaved"]; // the source in the editor as the page was closed; its key in localStorage
+const DATABASE = "vecmon playground"; // the tab that saves holds a lock of this name
+const STORE = "texts";
+const FORMAT = "vecmon work";
+const FORMAT_VERSION = 1;
+const NEWER = textOf("playground.newer");
+const ELSEWHERE = textOf("playground.elsewhere");
+const UNSAVED = "A1.unsaved"; // the source in the editor as the page was closed
+const UNSAVED_KEY = "vecmon-unsaved"; // of that source in localStorage
 const WAITING_KEY = "vecmon-unsaved-tabs"; // the key of the sources in the editors of waiting tabs as those were hidden or closed
 const OPEN_SOURCE = /^A1\.(?!written)/; // the text that has the source of the open work
 const RETRY_PAUSE = 3000; // ms after which what the storage didn't take is written again
-const [MOST_FILE_BYTES, MOST_TEXTS] = [64 << 20, 20000];
+const MOST_FILE_BYTES = 64 << 20;
+const MOST_TEXTS = 20000;
 const NAME = /^[\w.@-]+(\/[\w.@-]+)?$/; // of a text, with one folder at most
 
 /** The result of a request to the database. */
@@ -104,8 +109,13 @@ export class KeptWork {
     const isSaving = await this.holdLock({ ifAvailable: true });
     if (!isSaving) this.readOnly = ELSEWHERE;
     try {
-      const database = (this.database = await this.openDatabase());
-      database.onversionchange = () => (database.close(), this.say((this.readOnly = NEWER))); // a newer page opens it
+      const database = await this.openDatabase();
+      this.database = database;
+      database.onversionchange = () => { // a newer page opens it
+        database.close();
+        this.readOnly = NEWER;
+        this.say(NEWER);
+      };
       this.first = await this.read(isSaving);
       this.texts = { ...this.first };
       const damaged = this.rest.length ? textOf("playground.unreadable", { count: this.rest.length }) : "";
@@ -144,7 +154,10 @@ export class KeptWork {
   /** @type {(options: LockOptions) => Promise<boolean>} */
   holdLock(options) {
     return new Promise((done) => {
-      const hold = (/** @type {unknown} */ lock) => (done(Boolean(lock)), lock && new Promise(() => {}));
+      const hold = (/** @type {unknown} */ lock) => {
+        done(Boolean(lock));
+        return lock ? new Promise(() => {}) : undefined;
+      };
       if (!navigator.locks) return done(true);
       return navigator.locks.request(DATABASE, options, hold).catch(() => done(true)); // of a page without an origin
     });
@@ -176,13 +189,15 @@ export class KeptWork {
   adopt(/** @type {Texts} */ stored) {
     this.due.clear();
     this.texts = { ...stored };
-    this.say((this.readOnly = ""));
+    this.readOnly = "";
+    this.say("");
   }
 
   /** Saves from now on, in place of another tab; the texts of these names as well, which that tab has changed. */
   saveInPlace(/** @type {string[]} */ names) {
     for (const name of names) if (!this.due.has(name)) this.due.set(name, this.entry(name));
-    this.say((this.readOnly = ""));
+    this.readOnly = "";
+    this.say("");
     return this.save();
   }
 
@@ -221,7 +236,10 @@ export class KeptWork {
   }
 
   /** Writes what is due; a promise that it is written, or isn't taken. */
-  save() { return (this.writing ??= this.write()); }
+  save() {
+    this.writing ??= this.write();
+    return this.writing;
+  }
 
   /** Writes what is due, one transaction after the other; what the storage doesn't take stays due, and is tried again. */
   async write() {
@@ -231,14 +249,18 @@ export class KeptWork {
     while (this.due.size && this.database && !this.readOnly && !failure) failure = await this.put([...this.due]);
     if (failure) await this.putApart(failure);
     if (!this.due.size && !this.readOnly) this.forgetUnsaved();
-    if (this.isFull && !this.due.size) this.say((this.isFull = ""));
+    if (this.isFull && !this.due.size) {
+      this.isFull = "";
+      this.say("");
+    }
     if (this.isFull) this.timer = setTimeout(() => this.save(), RETRY_PAUSE);
     this.writing = null;
   }
 
   /** Writes what is due in transactions of one entry each, the smallest first, after one with all failed. */
   async putApart(/** @type {string} */ failure) {
-    this.say((this.isFull = textOf("playground.full", { cause: failure })));
+    this.isFull = textOf("playground.full", { cause: failure });
+    this.say(this.isFull);
     const sizeOf = (/** @type {[string, Entry | null]} */ [, entry]) => entry?.text.length ?? -1;
     const entries = [...this.due].sort((one, other) => sizeOf(one) - sizeOf(other));
     for (const entry of entries) await this.put([entry]);
@@ -250,7 +272,10 @@ export class KeptWork {
     try {
       const transaction = /** @type {IDBDatabase} */ (this.database).transaction(STORE, "readwrite");
       const texts = transaction.objectStore(STORE);
-      for (const [name, entry] of entries) entry ? texts.put(entry) : texts.delete(name);
+      for (const [name, entry] of entries) {
+        if (entry) texts.put(entry);
+        else texts.delete(name);
+      }
       await new Promise((done, fail) => Object.assign(transaction, { oncomplete: done, onabort: () => fail(transaction.error) }));
       return "";
     } catch (error) {

@@ -6,9 +6,14 @@
 
 const STACK_BYTES = 65536; // of what is unwound
 const PAGE_BYTES = 65536;
-const [UNWINDING, REWINDING] = [1, 2]; // states of Asyncify
-const [NO_FILE, NO_SEEK] = [-2, -29]; // ENOENT and ESPIPE of Linux
-const [INPUT, FIRST_FILE] = [0, 3]; // descriptors
+// States of Asyncify
+const UNWINDING = 1;
+const REWINDING = 2;
+const NO_FILE = -2; // ENOENT of Linux
+const NO_SEEK = -29; // ESPIPE of Linux
+// File descriptors
+const INPUT = 0;
+const FIRST_FILE = 3;
 const INPUT_PATH = "/dev/stdin";
 
 /** A process of the program; its status is null until it has ended. */
@@ -36,7 +41,11 @@ export class Machine {
     this.program.asyncify_start_rewind(this.stack);
     this.run();
     const all = new Uint8Array(this.output.reduce((size, part) => size + part.length, 0));
-    this.output.reduce((place, part) => (all.set(part, place), place + part.length), 0);
+    let place = 0;
+    for (const part of this.output) {
+      all.set(part, place);
+      place += part.length;
+    }
     return all;
   }
 

@@ -30,7 +30,8 @@ export class Python {
     };
     const { exports } = new WebAssembly.Instance(module, { wasi_snapshot_preview1: wasi.imports(module), host: own });
     this.program = /** @type {import("./playground").PythonExports} */ (/** @type {unknown} */ (exports));
-    this.memory = wasi.memory = this.program.memory;
+    this.memory = this.program.memory;
+    wasi.memory = this.memory;
     if (!snapshot) this.program._initialize();
     const missing = Math.ceil(((snapshot?.length ?? 0) - this.memory.buffer.byteLength) / PAGE_BYTES);
     this.memory.grow(Math.max(0, missing));

@@ -24,7 +24,8 @@ let place = 0;
 /** Shows a frame: its instruction, its elements and the last comment. */
 function show(/** @type {number} */ wanted) {
   place = Math.max(0, Math.min(states.length - 1, wanted));
-  const [state, note] = [states[place], notes.slice(0, place + 1).findLast(Boolean) ?? ""];
+  const state = states[place];
+  const note = notes.slice(0, place + 1).findLast(Boolean) ?? "";
   lanes.show({ state, before: states[place - 1] ?? state, used: new Set(data.used), hasAbiNames: true });
   put(byId("sentence"), note, prose(note));
   put(byId("count"), textOf("site.place", { number: place + 1, all: states.length }));

@@ -1,7 +1,15 @@
 // The part of WASI (preview 1) that CPython uses: read-only files in memory, clocks, and standard error.
 
-const [OK, BAD_FILE, NO_FILE, NOT_SUPPORTED, NO_SEEK] = [0, 8, 44, 52, 70]; // errno
-const [DEVICE, FOLDER, FILE] = [2, 3, 4]; // filetype
+// Values of errno
+const OK = 0;
+const BAD_FILE = 8;
+const NO_FILE = 44;
+const NOT_SUPPORTED = 52;
+const NO_SEEK = 70;
+// Types of files
+const DEVICE = 2;
+const FOLDER = 3;
+const FILE = 4;
 const ROOT = 3; // the only folder that is open at the start
 const ALL_RIGHTS = 0xffffffffffffffffn;
 
@@ -156,7 +164,8 @@ export class Wasi {
   /** The bytes of an entry of a folder; its cookie is that of the next one. */
   /** @type {(name: string, place: number, kind: number) => number[]} */
   entry(name, place, kind) {
-    const [head, letters] = [new DataView(new ArrayBuffer(24)), new TextEncoder().encode(name)];
+    const head = new DataView(new ArrayBuffer(24));
+    const letters = new TextEncoder().encode(name);
     head.setBigUint64(0, BigInt(place + 1), true);
     head.setUint32(16, letters.length, true);
     head.setUint8(20, kind);

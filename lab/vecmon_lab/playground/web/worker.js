@@ -30,7 +30,10 @@ const host = {
   start: (number, words) => machines.set(number, new Machine(module, words, files)),
   machine: (number, lines) => machines.get(number)?.ask(lines) ?? null,
   end: (number) => machines.delete(number),
-  file: (path, content) => (files[path] = pythonFiles[path.slice(1)] = content),
+  file(path, content) {
+    files[path] = content;
+    pythonFiles[path.slice(1)] = content;
+  },
   keep: (entry) => send({ kind: "keep", entry: JSON.parse(entry) }),
   complain: (text) => console.error(text),
   now: () => Date.now(),
@@ -45,7 +48,9 @@ const send = (/** @type {FromWorker} */ message) => postMessage(message);
 function give(/** @type {ToWorker} */ message) {
   const [answer, isBusy] = python.answer(message);
   if (answer.kind) send(answer);
-  if (isBusy && !isRinging) bell.postMessage((isRinging = true));
+  if (!isBusy || isRinging) return;
+  isRinging = true;
+  bell.postMessage(true);
 }
 
 /** A part of the page, from an address or in base64; both are compressed by gzip. */
@@ -98,5 +103,8 @@ async function attempt(/** @type {() => unknown} */ something) {
   }
 }
 
-rung.onmessage = () => attempt(() => ((isRinging = false), give({ turn: true })));
+rung.onmessage = () => attempt(() => {
+  isRinging = false;
+  give({ turn: true });
+});
 onmessage = ({ data }) => attempt(() => take(data));

@@ -9,9 +9,11 @@ import { textOf } from "./texts.js";
 /** @typedef {import("../types").Listener} Listener */
 /** @typedef {import("../types").Request} Request */
 
-const [FIRST_PAUSE, LONGEST_PAUSE] = [500, 15000]; // ms
+const FIRST_PAUSE = 500; // ms
+const LONGEST_PAUSE = 15000; // ms
 const BEAT = 1500; // ms between questions whether the connection works
-const [MOST_UNANSWERED, MOST_OPENING] = [2, 7]; // beats until a connection counts as broken, and until one that opens does
+const MOST_UNANSWERED = 2; // beats until a connection counts as broken
+const MOST_OPENING = 7; // beats until one that opens counts as broken
 const CODE = /^[a-z0-9]{1,64}$/; // all codes that the name of a protocol takes
 /** @type {Record<string, string>} */
 const NAMES = {
@@ -96,7 +98,10 @@ export class Connection {
   ask(request) {
     const { answer } = this.pending.add(request);
     if (!this.isReady) this.tell();
-    else if (this.lost && nameOf(request)) this.listener.gone((this.lost = ""));
+    else if (this.lost && nameOf(request)) {
+      this.lost = "";
+      this.listener.gone("");
+    }
     this.next();
     return answer;
   }

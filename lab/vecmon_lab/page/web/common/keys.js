@@ -35,10 +35,18 @@ function buttonOf(root, key) {
 
 /** Closes a menu when something else is pressed, after one of its buttons, and with Escape, which leads back to its summary. */
 function listenToMenu(/** @type {HTMLDetailsElement} */ menu) {
-  document.addEventListener("pointerdown", ({ target }) => (menu.open &&= menu.contains(/** @type {Node} */ (target))));
-  menu.addEventListener("click", ({ target }) => target instanceof HTMLButtonElement && (menu.open = false));
-  menu.addEventListener("keydown", (event) =>
-    event.key === "Escape" && (event.preventDefault(), (menu.open = false), menu.querySelector("summary")?.focus()));
+  document.addEventListener("pointerdown", ({ target }) => {
+    if (!menu.contains(/** @type {Node} */ (target))) menu.open = false;
+  });
+  menu.addEventListener("click", ({ target }) => {
+    if (target instanceof HTMLButtonElement) menu.open = false;
+  });
+  menu.addEventListener("keydown", (event) => {
+    if (event.key !== "Escape") return;
+    event.preventDefault();
+    menu.open = false;
+    menu.querySelector("summary")?.focus();
+  });
 }
 
 /**
@@ -57,7 +65,8 @@ export function listenToKeys(root, say, usesLetters, mayPress = () => true) {
     const key = keyOf(event);
     const isLetter = /^(Shift\+)?.$/.test(key);
     if (isLetter && (!usesLetters() || /** @type {Element} */ (event.target).closest(FIELDS))) return;
-    const [own, later] = [buttonOf(root, key), EARLIER[key]];
+    const own = buttonOf(root, key);
+    const later = EARLIER[key];
     const isEarlier = later && (!own || own.disabled);
     const button = isEarlier ? buttonOf(root, later) : own;
     if (!button || (key === "Escape" && button.disabled)) return;

@@ -51,7 +51,8 @@ export function memoryElement(rows, address, bits) {
  * @param {bigint} address
  */
 function byteAt(rows, address) {
-  const [row, place] = [(address - (address % 16n)).toString(16), 2 * Number(address % 16n)];
+  const row = (address - (address % 16n)).toString(16);
+  const place = 2 * Number(address % 16n);
   if (rows[row]) return rows[row].slice(place, place + 2);
   return Object.keys(rows).some((each) => BigInt("0x" + each) >> 12n === address >> 12n) ? "00" : "";
 }

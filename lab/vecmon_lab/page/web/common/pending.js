@@ -32,7 +32,10 @@ export class Pending extends Map {
   /** Resolves all requests, or the oldest ones, to null, and returns them. */
   drop(most = Infinity) {
     const lost = [...this.values()].slice(0, most);
-    for (const { request, done } of lost) this.delete(request.id), done(null);
+    for (const { request, done } of lost) {
+      this.delete(request.id);
+      done(null);
+    }
     return lost.map(({ request }) => request);
   }
 }

@@ -24,6 +24,9 @@ export function store(key, value) {
 export function offerTextSizes(/** @type {HTMLSelectElement} */ list) {
   const apply = () => (document.documentElement.style.fontSize = list.value);
   list.value = stored(TEXT_SIZE) ?? list.value;
-  list.addEventListener("change", () => (store(TEXT_SIZE, list.value), apply()));
+  list.addEventListener("change", () => {
+    store(TEXT_SIZE, list.value);
+    apply();
+  });
   apply();
 }

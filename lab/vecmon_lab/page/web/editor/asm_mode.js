@@ -54,7 +54,11 @@ function token(stream, state) {
   }
   const kind = Object.keys(PATTERNS).find((each) => stream.match(PATTERNS[each]));
   state.hasLabel ||= kind === "def";
-  if (kind || !stream.match(NAME)) return kind ?? (stream.next(), null);
+  if (kind) return kind;
+  if (!stream.match(NAME)) {
+    stream.next();
+    return null;
+  }
   const name = stream.current();
   const kindOfName = nameKind(name, state, Boolean(stream.match(/^\s*=(?!=)/, false)));
   const macro = state.isFirst && name.toLowerCase() === ".macro" ? stream.match(/^\s+([A-Za-z_.$][\w.$]*)/, false) : null;

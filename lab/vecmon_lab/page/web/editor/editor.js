@@ -8,7 +8,8 @@ import { LineMarks } from "./line_marks.js";
 import { textOf } from "../common/texts.js";
 
 export const MARGIN = 60; // px around a line that is scrolled into sight
-const [INDENT, INDENT_OF_C] = [8, 4]; // columns
+const INDENT = 8; // columns
+const INDENT_OF_C = 4; // columns
 const TOGETHER = 1000; // ms: what is typed without a longer pause is undone at once
 const MOST_CHANGES = 300; // that undo goes back to
 const CONTROL = /[\x01-\x08\x0b\x0c\x0e-\x1f\x7f]/; // characters that no key types: all but tabs and ends of lines
@@ -105,7 +106,11 @@ export class Editor {
     code.on("keypress", (_, event) => refuseControl(event)); // WebKitGTK has one of Escape, too
     code.on("focus", () => (this.isLeaving = true)); // so Tab passes by, until something is typed or clicked
     box.addEventListener("pointerup", () => (this.isLeaving = false));
-    new ResizeObserver(() => (code.refresh(), this.bringIntoSight())).observe(box); // it has another size, or is shown
+    const resized = new ResizeObserver(() => { // it has another size, or is shown
+      code.refresh();
+      this.bringIntoSight();
+    });
+    resized.observe(box);
   }
 
   /** The source: its text and the number of its language. */
@@ -211,7 +216,10 @@ export class Editor {
     /** @type {Record<string, (code: unknown, handle: import("./codemirror").HintHandle) => unknown>} */
     const extraKeys = {
       Enter: (_, handle) => (isChosen() ? handle.pick() : CodeMirror.Pass),
-      Tab: (_, handle) => (isChosen() || handle.setFocus(0), handle.pick()),
+      Tab: (_, handle) => {
+        if (!isChosen()) handle.setFocus(0);
+        handle.pick();
+      },
     };
     // CodeMirror's own update would take an Enter that comes at once for a choice.
     const own = { completeSingle: false, updateOnCursorActivity: false, scrollMargin: 1, alignWithWord: true };

@@ -15,7 +15,10 @@ export function offer(list, title, names) {
 export function offerLanguages(select, { languages, no_c: why }) {
   if (select.length === languages.length) return;
   select.replaceChildren(...languages.map((name) => make("option", "", name)));
-  [...select.options].forEach((option, number) => (option.hidden = option.disabled = number > 0 && why !== ""));
+  for (const [number, option] of [...select.options].entries()) {
+    const isOff = number > 0 && why !== "";
+    Object.assign(option, { hidden: isOff, disabled: isOff });
+  }
   select.title = why ? textOf("languages.no-c", { why }) : "";
   select.selectedIndex = Number(sessionStorage.getItem(select.id)); // as before a reload
 }

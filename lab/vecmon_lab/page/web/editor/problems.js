@@ -66,7 +66,8 @@ export class Problems {
     mistakes.replaceChildren(...problems.map((problem, place) => this.item(problem, place)));
     put(count, problems.length ? `${problems.length}` : "");
     none.hidden = problems.length > 0;
-    next.disabled = previous.disabled = !problems.length;
+    next.disabled = !problems.length;
+    previous.disabled = !problems.length;
     this.mark(problems);
   }
 

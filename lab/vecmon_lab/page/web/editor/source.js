@@ -53,7 +53,10 @@ export class Source {
     const { versions, "use-own": useOwn, "show-other": showOther } = this.parts;
     useOwn.addEventListener("click", () => this.useOwn());
     showOther.addEventListener("click", () => this.showOther());
-    document.addEventListener("visibilitychange", () => (this.keepUnsaved(), this.send()));
+    document.addEventListener("visibilitychange", () => {
+      this.keepUnsaved();
+      this.send();
+    });
     addEventListener("pagehide", () => this.keepUnsaved());
     addEventListener("beforeunload", (event) => this.leave(event));
     versions.addEventListener("change", () => this.showVersion(versions.selectedIndex));
@@ -167,7 +170,8 @@ export class Source {
     const several = windows > 1 ? textOf("windows.open", { number: `${windows}` }) : "";
     put(says, this.apart ? textOf("windows.apart") : several);
     line.hidden = !this.apart && windows < 2;
-    useOwn.hidden = showOther.hidden = !this.apart;
+    useOwn.hidden = !this.apart;
+    showOther.hidden = !this.apart;
   }
 
   /** Whether the text is too long to become a version. */

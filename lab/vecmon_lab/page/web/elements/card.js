@@ -26,7 +26,8 @@ const COUNTS = ["active", "masked", "prestart", "fault", "pending", "tail"];
  * @returns {Card}
  */
 export function cardOf(view, columns) {
-  const [{ executed }, { state, hasAbiNames }] = [columns, view];
+  const { executed } = columns;
+  const { state, hasAbiNames } = view;
   const line = state.code[state.instruction ?? ""] ?? "";
   const meaning = !line ? textOf("card.nothing") : state.faulted ? textOf("card.stopped") : textOf("card.no-operands");
   const text = withNames(line.slice(9), hasAbiNames);

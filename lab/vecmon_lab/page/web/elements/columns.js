@@ -96,7 +96,8 @@ function plainRow({ state, before, form, width: chosen }, { register, size, widt
 export function fit({ longest, elements, vl }, { width, unit }) {
   const enough = Math.max(8, 2 ** Math.ceil(Math.log2(Math.max(1, vl)))); // few elements need no wide strip
   const head = width >= NARROW * unit ? "wide" : longest > 8 ? "least" : "narrow";
-  const [rest, most] = [width - unit * HEADS[head], Math.min(enough, elements)];
+  const rest = width - unit * HEADS[head];
+  const most = Math.min(enough, elements);
   for (const columns of [16, 8, 4].filter((each) => each / 2 < most)) {
     const sizes = columns > 4 ? SIZES.slice(0, 3) : SIZES;
     const size = sizes.find(([, sixteenths]) => rest / columns >= (longest * sixteenths * LETTER + (sixteenths > 13 ? 20 : 6)) * unit);

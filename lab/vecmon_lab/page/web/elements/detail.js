@@ -69,7 +69,8 @@ function placeText(register, width, place) {
 function sentenceOf({ state }, columns, element) {
   const { executed, rows, vl } = columns;
   if (!executed) return "";
-  const [outcome, address] = [executed.results[element], addressText(columns, element)];
+  const outcome = executed.results[element];
+  const address = addressText(columns, element);
   const where = address && (executed.access?.store ? textOf("detail.to", { address }) : textOf("detail.from", { address }));
   const [before, after] = ["before", "after"].map((kind) => rows.find((row) => row.kind === kind)?.cells[element]?.text);
   const was = before === undefined ? "" : before === after ? textOf("detail.unchanged", { value: before }) : `${before} → ${after}`;

@@ -25,7 +25,7 @@ function takeHash() {
 
 /** Asks for a code in place of one that opens nothing, which stays in the field for a correction. */
 function askForCode(words = "", wrong = "") {
-  byId("head").hidden = byId("teacher").hidden = byId("desk").hidden = true;
+  for (const id of /** @type {const} */ (["head", "teacher", "desk"])) byId(id).hidden = true;
   byId("join").hidden = false;
   say("gone", "");
   put(byId("join-says"), words);
@@ -37,7 +37,8 @@ function askForCode(words = "", wrong = "") {
 
 /** Begins the page of a role, which is the name of a seat for a student. */
 function begin(role = "") {
-  byId("head").hidden = byId("desk").hidden = false;
+  byId("head").hidden = false;
+  byId("desk").hidden = false;
   document.body.classList.add({ teacher: "teaching", wall: "watching" }[role] ?? "studying");
   document.body.classList.toggle("alone", Boolean(view.title));
   if (role !== "wall") offerTextSizes(byId("text-size"));
@@ -64,7 +65,10 @@ const listener = {
   },
 };
 
-window.addEventListener("hashchange", () => (takeHash(), location.reload()));
+window.addEventListener("hashchange", () => {
+  takeHash();
+  location.reload();
+});
 byId("forget").onclick = () => ask(textOf("class.leaving"), textOf("menu.leave"), () => {
   sitDown("");
   addEventListener("pagehide", () => sessionStorage.clear()); // after others have kept what a reload brings back

@@ -49,7 +49,11 @@ class Lesson {
     byId("sentence").hidden = !frames.some((frame) => frame.note);
     this.buttons = ["", ...this.users].map((user) => {
       const text = user ? textOf("lesson.user", { user }) : textOf("lesson.line-user");
-      return Object.assign(make("button", "", text), { value: user, onclick: () => ((this.user = user), this.show(this.place)) });
+      const onclick = () => {
+        this.user = user;
+        this.show(this.place);
+      };
+      return Object.assign(make("button", "", text), { value: user, onclick });
     });
     this.listen();
     this.begins = lineBegins(source.starts ?? {}, this.states.map((states) => states[1]?.pc));
@@ -101,7 +105,11 @@ class Lesson {
     const box = at.closest(".scroll, #output");
     if (box && box.scrollWidth > box.clientWidth) return; // there the keys move the box
     const line = LINE_KEYS[event.key];
-    if (line && this.begins.length && !box) return void (event.preventDefault(), this.stepLine(line));
+    if (line && this.begins.length && !box) {
+      event.preventDefault();
+      this.stepLine(line);
+      return;
+    }
     const step = FRAME_KEYS[event.key];
     if (!step || (event.shiftKey && !Number.isFinite(step))) return;
     event.preventDefault();

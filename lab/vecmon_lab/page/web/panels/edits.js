@@ -36,7 +36,9 @@ function followKeys(box, says, change) {
   new MutationObserver(mark).observe(box, { childList: true, subtree: true });
   box.addEventListener("keydown", (event) => {
     if (event.target !== box || event.ctrlKey || event.altKey || event.metaKey) return;
-    const [places, place, step] = [placesIn(), mark(), STEPS[event.key]];
+    const places = placesIn();
+    const place = mark();
+    const step = STEPS[event.key];
     if (!(step ? places.length : place && event.key === "Enter")) return;
     event.preventDefault();
     if (!step) return void change(/** @type {HTMLElement} */ (place));

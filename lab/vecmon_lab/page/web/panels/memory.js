@@ -171,7 +171,11 @@ export class OutputPanel {
 
   show() {
     if (this.pause || this.output === this.shown) return;
-    this.pause = setTimeout(() => ((this.pause = 0), this.show()), this.output.length / 400); // ms, 328 for 64 KB
+    const showNext = () => {
+      this.pause = 0;
+      this.show();
+    };
+    this.pause = setTimeout(showNext, this.output.length / 400); // ms, 328 for 64 KB
     this.shown = this.output;
     const follows = !this.mark.hidden || this.text.scrollTop + this.text.clientHeight > this.text.scrollHeight - 18;
     this.mark.hidden = !this.shown || this.text.checkVisibility();

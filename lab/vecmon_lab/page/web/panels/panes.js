@@ -9,7 +9,9 @@ import { store, stored } from "../common/preferences.js";
 
 const VERSION = 1; // of what the browser keeps
 const STEP = 16; // px that an arrow key moves a splitter
-const [LOW, NARROW] = [860, 1440]; // px of a window in which panes fold to make room for the elements
+// In a window of less px, panes fold to make room for the elements.
+const LOW = 860;
+const NARROW = 1440;
 
 /** The arrangement that the browser has kept under a name; an empty one where it has none, or one of another version. */
 /** @type {(key: string) => Arrangement} */
@@ -83,7 +85,8 @@ export class Panes {
     const isBelow = bar.matches(".rows"); // the pane is below the splitter, otherwise to the left of it
     /** @type {Record<string, number>} */
     const steps = isBelow ? { ArrowUp: STEP, ArrowDown: -STEP } : { ArrowRight: STEP, ArrowLeft: -STEP };
-    const [least, most] = [Number(bar.dataset.least), Number(bar.dataset.most)];
+    const least = Number(bar.dataset.least);
+    const most = Number(bar.dataset.most);
     const pixels = () => pane.getBoundingClientRect()[isBelow ? "height" : "width"];
     const placeOf = (/** @type {PointerEvent} */ { clientX, clientY }) => (isBelow ? -clientY : clientX);
     const move = (/** @type {number} */ size) => {
@@ -91,7 +94,10 @@ export class Panes {
       this.resize(pane.id, Math.min(most, Math.max(least, size / remPixels())));
       this.keep();
     };
-    const reset = () => (this.resize(pane.id), this.keep());
+    const reset = () => {
+      this.resize(pane.id);
+      this.keep();
+    };
     new ResizeObserver(() => (bar.ariaValueNow = `${Math.round(pixels())}`)).observe(pane);
     bar.addEventListener("pointerdown", (event) => {
       const start = pixels() - placeOf(event);

@@ -20,7 +20,8 @@ export const inOrder = (/** @type {string[]} */ addresses) =>
  */
 export function placesOf(addresses, bytesOf, labels = {}) {
   const named = inOrder(Object.keys(labels)).map((address) => ({ at: BigInt(`0x${address}`), names: labels[address] }));
-  let [next, end] = [0, -1n]; // of the labels; of the row before
+  let next = 0; // of the labels
+  let end = -1n; // of the row before
   return inOrder(addresses).flatMap((address) => {
     const start = BigInt(`0x${address}`);
     /** @type {Place[]} */

@@ -49,12 +49,15 @@ function paintList(/** @type {HTMLElement} */ list, /** @type {HTMLElement[]} */
  * @type {(root: ParentNode, state: MachineState, before: MachineState, used: Set<number>) => void}
  */
 export function paintRegisters(root, state, before, used) {
-  const [hasNames, form] = [part(root, "names").value === "abi", part(root, "numbers").value];
+  const hasNames = part(root, "names").value === "abi";
+  const form = part(root, "numbers").value;
   const labelOf = (/** @type {string} */ label) => (label ? [make("small", "label", ` ${label}`)] : []);
   const rows = ABI_NAMES.map((abi, number) => {
-    const [value, numbered] = [state.x[number], `x${number}`];
+    const value = state.x[number];
+    const numbered = `x${number}`;
     const [name, other] = hasNames ? [abi, numbered] : [numbered, abi];
-    const [signed, place] = [signedText(value), placeName(value, state)];
+    const signed = signedText(value);
+    const place = placeName(value, state);
     const isHexadecimal = form === "hexadecimal";
     const decimal = form === "unsigned" ? `${BigInt(`0x${value}`)}` : signed;
     const isNear = isInMemory(value, state);

@@ -20,7 +20,8 @@ const hasBeginning = (text, word) => text.split(/[^\w.]+/).some((each) => each.s
  * @type {(entry: Entry, wanted: string, words: string[]) => number | undefined}
  */
 function rankOf(entry, wanted, words) {
-  const [name, texts] = [entry[0].replace(/^\* /, "").toLowerCase(), entry.join(" ").toLowerCase()];
+  const name = entry[0].replace(/^\* /, "").toLowerCase();
+  const texts = entry.join(" ").toLowerCase();
   if (name === wanted) return 0;
   if (name.startsWith(wanted)) return 1;
   if (words.every((word) => hasBeginning(name, word))) return 2;

@@ -34,6 +34,8 @@ export function lineBegins(/** @type {Starts} */ starts, /** @type {(string | un
   let before = 0;
   return instructions.flatMap((pc, place) => {
     const line = starts[startOf(starts, pc ?? "") ?? ""];
-    return line && line !== before ? [{ place, line: (before = line) }] : [];
+    if (!line || line === before) return [];
+    before = line;
+    return [{ place, line }];
   });
 }

@@ -64,7 +64,8 @@ export class Log {
       this.group = make("ol", "");
       this.box.append(make("li", "group", make("details", "", make("summary", "", place + entry.slice(1)), this.group)));
     } else {
-      const [item, [, words]] = [logEntry(entry, this.isOnly, place), entryParts(entry)];
+      const item = logEntry(entry, this.isOnly, place);
+      const [, words] = entryParts(entry);
       if (words) item.append(make("small", "", ...prose(words.replace(/^E\d\d.*?: /m, ""))));
       (this.group ?? this.box).append(item);
       const group = item.closest("details");

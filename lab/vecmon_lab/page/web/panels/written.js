@@ -27,7 +27,8 @@ export class WrittenSource {
 
   /** Marks the lines of a state, and brings the next one into sight. */
   paint(/** @type {import("../messages").State} */ state) {
-    const [executed, next] = [lineOf(state, state.instruction), lineOf(state, state.pc)];
+    const executed = lineOf(state, state.instruction);
+    const next = lineOf(state, state.pc);
     const stops = new Set(state.breaks?.map((address) => lineOf(state, address)));
     this.lines.forEach((line, place) => {
       const number = place + 1;

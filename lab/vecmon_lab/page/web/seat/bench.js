@@ -57,8 +57,9 @@ export class Bench {
     this.connection = connection;
     this.desk = new Desk(root, (request) => connection.ask(request));
     this.bar = new RunBar(root, this);
-    this.desk.painted = (state) => (this.showText(), this.mark(state), this.bar.paint());
-    const { numbers } = (this.parts = parts(root, "images", "against", "find", "entries", "entry", "hint", "run-place", "by", "numbers"));
+    this.desk.painted = (state) => this.painted(state);
+    this.parts = parts(root, "images", "against", "find", "entries", "entry", "hint", "run-place", "by", "numbers");
+    const { numbers } = this.parts;
     this.panes = new Panes(root, root.matches(".alone") ? "author" : "student");
     this.editor = new Editor(part(root, "source"), () => this.typed(), part(root, "language"));
     this.source = new Source(root, this.editor, connection);
@@ -71,6 +72,13 @@ export class Bench {
     this.askValue = editDialog(root, (edit, text) => this.request({ ask: "edit", edit, text, decimal: numbers.value !== "hexadecimal" }));
     addEventListener("pagehide", () => this.source.told && keepLines(this.waiting, this.source.loaded));
     this.listen();
+  }
+
+  /** Shows a state that the desk has painted in the editor and on the run bar. */
+  painted(/** @type {State} */ state) {
+    this.showText();
+    this.mark(state);
+    this.bar.paint();
   }
 
   /** Takes up what was typed. */
@@ -127,7 +135,10 @@ export class Bench {
     on("find", "input", () => showReference(this.parts.entries, find.value));
     this.desk.view.machine.addEventListener("click", ({ target }) => this.edit(/** @type {Element} */ (target)));
     this.editor.toggleBreakpoint = (line) => this.breakAt(line);
-    this.editor.caretMoved = (text, place) => (tellName(entry, text, place), this.links.mark(this.editor.caretLine));
+    this.editor.caretMoved = (text, place) => {
+      tellName(entry, text, place);
+      this.links.mark(this.editor.caretLine);
+    };
     document.addEventListener("selectionchange", () => {
       if (document.activeElement === line) tellName(hint, line.value, line.selectionStart);
     });
@@ -238,7 +249,8 @@ export class Bench {
   /** Sends a line. If that is a label, which is no command, a sentence says so. */
   async sendLine(/** @type {string} */ line) {
     const answer = await this.send([line]);
-    const [label, address] = [line.trim(), addressOfLabel(line.trim(), this.desk.state.labels ?? {})];
+    const label = line.trim();
+    const address = addressOfLabel(line.trim(), this.desk.state.labels ?? {});
     if (address && answer?.do?.[0]?.[0] === NO_COMMAND) this.refuse(textOf("lines.label", { label, address: `0x${address}` }));
   }
 

@@ -36,7 +36,10 @@ export class Exercises {
     this.sample = bench.editor.source.text;
     byId("check").onclick = () => this.checkSource();
     byId("own-answers").onchange = () => this.takeAnswer();
-    byId("start-over").onclick = () => (this.takeStart(), bench.panes.show("editor"));
+    byId("start-over").onclick = () => {
+      this.takeStart();
+      bench.panes.show("editor");
+    };
     byId("reading").onclick = ({ target }) => void (target instanceof HTMLButtonElement && this.press(target)); // false would stop links
     bench.editor.language.addEventListener("change", () => {
       if (isStart(this.all[this.name], bench.editor.source.text)) bench.editor.put(this.start); // nothing was written yet
@@ -54,7 +57,8 @@ export class Exercises {
     const item = (/** @type {string} */ own) => make("li", "", Object.assign(make("button", ""), { onclick: () => this.choose(own) }));
     if (`${names}` !== `${this.names}`) byId("course-list").replaceChildren(...names.map(item));
     Object.assign(this, { all, names, name, isOpen, isFree });
-    byId("tab-exercise").hidden = byId("exercise").hidden = !names.length;
+    byId("tab-exercise").hidden = !names.length;
+    byId("exercise").hidden = !names.length;
     document.body.classList.toggle("exercising", names.length > 0);
     if (!names.length) return;
     if (isOther) byId("reading").scrollTop = 0;
@@ -74,8 +78,12 @@ export class Exercises {
     const isListed = !this.isOpen && !this.isFree && name === this.name; // the seat has it already
     this.isOpen ||= !this.isFree;
     this.bench.panes.select(byId("show-source"));
-    if (isListed) this.bench.connection.ask({ ask: "open", exercise: name }), this.paint();
-    if (isListed) return await this.takeStart(), this.bench.leaveOther();
+    if (isListed) {
+      this.bench.connection.ask({ ask: "open", exercise: name });
+      this.paint();
+      await this.takeStart();
+      return this.bench.leaveOther();
+    }
     byId("course-list").inert = true; // one at a time
     const isOpen = await this.bench.source.openExercise(name);
     byId("course-list").inert = false;
@@ -83,7 +91,10 @@ export class Exercises {
   }
 
   /** Opens an exercise, the first one without a name, and brings it into sight. */
-  open = (name = this.names[0]) => (this.bench.panes.show("exercise"), this.choose(name));
+  open(name = this.names[0]) {
+    this.bench.panes.show("exercise");
+    return this.choose(name);
+  }
 
   /** Puts an earlier answer into the editor, where undo takes it back. */
   async takeAnswer() {
@@ -97,7 +108,8 @@ export class Exercises {
 
   /** The source to begin with: of two, the one of the language that is chosen, be it C by whatever options. */
   get start() {
-    const [{ starts }, { language }] = [this.all[this.name], this.bench.editor.source];
+    const { starts } = this.all[this.name];
+    const { language } = this.bench.editor.source;
     const own = starts.find((start) => start.language > 0 === this.bench.editor.isC);
     return own ? { ...own, language } : (starts[0] ?? { text: "", language: 0 });
   }
@@ -156,7 +168,10 @@ export class Exercises {
 
   /** Opens the exercise that a button names, or starts a machine with the source in the editor, and with what its case gives. */
   press(/** @type {HTMLButtonElement} */ { name, value }) {
-    if (name) return byId("reading").focus(), this.choose(name); // the button goes
+    if (name) {
+      byId("reading").focus(); // the button goes
+      return this.choose(name);
+    }
     this.bench.panes.makeRoom();
     return this.bench.write({ ask: "case", exercise: this.name, case: Number(value) });
   }

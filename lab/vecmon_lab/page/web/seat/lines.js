@@ -2,7 +2,8 @@
 
 import { textOf } from "../common/texts.js";
 
-const [MOST_LINES, MOST_TOGETHER] = [4096, 64]; // at once, and in a request
+const MOST_LINES = 4096; // at once
+const MOST_TOGETHER = 64; // in a request
 const MOST_CHARACTERS = 1022; // of a line
 const WITH_ADDRESS = /^(\s*(?:asm|break|dis|map|peek|poke|setpc|unbreak)\s+)(\S+)/;
 /** @type {Record<string, number>} */

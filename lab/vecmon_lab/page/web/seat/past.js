@@ -149,7 +149,9 @@ export class Past {
   /** Shows where the moment is among those of the run. */
   tell() {
     const { backward, forth, now, moment, "moment-count": counted } = this.parts;
-    const [step, last, isPast] = [this.place, this.history.end ?? 1, this.moment !== undefined];
+    const step = this.place;
+    const last = this.history.end ?? 1;
+    const isPast = this.moment !== undefined;
     const known = isPast ? textOf("past.step", { step: `${step}`, last: `${last}` }) : textOf("past.at-now", { step: `${step}` });
     const count = step === undefined ? textOf("past.now-uncounted") : known;
     const says = isPast ? textOf("past.shown", { count }) : "";

@@ -48,17 +48,20 @@ export class RunBar {
     this.view = view;
     if (!view) return;
     const present = this.isBuilding ? "Assembling" : this.bench.desk.past.moment?.condition ?? view.condition;
-    const absent = this.bench.connection.isStarting ? "Starting" : "No connection";
-    this.condition = this.bench.connection.isReady ? present : absent;
+    const { isReady, isStarting } = this.bench.connection;
+    const absent = isStarting ? "Starting" : "No connection";
+    this.condition = isReady ? present : absent;
     put(part(this.root, "run"), CONDITIONS[this.condition]);
     part(this.root, "run").dataset.condition = this.condition;
     const isGoingOn = Boolean(this.bench.desk.past.moment) || (this.condition === "Paused" && !this.bench.hasChanged);
     put(part(this.root, "go"), isGoingOn ? textOf("run.continue") : textOf("run"));
     part(this.root, "slice").hidden = !view.own_slices;
     for (const id of NAMES) {
-      const [button, why] = [part(this.root, id), this.whyOff(id, view)];
-      const titleOn = (button.dataset.title ??= button.title);
-      if (button.title !== (why || titleOn)) Object.assign(button, { disabled: why !== "", title: why || titleOn });
+      const button = part(this.root, id);
+      const why = this.whyOff(id, view);
+      button.dataset.title ??= button.title;
+      const title = why || button.dataset.title;
+      if (button.title !== title) Object.assign(button, { disabled: why !== "", title });
     }
   }
 

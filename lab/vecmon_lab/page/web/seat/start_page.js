@@ -8,7 +8,8 @@ import { textOf } from "../common/texts.js";
 /** @typedef {import("../messages").StudentView} View */
 /** @typedef {{ name: string, text: string, language: number }} NamedSource */
 
-const [KEY, MOST] = ["vecmon-recent", 6];
+const KEY = "vecmon-recent";
+const MOST = 6;
 const NAME = "begun"; // in the tab's storage: the name of the source in the editor
 
 /** The sources that this browser has kept, the last one first. */
@@ -35,7 +36,11 @@ export class StartPage {
     part(root, "new-in-c").addEventListener("click", beginner("program.c", part(root, "c-start").textContent));
     part(root, "open-source").addEventListener("click", () => source.file.click());
     source.openFree = () => this.openFree();
-    source.file.addEventListener("change", () => (this.keep(), bench.leave(), this.leave(source.file.files?.[0]?.name)));
+    source.file.addEventListener("change", () => {
+      this.keep();
+      bench.leave();
+      this.leave(source.file.files?.[0]?.name);
+    });
     part(root, "to-start").addEventListener("click", () => this.open());
     part(root, "to-start").hidden = false;
     part(root, "new-in-c").disabled = view.no_c !== "";
@@ -46,7 +51,10 @@ export class StartPage {
     document.addEventListener("drop", () => this.toggle(false)); // an image, whose refusal is in the console
     for (const [heading, own = []] of Object.entries(Object.groupBy(view.examples ?? [], (example) => example.group)))
       part(root, "examples").append(...group(heading, own.map((each) => this.tile(each.title, each.about, each.name, each))));
-    part(root, "to-exercises").addEventListener("click", () => (this.leave(), bench.panes.show("exercise")));
+    part(root, "to-exercises").addEventListener("click", () => {
+      this.leave();
+      bench.panes.show("exercise");
+    });
     part(root, "to-exercises").hidden = !Object.keys(view.exercises).length;
     const isWanted = sessionStorage.getItem(NAME) !== null || sessionStorage.getItem("linked"); // a source or an exercise
     if (!view.source.text && view.state.run === "absent" && !isWanted) this.open();
@@ -77,7 +85,11 @@ export class StartPage {
   /** A button that leads from an exercise back to the program. */
   ownTile() {
     const words = [make("b", "", textOf("author.own")), make("span", "", textOf("author.own.about"))];
-    return Object.assign(make("button", "tile", ...words), { onclick: async () => (await this.openFree(), this.bench.leaveOther()) });
+    const onclick = async () => {
+      await this.openFree();
+      await this.bench.leaveOther();
+    };
+    return Object.assign(make("button", "tile", ...words), { onclick });
   }
 
   open() {

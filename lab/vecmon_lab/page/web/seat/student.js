@@ -66,7 +66,10 @@ export class Student {
     byId("hand").ariaPressed = `${Boolean(view.hand)}`;
     put(byId("hand"), view.hand ? textOf("hand.raised") : textOf("hand.raise"));
     if (document.activeElement !== byId("name")) byId("name").value = view.name;
-    if (view.examples) (this.start ??= new StartPage(this.root, this.bench, view)).show(view);
+    if (view.examples) {
+      this.start ??= new StartPage(this.root, this.bench, view);
+      this.start.show(view);
+    }
     this.bench.show(view, logs[view.seat] ?? [], isAnew);
     this.exercises.show(view.exercises, view.source);
     const wanted = this.connection.takeWanted?.() ?? "";
@@ -76,7 +79,10 @@ export class Student {
   }
 
   /** Shows whether there is a connection; once there is one again, the reason why a key did nothing goes. */
-  showConnection = () => (this.connection.isReady && put(byId("key-says"), ""), this.bench.bar.paint());
+  showConnection() {
+    if (this.connection.isReady) put(byId("key-says"), "");
+    this.bench.bar.paint();
+  }
 
   /** Shows what to do first in place of the elements, or the elements again. */
   welcome(/** @type {boolean} */ isShown) {
@@ -96,7 +102,8 @@ export class Student {
   item(/** @type {number} */ number, /** @type {Notice} */ { time, text, offer, read }) {
     const offered = offer?.title ? textOf("messages.offer-title", { title: offer.title }) : textOf("messages.offer");
     const said = text ? textOf("messages.text", { text }) : offered;
-    const [closeLabel, openLabel] = [textOf("messages.close.label", { said }), textOf("messages.open.label", { said })];
+    const closeLabel = textOf("messages.close.label", { said });
+    const openLabel = textOf("messages.open.label", { said });
     const close = button(textOf("dialog.close"), closeLabel, () => this.connection.ask({ ask: "read", number }));
     const open = button(textOf("messages.open"), openLabel, () => this.connection.ask({ ask: "open", number }));
     const buttons = [...(offer ? [open] : []), ...(read ? [] : [close])];

@@ -9,7 +9,8 @@ import { textOf } from "../common/texts.js";
 const MOST = 8; // numbers of a row of the table
 const MARKS = { passes: "✓ ", fails: "✗ ", "": "" };
 const RESULTS = { passes: ` ${textOf("cases.passes")}`, fails: ` ${textOf("cases.fails")}`, "": "" };
-const [GIVEN, EXPECTED] = [textOf("cases.given"), textOf("cases.expected")];
+const GIVEN = textOf("cases.given");
+const EXPECTED = textOf("cases.expected");
 /** @type {Record<NonNullable<import("../messages").CheckResult["cause"]>, string>} */
 const CAUSES = {
   "left as it was": textOf("verdict.cause.left"), "masked off": textOf("verdict.cause.masked"), tail: textOf("verdict.cause.tail"),

@@ -150,7 +150,9 @@ export class Roster {
     const seat = target.closest("tr")?.dataset.seat ?? this.teacher.shoulder.seat;
     if (!seat || target.matches("input")) return;
     await this.teacher.lookAt(seat);
-    if (exercise) this.teacher.shoulder.panes.show("seat-answers"), this.teacher.shoulder.showAnswers(exercise);
+    if (!exercise) return;
+    this.teacher.shoulder.panes.show("seat-answers");
+    this.teacher.shoulder.showAnswers(exercise);
   }
 
   /** Arrow keys go to the row above and the one below. */
@@ -166,7 +168,8 @@ export class Roster {
 
   /** Puts those who need help above; not while somebody points at a row. */
   sort() {
-    const [body, rows] = [byId("seats"), this.rows];
+    const body = byId("seats");
+    const rows = this.rows;
     if (body.childElementCount === rows.length && body.matches(":hover")) return;
     rows.sort(byRank);
     if (rows.every(({ row }, place) => row === body.children[place])) return;

@@ -33,7 +33,10 @@ export class Send {
     this.given = new Editor(byId("given"), () => this.typed(), byId("given-language"));
     byId("show-message").onclick = () => this.opened(byId("words"));
     byId("show-gift").onclick = () => this.opened(this.given.code);
-    byId("take").onclick = () => (this.given.put(teacher.shoulder.source.editor.source), teacher.shoulder.panes.show("gift"));
+    byId("take").onclick = () => {
+      this.given.put(teacher.shoulder.source.editor.source);
+      teacher.shoulder.panes.show("gift");
+    };
     byId("seats").onchange = () => this.choose(this.choices.chosen.length ? "chosen" : "one");
     byId("sending").oninput = () => this.paint();
     byId("sending").onsubmit = () => this.submit();
@@ -71,7 +74,8 @@ export class Send {
   /** Names of seats in a sentence; an empty list means all. */
   names(/** @type {string[]} */ seats) {
     if ([0, this.teacher.roster.rows.length].includes(seats.length)) return textOf("teacher.all-seats");
-    const [more, names] = [seats.length - SHOWN, seats.slice(0, SHOWN).map((seat) => this.teacher.withName(seat)).join(", ")];
+    const more = seats.length - SHOWN;
+    const names = seats.slice(0, SHOWN).map((seat) => this.teacher.withName(seat)).join(", ");
     return more > 0 ? textOf("send.more", { names, more }) : names;
   }
 
@@ -84,7 +88,8 @@ export class Send {
     const seats = choices[group("to").value];
     const { one, chosen, waiting, all } = choices;
     const looked = one.length ? this.names(one) : textOf("teacher.no-seat");
-    const [some, needy] = [textOf("send.chosen", { number: chosen.length }), textOf("send.waiting", { number: waiting.length })];
+    const some = textOf("send.chosen", { number: chosen.length });
+    const needy = textOf("send.waiting", { number: waiting.length });
     const labels = [looked, some, needy, textOf("send.all", { number: all.length })];
     elementsIn(byId("receivers"), "span").forEach((label, place) => put(label, labels[place]));
     const [button, preview] = KINDS[kind];
@@ -97,7 +102,8 @@ export class Send {
 
   async submit() {
     const how = this.kind;
-    const [receivers, title] = [{ seats: this.choices[group("to").value] }, byId("gift-title").value];
+    const receivers = { seats: this.choices[group("to").value] };
+    const title = byId("gift-title").value;
     /** @type {import("../types").Request} */
     const what = how === "message" ? { ask: "write", text: byId("words").value } : { ask: "give", ...this.given.source, how, title };
     const answer = await this.teacher.request({ ...what, ...receivers });
@@ -125,7 +131,8 @@ export class Send {
   /** @type {(number: string, notice: import("../messages").SentNotice) => HTMLElement} */
   item(number, { time, text, offer, to, read, opened }) {
     const offered = offer?.title ? textOf("send.offered-title", { title: offer.title }) : textOf("send.offered");
-    const [what, numbers] = [text ? `“${text}”` : offered, { read: read.length, all: to.length }];
+    const what = text ? `“${text}”` : offered;
+    const numbers = { read: read.length, all: to.length };
     const seen = offer ? textOf("send.opened", { ...numbers, opened: opened.length }) : textOf("send.read", numbers);
     const words = Object.assign(make("span", "", `${timeText(time)} ${this.names(to)}: ${what}, ${seen}`), { title: read.join(", ") });
     return make("li", "", words, read.length < to.length ? backButton(what, number) : "");

@@ -94,7 +94,8 @@ export class Settings {
   }
 
   operate(/** @type {string[]} */ lines) {
-    const [unfit, machine] = [unfitLines(lines), byId("operated").value];
+    const unfit = unfitLines(lines);
+    const machine = byId("operated").value;
     if (unfit) return this.log.add([`!${unfit}`]);
     return requestsOf(lines).forEach((request) => this.teacher.request({ machine, ...request }));
   }

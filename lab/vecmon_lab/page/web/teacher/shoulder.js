@@ -25,7 +25,8 @@ export class Shoulder {
     byId("vectors-title").after(byId("past"));
     for (const each of elementsIn(root, ".missing")) put(each, textOf("shoulder.no-program"));
     this.desk = new Desk(root, (request) => teacher.connection.ask(request));
-    byId("source").readOnly = byId("language").disabled = true;
+    byId("source").readOnly = true;
+    byId("language").disabled = true;
     this.editor = new Editor(byId("source"), undefined, byId("language"));
     this.source = new Source(root, this.editor, teacher.connection);
     this.problems = new Problems(root, this.editor, () => this.panes.show("editor"));

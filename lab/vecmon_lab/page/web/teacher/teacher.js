@@ -27,7 +27,10 @@ export class Teacher {
     this.settings = new Settings(this);
     document.title = textOf("page.named", { name: textOf("teacher.page") });
     byId("teacher").hidden = false;
-    byId("read").onclick = () => (sessionStorage.setItem("unencrypted", "read"), (byId("unencrypted").hidden = true));
+    byId("read").onclick = () => {
+      sessionStorage.setItem("unencrypted", "read");
+      byId("unencrypted").hidden = true;
+    };
     byId("letters").checked = stored(LETTERS) !== "off";
     byId("letters").onchange = () => store(LETTERS, byId("letters").checked ? "on" : "off");
     const keys = listenToKeys(root, () => {}, () => byId("letters").checked);
@@ -71,7 +74,8 @@ export class Teacher {
     const isStart = !used && !shoulder;
     if (isStart === byId("opening").hidden) this.send.choose(isStart ? "all" : "one");
     byId("opening").hidden = !isStart;
-    byId("roster").hidden = byId("shoulder").hidden = isStart;
+    byId("roster").hidden = isStart;
+    byId("shoulder").hidden = isStart;
   }
 
   /** Looks at a seat, which comes into sight. */
