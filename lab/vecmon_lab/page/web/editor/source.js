@@ -6,6 +6,7 @@ import { offerFile, part, parts, put, timeText } from "../common/dom.js";
 import { offer } from "./languages.js";
 import { languageOf, suffixOf } from "./links.js";
 import { roomText } from "./room.js";
+import { MOST_LETTERS, isApart, isDue, isUnsent, keyOf, sourceState } from "./source_state.js";
 import { lineOf, stoppedLines } from "../panels/source_lines.js";
 import { textOf } from "../common/texts.js";
 
@@ -14,14 +15,10 @@ import { textOf } from "../common/texts.js";
 /** @typedef {import("../messages").VersionView} Version */
 /** @typedef {import("../types").SourceText} SourceText */
 
-export const MOST_LETTERS = 65536;
 const PAUSE = 700; // ms in which nothing is typed, and then it is sent
 const UNSENT = "unsent"; // the key of a text in the tab's storage that the server hadn't got as the page was closed or reloaded
 /** @type {Record<string, string>} */
 const REASONS = { typed: textOf("source.typed"), written: textOf("source.assembled"), given: textOf("source.given") };
-
-/** Equal for equal sources; "" for none. */
-const keyOf = (/** @type {SourceText | null} */ source) => (source ? `${source.language} ${source.text}` : "");
 
 /** A version in words, as `14:05 given, Doubles`. */
 const versionText = (/** @type {Version} */ { time, why, title }) => `${timeText(time)} ${REASONS[why]}${title && ", "}${title}`;
@@ -31,10 +28,9 @@ export class Source {
   /** @type {SourceView | null} */ told = null;
   /** @type {Set<string>} */ sent = new Set(); // keys of what is under way
   /** @type {Map<number, number>} */ held = new Map(); // lines with breakpoints of the loaded program, by their numbers in the changed text
-  isTyped = false;
+  isTyped = false; // whether the text was changed since the page was opened
   timer = 0;
-  apart = ""; // a name of this window, while its text isn't the seat's since another window has changed that; or ""
-  keptApart = ""; // the key of its last version
+  /** @type {import("./source_state").Apart | null} */ apart = null;
   windows = 1; // that the seat is open in
   /** @type {() => Promise<unknown>} */ openFree = async () => undefined; // opens the program without an exercise, where there is one
   /** @type {{ of: number, used: number } | undefined} */ share; // the seat's, of the script
@@ -65,6 +61,12 @@ export class Source {
     this.file.addEventListener("change", () => this.open(this.file.files?.[0]));
   }
 
+  /** Where the editor's text is. What the page shows and does by it is derived from this state. */
+  get state() {
+    const { told, sent, isTyped, apart } = this;
+    return sourceState({ told, here: this.editor.source, sent, isTyped, apart });
+  }
+
   save() {
     const { text, language } = this.editor.source;
     offerFile(`${this.seat}.${suffixOf(language, this.editor.language)}`, new Blob([text]));
@@ -81,6 +83,7 @@ export class Source {
   typed() {
     this.isTyped = true;
     this.showLanguage();
+    this.showWindows();
     clearTimeout(this.timer);
     this.timer = setTimeout(() => this.send(), PAUSE);
   }
@@ -89,17 +92,9 @@ export class Source {
   async send() {
     clearTimeout(this.timer);
     this.timer = 0;
-    const { source } = this.editor;
-    if (!this.told || !this.isTyped || this.isTooLong || !this.connection.isReady || keyOf(source) === keyOf(this.told)) return;
-    if (this.apart && keyOf(source) === this.keptApart) return;
+    if (!isDue(this.state) || !this.connection.isReady) return;
     if (this.sent.size) this.timer = setTimeout(() => this.send(), PAUSE);
     else await this.bringOwn({ line: this.editor.caretLine });
-  }
-
-  /** Whether the server hasn't confirmed yet what was typed. */
-  get isUnsent() {
-    const { editor, told } = this;
-    return Boolean(told) && this.isTyped && !editor.isReadOnly && !this.isTooLong && keyOf(editor.source) !== keyOf(told);
   }
 
   /** Keeps what was typed in the browser, since the page may be closed before the text is sent: in a class, for a reload of this tab. */
@@ -108,14 +103,14 @@ export class Source {
     if (!told || !this.isTyped || this.isTooLong) return;
     const own = { ...editor.source, exercise: told.exercise };
     if (connection.keepUnsaved) connection.keepUnsaved(own);
-    else if (this.isUnsent) sessionStorage.setItem(UNSENT, JSON.stringify({ ...own, number, seat, sent: [...this.sent] }));
+    else if (isUnsent(this.state)) sessionStorage.setItem(UNSENT, JSON.stringify({ ...own, number, seat, sent: [...this.sent] }));
     else sessionStorage.removeItem(UNSENT);
   }
 
   /** Sends what was typed before the page is closed. Without a connection the browser asks whether to close it. */
   leave(/** @type {BeforeUnloadEvent} */ event) {
     this.send();
-    if (this.isUnsent && !this.connection.isReady && !this.connection.keepUnsaved) event.preventDefault();
+    if (isUnsent(this.state) && !this.connection.isReady && !this.connection.keepUnsaved) event.preventDefault();
   }
 
   /** Takes back what this tab kept of the seat before a reload; it becomes a version if another window has changed the source since. */
@@ -138,27 +133,27 @@ export class Source {
   }
 
   /** The number of the seat's source that the editor's text comes from; -1 if another window has changed that since. */
-  get number() { return this.apart ? -1 : this.told?.number; }
+  get number() { return isApart(this.state) ? -1 : this.told?.number; }
 
   /** Sends the editor's text to the server, with its exercise; a text to keep becomes a version. line: the caret's */
   bringOwn(/** @type {{ keep?: boolean, line?: number, number?: number }} */ more) {
     const { source } = this.editor;
     const { number = 0, exercise = "" } = { ...this.told, number: this.number };
-    const window = this.apart ? { window: this.apart } : {};
-    if (this.apart) this.keptApart = keyOf(source);
+    const window = this.apart && isApart(this.state) ? { window: this.apart.name } : {};
+    if (this.apart) this.apart.kept = keyOf(source);
     return this.bring(source, () => this.connection.ask({ ask: "draft", ...source, number, exercise, ...window, ...more }));
   }
 
   /** Makes this window's text the seat's; that of the other window becomes a version. */
   async useOwn() {
-    if (this.apart && this.told && !this.isTooLong) await this.bringOwn({ number: this.told.number, line: this.editor.caretLine });
+    if (this.told && isApart(this.state)) await this.bringOwn({ number: this.told.number, line: this.editor.caretLine });
   }
 
   /** Shows the seat's text in place of this window's, which becomes a version first. */
   async showOther() {
-    const answer = this.apart && !this.isTooLong ? await this.bringOwn({}) : null;
+    const answer = isApart(this.state) ? await this.bringOwn({}) : null;
     if (!answer || answer.error || !this.told) return;
-    this.apart = "";
+    this.apart = null;
     this.editor.put(this.told);
     this.showWindows();
   }
@@ -168,21 +163,22 @@ export class Source {
     this.windows = windows;
     const { windows: line, "windows-say": says, "use-own": useOwn, "show-other": showOther } = this.parts;
     const several = windows > 1 ? textOf("windows.open", { number: `${windows}` }) : "";
-    put(says, this.apart ? textOf("windows.apart") : several);
-    line.hidden = !this.apart && windows < 2;
-    useOwn.hidden = !this.apart;
-    showOther.hidden = !this.apart;
+    const isOwn = isApart(this.state);
+    put(says, isOwn ? textOf("windows.apart") : several);
+    line.hidden = !isOwn && windows < 2;
+    useOwn.hidden = !isOwn;
+    showOther.hidden = !isOwn;
   }
 
   /** Whether the text is too long to become a version. */
-  get isTooLong() { return !this.editor.isReadOnly && this.editor.source.text.length > MOST_LETTERS; }
+  get isTooLong() { return this.state === "too-long"; }
 
   /** Puts another source into the editor, where undo takes it back; what is there becomes a version first, or stays. */
   async replace(/** @type {SourceText} */ source) {
     if (this.isTooLong) return;
     const own = this.editor.source;
-    const isOwn = own.text.trim() && !this.editor.isReadOnly && (this.isTyped || keyOf(own) === keyOf(this.told));
-    const isKept = isOwn && keyOf(own) !== keyOf(source);
+    const isOwn = !this.editor.isReadOnly && !["absent", "sample"].includes(this.state);
+    const isKept = isOwn && own.text.trim() && keyOf(own) !== keyOf(source);
     const answer = isKept ? await this.bringOwn({ keep: true }) : { error: "" };
     if (answer && !answer.error) this.editor.put(source);
   }
@@ -191,7 +187,7 @@ export class Source {
   async openExercise(/** @type {string} */ exercise) {
     clearTimeout(this.timer);
     if (this.isTooLong) return false;
-    if (this.isTyped && keyOf(this.editor.source) !== keyOf(this.told)) this.bringOwn({ keep: false });
+    if (isUnsent(this.state)) this.bringOwn({ keep: false });
     const answer = await this.connection.ask({ ask: "open", exercise });
     return Boolean(answer && !answer.error);
   }
@@ -216,10 +212,10 @@ export class Source {
     if (told?.versions !== source.versions) offer(this.parts.versions, textOf("source.versions"), versions);
     if (isOther && this.isTooLong) return;
     const isSeatsWindow = !isNew && !source.given && source.exercise === told.exercise && !editor.isReadOnly;
-    const isTheirs = isOther && isSeatsWindow && this.isTyped && keyOf(editor.source) !== keyOf(told);
+    const isOwnUnsent = isUnsent(this.state);
     Object.assign(this, { seat, told: source });
-    if (!isSeatsWindow || keyOf(source) === keyOf(editor.source)) this.apart = "";
-    else if (isTheirs) this.apart ||= Math.random().toString(36).slice(2, 12);
+    if (!isSeatsWindow || keyOf(source) === keyOf(editor.source)) this.apart = null;
+    else if (isOther && isOwnUnsent) this.apart ??= { name: Math.random().toString(36).slice(2, 12), kept: "" };
     if (this.apart) {
       this.timer ||= setTimeout(() => this.send(), PAUSE);
       return;
@@ -229,20 +225,20 @@ export class Source {
       if (isNew) this.takeUnsent(source);
     } else if (isOther) {
       const { number, exercise } = told;
-      if (this.isTyped && !isOwn(editor.source)) this.connection.ask({ ask: "draft", ...editor.source, number, exercise }); // a version
+      if (isOwnUnsent && !isOwn(editor.source)) this.connection.ask({ ask: "draft", ...editor.source, number, exercise }); // a version
       editor.put(source);
       if (source.exercise !== exercise) editor.code.clearHistory(); // what is undone is of one exercise
-    } else if (this.isTyped && keyOf(source) !== keyOf(editor.source)) this.timer ||= setTimeout(() => this.send(), PAUSE);
+    } else if (isUnsent(this.state)) this.timer ||= setTimeout(() => this.send(), PAUSE);
   }
 
   /** The source in the machine, if what was typed since isn't at the server yet. */
   get built() {
     const { told } = this;
-    return told?.stands && keyOf(told) !== keyOf(this.editor.source) ? { text: told.text, language: told.language } : undefined;
+    return told?.stands && this.state !== "loaded" ? { text: told.text, language: told.language } : undefined;
   }
 
   /** Whether the machine has the source as it is here. */
-  get stands() { return Boolean(this.told?.stands) && keyOf(this.told) === keyOf(this.editor.source); }
+  get stands() { return this.state === "loaded"; }
 
   /**
    * Marks the lines that the machine executed last and executes next, and those with breakpoints; returns them. A source that has changed

@@ -15,7 +15,8 @@ import { Panes } from "../panels/panes.js";
 import { Problems } from "../editor/problems.js";
 import { entryText, nameAt, showReference, tellName } from "../panels/reference.js";
 import { RunBar } from "./runbar.js";
-import { MOST_LETTERS, Source } from "../editor/source.js";
+import { Source } from "../editor/source.js";
+import { MOST_LETTERS, isBuiltFirst } from "../editor/source_state.js";
 import { textOf } from "../common/texts.js";
 
 /** @typedef {import("../types").Message} Message */
@@ -173,15 +174,22 @@ export class Bench {
   }
 
   /** Whether the machine has a source, and that isn't the editor's. */
-  get hasOther() { return Boolean(this.bar.view?.again) && !this.isImage && !this.source.stands; }
+  get hasOther() { return this.contents === "source" && !this.source.stands; }
+
+  /**
+   * What the machine began with.
+   * @returns {"nothing" | "source" | "other"}
+   */
+  get contents() {
+    if (this.bar.view?.again && !this.isImage) return "source";
+    return Object.keys(this.desk.state.code ?? {}).length ? "other" : "nothing";
+  }
 
   /**
    * Whether the source has to be built before the program goes on: a machine without one is left as it is, until the source changes.
    * @returns {boolean}
    */
-  get hasChanged() {
-    return this.hasOther || (!this.source.stands && (this.isEdited || !Object.keys(this.desk.state.code ?? {}).length));
-  }
+  get hasChanged() { return isBuiltFirst(this.source.state, this.contents, this.isEdited); }
 
   /** Asks once, after a run, for the number of instructions that the program has executed. */
   countSteps(/** @type {State} */ state) {

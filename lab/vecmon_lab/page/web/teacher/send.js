@@ -3,7 +3,7 @@
 import { Editor } from "../editor/editor.js";
 import { byId, elementsIn, make, put, renew, timeText } from "../common/dom.js";
 import { offerLanguages } from "../editor/languages.js";
-import { MOST_LETTERS } from "../editor/source.js";
+import { MOST_LETTERS } from "../editor/source_state.js";
 import { textOf } from "../common/texts.js";
 
 /** @typedef {import("../messages").TeacherView} TeacherView */
