@@ -95,3 +95,14 @@ def test_missing_python_is_reported(installed: pathlib.Path, program: pathlib.Pa
     assert run(installed, "run", SUM) == (0, "328350\n", "")
     expected = "vecmon-lab: VECMON_PYTHON=/nowhere: No such file or directory\n"
     assert run(installed, "check", python="/nowhere") == (2, "", expected)
+
+
+def test_pages_are_made_from_any_path_of_the_lab(installed: pathlib.Path) -> None:
+    """The launcher's path has `..` in it."""
+    code = (
+        f"import sys; sys.path[0] = {str(installed / 'bin/../share/vecmon/lab')!r}\n"
+        "from vecmon_lab.page.build.pages import filled_page\n"
+        "print('CodeMirror' in filled_page('class', 'A class'))"
+    )
+    ran = subprocess.run([sys.executable, "-c", code], capture_output=True, text=True)
+    assert (ran.stdout, ran.stderr) == ("True\n", "")

@@ -15,7 +15,7 @@ from . import codemirror
 from .modules import join_modules
 from .texts import fill
 
-LAB = pathlib.Path(__file__).parents[2]
+LAB = pathlib.Path(__file__).resolve().parents[2]  # as modules.py resolves paths
 WEB = LAB / "page" / "web"  # what browsers get
 PAGES, STYLES = WEB / "pages", WEB / "styles"
 CODEMIRROR = WEB / "editor" / "codemirror.js"  # which is made from CodeMirror's files
