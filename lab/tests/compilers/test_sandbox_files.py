@@ -1,5 +1,6 @@
 """The files that a source in C can reach in the sandbox: those of a closed list, and no exercise, wherever it is."""
 
+import ast
 import json
 import pathlib
 import subprocess
@@ -142,3 +143,26 @@ def test_reference_answer_is_not_reachable(
         (tmp_path / "answer.c").write_text(f'#include "{folder}/good.c"\n')
         status, output, _ = lab("grade", name, tmp_path / "answer.c")
         assert status == 1 and b"answer.c:1:10: 'good.c' file not found" in output
+
+
+def imported(path: pathlib.Path) -> Iterator[pathlib.Path]:
+    """The modules of the lab that a module imports when it is imported, and the packages that they are in."""
+    for node in ast.parse(path.read_text("utf-8")).body:
+        if not isinstance(node, ast.ImportFrom) or not node.level:
+            continue
+        folder = path.parents[node.level - 1].joinpath(*(node.module or "").split("."))
+        names = [folder.with_suffix(".py"), *(folder / f"{name.name}.py" for name in node.names)]
+        packages = (
+            each / "__init__.py" for each in [folder, *folder.parents] if each.is_relative_to(LAB / "vecmon_lab")
+        )
+        yield from (each for each in [*names, *packages] if each.is_file())
+
+
+def test_sandbox_has_the_modules_that_it_imports() -> None:
+    found, due = set[pathlib.Path](), [LAB / "vecmon_lab" / "compilers" / "sandbox_main.py"]
+    while due:
+        path = due.pop()
+        if path not in found:
+            found.add(path)
+            due += imported(path)
+    assert {path.relative_to(LAB).as_posix() for path in found} == {name for name in MODULES if name.endswith(".py")}

@@ -25,7 +25,10 @@ PLACE = "/lab"  # where Python finds the modules within
 MODULES = (
     "vecmon_lab/__init__.py",
     *(f"vecmon_lab/compilers/{name}.py" for name in ("__init__", "c_types", "compiler", "debug")),
-    *(f"vecmon_lab/compilers/{name}.py" for name in ("failures", "hints", "sandbox_main", "locations", "variables")),
+    *(
+        f"vecmon_lab/compilers/{name}.py"
+        for name in ("failures", "hints", "layouts", "sandbox_main", "locations", "variables")
+    ),
     "vecmon_lab/compilers/runtime/memory.c",
     "vecmon_lab/compilers/runtime/runtime.c",
     "vecmon_lab/compilers/runtime/vecmon.h",
