@@ -21,6 +21,7 @@ import hashlib
 import os
 import subprocess
 import sys
+from collections.abc import Callable
 
 from tools.building.linked_kit import cache, installed_kit, link_kit, link_program
 
@@ -32,22 +33,22 @@ PROGRAMS = {
 ENTRIES = (b"vecmon::main", b"vecmon_record::main")  # functions of these programs alone
 
 
-def digest(file):
+def digest(file: str) -> str:
     with open(file, "rb") as it:
         return hashlib.sha256(it.read()).hexdigest()
 
 
-def kept_module(program):
+def kept_module(program: str) -> str:
     """The file of the module from which the kit compiled the program in a file, whether or not it is there."""
     return f"{cache()}/modules/{digest(program)}.bc"
 
 
-def advice(name):
+def advice(name: str) -> str:
     """How to get the module of a program that was proved without it."""
     return f"run rm -rf {cache()}/rattle-kept/proof-{name.replace('-', '_')}-*, and then tools/building/keep_modules"
 
 
-def link_this_kit(kit):
+def link_this_kit(kit: str) -> None:
     """Makes the copy of the kit, or updates it."""
     for folder in ("captured", "modules"):
         os.makedirs(f"{cache()}/{folder}", exist_ok=True)
@@ -58,7 +59,7 @@ def link_this_kit(kit):
     os.remove(built)
 
 
-def store(kit):
+def store(kit: str) -> None:
     """Names the captured modules of the two programs by what their objects link to, and removes the others."""
     for compiled in glob.glob(f"{cache()}/captured/*.o"):
         module = f"{compiled.removesuffix('.o')}.bc"
@@ -73,7 +74,7 @@ def store(kit):
         os.remove(compiled)
 
 
-def alone(step, kit):
+def alone(step: Callable[[str], None], kit: str) -> None:
     """Does a step while no other run of this tool does one."""
     os.makedirs(cache(), exist_ok=True)
     with open(f"{cache()}/lock", "w", encoding="utf-8") as lock:
@@ -81,7 +82,7 @@ def alone(step, kit):
         step(kit)
 
 
-def main(words):
+def main(words: list[str]) -> int:
     kit = installed_kit()
     alone(link_this_kit, kit)
     if words == ["--kit"]:

@@ -9,6 +9,8 @@ inlined into. So all other functions that these call are marked `noinline`.
 """
 
 import re
+from collections.abc import Iterator, Sequence
+from typing import NoReturn
 
 LAYOUT = "e-m:e-p:32:32-p10:8:8-p20:8:8-i64:64-i128:128-n32:64-S128-ni:1:10:20"
 TRIPLE = "wasm32-unknown-unknown"
@@ -33,7 +35,7 @@ class Unsupported(Exception):
     """A line whose meaning would change with the size of pointers."""
 
 
-def retarget(lines):
+def retarget(lines: Sequence[str]) -> Iterator[str]:
     """Return the lines of the module for wasm32. Raises Unsupported."""
     barriers = callees_of_readers(lines)
     for number, line in enumerate(lines):
@@ -43,7 +45,7 @@ def retarget(lines):
         yield from _retarget_line(line, number)
 
 
-def callees_of_readers(lines):
+def callees_of_readers(lines: Sequence[str]) -> set[str]:
     """Return the names of the functions that don't reach `read`, but are called by some that do."""
     calls = call_graph(lines)
     readers = {"read"}
@@ -52,18 +54,20 @@ def callees_of_readers(lines):
     return {callee for name in readers & calls.keys() for callee in calls[name]} - readers
 
 
-def call_graph(lines):
+def call_graph(lines: Sequence[str]) -> dict[str, set[str]]:
     """Return the names of the functions that each function calls, by its name."""
-    calls, callees = {}, set()
+    calls, callees = dict[str, set[str]](), set[str]()
     for line in lines:
         if line.startswith("define "):
-            callees = calls[DEFINITION.match(line)[1]] = set()
+            definition = DEFINITION.match(line)
+            assert definition
+            callees = calls[definition[1]] = set()
         elif " call " in line and (call := CALL.match(line)):
             callees.add(call[1])
     return calls
 
 
-def _retarget_line(line, number):
+def _retarget_line(line: str, number: int) -> list[str]:
     """Return the lines that replace one line of the module; `number` makes the names of new values unique."""
     if line.startswith("  ") and "ptr" not in line:
         return [line]
@@ -92,17 +96,19 @@ def _retarget_line(line, number):
         ]
     line = line.replace(" = alloca ptr,", " = alloca i64,").replace(" = ptrtoaddr ptr ", " = ptrtoint ptr ")
     sized = SIZED.match(line)
-    return _unsupported(line) if sized and POINTER.search(sized[1]) else [line]
+    if sized and POINTER.search(sized[1]):
+        _unsupported(line)
+    return [line]
 
 
-def _unsupported(line):
+def _unsupported(line: str) -> NoReturn:
     raise Unsupported(f"tools/building/retarget.py doesn't support pointers in: {line.strip()}")
 
 
-def _loaded_pair(pair, number):
+def _loaded_pair(pair: re.Match[str], number: int) -> list[str]:
     """Return the lines that load a pair of a pointer and another value from two slots."""
     space, name, kind, address = pair.groups()
-    place, lines, kinds = f"%pair.{number}", [], kind.strip("{ }").split(", ")
+    place, lines, kinds = f"%pair.{number}", list[str](), kind.strip("{ }").split(", ")
     lines.append(f"{place}.second = getelementptr i8, ptr {address}, i64 {16 if 'i128' in kinds else 8}\n")
     lines.append(f"{place}.none = freeze {kind} poison\n")
     for of, at in zip(kinds, (address, f"{place}.second")):
@@ -114,14 +120,14 @@ def _loaded_pair(pair, number):
     return [space + line for line in lines]
 
 
-def _widened_constant(line):
+def _widened_constant(line: str) -> str:
     """Return a constant in which 4 bytes of zeros follow each pointer."""
     found = GLOBAL.match(line.rstrip("\n"))
     if not found or line.startswith("@llvm.") or not POINTER.search(STRING.sub("", found[2])):
         return line
     packed = PACKED.match(found[2])
     if not packed or any(POINTER.search(kind) for kind in _parts(packed[1]) if kind != "ptr"):
-        return _unsupported(line)
+        _unsupported(line)
     types = [part for kind in _parts(packed[1]) for part in ([kind, "[4 x i8]"] if kind == "ptr" else [kind])]
     values = [
         part
@@ -131,9 +137,9 @@ def _widened_constant(line):
     return f"{found[1]}<{{ {', '.join(types)} }}> <{{ {', '.join(values)} }}>{packed[3] or ''}\n"
 
 
-def _parts(text):
+def _parts(text: str) -> list[str]:
     """Return the parts of a list at its outermost level, which commas separate."""
-    parts, depth, is_quoted, start = [], 0, False, 0
+    parts, depth, is_quoted, start = list[str](), 0, False, 0
     for at, character in enumerate(text):
         if character == '"':
             is_quoted = not is_quoted

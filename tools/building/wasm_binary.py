@@ -1,12 +1,14 @@
 """Sections and functions of a WebAssembly module in its binary format (WebAssembly Core Specification 2.0, chapter 5)."""
 
+from collections.abc import Collection, Iterable
+
 HEADER = 8  # bytes
 CUSTOM, IMPORT, CODE = 0, 2, 10  # sections
 FUNCTION = 0  # a kind of import
 FUNCTION_NAMES = 1  # a subsection of the section "name"
 
 
-def with_bodies(module, original, changed):
+def with_bodies(module: bytes, original: bytes, changed: Collection[str]) -> bytes:
     """Return the module with the function bodies of the original, except those of the functions named in `changed`.
 
     The module is a tool's version of the original: it has the same functions in the same order, and perhaps more after them. Both have a
@@ -25,18 +27,18 @@ def with_bodies(module, original, changed):
     return _joined(module, ((kind, code if kind == CODE else content) for kind, content in sections(module)))
 
 
-def without_names(module):
+def without_names(module: bytes) -> bytes:
     """Return the module without its custom sections."""
     return _joined(module, ((kind, content) for kind, content in sections(module) if kind != CUSTOM))
 
 
-def _joined(module, parts):
+def _joined(module: bytes, parts: Iterable[tuple[int, bytes]]) -> bytes:
     return module[:HEADER] + b"".join(bytes([kind]) + encoded(len(content)) + content for kind, content in parts)
 
 
-def sections(module):
+def sections(module: bytes) -> list[tuple[int, bytes]]:
     """Return the sections in their order: each a kind and its content."""
-    found, at = [], HEADER
+    found, at = list[tuple[int, bytes]](), HEADER
     while at < len(module):
         size, start = number(module, at + 1)
         found.append((module[at], module[start : start + size]))
@@ -44,16 +46,16 @@ def sections(module):
     return found
 
 
-def section(module, kind):
+def section(module: bytes, kind: int) -> bytes:
     """Return the content of the only section of a kind; without one, that of an empty list."""
     return next((content for found, content in sections(module) if found == kind), encoded(0))
 
 
-def bodies(module):
+def bodies(module: bytes) -> list[bytes]:
     """Return the body of each function that the module defines."""
     content = section(module, CODE)
     count, at = number(content, 0)
-    found = []
+    found = list[bytes]()
     for _ in range(count):
         size, start = number(content, at)
         found.append(content[start : start + size])
@@ -61,11 +63,11 @@ def bodies(module):
     return found
 
 
-def import_entries(module):
+def import_entries(module: bytes) -> list[tuple[str, str]]:
     """Return module and name of each import. Raises ValueError for an import that isn't a function."""
     content = section(module, IMPORT)
     count, at = number(content, 0)
-    found = []
+    found = list[tuple[str, str]]()
     for _ in range(count):
         home, at = text(content, at)
         name, at = text(content, at)
@@ -76,7 +78,7 @@ def import_entries(module):
     return found
 
 
-def function_names(module):
+def function_names(module: bytes) -> dict[int, str]:
     """Return the name of each function by its index, which counts imports first. Raises ValueError without a section "name"."""
     for kind, content in sections(module):
         if kind == CUSTOM and text(content, 0)[0] == "name":
@@ -88,22 +90,22 @@ def function_names(module):
     raise ValueError("the module has no names")
 
 
-def _names(content, at):
+def _names(content: bytes, at: int) -> dict[int, str]:
     count, at = number(content, at)
-    found = {}
+    found = dict[int, str]()
     for _ in range(count):
         index, at = number(content, at)
         found[index], at = text(content, at)
     return found
 
 
-def text(content, at):
+def text(content: bytes, at: int) -> tuple[str, int]:
     """Return the text at an offset, and the offset after it."""
     size, at = number(content, at)
     return content[at : at + size].decode(), at + size
 
 
-def number(content, at):
+def number(content: bytes, at: int) -> tuple[int, int]:
     """Return the unsigned number (LEB128) at an offset, and the offset after it."""
     value = shift = 0
     while True:
@@ -115,7 +117,7 @@ def number(content, at):
             return value, at
 
 
-def encoded(value):
+def encoded(value: int) -> bytes:
     """Return an unsigned number as LEB128."""
     found = bytearray()
     while value >= 0x80:
