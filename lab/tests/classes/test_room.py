@@ -12,7 +12,8 @@ from vecmon_lab.classes.server import scripts
 from vecmon_lab.classes.server.worker_pool import WorkerPool
 from vecmon_lab.classes.core.bad_request import BadRequest
 from vecmon_lab.classes.core.requests import LinesRequest
-from vecmon_lab.classes.server.room import Room
+from vecmon_lab.classes.server.builds import Builds
+from vecmon_lab.classes.server.room import Room, RoomCalls
 from vecmon_lab.classes.core.seats import Seat
 from vecmon_lab.classes.server.store import ScriptFile
 from vecmon_lab.machine.lines import is_look
@@ -56,7 +57,8 @@ class Machine:
     def __init__(self, folder: pathlib.Path) -> None:
         self.session: Any = StandIn(folder / "A.script")
         session: Session = self.session
-        self.room = Room("A", session, ScriptFile(folder, "A"), WorkerPool(1))
+        calls = RoomCalls(lambda names: None, set, lambda notes: False, Builds(), WorkerPool(1), WorkerPool(1))
+        self.room = Room("A", session, ScriptFile(folder, "A"), calls)
 
     def ask(self, seat: Seat, *lines: str) -> "asyncio.Task[Any]":
         """A request that is under way."""

@@ -57,7 +57,7 @@ OneRequest = TypeVar("OneRequest", bound=Request)
 
 @dataclass(frozen=True)
 class Kind:
-    """What a class of requests has in messages besides its fields, and in the table of CLASS_PROTOCOL."""
+    """The parts of a request's messages besides its fields, and of its row in CLASS_PROTOCOL."""
 
     sender: Sender
     ask: str
@@ -285,8 +285,8 @@ class DraftRequest(SeatsRequest):
     line: LineNumber = 0
     """The number of the caret's line, for the teacher."""
     window: WindowName = ""
-    """A name of the window, if another window has changed the source: with a number that the source doesn't have, the text becomes one
-    version, which later drafts by this name replace; with the source's number it becomes the source, and the one there a version."""
+    """A name of the window, if another window has changed the source. With a number that the source doesn't have, the text becomes one
+    version, which later drafts by this name replace. With the source's number it becomes the source, and the one there a version."""
 
 
 @_request("student", "open", {"number": 4})
@@ -459,8 +459,8 @@ class ResetRequest(Request):
 class ClockRequest(Request):
     """Set a machine's clock. Settings that are missing stay.
 
-    `slices` is how many it grants at once, 1 to 1,000; `ms` its pause between them, 10 to 10,000 milliseconds; `limit` the number of
-    ticks after which the server stops a program, about, 100,000 to 10^12.
+    It grants 1 to 1,000 `slices` at once, and waits 10 to 10,000 `ms` before. The server stops a program after about `limit` ticks
+    without a stop, 100,000 to 10^12.
     """
 
     machine: Name

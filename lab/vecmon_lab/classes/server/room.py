@@ -5,7 +5,7 @@ import concurrent.futures
 import contextlib
 import pathlib
 from collections.abc import Callable, Container, Iterable, Mapping, Sequence
-from dataclasses import asdict, replace
+from dataclasses import asdict, dataclass, replace
 from functools import partial
 
 from ... import LabError
@@ -46,25 +46,35 @@ REPLAYS = 2  # that execute at the same time
 UNSEEN_SECONDS = 60.0  # after which a program that runs is stopped, if nobody looks at it
 
 
+@dataclass(frozen=True)
+class RoomCalls:
+    """What a room calls in its class."""
+
+    changed: Callable[[Iterable[str]], None]
+    """Gets the names of seats that have news."""
+    watched: Callable[[], Container[str]]
+    """Returns the seats that somebody looks at."""
+    save: Callable[[Notes], bool]
+    """Saves notes, and returns whether that succeeded."""
+    builds: Builds
+    """Compiles the sources of seats."""
+    makers: WorkerPool
+    """Processes in which checkpoints are made."""
+    assemblers: WorkerPool
+    """Processes in which sources are assembled that may take long."""
+
+
 class Room:
-    """A machine, its seats, and its clock.
+    """A machine, its seats, and its clock."""
 
-    `changed` is called with the names of seats that have news; `watched` returns the seats that somebody looks at; `save`
-    saves notes, and returns whether that succeeded; `compile` compiles a seat's source.
-    """
-
-    def __init__(self, letter: str, session: Session, file: ScriptFile, makers: WorkerPool) -> None:
-        """makers: places where checkpoints are made"""
+    def __init__(self, letter: str, session: Session, file: ScriptFile, calls: RoomCalls) -> None:
         self.letter, self.machine, self.clock = letter, SharedMachine(letter, session, file), Clock(self._tick)
         self.seats, self.own_slices = self.machine.seats, True
-        self.changed: Callable[[Iterable[str]], None] = lambda names: None
-        self.save: Callable[[Notes], bool] = lambda notes: False
-        self.watched: Callable[[], Container[str]] = set
-        self.compile = Builds().compile
-        self.assemblers = WorkerPool(1)  # in which sources are assembled that may take long
+        self.changed, self.watched, self.save = calls.changed, calls.watched, calls.save
+        self.compile, self.assemblers = calls.builds.compile, calls.assemblers
         self.files: FileReader | None = None  # reads what a source includes, if that is your own
         self.thread = MachineThread(self.machine, self._change_all, lambda: self.set_clock({"on": False}))
-        self.scripts = Scripts(self.thread, file, makers, lambda *it: self.save(self._notes(*it)))
+        self.scripts = Scripts(self.thread, file, calls.makers, lambda *it: self.save(self._notes(*it)))
         self.shorten, self.begin_script = self.scripts.shorten, self.scripts.start_next
         self.make_checkpoint = self.scripts.make_checkpoint
         self._turns = {digit: asyncio.Lock() for digit in f"{DIGITS}*"}  # given first come, first served

@@ -25,7 +25,7 @@ from .headway import Headway
 from ..core.names import NAMES, as_csv, local_time
 from .notices import Notices
 from ..core.bad_request import BadRequest
-from .room import Room
+from .room import Room, RoomCalls
 from ..core.seats import Seat
 from .stored_files import Notes, texts
 from .store import Store, script_name
@@ -114,10 +114,9 @@ class Class:
         """Start a machine, restore its state, and seat its students. Raises LabError where that can't be."""
         notes = self.store.notes(letter)
         file = self.store.script_file(letter, len(notes.scripts))
-        self.rooms[letter] = room = Room(letter, self.store.session(patience), file, makers)
-        room.changed, room.watched, room.save = self.tell, self._watched, partial(self._keep, letter)
-        room.compile = self.builds.compile
-        room.assemblers = self._assemblers
+        keep = partial(self._keep, letter)
+        calls = RoomCalls(self.tell, self._watched, keep, self.builds, makers, self._assemblers)
+        self.rooms[letter] = room = Room(letter, self.store.session(patience), file, calls)
         room.set_clock({"on": clock})
         name = script_name(letter, len(notes.scripts))
         room.restore(notes, progress, lambda sentence: self.store.lose(f"{name}: {sentence}"))

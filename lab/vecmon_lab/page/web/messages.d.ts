@@ -122,8 +122,8 @@ export interface CheckResult {
 /**
  * Set a machine's clock. Settings that are missing stay.
  *
- * `slices` is how many it grants at once, 1 to 1,000; `ms` its pause between them, 10 to 10,000 milliseconds; `limit` the number of
- * ticks after which the server stops a program, about, 100,000 to 10^12.
+ * It grants 1 to 1,000 `slices` at once, and waits 10 to 10,000 `ms` before. The server stops a program after about `limit` ticks
+ * without a stop, 100,000 to 10^12.
  */
 export interface ClockRequest {
   id: number;
@@ -178,8 +178,8 @@ export interface DraftRequest {
   /** The number of the caret's line, for the teacher. */
   line?: number;
   /**
-   * A name of the window, if another window has changed the source: with a number that the source doesn't have, the text becomes one
-   * version, which later drafts by this name replace; with the source's number it becomes the source, and the one there a version.
+   * A name of the window, if another window has changed the source. With a number that the source doesn't have, the text becomes one
+   * version, which later drafts by this name replace. With the source's number it becomes the source, and the one there a version.
    */
   window?: string;
 }
