@@ -11,6 +11,7 @@ import pytest
 from support.language_client import URI, Editor, marked
 from support.places import EXAMPLES
 from vecmon_lab.assembler import line as line_module
+from vecmon_lab.assembler import plain
 from vecmon_lab.assembler.assembly import FileReader
 from vecmon_lab.assembler.source import Program, read_source
 from vecmon_lab.assembler.trial import Trial
@@ -314,18 +315,25 @@ def test_other_sources(tmp_path: pathlib.Path) -> None:
         editor.tell("textDocument/didOpen", textDocument=with_preprocessor)
         (found,) = editor.diagnostics()
         assert (found["severity"], found["range"]["start"]["line"]) == (4, 1)
-        editor.tell("textDocument/didOpen", textDocument=document | {"uri": "untitled:1", "text": "x" * 1_000_001})
-        (found,) = editor.diagnostics()
-        assert found["severity"] == 4 and "1,000,000 characters" in found["message"]
+        too_much = {
+            "x" * 300_001: "more than 300,000 characters",
+            "vad\n" * 5_000: "more than 5,000 lines or statements",
+            "vad;" * 5_000: "more than 5,000 lines or statements",
+            ".rept 6000\nvad\n.endr\n": "macros and repetitions make too many statements",
+        }
+        for text, message in too_much.items():
+            editor.tell("textDocument/didOpen", textDocument=document | {"uri": "untitled:1", "text": text})
+            (found,) = editor.diagnostics()
+            assert found["severity"] == 4 and message in found["message"]
 
 
 def test_text_that_fails(program: pathlib.Path, monkeypatch: pytest.MonkeyPatch) -> None:
     """A text at which the lab fails has a hint that says so, and the next text is checked."""
 
-    def fails(text: str, files: FileReader | None = None) -> Program:
+    def fails(text: str, files: FileReader | None = None, most_made: int = 0) -> Program:
         if "vmul" in text:
             raise IndexError("planted")
-        return read_source(text, files=files)
+        return read_source(text, files=files, most_made=most_made)
 
     monkeypatch.setattr(analysis, "read_source", fails)
     with Trial(program) as trial:
@@ -432,11 +440,12 @@ def test_examples_have_no_diagnostics() -> None:
 
 
 def test_lines_of_a_change_are_read_again_alone() -> None:
-    """A change of a source of 2,000 lines makes no new tries of instructions, and divides only its line into tokens."""
+    """A change of a source of 2,000 lines divides only its line into tokens, also if lines after it get other numbers."""
     lines = [f"l{number}: vadd.vv v1, v2, v3" for number in range(2000)]
     read_source("\n".join(lines))
-    before = line_module._tokens_typed_here.cache_info()
-    lines[1000] = "l1000: vadd.vv v1, v2, v4"
-    read_source("\n".join(lines))
-    after = line_module._tokens_typed_here.cache_info()
-    assert (after.misses - before.misses, after.hits - before.hits) == (1, 1999)
+    for change in (["l1000: vadd.vv v1, v2, v4"], ["l1000: vadd.vv v1, v2, v4", "nop"]):
+        before, tokens = plain._found.cache_info().misses, line_module._tokens_typed_here.cache_info().misses
+        read = read_source("\n".join([*lines[:1000], *change, *lines[1001:]]))
+        assert plain._found.cache_info().misses - before == 1
+        assert line_module._tokens_typed_here.cache_info().misses - tokens == 1
+        assert read.statements[-1].line == 1999 + len(change) and read.statements[-1].places[0][0] == 1999 + len(change)

@@ -6,6 +6,7 @@ from collections.abc import Callable, Iterator
 from .data_runs import DataItem
 from .instruction import Instruction
 from .line import Line, Operand, SourceError, Token
+from .plain import PlacedInstruction, PlainInstruction
 from .sections import PROGRAM_PAGES, TOO_LARGE, Sections
 from .symbols import Symbols
 from .value import Value
@@ -23,7 +24,7 @@ class Assembly:
     def __init__(self, files: FileReader | None = None) -> None:
         self.files = files
         self.symbols, self.sections = Symbols(), Sections()
-        self.instructions: list[Instruction] = []
+        self.instructions: list[Instruction | PlacedInstruction] = []
         self.items: list[DataItem] = []
         self.locals: set[str] = set()
         self.exported: set[str] = set()
@@ -61,6 +62,12 @@ class Assembly:
         column = self.line.column if self.line.places else name.column
         self.instructions.append(Instruction(name, operands, self.here(), texts, self.line.number, column))
         self.put(name, 4 * len(texts))
+        self.sections.current.code_end = self.sections.current.size
+
+    def put_plain(self, plain: PlainInstruction) -> None:
+        """The same for an instruction that depends on nothing else."""
+        self.instructions.append(PlacedInstruction(plain, self.here()))
+        self.put(plain.name, 4 * len(plain.made))
         self.sections.current.code_end = self.sections.current.size
 
     def put(self, name: Token, size: int, make: Callable[[], bytes] | None = None) -> None:

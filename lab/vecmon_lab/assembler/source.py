@@ -18,6 +18,7 @@ from .directives import EXPORTING, IGNORED, Directives
 from .instruction import Statement, refusal
 from .line import Kind, Line, Operand, SourceError, Token, split_operands, tokens_of
 from .names import SOURCE_NAMES, near_names, no_instruction
+from .plain import PlainInstruction, plain_instruction
 from .pseudo import templates
 from .sections import TEXT, USER_PAGES
 from .statements import statements, without_comments
@@ -172,8 +173,23 @@ class _Assembler:
     def read(self, line: Line) -> None:
         """Reads the next statement."""
         self.assembly.line = line
+        section = self._sections.current
+        plain = plain_instruction(line) if "x" in section.permissions and section.size % 4 == 0 else None
+        if plain:
+            self._put(plain)
+            return
         with self.assembly.noting():
             self._read(tokens_of(line))
+
+    def _put(self, plain: PlainInstruction) -> None:
+        """Takes up an instruction that is known already, and the labels before it."""
+        for label in plain.labels:
+            with self.assembly.noting():
+                self._symbols.define(label, self.assembly.here())
+        try:
+            self.assembly.put_plain(plain)
+        except SourceError as error:
+            self.assembly.note(error)
 
     def _read(self, tokens: list[Token]) -> None:
         """Reads labels, and an instruction or a directive. Raises SourceError."""

@@ -15,6 +15,7 @@ from ..machine.answers import VILL, ControlRegisters
 from .constants import constant_before
 from .jumps import jump_target
 
+_MAX_OWNERS = 16  # functions that one instruction is in; more are taken as a jump to any label
 MAX_TYPES = 4  # that are distinguished at a place
 JALR, JAL, BRANCH = 0x67, 0x6F, 0x63  # opcodes
 _OP_VSET = 7  # funct3
@@ -139,20 +140,24 @@ class Flow:
         before = self.states.get(address)
         joined = state if before is None else before.joined(state)
         own = self._owners.get(address, frozenset())
+        if self._is_lost:  # all functions return with an unknown state, whichever an instruction is in
+            owners = own
         if joined != before or not owners <= own:
             self.states[address], self._owners[address] = joined, own | owners
             self._waiting[address] = None
+            if not self._is_lost and len(self._owners[address]) > _MAX_OWNERS:
+                self._lose(self._owners[address])
 
     def _lose(self, owners: frozenset[int]) -> None:
         """Take up that a jump may go to any label, or back to any call."""
+        was_lost, self._is_lost = self._is_lost, True
         for owner in owners:
             self._return(owner, UNKNOWN)
-        if self._is_lost:
+        if was_lost:
             return
-        self._is_lost = True
         for label in self._code.labels:
             if label in self._code.words:
-                self._reach(label, UNKNOWN, frozenset([label]))
+                self._reach(label, UNKNOWN, frozenset())
         for function in [*self._calls]:
             self._return(function, UNKNOWN)
 

@@ -5,6 +5,7 @@ from collections.abc import Iterator, Sequence
 from dataclasses import dataclass, replace
 
 from ..assembler.assembly import FileReader
+from ..assembler.blocks import MAX_CHARACTERS
 from ..assembler.inputs import with_inputs
 from ..assembler.instruction import Statement
 from ..assembler.line import Line, SourceError, Token, tokens_of
@@ -49,10 +50,13 @@ class Analysis:
     words: of the instructions, by address, without those that have mistakes
     """
 
-    def __init__(self, text: str, trial: Trial, files: FileReader | None = None) -> None:
+    def __init__(
+        self, text: str, trial: Trial, files: FileReader | None = None, most_made: int = MAX_CHARACTERS
+    ) -> None:
+        """most_made: characters that macros and repetitions may make; raises TooMuchMade if they make more"""
         self.lines = text.split("\n")
         self.plain = without_comments(text)[0].split("\n")
-        read = with_inputs(read_source(text, files=files), text)
+        read = with_inputs(read_source(text, files=files, most_made=most_made), text)
         answers = trial.answers(statement.text for statement in read.statements)
         self.words = {
             statement.address: answer.word

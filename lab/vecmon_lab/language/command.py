@@ -1,10 +1,13 @@
 """`vecmon-lab lsp`: a language server for assembler sources, which an editor starts and speaks with over a pipe."""
 
 import argparse
+import gc
 
 from ..machine.program import find_program
 from .server import Server
 from .wire import Wire
+
+_COLLECTED = 100_000  # objects that are made before garbage is collected: a reading of 2,000 lines makes some 50,000
 
 
 def add_arguments(parser: argparse.ArgumentParser) -> None:
@@ -16,4 +19,5 @@ def add_arguments(parser: argparse.ArgumentParser) -> None:
 
 def run(arguments: argparse.Namespace) -> int:
     """Serve an editor until it ends the session. Raises LabError if there is no program, or for what is no message."""
+    gc.set_threshold(_COLLECTED)
     return Server(Wire(), find_program()).run()

@@ -5,6 +5,7 @@ from collections.abc import Sequence
 from urllib.parse import unquote, urlsplit
 
 from ..assembler.assembly import FileReader
+from ..assembler.blocks import TooMuchMade
 from ..assembler.line import SourceError, refuse_preprocessor_lines
 from ..assembler.own_files import files_beside
 from ..assembler.trial import Trial
@@ -12,7 +13,9 @@ from .analysis import Analysis
 from .diagnostics import HINT, SOURCE, Finding, findings
 from .positions import Change, changed, lines_of, range_of
 
-MAX_CHARACTERS = 1_000_000  # of a document that is read
+MAX_CHARACTERS, MAX_STATEMENTS = 300_000, 5_000  # of a document that is read
+MAX_MADE = 100_000  # characters that its macros and repetitions make, with 16 more for each statement
+UNCHECKED = "this source isn't checked"
 
 
 class Document:
@@ -48,7 +51,10 @@ class Document:
             text = "\n".join(self.lines)
             self._problem = self._reason_against(text)
             try:
-                self._analysis = Analysis("" if self._problem else text, self._trial, self._files())
+                self._analysis = Analysis("" if self._problem else text, self._trial, self._files(), MAX_MADE)
+            except TooMuchMade:
+                self._problem = SourceError(1, 1, f"macros and repetitions make too many statements; {UNCHECKED}")
+                self._analysis = Analysis("", self._trial)
             except Exception as error:  # pylint: disable=broad-except  # no text may end an editor's server
                 self._problem = SourceError(1, 1, f"this source can't be checked: {type(error).__name__}: {error}")
                 self._analysis = Analysis("", self._trial)
@@ -65,12 +71,14 @@ class Document:
     def _reason_against(self, text: str) -> SourceError | None:
         """Why the text isn't read: it is too large, or a preprocessor makes the source from it."""
         if len(text) > MAX_CHARACTERS:
-            return SourceError(1, 1, f"sources with more than {MAX_CHARACTERS:,} characters aren't checked")
+            return SourceError(1, 1, f"there are more than {MAX_CHARACTERS:,} characters; {UNCHECKED}")
+        if len(self.lines) + text.count(";") > MAX_STATEMENTS:
+            return SourceError(1, 1, f"there are more than {MAX_STATEMENTS:,} lines or statements; {UNCHECKED}")
         if self._path is not None and self._path.suffix == ".S":
             try:
                 refuse_preprocessor_lines(text)
             except SourceError as error:
-                return SourceError(error.line, error.column, f"{error.message}; this source isn't checked")
+                return SourceError(error.line, error.column, f"{error.message}; {UNCHECKED}")
         return None
 
     def _unread(self, problem: SourceError) -> Finding:
