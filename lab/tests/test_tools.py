@@ -65,7 +65,7 @@ def test_folders_are_packages() -> None:
     assert [str(folder) for folder in folders if not (folder / "__init__.py").is_file()] == []
 
 
-@pytest.mark.parametrize("path", [path for path in files() if not path.suffix], ids=lambda path: path.name)
+@pytest.mark.parametrize("path", [path for path in files() if not path.suffix], ids=lambda path: str(path.name))
 def test_commands_in_python_only_start_their_module(path: Path) -> None:
     name = path.relative_to(TOP).as_posix()
     first, _, rest = path.read_text("utf-8").partition("\n")

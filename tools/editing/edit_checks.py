@@ -42,7 +42,7 @@ NAME_GONE = re.compile(r"was not admitted|is not in scope|has no field|has no `"
 
 
 class Outcome(Enum):
-    """What a try of an edit comes to."""
+    """The result of trying an edit."""
 
     REFUSED = "refused"
     NOT_REFUSED = "NOT REFUSED"
@@ -52,7 +52,7 @@ class Outcome(Enum):
 
 @dataclass(frozen=True)
 class Result:
-    """What an edit came to, and the first message of the prover about it, or why there is none."""
+    """The result of an edit, and the first message of the prover about it, or why there is none."""
 
     outcome: Outcome
     message: str

@@ -24,7 +24,7 @@ class Options:
 
 @dataclass(frozen=True)
 class Trial:
-    """An edit, what it came to, and whether an earlier run tried it."""
+    """An edit, its result, and whether an earlier run tried it."""
 
     edit: Edit
     result: Result

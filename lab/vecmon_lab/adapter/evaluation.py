@@ -1,4 +1,4 @@
-"""What a client's expressions evaluate to, at an instant of the program."""
+"""The values of a client's expressions at an instant of the program."""
 
 import re
 from collections.abc import Callable, Iterable
@@ -81,7 +81,7 @@ def evaluate(instant: Instant, frame: Frame, text: str, context: str, is_hex: bo
 
 @dataclass(frozen=True)
 class FrameNames:
-    """What names in an expression mean at an instant, in a frame."""
+    """The meanings of names in an expression at an instant, in a frame."""
 
     instant: Instant
     frame: Frame

@@ -66,11 +66,11 @@ class Value(NamedTuple):
 
 
 Path = tuple[int | str, ...]
-"""What is after a name: indices of elements, and names of fields. What a pointer points to has index 0."""
+"""Indices of elements and names of fields after a name. The value behind a pointer has index 0."""
 
 
 class Names(Protocol):
-    """What names in an expression mean, and what the memory has."""
+    """The meanings of names in an expression, and the bytes of memory."""
 
     def value(self, name: str, path: Path) -> Value:
         """Return the value of a name, with the indices and fields after it. Raises LabError."""

@@ -25,7 +25,7 @@ class Paused(Exception):
 
 
 class Client(Protocol):
-    """What a moving program asks of its client."""
+    """Questions of a moving program to its client."""
 
     def has_requests(self) -> bool:
         """Whether the client has sent something that isn't answered."""

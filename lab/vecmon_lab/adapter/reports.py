@@ -1,4 +1,4 @@
-"""What a session reports to its client without being asked: events, output, and the progress of long work."""
+"""Messages that a session sends without a request: events, output, and the progress of long work."""
 
 import codecs
 from typing import Any

@@ -27,7 +27,7 @@ class NoArguments:
 
 @dataclass(frozen=True)
 class Initialize:
-    """What the client is able to do, and how it counts lines."""
+    """Abilities of the client, and the number of its first line."""
 
     lines_start_at_1: bool = True
     columns_start_at_1: bool = True

@@ -18,7 +18,7 @@ _WORD = re.compile(r"[\w.$]*$")
 
 @dataclass(frozen=True)
 class _Reference:
-    """What a number of the client's stands for: a scope or an expression of a frame, and names of rows below it."""
+    """The path behind a number of the client's: a scope or an expression of a frame, and names of rows below it."""
 
     frame: int
     root: str

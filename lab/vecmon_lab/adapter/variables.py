@@ -1,4 +1,4 @@
-"""What a client shows of a stopped program: scopes of a frame, and the variables, registers and elements in them."""
+"""Rows of a stopped program for a client: scopes of a frame, and the variables, registers and elements in them."""
 
 import functools
 from collections.abc import Callable, Iterator, Sequence

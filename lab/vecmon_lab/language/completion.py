@@ -41,7 +41,7 @@ class Item(TypedDict):
 
 
 def completions(analysis: Analysis, where: Position) -> list[Item]:
-    """What may be typed at a place; nothing in a comment, and where a statement can't be divided into tokens."""
+    """The completions at a place; none in a comment, or if a statement can't be divided into tokens."""
     number = where["line"] + 1
     if not 0 < number <= len(analysis.lines):
         return []
@@ -85,7 +85,7 @@ def _is_word(token: Token) -> bool:
 
 
 def _first_words(analysis: Analysis) -> Iterator[tuple[str, int, str]]:
-    """What a statement may begin with, each with its kind and its operands."""
+    """The names that a statement may begin with, each with its kind and its operands."""
     yield from ((it.name, _METHOD, "macro") for it in analysis.names if it.defines == "macro")
     for name in sorted(SOURCE_NAMES):
         yield name, _FUNCTION, ", ".join(forms_of(name)[0]) if forms_of(name) else ""
@@ -93,7 +93,7 @@ def _first_words(analysis: Analysis) -> Iterator[tuple[str, int, str]]:
 
 
 def _operands(analysis: Analysis, tokens: Sequence[Token], number: int) -> Iterator[tuple[str, int, str]]:
-    """What fits as the operand that begins or goes on after these tokens, of which the first is a name."""
+    """The texts that fit as the operand that begins or goes on after these tokens; the first token is a name."""
     name = tokens[0].text.lower()
     place = sum(token.text == "," for token in tokens)
     is_inside = tokens[-1].text == "("
@@ -112,7 +112,7 @@ def _operands(analysis: Analysis, tokens: Sequence[Token], number: int) -> Itera
 
 
 def _fitting(analysis: Analysis, name: str, field: str, number: int, is_inside: bool) -> Iterator[tuple[str, int, str]]:
-    """What fits in place of a field of the table of instructions."""
+    """The texts that fit in place of a field of the table of instructions."""
     if is_inside:
         yield from ((register, _VARIABLE, REGISTERS[register]) for register in _SCALARS)
     elif field in ("(rs1)", "address"):

@@ -46,7 +46,7 @@ def word_at(analysis: Analysis, where: Position) -> Token | None:
 
 
 def _meaning(token: Token) -> list[str]:
-    """What a name means everywhere."""
+    """The meaning of a name in any source."""
     register = REGISTER_NAMES.get(token.text, "")
     name = token.text.lower()
     if found := describe(name):
