@@ -1,4 +1,4 @@
-"""The tables of docs/ARCHITECTURE.md that list rooms and modules of the lab in their order."""
+"""The tables of docs/LAB_ARCHITECTURE.md that list rooms and modules of the lab in their order."""
 
 import re
 
@@ -7,6 +7,6 @@ from support.places import DOCS
 
 def names_in(title: str) -> list[str]:
     """The names in the first column of a section's table, from the top on."""
-    section = (DOCS / "ARCHITECTURE.md").read_text("utf-8").partition(f"\n{title}\n")[2].partition("\n#")[0]
+    section = (DOCS / "LAB_ARCHITECTURE.md").read_text("utf-8").partition(f"\n{title}\n")[2].partition("\n#")[0]
     cells = re.findall(r"^\| (`[^|]*) \|", section, re.MULTILINE)
     return [name for cell in cells for name in re.findall(r"`([a-z_]+)`", cell)]

@@ -1,4 +1,4 @@
-"""The rooms of the lab, modules of a class and folders of pages, as in docs/ARCHITECTURE.md: each uses only those above it."""
+"""The rooms of the lab, modules of a class and folders of pages, as in docs/LAB_ARCHITECTURE.md: each uses only those above it."""
 
 import ast
 import pathlib
@@ -11,7 +11,7 @@ from support.places import TOP
 LAB = TOP / "lab" / "vecmon_lab"
 CLASSES = LAB / "classes"
 ROOMS = [path.parent.name for path in sorted(LAB.glob("*/__init__.py"))]
-CORE, SERVER = names_in("### The synchronous core"), names_in("### The server of a class")
+CORE, SERVER = names_in("## The synchronous core"), names_in("## The server of a class")
 
 
 def imported(path: pathlib.Path, level: int) -> set[str]:
@@ -39,7 +39,7 @@ def misplaced(order: Sequence[pathlib.Path]) -> list[str]:
 
 
 def test_packages_import_only_packages_above() -> None:
-    order = names_in("## The lab")
+    order = names_in("## Packages")
     assert sorted(order) == ROOMS
     for place, room in enumerate(order):
         for path in (LAB / room).rglob("*.py"):
@@ -57,7 +57,7 @@ def test_class_modules_import_only_modules_above() -> None:
 
 def test_folders_of_pages_import_only_folders_above() -> None:
     """JavaScript of pages, and its types."""
-    order = names_in("### The pages")
+    order = names_in("## The pages")
     web = LAB / "page" / "web"
     assert sorted(order) == sorted(path.name for path in web.iterdir() if path.is_dir())
     for path in web.rglob("*.js"):

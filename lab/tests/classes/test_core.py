@@ -13,7 +13,7 @@ from support.desk import Desk, untimed
 from support.places import TOP
 
 BLOCKED = ["asyncio", "fcntl", "resource", "select", "socket", "subprocess", "threading"]
-MODULES = [f"classes.core.{name}" for name in names_in("### The synchronous core")]
+MODULES = [f"classes.core.{name}" for name in names_in("## The synchronous core")]
 OTHERS = ["assembler.trial", "exercises.check", "lessons.frames", "lessons.page", "machine.session"]
 BLOCK = f"""
 import importlib, json, pathlib, sys
