@@ -177,13 +177,18 @@ def test_adapter_ends_with_its_client(client: Client, endless: pathlib.Path, is_
     assert client.program.wait() == 0
 
 
+def unignored() -> None:
+    """Let SIGHUP end a process, even if these tests run under nohup."""
+    signal.signal(signal.SIGHUP, signal.SIG_DFL)
+
+
 @pytest.mark.parametrize("number, is_running", [(signal.SIGTERM, True), (signal.SIGHUP, False)])
 def test_signal_ends_the_adapter_and_its_image(
     endless: pathlib.Path, tmp_path: pathlib.Path, number: signal.Signals, is_running: bool
 ) -> None:
     folder = tmp_path / "temporary"
     folder.mkdir()
-    with Client.started(env={**os.environ, "TMPDIR": f"{folder}"}) as client:
+    with Client.started(env={**os.environ, "TMPDIR": f"{folder}"}, preexec_fn=unignored) as client:
         client.launch(endless, stopOnEntry=not is_running)
         client.ask("configurationDone")
         assert client.program and [*folder.iterdir()]

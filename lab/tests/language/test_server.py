@@ -389,10 +389,10 @@ def test_bad_messages() -> None:
 
 
 def test_large_and_divided_messages() -> None:
-    """Messages that come in parts, and several at once; a source of half a million characters."""
+    """Messages that come in parts, and several at once; a source of more than 250,000 characters."""
     with Editor() as editor:
-        text = "        nop                                       # a comment\n" * 8000
-        assert len(text) > 400_000 and editor.set_text(text) == []
+        text = "        nop                                       # a comment\n" * 4500
+        assert len(text) > 250_000 and editor.set_text(text) == []
         bodies = [json.dumps({"jsonrpc": "2.0", "id": number, "method": "none"}).encode() for number in range(900, 903)]
         data = b"".join(b"content-length:%d\r\nContent-Type: x\r\n\r\n%s" % (len(each), each) for each in bodies)
         for at_byte in range(len(data)):
@@ -443,7 +443,10 @@ def test_lines_of_a_change_are_read_again_alone() -> None:
     """A change of a source of 2,000 lines divides only its line into tokens, also if lines after it get other numbers."""
     lines = [f"l{number}: vadd.vv v1, v2, v3" for number in range(2000)]
     read_source("\n".join(lines))
-    for change in (["l1000: vadd.vv v1, v2, v4"], ["l1000: vadd.vv v1, v2, v4", "nop"]):
+    for change in (
+        ["l1000: vadd.vv v1, v2, v4"],
+        ["l1000: vadd.vv v1, v2, v4", "vsll.vi v29, v30, 13  # in no other test"],
+    ):
         before, tokens = plain._found.cache_info().misses, line_module._tokens_typed_here.cache_info().misses
         read = read_source("\n".join([*lines[:1000], *change, *lines[1001:]]))
         assert plain._found.cache_info().misses - before == 1

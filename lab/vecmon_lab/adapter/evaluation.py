@@ -100,7 +100,8 @@ class FrameNames:
         value = _register(self.instant, self.frame, name)
         address = address_of(self.instant.program, name) if value is None else value
         if path:
-            raise LabError(f"{name} has no parts; ((int32_t *){name})[0] is a number of the memory there")
+            index = path[0] if isinstance(path[0], int) else 0
+            raise LabError(f"{name} has no parts; ((int32_t *){name})[{index}] is a number of the memory there")
         return expressions.Value(address)
 
     def load(self, address: int, kind: str) -> expressions.Value:
