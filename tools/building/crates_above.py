@@ -4,17 +4,18 @@ Exit status: 2, with one line, for a name that crates.txt doesn't have, and with
 """
 
 import sys
+from collections.abc import Mapping, Sequence
 
 from tools.building.proved_build import TOP, crates_below, libraries
 
 
-def crates_above(names, used):
+def crates_above(names: Sequence[str], used: Mapping[str, Sequence[str]]) -> list[str]:
     """Returns these crates and all that use them, each after those that it uses, by the table of `libraries`."""
     above = [crate for crate in used if set(names) & set(crates_below([crate], used))]
     return sorted(above, key=lambda crate: len(crates_below([crate], used)))
 
 
-def main(names):
+def main(names: Sequence[str]) -> int:
     with open(f"{TOP}/crates.txt", encoding="utf-8") as file:
         used = libraries(file.read())
     unknown = [name for name in names if name not in used]

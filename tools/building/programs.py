@@ -20,6 +20,7 @@ import gzip
 import pathlib
 import sys
 import tempfile
+from collections.abc import Mapping, Sequence
 from concurrent.futures import ThreadPoolExecutor
 
 from tools.building import native_program, wasm_program
@@ -32,7 +33,7 @@ TESTS = ("test_kernels", "test_step")  # tools/building/keep_modules saves no mo
 WASM = "wasm32"
 
 
-def check_tools(target):
+def check_tools(target: str) -> None:
     """Raises Refusal if a tool for the target is missing: before minutes of work."""
     if target == WASM:
         wasm_program.check_tools()
@@ -40,7 +41,7 @@ def check_tools(target):
         native_program.check_tools(native_program.TARGETS[target])
 
 
-def modules_of(options, names, folder):
+def modules_of(options: argparse.Namespace, names: Sequence[str], folder: pathlib.Path) -> Mapping[str, pathlib.Path]:
     """Return the modules of the programs by their names; those that are made first are in the folder."""
     if options.unproved:
         return make_unproved(names, folder)
@@ -51,14 +52,14 @@ def modules_of(options, names, folder):
     return find_proved(names)
 
 
-def build(target, name, text, folder, origin):
+def build(target: str, name: str, text: pathlib.Path, folder: pathlib.Path, origin: str) -> bytes:
     """Return the bytes of a program for a target, from its module in a text file."""
     if target == WASM:
         return wasm_program.build(name, text, folder)
     return native_program.build(name, text, folder, native_program.TARGETS[target], origin)
 
 
-def write(options, name, content, origin):
+def write(options: argparse.Namespace, name: str, content: bytes, origin: str) -> str:
     """Write a program, and return its lines of PROVENANCE."""
     suffix = ".wasm" if options.target == WASM else native_program.TARGETS[options.target].suffix
     file = options.out / f"{name}{suffix}"
@@ -72,7 +73,7 @@ def write(options, name, content, origin):
     return f"{file.name}: SHA-256 {digest_of(content)}, {size}.\n{origin}.\n"
 
 
-def main(options):
+def main(options: argparse.Namespace) -> None:
     names = (options.program,) if options.program else NAMES
     check_tools(options.target)
     with tempfile.TemporaryDirectory() as name_of_folder, ThreadPoolExecutor() as pool:
@@ -91,7 +92,7 @@ def main(options):
     )
 
 
-def read_arguments():
+def read_arguments() -> argparse.Namespace:
     usage = "tools/building/programs --target TARGET [--modules FOLDER | --unproved] [--program NAME] OUT"
     parser = argparse.ArgumentParser(
         usage=usage, description=__doc__, formatter_class=argparse.RawDescriptionHelpFormatter

@@ -18,6 +18,7 @@ import re
 import shutil
 import subprocess
 import sys
+from collections.abc import Iterable, Mapping, Sequence
 
 from tools.building.linked_kit import cache
 
@@ -28,7 +29,7 @@ JOB_BYTES = 4_000_000_000
 DEFAULT_SECONDS = 40  # of a crate that docs/MEASUREMENTS.md doesn't have
 
 
-def libraries(text):
+def libraries(text: str) -> dict[str, list[str]]:
     """Returns the crates that each crate of a crates.txt uses, by name, without those of the kit."""
     named = {
         name: words.split("#")[0].split() for name, words in re.findall(r"^([a-z]\w*)[^:\n]*:(.*)$", text, re.MULTILINE)
@@ -36,7 +37,7 @@ def libraries(text):
     return {name: [word for word in words if word in named] for name, words in named.items()}
 
 
-def crates_below(tops, used):
+def crates_below(tops: Iterable[str], used: Mapping[str, Sequence[str]]) -> list[str]:
     """Returns these crates and all that they use, by the table of `libraries`."""
     found = list(dict.fromkeys(tops))
     for crate in found:
@@ -44,7 +45,7 @@ def crates_below(tops, used):
     return found
 
 
-def copy_sources(crates, text, folder):
+def copy_sources(crates: Sequence[str], text: str, folder: str) -> None:
     """Makes the folder a repository of these crates alone. The results of rt in out/ stay there."""
     os.makedirs(f"{folder}/crates", exist_ok=True)
     for name in set(os.listdir(f"{folder}/crates")) - set(crates):
@@ -60,21 +61,23 @@ def copy_sources(crates, text, folder):
         file.write("".join(f"{line}\n" for line in lines))
 
 
-def jobs_for(processors, memory):
+def jobs_for(processors: int, memory: int) -> int:
     """Returns how many crates are proved at a time, by the processors and the bytes of memory."""
     return max(1, min(processors, memory // JOB_BYTES))
 
 
-def seconds_of_proofs():
+def seconds_of_proofs() -> dict[str, int]:
     """Returns the seconds of each crate's proof in docs/MEASUREMENTS.md."""
     with open(f"{TOP}/docs/MEASUREMENTS.md", encoding="utf-8") as file:
         rows = re.findall(r"^\| \d+ to \d+ \| (`.*) \|$", file.read(), re.MULTILINE)
     return {name: int(seconds) for row in rows for name, seconds in re.findall(r"`(\w+)` (\d+)", row)}
 
 
-def calculated_end(crates, used, seconds, jobs):
+def calculated_end(
+    crates: Iterable[str], used: Mapping[str, Sequence[str]], seconds: Mapping[str, int], jobs: int
+) -> int:
     """Returns the second at which the last proof ends. As in rt, a crate takes a job in the order of what is below it, and waits there."""
-    free, ends = [0] * jobs, {}
+    free, ends = [0] * jobs, dict[str, int]()
     for name in sorted(sorted(crates), key=lambda crate: len(crates_below([crate], used))):
         free.sort()
         ends[name] = max([free[0], *(ends[below] for below in crates_below([name], used)[1:])]) + seconds.get(
@@ -84,14 +87,14 @@ def calculated_end(crates, used, seconds, jobs):
     return max(ends.values())
 
 
-def digest():
+def digest() -> str:
     """Returns the digest of the sources."""
     return subprocess.run(
         [f"{TOP}/tools/building/source_digest"], capture_output=True, text=True, check=True
     ).stdout.strip()
 
 
-def build_programs(folder, sources):
+def build_programs(folder: str, sources: str) -> int:
     """Compiles the proved programs, copies them into crates/NAME/out, and records their sources. Returns the exit status."""
     for name in PROGRAMS:
         ran = subprocess.run(["rt", "run", "--", "--help"], cwd=f"{folder}/crates/{name}", stdout=subprocess.DEVNULL)
@@ -105,7 +108,7 @@ def build_programs(folder, sources):
     return subprocess.run([f"{TOP}/tools/building/source_digest", "record", sources]).returncode
 
 
-def main(words):
+def main(words: Sequence[str]) -> int:
     """Proves, and builds if no crate is named."""
     parser = argparse.ArgumentParser(
         prog="tools/building/proved_build",

@@ -19,6 +19,7 @@ import re
 import subprocess
 import sys
 import tempfile
+from collections.abc import Mapping, Sequence
 
 from tools.building.front_end import make_module
 from tools.building.linked_kit import TARGET, installed_kit, kit_identity, link_program, write_text
@@ -38,9 +39,12 @@ ATTRIBUTES = re.compile(r"\nattributes #0 = .*")
 COMMON = 'nounwind "frame-pointer"="all" "probe-stack"="inline-asm" "stack-probe-size"="3072" "target-cpu"="x86-64-v2"'
 
 
-def inlined(crates):
+Marks = Mapping[tuple[str, str, str], str]
+
+
+def inlined(crates: str) -> Marks:
     """The functions under `#[inline(always)]` and `#[inline(never)]`, by crate and name."""
-    found = {}
+    found = dict[tuple[str, str, str], str]()
     for file in glob.glob(f"{crates}/*/src/**/*.rt", recursive=True):
         crate, lines = os.path.relpath(file, crates).split("/")[0], open(file, encoding="utf-8").read().split("\n")
         own = os.path.relpath(file, f"{crates}/{crate}/src")[:-3].replace("/", "::")
@@ -58,10 +62,10 @@ def inlined(crates):
     return found
 
 
-def without_checks(module, marks):
+def without_checks(module: str, marks: Marks) -> str:
     """The text of the module without its checks and the name of its file, and with the marks."""
 
-    def marked(found):
+    def marked(found: re.Match[str]) -> str:
         path = found[2].split("::<")[0].split("::")
         kinds = (marks.get((path[0], "::".join(path[1:end]), path[-1])) for end in range(1, len(path)))
         group = {"always": "#90", "never": "#91", None: "#0"}[next((it for it in kinds if it), None)]
@@ -72,7 +76,7 @@ def without_checks(module, marks):
     return ATTRIBUTES.sub("".join(groups), text).replace("sanitize_address ", "")
 
 
-def write_module(crate, out):
+def write_module(crate: str, out: str) -> None:
     """Writes the LLVM module of a crate's program as text, without its checks and with the marks."""
     kit, crates = installed_kit(), os.path.abspath("crates")
     if not os.path.isdir(f"{crates}/{crate}"):
@@ -86,7 +90,7 @@ def write_module(crate, out):
             it.write(f"; {kit_identity()}\n{without_checks(module.read(), inlined(crates))}")
 
 
-def compile_module(module, out, level="-O3"):
+def compile_module(module: str, out: str, level: str = "-O3") -> None:
     """Compiles the text of a module, and links it to a program."""
     kit = installed_kit()
     make_folder(out)
@@ -100,7 +104,7 @@ def compile_module(module, out, level="-O3"):
         link_program(kit, compiled, out)
 
 
-def build(crate, out, module=None):
+def build(crate: str, out: str, module: str | None = None) -> None:
     """Builds a crate's optimized program, and keeps its module if a file is named."""
     make_folder(out)  # a build takes minutes before it links
     with tempfile.TemporaryDirectory() as room:
@@ -109,12 +113,12 @@ def build(crate, out, module=None):
         compile_module(module, out)
 
 
-def make_folder(file):
+def make_folder(file: str) -> None:
     """Makes the folder of a file."""
     os.makedirs(os.path.dirname(os.path.abspath(file)), exist_ok=True)
 
 
-def main(words):
+def main(words: Sequence[str]) -> None:
     match words:
         case ["--module", crate, module]:
             write_module(crate, module)

@@ -99,7 +99,7 @@ def full_output(program: str) -> list[str]:
 def line_by_line(program: str) -> list[str]:
     """Lines to a program whose input stays open: each is answered before the next is written."""
     script, answers = first_script()
-    lines, faults = list(zip(script.splitlines(), answers.splitlines(), strict=True)), []
+    lines, faults = list(zip(script.splitlines(), answers.splitlines(), strict=True)), list[str]()
     with subprocess.Popen(
         [program], stdin=subprocess.PIPE, stdout=subprocess.PIPE, stderr=subprocess.DEVNULL, bufsize=0
     ) as started:

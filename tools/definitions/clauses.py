@@ -73,12 +73,12 @@ def main(names: list[str]) -> int:
                     print(f"{path}: {found[1]} has {count} parameters")
             for function, clause in clauses(text):
                 contracts[clause].add((crate, str(path), function))
-    for clause, found in sorted(contracts.items(), key=lambda it: -len(it[1])):
-        if len(found) > MAX_CONTRACTS:
+    for clause, places in sorted(contracts.items(), key=lambda it: -len(it[1])):
+        if len(places) > MAX_CONTRACTS:
             crates = ", ".join(
-                f"{crate} {count}" for crate, count in Counter(crate for crate, _, _ in found).most_common()
+                f"{crate} {count}" for crate, count in Counter(crate for crate, _, _ in places).most_common()
             )
-            print(f"{len(found)} contracts ({crates}): {clause}")
+            print(f"{len(places)} contracts ({crates}): {clause}")
     return 0
 
 

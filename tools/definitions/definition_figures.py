@@ -1,6 +1,8 @@
 """The counts of lines in docs/DEFINITIONS.md, for `tools/checks/check_definitions --write`."""
 
 import re
+from collections.abc import Callable, Mapping
+from pathlib import Path
 
 from tools.definitions import definitions as counted
 from tools.definitions.kit_definitions import report
@@ -24,26 +26,26 @@ def with_counts(page: str) -> str:
     return page
 
 
-def files_in(cell):
+def files_in(cell: str) -> list[str]:
     """The files that a cell names: one without a folder lies in that of the file before it."""
-    found, folder = [], ""
+    found, folder = list[str](), ""
     for name in re.findall(r"`([\w/]+)`", cell):
         folder = f"{name.rpartition('/')[0]}/" if "/" in name else folder
         found.append(name if "/" in name else folder + name)
     return found
 
 
-def _lines(files):
+def _lines(files: Mapping[Path, int]) -> str:
     """The text of a number of lines in files."""
     return f"{sum(files.values()):,} lines in {len(files)} files"
 
 
-def _parts():
+def _parts() -> dict[str, int]:
     """The lines outside of `rv_model/specs`, by crate or folder."""
     return counted.by_part(counted.files_of(counted.definitions()))
 
 
-def _with_rows(page, title, changed):
+def _with_rows(page: str, title: str, changed: Callable[[str], str]) -> str:
     """The page with the rows of the table below a title changed."""
     before, head, rest = page.partition(f"\n## {title}\n")
     section, end, after = rest.partition("\n## ")
@@ -51,7 +53,7 @@ def _with_rows(page, title, changed):
     return "".join((before, head, "\n".join(lines), end, after))
 
 
-def _hour_row(line):
+def _hour_row(line: str) -> str:
     """A row of the hour's table, whose last cell has the lines of its files."""
     read = {
         str(path.with_suffix("")).removeprefix("rv_model/specs/"): lines for path, lines in counted.addition().items()
@@ -61,7 +63,7 @@ def _hour_row(line):
     return re.sub(r"[\d,]+(?= \|$)", f"{number:,}", line)
 
 
-def _module_row(line):
+def _module_row(line: str) -> str:
     """A row of the table of all modules: its second cell has the lines of a module, or of the parts that its third one names."""
     cells = line.split("|")
     module = counted.module_files().get(cells[1].strip(" `"))
@@ -70,6 +72,10 @@ def _module_row(line):
         return "|".join(cells)
     parts = _parts()
     names = [name for name in re.findall(r"`(\w+)` \(", cells[3]) if name in parts]
-    cells[3] = re.sub(r"`(\w+)` \(\d+\)", lambda found: f"`{found[1]}` ({parts.get(found[1], 0)})", cells[3])
+
+    def counted_part(found: re.Match[str]) -> str:
+        return f"`{found[1]}` ({parts.get(found[1], 0)})"
+
+    cells[3] = re.sub(r"`(\w+)` \(\d+\)", counted_part, cells[3])
     cells[2] = f" {sum(parts[name] for name in names):,} "
     return "|".join(cells)

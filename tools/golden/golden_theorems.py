@@ -19,7 +19,7 @@ import subprocess
 import sys
 import textwrap
 from collections import Counter, defaultdict
-from collections.abc import Iterator, Sequence
+from collections.abc import Iterator, Mapping, Sequence
 from pathlib import Path
 
 from tools.golden.golden_cases import Vector, changed_files, gate_cases, golden_vectors, rows_without_case
@@ -115,7 +115,7 @@ def exports(module: str, functions: Sequence[str]) -> str:
 
 
 def crate_files(
-    crate: str, title: str, modules: dict[str, tuple[str, Sequence[Vector]]], specs: str, laws: dict[str, str]
+    crate: str, title: str, modules: Mapping[str, tuple[str, Sequence[Vector]]], specs: str, laws: dict[str, str]
 ) -> dict[Path, str]:
     """The generated files of a crate of these modules; specs: the first lines of its list of `specs`; laws: its modules of `src` that
     aren't generated, and the function of each."""

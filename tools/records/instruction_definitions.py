@@ -27,13 +27,13 @@ from tools.records.instruction_records import Record as InstructionRecord
 from vecmon_lab import LabError
 from vecmon_lab.guest import changes
 from vecmon_lab.instructions.accesses import REGISTER_BITS, active_spans, base_address, body_of, vector_instruction
+from vecmon_lab.instructions.scalar_registers import scalars_read
 from vecmon_lab.instructions.table import Row, instruction_table
 from vecmon_lab.instructions.words import STORE, STORE_FP, decode
 from vecmon_lab.machine.answers import ControlRegisters
 from vecmon_lab.meanings.describe import section_of
 from vecmon_lab.meanings.record import record_of
 from vecmon_lab.page.operands import shown_operands
-from vecmon_lab.runs.dataflow import scalars_read
 
 PAGE, PRINTED = Path("docs/INSTRUCTIONS.md"), Path("crates/test_assembler/stdout")
 FAMILIES = (*FUNCT6, *FIXED)
