@@ -1,5 +1,5 @@
 -- The state with any overlay of a step's fill is one that the standard allows.
-use Rattle.std.proofs.Common.{ℕ, ◌≡◌, ◌∙◌, ◌+◌, ◌*◌, ◌/◌, ◌≤◌, List, length, Bool, true, false, ◌&&◌, Option, Some, None, if◌then◌else◌, max, refl, sym, ap, subst, arith, inl, inr}
+use Rattle.std.proofs.Common.{ℕ, ◌≡◌, ◌∙◌, ◌+◌, ◌*◌, ◌/◌, ◌≤◌, List, length, Bool, true, false, ◌&&◌, Option, Some, None, if◌then◌else◌, max, slice_index, refl, sym, ap, subst, arith, inl, inr}
 use mir.Val.{bits}
 use Rattle.std.specs.Option.{option_and_then, option_map_or, unwrap_or}
 use Rattle.std.specs.Prelude.{[]}
@@ -25,7 +25,7 @@ use Rattle.rv_model.specs.step.Hart.{HartState, Stepped}
 use Rattle.rv_model.specs.step.Step.{VectorStepped, after_vector, executed, fetched, operation_step, performed, step, typed, typed_over, typed_step, vector_ends, vector_executed, vector_step, vector_ticks, word_at}
 use Rattle.rv_model.specs.vector.Groups.{registers, width_bytes}
 use Rattle.rv_model.proofs.Choices.{of_bool}
-use Rattle.open_choices.specs.Fills.{ChosenIsOpen, Fill, NoneChosen, fill_at, fill_of, if_ran, is_filled, typed_fill, with_ones}
+use Rattle.open_choices.specs.Fills.{ChosenIsOpen, Fill, NoneChosen, fill_at, fill_of, if_ran, is_filled, overlaid, typed_fill, with_ones}
 use Rattle.open_choices.specs.OpenStep.{IsAgnostic, IsElementOf, IsOpenStep, file_under, grain, instr_at, with_choices}
 use Rattle.open_choices.proofs.Destinations.{Destined, IsDestination, destined, grain_is, group_inside, group_most, group_width}
 use Rattle.open_choices.proofs.Filled.{Filled, typed_filled, under}
@@ -195,6 +195,21 @@ module _ (s : HartState) (keeps : s.policy ≡ Keep) (long : length s.vector.fil
   open_of : (taken : ℕ → Bool) (o : Option Fill) → fill_at s ≡ o → IsOpenStep s (with_choices s (overlaid_by taken o) (step 256 s).state.vector.conf.vl)
   open_of taken None e = subst (IsOpenStep s) (sym unfilled) (step_is_open s keeps)
   open_of taken (Some f) e = open_by f (found s f e) taken
+
+  agnostic_of : (taken : ℕ → Bool) (o : Option Fill) → fill_at s ≡ o → (e : ℕ) → IsAgnostic s (overlaid_by taken o) e
+  agnostic_of taken None is e = inl (λ m l r. ap (λ file. slice_index file (grain s * e + m)) (same_file s keeps))
+  agnostic_of taken (Some f) is e = agnostic f (found s f is) taken e
+
+  long_of : (taken : ℕ → Bool) (o : Option Fill) → fill_at s ≡ o → length (overlaid_by taken o) ≡ length now
+  long_of taken None is = refl
+  long_of taken (Some f) is = let it = found s f is in new_long f s.vector.file now (file_under Ones s) (by f it) (fits f it) taken
+
+  -- each element of the registers with an overlay is kept or all ones
+  pub overlay_is_agnostic : (taken : ℕ → Bool) (e : ℕ) → IsAgnostic s (overlaid s taken) e
+  overlay_is_agnostic taken e = agnostic_of taken (fill_at s) refl e
+
+  pub overlay_long : (taken : ℕ → Bool) → length (overlaid s taken) ≡ length now
+  overlay_long taken = long_of taken (fill_at s) refl
 
   none_of : (taken : ℕ → Bool) → ((i : ℕ) → taken i ≡ false) → (o : Option Fill) → fill_at s ≡ o → overlaid_by taken o ≡ now
   none_of taken none None e = refl

@@ -3,9 +3,12 @@ pub mod ChosenSteps
 pub mod Destinations
 pub mod Filled
 pub mod FilledChunks
+pub mod LimitedGroups
 pub mod OpenBits
 pub mod OpenGroups
+pub mod OpenLengths
 pub mod OpenSteps
 pub mod Overlays
 pub mod ReadyGroups
 pub mod SeedBits
+pub mod SeededSteps

@@ -53,7 +53,7 @@ trimmed_step_is_open s file left h first start some most long others =
       length_is = inr (inl (first, (start, (some, most))));
     }
 
-between : (o : Option (ℕ × RequestedLength)) (rd most left : ℕ) (length : RequestedLength) → o ≡ Some (rd, length) → IsBetween length most left
+pub between : (o : Option (ℕ × RequestedLength)) (rd most left : ℕ) (length : RequestedLength) → o ≡ Some (rd, length) → IsBetween length most left
     → MatchOption o ⊥ (λ asked. IsBetween asked.1 most left)
 between o rd most left length is h = rw is h
 

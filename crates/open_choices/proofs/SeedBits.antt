@@ -1,15 +1,20 @@
 -- The bits of the elements that a seed chooses.
-use Rattle.std.proofs.Common.{ℕ, ◌+◌, ◌/◌, ◌%◌, ◌^◌, ◌<◌, ◌≤◌, ◌≡◌, Bool, true, false, ◌||◌, not, eqb, bit_xor, refl, sym, ap, ◌∙◌, arith}
+use Rattle.std.proofs.Common.{ℕ, ◌+◌, ◌/◌, ◌%◌, ◌^◌, ◌<◌, ◌≡◌, Bool, true, false, ◌&&◌, ◌||◌, not, eqb, nat_le, nat_lt, bit_xor, refl, sym, ap, ◌∙◌, arith}
+use Rattle.std.specs.Prelude.{min}
+use Rattle.rv_model.specs.declared.vector.sizes.TheConstants.{GROUP_BYTES}
 use Rattle.std.proofs.Math.Nat.{div-div-eq-div-mul}
 use Rattle.std.proofs.lemmas.Bool.Decides.{nat_tests}
 use Rattle.std.proofs.lemmas.Nat.{pow-add}
 use Rattle.std.proofs.lemmas.Nat.Bits.{bit_at-lt, bit_at_ones, bit_at_xor}
 use Rattle.open_choices.specs.declared.seeds.Seed.{Seed}
-use Rattle.open_choices.specs.Seeds.{drawn_bits, is_chosen, is_drawn}
+use Rattle.open_choices.specs.Seeds.{chooses, drawn_bits, is_chosen, is_drawn}
 
--- a seed that chooses at this instruction
-pub drawn : (c : Seed) (n e : ℕ) → (c.seed ≡ 0 → ⊥) → c.first ≤ n → n ≤ c.last → is_chosen c n e ≡ is_drawn c.seed n e
-drawn c n e some from to = grind (arith, nat_tests)
+-- a seed that doesn't choose at an instruction, and one that does
+pub none_chosen : (c : Seed) (n e : ℕ) → chooses c n ≡ false → not (is_chosen c n e) ≡ true
+none_chosen c n e h = ap (λ b. not (b && (is_drawn c.seed n e && (nat_le c.low e && nat_lt e (min c.high GROUP_BYTES))))) h
+
+pub some_chosen : (c : Seed) (n e : ℕ) → chooses c n ≡ true → is_chosen c n e ≡ (is_drawn c.seed n e && (nat_le c.low e && nat_lt e (min c.high GROUP_BYTES)))
+some_chosen c n e h = ap (λ b. b && (is_drawn c.seed n e && (nat_le c.low e && nat_lt e (min c.high GROUP_BYTES)))) h
 
 -- seed 1
 pub always : (seed n e : ℕ) → seed ≡ 1 → is_drawn seed n e ≡ true

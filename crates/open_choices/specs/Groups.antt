@@ -6,6 +6,7 @@ use Rattle.rv_model.specs.declared.vector.types.Sew.{Sew}
 use Rattle.rv_model.specs.declared.vector.types.VType.{VType}
 use Rattle.rv_model.specs.vector.Groups.{GroupType, doubled, group_type, registers, sew_width, wide_type}
 use Rattle.open_choices.specs.declared.open_group.OpenGroup.{OpenGroup}
+use Rattle.open_choices.specs.declared.seeds.Kinds.{Kinds}
 use Rattle.rv_model.specs.declared.vector.types.Sew.TheVariants.{E64}
 use Rattle.rv_model.specs.declared.vector.sizes.TheConstants.{GROUP_BYTES, VECTOR_REGISTERS}
 use Rattle.open_choices.specs.Fills.{Fill, is_filled, with_ones}
@@ -28,6 +29,10 @@ fill_of_group o =
       masked_off = o.masked_off;
       tail = o.tail;
     }
+
+-- a group that is open only to choices of these kinds
+abbrev pub limited : OpenGroup → Kinds → OpenGroup
+limited o k = record o { masked_off = o.masked_off && k.masked; tail = o.tail && k.tail }
 
 abbrev pub is_widest : Sew → Bool
 is_widest E64 = true

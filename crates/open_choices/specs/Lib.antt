@@ -1,4 +1,5 @@
 pub mod Fills
 pub mod Groups
 pub mod OpenStep
+pub mod SeedLaws
 pub mod Seeds

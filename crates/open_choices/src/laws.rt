@@ -1,5 +1,6 @@
 //! Laws about steps with choices.
 ghost use Rattle.open_choices.specs.Fills.{AllChosen, ChosenIsOpen, NoneChosen};
+ghost use Rattle.open_choices.specs.SeedLaws.{SameLength, SeededIsOpen, ZeroIsStep};
 ghost use Rattle.open_choices.specs.OpenStep.{FilledStepIsOpen, OtherLengthIsOpen, StepIsOpen, TrimmedStepIsOpen};
 
 /// The standard allows a step without choices, and one with the registers that the policy `ones` leaves; a fault-only-first
@@ -19,4 +20,12 @@ pub fn overlays_are_open()
     ensures chosen { ChosenIsOpen }
     ensures none { NoneChosen }
     ensures all { AllChosen }
+{}
+
+/// The standard allows each state with the choices of a seed. Seed 0 leaves that of the step. Two vset instructions with
+/// the same AVL and VLMAX at which a seed chooses get the same length.
+pub fn seeds_are_open()
+    ensures seeded { SeededIsOpen }
+    ensures zero { ZeroIsStep }
+    ensures length { SameLength }
 {}

@@ -7,10 +7,12 @@ ghost use Rattle.rv_model.specs.vector.Groups.{registers, width_bytes};
 ghost use Rattle.rv_model.specs.declared.vector.types.Sew.TheVariants as Sew;
 ghost use Rattle.rv_model.specs.lending.GroupBounds.{IsInside};
 ghost use Rattle.open_choices.specs.Fills.{is_filled, is_open, with_ones};
-ghost use Rattle.open_choices.specs.Groups.{fill_of_group, is_ready};
+ghost use Rattle.open_choices.specs.Groups.{fill_of_group, is_ready, limited};
+ghost use Rattle.open_choices.specs.Seeds.{has_kind};
 
 use crate::choices::Choices;
 use crate::open_group::OpenGroup;
+use crate::seeds::Kinds;
 use lane_arith::{Body, Lane, enabled_bits, filled_bits, put_results};
 use reg_groups::{group_mut, registers};
 use rv_model::{GROUP_BYTES, Sew, VECTOR_REGISTERS, VFile};
@@ -95,13 +97,25 @@ fn is_ready(group: &OpenGroup) -> bool
         && !(group.wide && matches!(group.sew, Sew::E64))
 }
 
-/// Write ones to the chosen elements of the group of an instruction that ran.
-pub fn choose_ones<C: Choices>(choices: &C, group: &OpenGroup, file: &mut VFile)
-    ensures { is_ready group.now ≡ true → file.new ≡ with_ones (fill_of_group group.now)
-        (λ i. is_filled (fill_of_group group.now) i && C.takes choices.now i) file.old }
+/// Return a group whose masked-off elements and tail are open only to choices of these kinds.
+fn limited(group: &OpenGroup, kinds: Kinds) -> OpenGroup
+    ensures { result ≡ limited group.now kinds }
 {
+    OpenGroup {
+        masked_off: group.masked_off && kinds.masked,
+        tail: group.tail && kinds.tail,
+        ..*group
+    }
+}
+
+/// Write ones to the elements of the group of an instruction that ran that are chosen and of these kinds.
+pub fn choose_ones<C: Choices>(choices: &C, kinds: Kinds, group: &OpenGroup, file: &mut VFile)
+    ensures { is_ready group.now ≡ true → file.new ≡ with_ones (fill_of_group group.now)
+        (λ i. is_filled (fill_of_group group.now) i && (C.takes choices.now i && has_kind kinds (fill_of_group group.now) i)) file.old }
+{
+    let some = limited(group, kinds);
     // The group of an instruction that ran is ready; the proof needs the test.
-    if is_ready(group) {
-        fill_group(choices, group, file);
+    if is_ready(&some) {
+        fill_group(choices, &some, file);
     }
 }

@@ -1,6 +1,5 @@
 -- Numbers of elements of whole registers
 use Rattle.std.proofs.Common.{◌≤◌, lit≤}
-use Rattle.std.specs.Prelude.{⊤}
 use Rattle.rv_model.specs.declared.instructions.operations.RegisterCount.{RegisterCount}
 use Rattle.rv_model.specs.declared.instructions.operations.RegisterCount.TheVariants.{One}
 use Rattle.rv_model.specs.declared.instructions.operations.Eew.{Eew}

@@ -31,7 +31,7 @@ pub use hart::SingleSlot;
 pub use key::Key;
 pub use laws::recording_laws;
 pub use machine::SingleUserMachine;
-pub use open_chooser::OpenChooser;
+pub use open_chooser::{Open, OpenChooser};
 pub use recorder::Recorder;
 pub use recorder_pair::RecorderPair;
 pub use retired::Retired;

@@ -1,26 +1,16 @@
-use Rattle.std.proofs.Common.{bit_xor, ◌+◌, ◌%◌, ◌/◌, ◌^◌, ◌≡◌, ◌∙◌, not, eqb, ap, sym, arith}
-use Rattle.std.proofs.lemmas.Nat.Bits.{bit_at_ones}
-use Rattle.open_choices.proofs.SeedBits.{always, drawn, even_bit, odd_bit}
+use Rattle.std.proofs.Common.{ℕ, ◌+◌, ◌∙◌, ◌&&◌, ap, nat_le, nat_lt, not, sym, arith}
+use Rattle.std.specs.Prelude.{min}
+use Rattle.lane_arith.proofs.MaskBits.{both_bits}
+use Rattle.rv_model.specs.declared.vector.sizes.TheConstants.{GROUP_BYTES}
+use Rattle.open_choices.specs.Seeds.{is_drawn}
+use Rattle.open_choices.proofs.SeedBits.{some_chosen}
 use Rattle.open_choices.proofs.seeds.SeedChoicesChoices.bits.Goals as goal
 
-pub returns-then-seed-eq1 : goal.returns-then-seed-eq1
-returns-then-seed-eq1 c = λ i h.
+pub returns : goal.returns
+returns c = λ i h.
     let s = c.args.self.now in
-    let one : 18446744073709551615 / 2 ^ i % 2 ≡ 1 = bit_at_ones 64 i (omega (arith, c.requires)) in
-    ap (λ x. eqb x 0) one
-    ∙ sym (ap not (drawn s.seed s.number (c.args.first + i) c.if-seed-eq0.false (omega (arith, c.if-self-seed.false)) (omega (arith, c.if-seed-self.false))
-    ∙ always s.seed.seed s.number (c.args.first + i) c.if-seed-eq1.true))
-
-pub returns-then-seed-eq0-2 : goal.returns-then-seed-eq0-2
-returns-then-seed-eq0-2 c = λ i h.
-    let s = c.args.self.now in
-    ap (λ w. eqb (w / 2 ^ (c.args.first % 32) / 2 ^ i % 2) 0) c.drawn_bits.ensures.value
-    ∙ even_bit s.seed.seed s.number c.args.first i c.if-seed-eq1.false c.if-seed-eq0-2.true (omega (arith, c.requires))
-    ∙ sym (ap not (drawn s.seed s.number (c.args.first + i) c.if-seed-eq0.false (omega (arith, c.if-self-seed.false)) (omega (arith, c.if-seed-self.false))))
-
-pub returns-else-seed-eq0-2 : goal.returns-else-seed-eq0-2
-returns-else-seed-eq0-2 c = λ i h.
-    let s = c.args.self.now in
-    ap (λ w. eqb (bit_xor (w / 2 ^ (c.args.first % 32)) 18446744073709551615 / 2 ^ i % 2) 0) c.drawn_bits.ensures.value
-    ∙ odd_bit s.seed.seed s.number c.args.first i c.if-seed-eq1.false c.if-seed-eq0-2.false (omega (arith, c.requires))
-    ∙ sym (ap not (drawn s.seed s.number (c.args.first + i) c.if-seed-eq0.false (omega (arith, c.if-self-seed.false)) (omega (arith, c.if-seed-self.false))))
+    let e : ℕ = c.args.first + i in
+    let range = rw (c.new-range.ensures, c.min-high.ensures) at c.filled_bits.ensures i h in
+    both_bits c.drawn_elements-drawn.result c.filled_bits.result i (is_drawn s.seed.seed s.number e) (nat_le s.seed.low e && nat_lt e (min s.seed.high GROUP_BYTES))
+    (c.drawn_elements-drawn.ensures i (omega (arith, c.requires, h))) range
+    ∙ ap not (sym (some_chosen s.seed s.number e (sym c.chooses.ensures ∙ c.if-not-chooses.false)))
