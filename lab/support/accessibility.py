@@ -8,7 +8,7 @@ from support.browser import press
 if TYPE_CHECKING:
     from selenium.webdriver import Chrome
 
-# Roles of what a reader uses; each must have a name.
+# Roles of elements that a reader uses; each must have a name.
 CONTROLS = frozenset(
     "button checkbox combobox DisclosureTriangle gridcell link listbox menuitem radio searchbox separator slider spinbutton switch tab"
     " textbox".split()

@@ -1,4 +1,4 @@
-"""The table of assembler forms: what the lab's assembler, GNU as and clang do with each."""
+"""The table of assembler forms, with the results of the lab's assembler, GNU as and clang for each."""
 
 from dataclasses import dataclass
 

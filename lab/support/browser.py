@@ -16,10 +16,10 @@ if TYPE_CHECKING:
 # The commands of browsers for tests, the one that takes less of the processor first, and the window in which a page has 1280 by 757 pixels.
 WINDOWS = {"chromium-headless-shell": "1280,757", "chromium": "1280,900"}
 
-# Debian's command is a shell that waits for this program: chromedriver would end the shell alone, and leave the browser running.
+# Debian's command is a shell that waits for this program: chromedriver would end only the shell, and leave the browser running.
 HEADLESS_SHELL = pathlib.Path("/usr/lib/chromium/chromium-headless-shell")
 
-# The texts whose colours are too close to those behind them: the class, the text and the ratio of each.
+# The texts whose colours are too close to their background: the class, the text and the ratio of each.
 CONTRAST = """
 const channels = (color) => color.match(/[\\d.]+/g).map(Number);
 const luminance = (color) => {

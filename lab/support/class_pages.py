@@ -253,7 +253,7 @@ class Tab:
 
     def save(self, selector: str, path: pathlib.Path, is_whole: Callable[[bytes], bool] = bool) -> bytes:
         """Return the file that a click saves, once it is complete: the browser creates it empty before it writes it."""
-        # the headless shell takes this for one tab alone
+        # the headless shell applies this to one tab only
         folder = {"behavior": "allow", "downloadPath": str(path.parent)}
         self.activate().execute_cdp_cmd("Browser.setDownloadBehavior", folder)
         self.click(selector)

@@ -19,8 +19,9 @@ from support.message_schema import check_message, check_request, check_view
 from support.places import TOP
 from vecmon_lab.classes.server import server as class_server
 from vecmon_lab.classes.server.builds import Builds
-from vecmon_lab.classes.server.store import Store, script_name
-from vecmon_lab.classes.server.view import Class
+from vecmon_lab.classes.server.script_file import script_name
+from vecmon_lab.classes.server.store import Store
+from vecmon_lab.classes.server.served_class import Class
 from vecmon_lab.machine.program import find_program
 
 LOOP = ["enter", "map 10000 1 rwx", "asm 10000 addi x5, x5, 1", "asm 10004 jal x0, -4", "setpc 10000"]

@@ -72,4 +72,4 @@ def untimed(value: Any) -> Any:
 
 def ask(desk: Desk, **request: object) -> Mapping[str, Any]:
     """The answer of a desk to a request."""
-    return desk.answer(json.dumps({"id": 1, **request}))
+    return desk.respond(json.dumps({"id": 1, **request}))

@@ -93,9 +93,9 @@ def exercise_requests() -> list[Request]:
 
 
 def drawn_requests(draws: random.Random, number: int) -> Iterator[Request]:
-    """So many requests: lines of all kinds, sources with and without mistakes, drafts, versions, and what is refused.
+    """Draw a number of requests: lines of all kinds, sources with and without mistakes, drafts, versions, and refused requests.
 
-    Programs run by the slices that a request grants alone, since where a clock stops one isn't known.
+    Programs run only in the slices that a request grants, since the place where a clock stops one isn't known.
     """
     for _ in range(number):
         match draws.randrange(20):

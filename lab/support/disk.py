@@ -165,8 +165,8 @@ class Disk:
         """States that a cut now may leave, one for each of WAYS.
 
         none, all: of the changes since the flush; any: a drawn number of them, some torn; torn prefix: the first ones of the
-        changes of names, and torn data; names without data and data without names: all changes of one kind alone; zeros: sizes
-        without data, as a file system may leave that allocates late
+        changes of names, and torn data; names without data and data without names: only the changes of one kind, and all of these;
+        zeros: sizes without data, as a file system may leave that allocates late
         """
         drawn = random.Random(seed)
         prefix, count = drawn.randint(0, len(self._changes)), 0

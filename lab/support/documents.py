@@ -27,7 +27,7 @@ NOT_RUN = {
     "files": "it runs on the reader's own files",
     "output": "its output depends on the installation, or is long and isn't shown",
 }
-"""Why a block is run by hand alone."""
+"""Reasons why a block is run only by hand."""
 
 PLACES = ("in a new folder", "in the examples", "goes on")
 _BLOCK = re.compile(r"(?:^[^\n]*\n)?^( *)```(sh|text|console)\n(.*?)^ *```$", re.MULTILINE | re.DOTALL)

@@ -3,7 +3,7 @@
 import random
 from collections.abc import Iterator
 
-from vecmon_lab.checkpoints.machine_state import TOUCHING, Machine
+from vecmon_lab.checkpoints.machine_state import TOUCHING, MachineState
 
 CODE, DATA, NEXT = 0x20000, 0x30000, 0x31000
 SCALAR = ["addi x0, x0, 0", "addi x5, x5, 1", "csrrs x5, vlenb, x0", "csrrwi x0, vxsat, 0"]
@@ -84,7 +84,7 @@ def _action(draws: random.Random) -> Iterator[str]:
         )
 
 
-def outcome(machine: Machine) -> Iterator[str]:
+def outcome(machine: MachineState) -> Iterator[str]:
     """Lines that bring out all that a machine is: exemptions, permissions, policies, save areas, whose turn is next."""
     yield from (f"* run {digit}" for digit in "12345678")
     yield from ("* slices 5", "* stats")

@@ -2,7 +2,8 @@
 
 import random
 
-from vecmon_lab.programs.draw import CHECKPOINT, DONE, draw_program
+from vecmon_lab.programs.draw import draw_program
+from vecmon_lab.programs.emitter import CHECKPOINT, DONE
 
 _TYPES = [
     f"e{8 << sew}, {group}, {tail}, {mask}"
@@ -136,11 +137,11 @@ def drawn_flow(seed: int) -> str:
 
 
 def drawn_words(seed: int, length: int = 100) -> str:
-    """A source of the words of a drawn program, which jumps by registers too, and ends."""
+    """Return a source with the encodings of a drawn program, which also jumps to addresses in registers, and ends."""
     words = draw_program(f"{seed}", length, has_choices=True).words
     lines = ["_start:", "la x29, room + 2048", "li x1, 32", "vsetvli x0, x1, e8, m1, tu, mu"]
     is_left_out = [
         CHECKPOINT in pair or DONE in pair for pair in zip([0, *words], words)
-    ]  # a call and the registers behind it
+    ]  # a call and the registers after it
     lines += ["nop" if left_out else f".word {word:#x}" for word, left_out in zip(words, is_left_out)]
     return "\n".join([*lines, "li a7, 93", "ecall", ".bss", ".align 4", "room: .zero 8192", ""])

@@ -38,7 +38,7 @@ def length(random: Random, limit: int) -> int:
 
 
 def _given(*values: int) -> dict[str, int]:
-    """The values of a0 and those behind it."""
+    """Return registers with these values, from a0 on."""
     return {f"x{number}": value % (1 << 64) for number, value in enumerate(values, 10)}
 
 

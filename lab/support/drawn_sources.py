@@ -159,7 +159,7 @@ def _constant(draw: Draw) -> str:
 
 
 def _condition(draw: Draw) -> str:
-    """Two branches, of which one is assembled."""
+    """Draw an .if with two branches; one of them is assembled."""
     test = draw.one(
         lambda: f".if {draw.expression(1)} {draw.random.choice(('==', '!=', '<', '>', '<=', '>='))} {draw.expression(1)}",
         lambda: f".ifdef {draw.random.choice((*draw.labels, draw.name('unknown')))}",

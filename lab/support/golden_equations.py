@@ -293,7 +293,7 @@ class Checker:
             return f"{source} is {bits}"
         expected = bits.to_bytes(width // 8, "little")
         bytes_there = [self._state.memory(address + at) for at in range(width // 8)]
-        is_ordered = re.match(r"vs(?:[uo]xei|[uo]xseg|se\d|sseg)", self.name)  # of which elements may overlap
+        is_ordered = re.match(r"vs(?:[uo]xei|[uo]xseg|se\d|sseg)", self.name)  # whose elements may overlap
         return "" if bytes(bytes_there) == expected or is_ordered else f"QEMU stored {bytes(bytes_there).hex()}"
 
 

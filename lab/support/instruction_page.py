@@ -6,7 +6,7 @@ from vecmon_lab.meanings.formula import CLIPS, FUNCTIONS, NUMBERS
 from vecmon_lab.meanings.record import Record, instruction_records
 
 _INTRO = """This page is for people who write or read instructions. It says [what each instruction does](#what-each-instruction-does), then has the
-[encodings](#encodings) of all names, with the definitions of what they compute and when they are legal.
+[encodings](#encodings) of all names, with the definitions of their computations and of their legality.
 
 In the console `help vadd.vv` prints all that there is to say of an instruction, with an example, and `help add with carry` searches;
 `why v8[5]` puts the numbers of the last step into the formula ([DEBUGGING.md](DEBUGGING.md)). The book of these pages as HTML has a page for

@@ -43,7 +43,7 @@ class FrameState:
     """The machine's state of a frame's user; masked-off elements by register, and registers that changed.
 
     vstart: the element that the last instruction began with, or faulted at
-    is_partial: whether the last instruction writes element 0 alone, packed elements or whole registers
+    is_partial: whether the last instruction writes only element 0, packed elements or whole registers
     """
 
     vl: int

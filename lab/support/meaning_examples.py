@@ -43,7 +43,7 @@ def made(program: pathlib.Path) -> str:
 
 
 def _example(guest: Guest, record: Record) -> Iterator[tuple[str, ...]]:
-    """The row of a family; none of what isn't a vector instruction with elements."""
+    """Yield the row of a family, if it is one of vector instructions with elements."""
     name = next((name for name in record.members if re.search("e32|ei32|vf2", name)), record.members[0])
     row = instruction_table()[name]
     if sample(row) is None:

@@ -12,7 +12,7 @@ from typing import Any, Literal, Union, get_args, get_origin, get_type_hints, is
 
 from support.places import TOP
 from support.request_types import PROTOCOL, TEXTS, protocol, requests_of, wrapped
-from vecmon_lab.classes.core.messages import Answer, Hello, Message, News
+from vecmon_lab.classes.core.messages import Response, Hello, Message, News
 from vecmon_lab.classes.core.student import StudentView
 from vecmon_lab.classes.server.teacher_view import TeacherView, WallView
 from vecmon_lab.lessons.page import LessonData
@@ -25,7 +25,7 @@ ROOTS: Mapping[str, Any] = {
     "TeacherRequest": requests_of("teacher"),
     "Hello": Hello,
     "News": News,
-    "Answer": Answer,
+    "Response": Response,
     "Message": Message,
     "StudentView": StudentView,
     "TeacherView": TeacherView,

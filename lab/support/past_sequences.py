@@ -19,7 +19,8 @@ from vecmon_lab.assembler.trial import read_whole_source
 from vecmon_lab.classes.core.progress import starts_of
 from vecmon_lab.classes.server.store import Store
 from vecmon_lab.classes.server.tab_requests import TabRequests
-from vecmon_lab.classes.server.view import Class, Tab
+from vecmon_lab.classes.server.served_class import Class
+from vecmon_lab.classes.server.tab import Tab
 from vecmon_lab.exercises.answer import settled
 from vecmon_lab.exercises.exercise import Exercise, read_exercise
 from vecmon_lab.guest.guest import VECTOR_LOOKS
@@ -337,7 +338,7 @@ class DeskPage:
     def ask(self, **fields: object) -> Answer:
         """The answer to a request."""
         self._number += 1
-        answer: dict[str, Any] = {**self.desk.answer(json.dumps({"id": self._number, **fields}))}
+        answer: dict[str, Any] = {**self.desk.respond(json.dumps({"id": self._number, **fields}))}
         if "error" in answer:
             raise AssertionError(f"{fields} is refused: {answer['error']}")
         self.view = patched(patched(self.view, answer.get("patch", {})), self.desk.settle().get("patch", {}))
@@ -373,7 +374,7 @@ class PlaygroundPage:
     def ask(self, **fields: object) -> Answer:
         """The answer to a request."""
         self._number += 1
-        answer: dict[str, Any] = {**self._desk.answer(json.dumps({"id": self._number, **fields}))}
+        answer: dict[str, Any] = {**self._desk.respond(json.dumps({"id": self._number, **fields}))}
         if "error" in answer:
             raise AssertionError(f"{fields} is refused: {answer['error']}")
         self.view = patched(self.view, answer.get("patch", {}))
@@ -390,7 +391,7 @@ class PlaygroundPage:
 
     def close(self) -> None:
         """End the machines."""
-        self._desk.machine.histories.close()
+        self._desk.machine.past.close()
         self._desk.machine.session.close()
 
 
@@ -409,7 +410,7 @@ class ClassPage:
         other = Tab(OTHER_SEAT)
         self._tabs.hello(other)
         request = {"id": 1, "ask": "run", "text": ENDLESS, "language": 0, "number": 0}
-        self._loop.run_until_complete(self._tabs.answer(other, json.dumps(request)))
+        self._loop.run_until_complete(self._tabs.respond(other, json.dumps(request)))
         assert self._members.seat(OTHER_SEAT).state["run"] == "running"
         self.reload()
 
@@ -419,7 +420,7 @@ class ClassPage:
 
     async def _ask(self, fields: Mapping[str, object]) -> Answer:
         self._number += 1
-        answer: dict[str, Any] = {**await self._tabs.answer(self._tab, json.dumps({"id": self._number, **fields}))}
+        answer: dict[str, Any] = {**await self._tabs.respond(self._tab, json.dumps({"id": self._number, **fields}))}
         if "error" in answer:
             raise AssertionError(f"{fields} is refused: {answer['error']}")
         self.view = patched(self.view, answer.get("patch", {}))

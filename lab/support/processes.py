@@ -12,7 +12,7 @@ SECONDS = 60.0
 
 
 class Process(NamedTuple):
-    """A process: its number, and when it was started, in clock ticks since boot. A number alone may be used again."""
+    """A process: its number, and when it was started, in clock ticks since boot. The system may use a number again."""
 
     number: int
     started: int

@@ -93,7 +93,7 @@ def row(request: type[Request]) -> str:
     if section := SECTIONS.get(kind.ask):
         meaning.append(f"See [below](#{section}).")
     example = json.dumps({"id": 7, "ask": kind.ask, **kind.example})
-    return f"| {kind.sender} | `{example}` | {' '.join(meaning)} | {kind.answer} |"
+    return f"| {kind.sender} | `{example}` | {' '.join(meaning)} | {kind.response} |"
 
 
 def protocol() -> str:

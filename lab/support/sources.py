@@ -2,7 +2,7 @@
 
 FOREVER = "loop: j loop"
 ARGUMENTS = """
-# Writes each argument and a newline, and exits with how many they are, if the words behind them are as they should be.
+# Writes each argument and a newline, and exits with their number, if the words after them are as they should be.
         ld s0, 0(sp)
         addi s1, sp, 8
 next:   ld s2, 0(s1)

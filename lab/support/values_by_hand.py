@@ -62,7 +62,7 @@ def formula_result(row: HandValue, word: int, formula: Formula | None = None) ->
 
 
 def machine_result(session: Session, row: HandValue) -> tuple[int, Registers]:
-    """Return the word of a row's instruction, and the registers after it, by the machine."""
+    """Return the encoding of a row's instruction, and the registers after it, by the machine."""
     guest = Guest(session)
     x, v = _with_values([0] * 32, bytes(32 * REGISTER_BYTES), row.before)
     control = row.control

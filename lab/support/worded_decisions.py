@@ -1,4 +1,4 @@
-"""Decisions in Python and JavaScript that depend on the words of a message, or on the columns of an answer."""
+"""Decisions in Python and JavaScript that depend on the text of a message, or on the columns of an answer."""
 
 import ast
 import re

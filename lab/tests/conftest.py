@@ -81,8 +81,8 @@ def lab(monkeypatch: pytest.MonkeyPatch, capfdbinary: pytest.CaptureFixture[byte
 def browser() -> Iterator["Chrome"]:
     """A browser without a window, for all tests that want one; its console is in `get_log("browser")`.
 
-    It is Chromium's headless shell, which takes less of the processor's time, or Chromium where that isn't installed. Where there is
-    neither, a test that wants it is left out and counted; where CI is set, it fails.
+    It is Chromium's headless shell, which takes less of the processor's time, or Chromium if that isn't installed. If there is
+    neither, a test that wants it is left out and counted; if CI is set, it fails.
     """
     commands = [each for each in WINDOWS if shutil.which(each)]
     if not commands or not shutil.which("chromedriver") or not importlib.util.find_spec("selenium"):
@@ -122,7 +122,7 @@ def sandboxed_clang(clang: Compiler) -> Compiler:
 
 
 def pytest_terminal_summary(terminalreporter: TerminalReporter) -> None:
-    """Says how many tests were left out, and for want of what."""
+    """Print how many tests were left out, for each missing tool."""
     for what, reason in LEFT_OUT.items():
         left_out = sum(reason in str(report.longrepr) for report in terminalreporter.getreports("skipped"))
         if left_out:

@@ -11,6 +11,7 @@ from support.places import TOP
 LAB = TOP / "lab" / "vecmon_lab"
 CLASSES = LAB / "classes"
 ROOMS = [path.parent.name for path in sorted(LAB.glob("*/__init__.py"))]
+MAX_CLASS_LINES = 250
 CORE, SERVER = names_in("## The synchronous core"), names_in("## The server of a class")
 
 
@@ -63,3 +64,19 @@ def test_folders_of_pages_import_only_folders_above() -> None:
     for path in web.rglob("*.js"):
         place = order.index(path.parent.name)
         assert set(re.findall(r'"\.\./(\w+)/\w+(?:\.js)?"', path.read_text("utf-8"))) <= set(order[:place]), path
+
+
+def large_classes(path: pathlib.Path, most: int) -> list[str]:
+    """The classes of a module with more lines than this, with their places."""
+    classes = [node for node in ast.walk(ast.parse(path.read_text("utf-8"))) if isinstance(node, ast.ClassDef)]
+    sizes = [(it.name, (it.end_lineno or it.lineno) - it.lineno + 1) for it in classes]
+    return [f"{path.relative_to(TOP)}: {name} has {size} lines" for name, size in sizes if size > most]
+
+
+def test_classes_have_one_subject() -> None:
+    """A class that is longer has parts of their own: divide it by subject."""
+    paths = [
+        path for folder in ("vecmon_lab", "support", "tools") for path in sorted((TOP / "lab" / folder).rglob("*.py"))
+    ]
+    assert [found for path in paths for found in large_classes(path, MAX_CLASS_LINES)] == []
+    assert [found for path in paths for found in large_classes(path, MAX_CLASS_LINES - 50)]  # the longest are close

@@ -90,14 +90,33 @@ def test_missing_log_is_refused(clone: pathlib.Path) -> None:
     assert (ran.returncode, ran.stderr) == (2, reason)
 
 
+def test_log_of_failed_gate_is_refused_first(proved: pathlib.Path) -> None:
+    """No program is built for it."""
+    (proved / "crates/vecmon/out/gate").write_text("4 passed, 1 failed\n")
+    ran = run([proved / "tools/release", "new"], proved.parent)
+    reason = "crates/vecmon/out/gate doesn't end with 'N passed, 0 failed': run tools/test"
+    assert (ran.returncode, ran.stderr) == (2, f"tools/release: {reason}\n") and not (proved.parent / "new").exists()
+
+
 def test_changed_tree_is_refused(clone: pathlib.Path) -> None:
     (clone / "tools/building/source_digest").write_text("")
     ran = run([clone / "tools/release", "new"], clone.parent)
     assert (ran.returncode, ran.stderr) == (2, "tools/release: there are changes that aren't committed\n")
 
 
+def test_file_that_is_not_committed_is_refused(clone: pathlib.Path) -> None:
+    """The site would have it, and the packages wouldn't."""
+    (clone / "lab").mkdir()
+    (clone / "lab/new.s").write_text("")
+    ran = run([clone / "tools/release", "new"], clone.parent)
+    reason = "tools/release: lab/new.s isn't committed: commit it, or remove it\n"
+    assert (ran.returncode, ran.stderr) == (2, reason) and not (clone.parent / "new").exists()
+
+
 STAND_INS = {
     "building/debian_packages": "",
+    "documents/figures": """
+        [ $out = --exact ]""",
     "building/programs": """
         target=$2 out=$3
         mkdir -p $out
@@ -140,6 +159,7 @@ def proved(clone: pathlib.Path) -> pathlib.Path:
     for name, code in STAND_INS.items():
         code = code.replace("FILES", " ".join(packages)).replace("WHEELS", " ".join(wheels))
         code = code.replace("$2 = LOG", '"$(cat $2)" = "5 passed, 0 failed"')
+        (clone / "tools" / name).parent.mkdir(exist_ok=True)
         (clone / "tools" / name).write_text(f"#!/bin/sh\nset -eu\nout=${{1-}}\n{code}\n")
         (clone / "tools" / name).chmod(0o755)
     (clone / "tools/building/source_digest").write_text("#!/bin/sh\n")
@@ -188,6 +208,14 @@ def test_failed_step_is_one_line_and_writes_nothing(proved: pathlib.Path) -> Non
     assert not (proved.parent / "new").exists()
 
 
+def test_inexact_figures_are_refused(proved: pathlib.Path) -> None:
+    (proved / "tools/documents/figures").write_text("#!/bin/sh\necho docs/FIGURES.md:12: it has 14\nexit 1\n")
+    subprocess.run([*GIT, "commit", "-q", "-a", "-m", "a"], cwd=proved, check=True)
+    ran = run([proved / "tools/release", "new"], proved.parent)
+    reason = "docs/FIGURES.md isn't exact: run tools/documents/figures --write, and commit it"
+    assert (ran.returncode, ran.stdout, ran.stderr) == (2, "", f"tools/release: {reason}\n")
+
+
 def write_page(folder: pathlib.Path) -> subprocess.CompletedProcess[str]:
     """Writes the page of a release of some version."""
     return run([sys.executable, TOP / "tools/releasing/release_page", folder, "2.0.0+9.g1"], folder)
@@ -214,3 +242,11 @@ def test_missing_file_is_refused(tmp_path: pathlib.Path) -> None:
         (tmp_path / name).write_text(name)
     ran = write_page(tmp_path)
     assert (ran.returncode, ran.stderr) == (1, "there is no PROVENANCE\n") and not (tmp_path / "index.html").exists()
+
+
+@pytest.mark.parametrize("words", [[], ["."], ["--help"], [".", "2.0.0", "more"], ["none", "2.0.0"]])
+def test_wrong_arguments_are_one_line(tmp_path: pathlib.Path, words: Sequence[str]) -> None:
+    ran = run([sys.executable, TOP / "tools/releasing/release_page", *words], tmp_path)
+    reason = "usage: tools/releasing/release_page FOLDER VERSION\n"
+    assert (ran.returncode, ran.stdout, ran.stderr.count("\n")) == (2, "", 1) and ran.stderr.endswith(reason)
+    assert not (tmp_path / "index.html").exists()

@@ -55,7 +55,7 @@ def checked(folder: Path, module: str) -> tuple[int, str]:
 def test_module_that_allocates_before_is_accepted(tmp_path: Path) -> None:
     assert checked(tmp_path, MODULE) == (
         0,
-        "MODULE: 7 functions, and 4 that can run after Machine::new, none of which allocates memory\n",
+        "MODULE: 7 functions, and 4 that can run after Machine::new, without allocating memory\n",
     )
 
 

@@ -102,8 +102,6 @@ def test_changed_bit_of_record_is_found_in_each_file(copy: pathlib.Path) -> None
         "crates/rv_decode/src/vector_operations.rt",
         "crates/rv_model/src/assembler/mnemonics.rt",
         "crates/test_assembler/stdout",
-        "docs/GUARANTEES.md",
-        "docs/DEFINITIONS.md",
         "lab/vecmon_lab/tables/instructions.txt",
         "lab/vecmon_lab/tables/operations.txt",
     ]
@@ -172,8 +170,6 @@ def test_added_record_gets_a_line_in_each_file(copy: pathlib.Path, records: list
         f"commands without memory: {int(lines) + 6} lines, {int(instructions) + 2} instructions by themselves, 0 differ"
     ]
     assert by_path["crates/test_kernels/stdout"] == ["vnone: 7920 compared, 0 differ"]
-    figures = "".join(by_path["docs/GUARANTEES.md"])
-    assert f"no command ({int(lines) + 6:,} lines) and no instruction ({int(instructions) + 2}) allocates" in figures
 
 
 def test_added_source_width_gets_its_lines(copy: pathlib.Path) -> None:
@@ -242,7 +238,7 @@ MISTAKES = {
         'operands = "vd, vs2, vs1/rs1/imm"',
         "vadd: vadd.vv lacks an operand for the field vm of its word",
     ),
-    "chunk": ('shape = "single"', 'shape = "single"\nchunk = "some"', 'vadd has the key chunk; it is "none", and of'),
+    "chunk": ('shape = "single"', 'shape = "single"\nchunk = "some"', 'vadd has the key chunk; it is "none", and only'),
     "operand": ("vs1/rs1/imm", "vs1/rs1", "vadd has no operand for the form vi in vs1/rs1"),
     "no text": ('shape = "single"', "shape = 1", "vadd has a value of shape that isn't text"),
     "no table": ("[vadd]", "vadd = 1\n[other]", "vadd is no table"),

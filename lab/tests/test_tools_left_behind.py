@@ -28,7 +28,7 @@ def folder(tmp_path: pathlib.Path) -> pathlib.Path:
 
 
 def left(mark: str, folder: pathlib.Path) -> tuple[int, str]:
-    """The tool's status and output, where it waits for nothing."""
+    """Return the tool's status and output, without a wait."""
     command = [sys.executable, "-c", WITHOUT_WAIT, str(TOP), mark, str(folder)]
     completed = subprocess.run(command, capture_output=True, text=True)
     assert completed.stderr == ""
@@ -65,7 +65,7 @@ def test_left_folder_is_reported(folder: pathlib.Path) -> None:
 
 
 def test_process_tree_is_ended() -> None:
-    """Of a shell with a child in its own group and one in another, as a browser's command that is killed alone."""
+    """Of a shell with a child in its own group and one in another, as if only a browser's command is killed."""
     code = "sleep 600 & setsid sleep 601 & echo started; wait"
     with subprocess.Popen(["sh", "-c", code], stdout=subprocess.PIPE) as shell:
         assert shell.stdout and shell.stdout.readline() == b"started\n"

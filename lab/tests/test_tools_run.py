@@ -1,6 +1,6 @@
 """tools/run: the program it takes, when it builds, the build in the background, interruptions, and each refusal.
 
-A stand-in for the build takes no time: each step writes what it was made of, and waits or fails if a file names the step."""
+A stand-in for the build takes no time: each step writes its input, and waits or fails if a file names the step."""
 
 import fcntl
 import os
@@ -19,7 +19,7 @@ import pytest
 
 from support.busy_host import PATIENCE
 from support.places import TOP
-from vecmon_lab import check
+from vecmon_lab import installation
 
 BUILD = """\
 import pathlib, sys, time
@@ -177,7 +177,7 @@ class Clone:
         return list(self.unproved.glob("new.*"))
 
     def programs(self) -> dict[str, str]:
-        """What each program in the only folder was made of: its crate and the level of optimization."""
+        """Return the crate and the level of optimization from which each program in the only folder was built."""
         (folder,) = self.folders()
         return {path.name: path.read_text().split("\n")[1] for path in (self.unproved / folder).iterdir()}
 
@@ -217,8 +217,8 @@ def running_builds(clone: Clone) -> list[int]:
 
 
 def test_proved_programs_are_built_and_recorded(clone: Clone) -> None:
-    """Of the crates below both programs alone, in a copy; the second start proves nothing."""
-    answers = check.first_script()[1]
+    """Only the crates below both programs, in a copy; the second start proves nothing."""
+    answers = installation.first_script()[1]
     first = clone.run("--proved")
     assert (first.returncode, first.stdout) == (0, answers), first.stderr
     proof, *builds = clone.proofs()
@@ -274,7 +274,7 @@ def test_one_crate_alone(clone: Clone) -> None:
 
 def test_first_answer_comes_before_the_second_program(clone: Clone) -> None:
     """A start during the build in the background takes the first program, and builds nothing."""
-    answers = check.first_script()[1]
+    answers = installation.first_script()[1]
     clone.hold(*SECOND)
     first = clone.run()
     assert (first.returncode, first.stdout) == (0, answers)
@@ -312,7 +312,7 @@ def test_commands_of_the_environment(clone: Clone) -> None:
         (0, ""),
     ):
         ran = subprocess.run([program, script], capture_output=True, text=True)
-        assert (ran.stdout, ran.stderr) == (check.first_script()[1], "")
+        assert (ran.stdout, ran.stderr) == (installation.first_script()[1], "")
         ran = subprocess.run([recorder, script], capture_output=True, text=True)
         assert (ran.returncode, ran.stderr) == (status, error)
         clone.hold()
@@ -334,7 +334,7 @@ def test_next_commands_elsewhere(clone: Clone, arguments: list[str], lines: int)
 
 def test_wait_for_both_programs(clone: Clone) -> None:
     ran = clone.run("--wait")
-    assert (ran.returncode, ran.stdout) == (0, check.first_script()[1])
+    assert (ran.returncode, ran.stdout) == (0, installation.first_script()[1])
     assert clone.programs() == OPTIMIZED and clone.builds() == ALL and not running_builds(clone)
 
 
@@ -344,7 +344,7 @@ def test_wait_for_a_build_of_another_start(clone: Clone) -> None:
     process = clone.start("--wait")
     assert process.stderr and "waiting for another tools/run" in process.stderr.readline()
     clone.hold()
-    assert process.communicate(timeout=PATIENCE)[0] == check.first_script()[1]
+    assert process.communicate(timeout=PATIENCE)[0] == installation.first_script()[1]
     assert process.returncode == 0 and clone.programs() == OPTIMIZED and clone.builds() == ALL
 
 
@@ -466,7 +466,7 @@ def test_interrupted_background_build_is_repeated(clone: Clone, step: str, numbe
     assert clone.programs() == {"vecmon": "# vecmon ['-O0']"}
     clone.hold(*SECOND)
     again = clone.run()
-    assert (again.returncode, again.stdout) == (0, check.first_script()[1])
+    assert (again.returncode, again.stdout) == (0, installation.first_script()[1])
     assert "background failed" not in again.stderr
     assert "building the optimized vecmon and vecmon-record in the background" in again.stderr
     clone.hold()
@@ -475,7 +475,7 @@ def test_interrupted_background_build_is_repeated(clone: Clone, step: str, numbe
 
 
 def test_interrupted_script_leaves_the_background_build(clone: Clone) -> None:
-    """Ctrl C while the script runs, and a terminal that is closed, end the script alone."""
+    """Ctrl C while the script runs, and a terminal that is closed, end only the script."""
     clone.hold(*SECOND)
     for number in (signal.SIGINT, signal.SIGHUP):
         process = clone.start("/dev/stdin")
@@ -499,7 +499,7 @@ def test_failed_background_build_is_reported_at_the_next_start(clone: Clone) -> 
     assert clone.programs()["vecmon"] == "# vecmon ['-O0']" and not (clone.unproved / "background").exists()
     clone.fail()
     second = clone.complete()
-    assert (second.returncode, second.stdout) == (0, check.first_script()[1])
+    assert (second.returncode, second.stdout) == (0, installation.first_script()[1])
     assert second.stderr.startswith(
         "tools/run: the last build in the background failed, and starts again:\nno module was made\n"
     )
@@ -521,7 +521,7 @@ def test_background_build_of_other_sources_is_ended(clone: Clone) -> None:
     old = running_builds(clone)
     clone.write("crates/low/src/lib.rt", "fn changed() {}\n")
     ran = clone.run()
-    assert (ran.returncode, ran.stdout) == (0, check.first_script()[1])
+    assert (ran.returncode, ran.stdout) == (0, installation.first_script()[1])
     assert "tools/run: ending the background build of other sources\n" in ran.stderr
     assert not set(old) & set(running_builds(clone)) and len(clone.folders()) == 2
     clone.hold()
@@ -540,7 +540,7 @@ def test_folder_without_a_whole_program_is_replaced(clone: Clone) -> None:
     assert clone.builds() == sorted([*ALL, *SECOND, "module vecmon", "compile vecmon-record"])
     program.write_bytes(b"")
     ran = clone.complete()
-    assert (ran.returncode, ran.stdout) == (0, check.first_script()[1]) and clone.folders() == [name]
+    assert (ran.returncode, ran.stdout) == (0, installation.first_script()[1]) and clone.folders() == [name]
     assert clone.programs() == OPTIMIZED
 
 
@@ -554,7 +554,7 @@ def test_concurrent_starts_build_once(clone: Clone, tmp_path: pathlib.Path) -> N
     clone.hold()
     ended = [process.communicate(timeout=PATIENCE) for process in processes]
     assert [process.returncode for process in processes] == [0, 0]
-    assert [output for output, _ in ended] == [check.first_script()[1]] * 2
+    assert [output for output, _ in ended] == [installation.first_script()[1]] * 2
     clone.wait_for_background()
     assert clone.builds() == ALL and clone.programs() == OPTIMIZED
     assert sum("waiting for another tools/run" in file.read_text() for file in files) == 1
@@ -609,7 +609,7 @@ def test_the_lab_is_set_up_during_the_first_build(clone: Clone) -> None:
     until(clone.folders)
     assert process.poll() is None
     clone.write("go", "")
-    assert process.communicate(timeout=PATIENCE)[0] == check.first_script()[1]
+    assert process.communicate(timeout=PATIENCE)[0] == installation.first_script()[1]
 
 
 def test_a_failed_set_up_is_reported_after_the_build(clone: Clone) -> None:

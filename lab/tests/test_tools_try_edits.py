@@ -280,7 +280,7 @@ def test_refused_edits_are_stored_until_something_changes(example: list[pathlib.
     assert prover.calls == ["harmless", "whole harmless"]
     example[1].write_text(example[1].read_text(encoding="utf-8").replace("+ 3", "+ 4"), encoding="utf-8")
     assert [it.is_earlier for it in tried(FakeProver(checks), example)] == [False, False]
-    # The fake's sum of the crate is made of this file.
+    # The fake computes the crate's sum from this file.
     pathlib.Path("crates.txt").write_text("sums: arrayvec\n", encoding="utf-8")
     assert [it.is_earlier for it in tried(FakeProver(checks), example)] == [False, False]
     assert [it.is_earlier for it in tried(FakeProver(checks), example, Options(anew=True))] == [False, False]
@@ -295,7 +295,7 @@ def test_store_is_private_and_can_be_missing(example: list[pathlib.Path]) -> Non
     assert stat.S_IMODE(folder.stat().st_mode) == 0o700
     store.store("key", "a message")
     assert store.message("key") == "a message" and store.message("other") is None
-    pathlib.Path("link").symlink_to(folder)  # whoever owns a link can lead it elsewhere
+    pathlib.Path("link").symlink_to(folder)  # the owner of a link can change its target
     for place in (pathlib.Path("link"), example[0]):
         none = TriedEdits(FakeProver({}), place)
         none.store("key", "a message")

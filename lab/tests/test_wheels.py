@@ -10,7 +10,7 @@ import pytest
 
 from support.lab_files import packaged_files
 from support.places import TOP
-from vecmon_lab.check import first_script
+from vecmon_lab.installation import first_script
 from vecmon_lab.machine.program import find_recorder
 
 PARTS = (
@@ -25,6 +25,7 @@ PARTS = (
 SITE = ("index.html", "playground.html", "play/index.html")
 GIT = ("git", "-c", "user.name=a", "-c", "user.email=a@example.com")
 EXECUTABLE = 0o100755
+LIBRARIES = ("aiohttp", "prompt-toolkit", "pyelftools", "segno")  # Debian's names of them
 
 
 def run(command: Sequence[object], folder: pathlib.Path, **variables: str) -> subprocess.CompletedProcess[str]:
@@ -71,12 +72,22 @@ def wheels(made: pathlib.Path) -> Mapping[str, pathlib.Path]:
 
 @pytest.fixture(scope="module")
 def installed(made: pathlib.Path, wheels: Mapping[str, pathlib.Path]) -> pathlib.Path:
-    """The commands of an empty virtual environment, which has Debian's libraries, with the native wheel."""
+    """The commands of an empty virtual environment with the native wheel, and of Debian's libraries with what the wheel requires."""
     wheel = next(path for tag, path in wheels.items() if tag.startswith("manylinux_2_"))
     python = "/usr/bin/python3"
-    make = [python, "-m", "venv", "--without-pip", "--system-site-packages", "environment"]
-    install = [python, "-m", "pip", "--python", "environment/bin/python", "install", "--no-index", str(wheel)]
-    for command in (make, install):
+    make: list[object] = [python, "-m", "venv", "--without-pip", "environment"]
+    pack: list[object] = [TOP / "packaging/debian_wheels", "libraries", *(f"python3-{name}" for name in LIBRARIES)]
+    install: list[object] = [
+        python,
+        "-m",
+        "pip",
+        "--python",
+        "environment/bin/python",
+        "install",
+        "--no-index",
+        "--find-links",
+    ]
+    for command in (make, pack, [*install, "libraries", wheel]):
         ran = run(command, made)
         assert ran.returncode == 0, ran.stderr
     return made / "environment" / "bin"

@@ -1,4 +1,4 @@
-"""No module decides by the words of a message, or by the columns of an answer: exceptions, enums and parsed answers have values."""
+"""No module decides by the text of a message, or by the columns of an answer: exceptions, enums and parsed answers have values."""
 
 import pathlib
 import re

@@ -74,7 +74,7 @@ def flood_apart(port: int, sockets: int, churn: bool) -> None:
 
 
 async def sit_down(room: Served, seat: str) -> Tab:
-    """The tab of a student who sits down, with a new connection as often as the server ends one."""
+    """Return the tab of a student who sits down, with a new connection each time the server ends one."""
     while True:
         try:
             return await room.sit(seat)
@@ -83,7 +83,7 @@ async def sit_down(room: Served, seat: str) -> Tab:
 
 
 async def load_page(room: Served) -> None:
-    """Load the page, again as often as it doesn't come in time, as a student who reloads it."""
+    """Load the page, and again each time it doesn't come in time, as a student who reloads it."""
     while True:
         with contextlib.suppress(asyncio.TimeoutError):
             async with asyncio.timeout(RELOAD_SECONDS), room.session.get(room.url, headers=CLOSE) as page:

@@ -1,6 +1,6 @@
 """How long a class's pages take: `python lab/tools/page_times.py [CLICKS]`, with VECMON as for the lab.
 
-Prints medians, and the ninth of ten, in ms: a click on Step until it is painted, alone, while seven others step, while they
+Prints medians, and the ninth of ten, in ms: a click on Step until it is painted, without others, while seven others step, while they
 run with the clock as it begins, with 3,900 rows in the listing, and while 29 students of four machines step; a stop until
 the teacher's page shows it.
 """

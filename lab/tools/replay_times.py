@@ -43,7 +43,7 @@ def print_times(name: str, taken: list[float], lab: list[float], program: list[f
 
 
 def replays() -> None:
-    """A session alone, whose process is killed again and again."""
+    """A session by itself, whose process is killed again and again."""
     taken, lab, program = list[float](), list[float](), list[float]()
     with Session(find_program()) as session:
         deque(session.do_script(SCRIPT), 0)

@@ -44,15 +44,15 @@ def main() -> None:
     """Print the processor time of the steps, and the size of their answers."""
     source, steps = SOURCES[sys.argv[1]], int(sys.argv[2]) if len(sys.argv) > 2 else 200
     desk = Desk(find_program(), {}, limit=100_000)
-    desk.answer(json.dumps({"id": 1, "ask": "source", "text": source}))
+    desk.respond(json.dumps({"id": 1, "ask": "source", "text": source}))
     request, size = json.dumps({"id": 1, "ask": "step", "count": 1}), 0
     for _ in range(WARM_UP):
-        desk.answer(request)
+        desk.respond(request)
     gc.collect()
     gc.disable()
     start = time.process_time()
     for _ in range(steps):
-        size += len(json.dumps(desk.answer(request), separators=(",", ":")))
+        size += len(json.dumps(desk.respond(request), separators=(",", ":")))
     seconds = time.process_time() - start
     print(f"{steps} steps: {1000 * seconds:.0f} ms of processor, {size // max(1, steps):,} bytes of JSON a step")
     desk.close()

@@ -36,7 +36,7 @@ WIDTHS, GROUPS = ("e8", "e16", "e32", "e64"), ("mf8", "mf4", "mf2", "m1", "m2", 
 
 
 def instructions() -> str:
-    """Each instruction once, with registers that its manual allows. Its operands depend on its text alone."""
+    """Each instruction once, with registers that its manual allows. Its operands depend only on its text."""
     lines = ["# Each name of docs/INSTRUCTIONS.md, with drawn operands."]
     texts = re.findall(r"^\| `([^`]*)` \| `[01 -]+` \|", INSTRUCTIONS.read_text(), re.MULTILINE)
     for number, text in enumerate(texts):

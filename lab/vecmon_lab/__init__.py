@@ -13,16 +13,19 @@ __version__ = "2.0.0"  # of the programs, the lab and the packages; tests/test_v
 
 
 class LabError(Exception):
-    """An error that the user of the lab can correct: one line that says what is wrong, or one for each mistake in C."""
+    """An error that the user of the lab can correct. Its text is one line that says what is wrong, or one line for each mistake in C."""
 
 
 class SourceMistakes(LabError):
-    """Mistakes of a source: each line of the text begins with the name of the file, the line and the column."""
+    """A source has mistakes. Each line of the text starts with the name of the file, the line and the column."""
 
 
 @contextlib.contextmanager
 def mistakes_in(what: object, *kinds: type[Exception]) -> Iterator[None]:
-    """Of a LabError in its context, or of errors of these kinds in place of it, the text begins with what it is about."""
+    """Put a subject before the text of each LabError that is raised in this context: `what: text`.
+
+    kinds: the types of errors to turn into LabError so; without any, LabError itself
+    """
     try:
         yield
     except kinds or LabError as error:
@@ -30,7 +33,7 @@ def mistakes_in(what: object, *kinds: type[Exception]) -> Iterator[None]:
 
 
 def __getattr__(name: str) -> Any:
-    """What `kernels` has is imported where it is asked for: no command needs it."""
+    """Return a name of `kernels`, which is imported only when the name is used, since no command needs it."""
     if name not in __all__:
         raise AttributeError(f"module {__name__} has no attribute {name}")
     return getattr(importlib.import_module(f"{__name__}.kernels.kernel"), name)

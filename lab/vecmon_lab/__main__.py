@@ -1,4 +1,4 @@
-"""The program `vecmon-lab`: commands by name, each in a module of its own, imported only where it is asked for."""
+"""The program `vecmon-lab`. Each command is a module, which is imported only when the command is used."""
 
 import argparse
 import importlib
@@ -12,7 +12,10 @@ from .places import IS_PYTHON_PACKAGE, install_command
 from .tables.table import read_table
 
 COMMANDS = {name: (module, sentence) for name, module, sentence in read_table("lab_commands")}
-"""By name the module, which has `add_arguments(parser)`, and `run(arguments)`, which answers the status; a sentence."""
+"""The commands by name, each with its module and a sentence about it.
+
+A module has `add_arguments(parser)`, and `run(arguments)`, which returns the exit status.
+"""
 
 
 class _Parser(argparse.ArgumentParser):
@@ -23,7 +26,10 @@ class _Parser(argparse.ArgumentParser):
 
 
 def main() -> int:
-    """Carries out the command that the program's words name; its status is 2, after one line, for bad input."""
+    """Run the command that the program's arguments name, and return its exit status.
+
+    The status is 2 after bad input, which is reported on standard error; 130 after Ctrl-C; and 141 if the output's reader has gone.
+    """
     try:
         if sys.stdout is None:  # as after `>&-`
             raise LabError("standard output is closed; to discard it, use >/dev/null")
@@ -50,7 +56,7 @@ def main() -> int:
 
 
 def _missing(module: str) -> str:
-    """What is said of a library that isn't installed: its name for pip and Debian's, and how the launcher finds one."""
+    """Return the message for a Python module that isn't installed: the name of its library, and how to install it."""
     package = module.partition(".")[0]
     name = {"elftools": "pyelftools"}.get(package, package)
     if IS_PYTHON_PACKAGE:
@@ -60,15 +66,15 @@ def _missing(module: str) -> str:
 
 
 def arguments_of(words: list[str]) -> argparse.Namespace:
-    """Parse the program's arguments, with the function `run` of the command that they name.
+    """Parse the program's arguments. The result has the function `run` of the command that they name.
 
-    Options may be anywhere; but before the image if a command takes the image's own arguments.
+    Options may be at any place. If a command takes arguments for its image, the command's options come before the image.
     """
     match words:
         case ["help", *more]:
             words = [*more[:1], "--help"]
         case ["--version"]:
-            return argparse.Namespace(run=importlib.import_module("vecmon_lab.check").versions)
+            return argparse.Namespace(run=importlib.import_module("vecmon_lab.installation").versions)
         case ["--names", ("vectors" | "grade") as which]:  # for completion
             print("\n".join(importlib.import_module(f"vecmon_lab.{COMMANDS[which][0]}").names()))
             raise SystemExit(0)

@@ -1,4 +1,4 @@
-"""Words of the command line that several commands take."""
+"""Command-line arguments that several commands share."""
 
 import argparse
 import os
@@ -14,22 +14,26 @@ from .compilers.compiler import ASSEMBLER_SUFFIXES, CHOICES, choice_for
 
 
 def add_compiler(parser: argparse.ArgumentParser) -> None:
-    """The compiler of a source, and its options."""
+    """Add the options that choose the compiler of a source and the compiler's options."""
     parser.add_argument("--cc", metavar="NAME", help="the compiler, such as clang-19")
     help_text = "options of the compiler; by default O2 for C, and the lab's assembler for .s"
     parser.add_argument("--options", choices=[choice.name for choice in CHOICES], help=help_text)
 
 
 def image_path(word: str, arguments: argparse.Namespace, assembles: bool = True) -> pathlib.Path:
-    """The image that a word names, about whose instruction set warnings are printed; or one of the source that it names.
+    """Return the path of the image that an argument names. If the argument names a source, build the image first.
 
-    arguments: those of `add_compiler` and `add_any_vlen`; assembles: whether an assembler source becomes an image, unless a
-    compiler takes it. Raises LabError and OSError.
+    Print warnings about the instruction set of an image that isn't built here.
+
+    arguments: the parsed options of `add_compiler` and `add_any_vlen`
+    assembles: whether to build an image from an assembler source that no compiler takes; otherwise return the path of the source
+
+    Raises LabError and OSError.
     """
     path = pathlib.Path(word)
     choice = choice_for(path, arguments.options)
     if choice is not None:
-        from .compilers.compiling import compiled_image  # which an image doesn't need
+        from .compilers.compiling import compiled_image  # not needed for an image
 
         return compiled_image(path, arguments.cc, choice)
     if arguments.cc:
@@ -47,15 +51,16 @@ def image_path(word: str, arguments: argparse.Namespace, assembles: bool = True)
 
 
 def add_any_vlen(parser: argparse.ArgumentParser) -> None:
-    """The option that takes images for longer vector registers than the machine's."""
+    """Add the option that accepts images for longer vector registers than the machine has."""
     help_text = "run images that are compiled for longer vector registers, whose results may be wrong"
     parser.add_argument("--any-vlen", action="store_true", help=help_text)
 
 
 class _Program(argparse.Action):
-    """Divides an image from the words behind it, which are `words` then; `named` is what the image was named by.
+    """Store the image, as `named` the argument that names it, and as `words` the arguments after it.
 
-    Of words there that are options of the command it is said that they are the program's, unless `--` has said so.
+    If an argument after the image looks like an option of the command, print that the program gets it. A `--` before the image
+    prevents this message.
     """
 
     def __call__(
@@ -87,9 +92,12 @@ def add_program(
     is_needed: bool = True,
     assembles: bool = False,
 ) -> None:
-    """An image, and all words behind it as the program's own, options too; the compiler of a source; a file as its input.
+    """Add the arguments of a program: the image, the arguments after it, the compiler of a source, and a file as the image's input.
 
-    assembles: whether an assembler source becomes an image, too
+    All arguments after the image are the program's, even those that look like options of the command.
+
+    help_text: the help about the image; is_needed: whether the image is required
+    assembles: whether to build an image from an assembler source, too
     """
     parser.allow_abbrev = False  # so that no argument of the program is looked up among the options
     help_text = f"{help_text}; the arguments after it are the program's"
@@ -106,20 +114,20 @@ def add_program(
 
 
 def add_image(parser: argparse.ArgumentParser) -> None:
-    """The words of all commands that run an image to its end."""
+    """Add the arguments of the commands that run an image to its end."""
     add_program(parser, assembles=True)
     parser.set_defaults(policy="keep")
     parser.add_argument("--ticks", metavar="N", type=between(1, 1 << 63), help="stop after N ticks")
 
 
 def check_output(output: pathlib.Path | None, *inputs: pathlib.Path) -> None:
-    """Raises LabError where an output, if there is one, is one of the inputs, which it would overwrite."""
+    """Raise LabError if the output would overwrite one of the inputs. An output of None is no file."""
     if output and any(output.exists() and path.exists() and output.samefile(path) for path in inputs):
         raise LabError(f"{output} would be overwritten, and it is read here: name another file")
 
 
 def check_outputs(outputs: Iterable[pathlib.Path | None], *inputs: pathlib.Path) -> None:
-    """Raises LabError where one of the outputs is one of the inputs, or the same file as another output. Devices may be named twice."""
+    """Raise LabError if an output is the same file as an input or as another output. Devices may be outputs more than once."""
     named = [output for output in outputs if output]
     for output in named:
         check_output(output, *inputs)
@@ -130,7 +138,7 @@ def check_outputs(outputs: Iterable[pathlib.Path | None], *inputs: pathlib.Path)
 
 
 def between(minimum: int, maximum: int) -> Callable[[str], int]:
-    """Return a function that reads a decimal number in these bounds from an argument."""
+    """Return a function that parses an argument as a decimal number, which must be from `minimum` to `maximum`."""
 
     def number(word: str) -> int:
         if not word.isdecimal() or not minimum <= int(word) <= maximum:

@@ -1,4 +1,4 @@
-"""Signals that end a command, which removes its temporary files first."""
+"""Signals that end a command after it has removed its temporary files."""
 
 import contextlib
 import signal
@@ -11,7 +11,7 @@ SIGNALS = (signal.SIGTERM, signal.SIGHUP)
 
 @contextlib.contextmanager
 def ended_by_signals() -> Iterator[None]:
-    """Let SIGTERM and SIGHUP end the command as an exit does, with 128 and the signal's number as its status.
+    """Let SIGTERM and SIGHUP end the command as an exit does. The exit status is 128 plus the signal's number.
 
     A signal that is ignored, as SIGHUP under `nohup`, stays ignored.
     """

@@ -1,4 +1,4 @@
-"""Copies the sources, images and scripts of the documents' examples into a folder, in which their commands run."""
+"""Copy the sources, images and scripts of the documents' examples into a folder, where the documents' commands can be run."""
 
 import argparse
 import pathlib
@@ -8,13 +8,13 @@ from . import LabError
 from .places import EXAMPLE_IMAGES, EXAMPLES, LAB
 
 PLACES = {EXAMPLES: ".", EXAMPLE_IMAGES: ".", LAB / "lessons" / "tours": "tour"}
-"""The folders of the examples, and where their copies go in the new folder."""
+"""The folders of the examples. Each has the place of its copy, relative to the new folder."""
 
-OTHERS = ("good", "short")  # images of tests alone, which no package has
+OTHERS = ("good", "short")  # images that only tests use, and no package has
 
 
 def add_arguments(parser: argparse.ArgumentParser) -> None:
-    """The argument of `vecmon-lab examples`."""
+    """Add the argument of `vecmon-lab examples`."""
     parser.add_argument("folder", metavar="DIR", type=pathlib.Path, help="the new folder")
 
 

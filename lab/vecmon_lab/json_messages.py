@@ -1,4 +1,4 @@
-"""Messages of editors' protocols: a head with the length of the content in bytes, and the content in JSON.
+"""Messages of editors' protocols: a header with the length of the content in bytes, and the content in JSON.
 
 The specifications of the Debug Adapter Protocol and of the Language Server Protocol call this the base protocol.
 """
@@ -11,15 +11,15 @@ from collections import deque
 
 from . import LabError
 
-_HEAD_BYTES = 4096  # of a head, at most
-_BLOCK = 65536  # bytes that are read at once
+_HEAD_BYTES = 4096  # the longest header
+_BLOCK = 65536  # bytes to read at once, at most
 _LENGTH = re.compile(rb"^content-length:[ \t]*([0-9]{1,15})[ \t]*\r?$", re.IGNORECASE | re.MULTILINE)
-_END = b"\r\n\r\n"  # of a head
+_END = b"\r\n\r\n"  # the end of a header
 _HINT = "start this command from an editor"
 
 
 class BadHead(LabError):
-    """The input isn't a message, so the start of the next one is unknown."""
+    """The header of a message is invalid, so the start of the next message is unknown."""
 
 
 class BadContent(LabError):
@@ -27,13 +27,13 @@ class BadContent(LabError):
 
 
 def message_bytes(message: object) -> bytes:
-    """Return a message with its head."""
+    """Return the bytes of a message: its header, and its content in JSON."""
     content = json.dumps(message, separators=(",", ":")).encode("ascii")
     return b"Content-Length: %d\r\n\r\n%s" % (len(content), content)
 
 
 def read_content(content: bytes) -> object:
-    """Return the value of a content. Raises BadContent."""
+    """Parse the content of a message. Raises BadContent if it isn't JSON."""
     try:
         value: object = json.loads(content)
     except (ValueError, RecursionError) as error:
@@ -42,33 +42,38 @@ def read_content(content: bytes) -> object:
 
 
 class Contents:
-    """The contents of the messages that come through a file descriptor.
+    """The contents of the messages that arrive through a file descriptor.
 
-    waiting: those that have come and weren't taken yet, the oldest first
+    waiting: the contents that arrived and that `next` hasn't returned yet, the oldest first
+    has_ended: whether the client has closed its side
     """
 
     def __init__(self, source: int, limit: int) -> None:
-        """source: the file descriptor; limit: bytes of a content, at most"""
+        """source: the file descriptor; limit: the largest length of a content, in bytes"""
         self.waiting = deque[bytes]()
         self.has_ended = False
         self._source, self._limit = source, limit
         self._unread = bytearray()
 
     def next(self) -> bytes:
-        """Take the next content; wait for it. Raises EOFError if the client has gone, and BadHead."""
+        """Return the next content; wait for it if necessary. Raises EOFError if the client has gone, and BadHead for an invalid header."""
         while not self.waiting:
             if self.has_ended:
                 raise EOFError
             self._read()
         return self.waiting.popleft()
 
+    def comes_within(self, seconds: float) -> bool:
+        """Wait for input for this time at most; return whether there is some, also the end of the input."""
+        return bool(self.waiting or self.has_ended or select.select([self._source], [], [], seconds)[0])
+
     def read_arrived(self) -> None:
-        """Read all that has come, without waiting. Raises BadHead."""
+        """Read all messages that have arrived, without waiting. Raises BadHead for an invalid header."""
         while not self.has_ended and select.select([self._source], [], [], 0)[0]:
             self._read()
 
     def _read(self) -> None:
-        """Read what comes next, and divide it into messages."""
+        """Wait for the next bytes, and append the contents that they complete to `waiting`. Raises BadHead for an invalid header."""
         data = os.read(self._source, _BLOCK)
         self.has_ended = not data
         self._unread += data

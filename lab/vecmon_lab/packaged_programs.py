@@ -1,4 +1,7 @@
-"""The commands `vecmon` and `vecmon-record` of a Python package (tools/releasing/wheels): they become the programs inside it."""
+"""The commands `vecmon` and `vecmon-record` of a Python package (tools/releasing/wheels).
+
+Each command replaces its process with the program inside the package.
+"""
 
 import os
 import sys

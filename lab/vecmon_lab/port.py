@@ -9,9 +9,9 @@ HOST = "127.0.0.1"
 
 @contextlib.contextmanager
 def one_client(port: int) -> Iterator[socket.socket]:
-    """A connection with the first client at a port; there are no others. Port 0 chooses one, and the port is printed.
+    """Wait for the first client at a port of this computer, print the port, and yield the connection. Other clients can't connect.
 
-    Raises OSError if the port is taken.
+    port: with 0, the system chooses a free port. Raises OSError if the port is taken.
     """
     with socket.create_server((HOST, port)) as listener:
         print(f"listening at {HOST}:{listener.getsockname()[1]}", flush=True)

@@ -310,7 +310,16 @@ def test_expressions_hovers_and_completions_are_answered(client: Client) -> None
     assert client.value("a0", format={"hex": True}) == "0xd"
     assert client.value("vmacc.vx", context="hover").startswith("vmacc.vx vd, rs1, vs2[, v0.t]: ")
     assert client.value("t1", context="hover") == "3 (0x3)"
-    assert "vadd.vv" in client.value("help vadd.vv", context="repl")
+    for context in (
+        "repl",
+        "hover",
+        "watch",
+        "",
+    ):  # dap-mode evaluates what a user types as a hover, and Kate without a context
+        assert "vadd.vv" in client.value("help vadd.vv", context=context)
+        assert client.value("why v8[0]", context=context).startswith("v8[0] ")
+    client.refused("evaluate", expression="why", context="hover")
+    assert client.refused("evaluate", expression="((int *)1)[0]") == "memory at 0x1 can't be read"
     for text in ("nothing", "v8[8]", "v32", "a0[1]", "vmacc.vx", "1 +"):
         client.refused("evaluate", expression=text)
     assert client.value("((int32_t *)x)[4]") == "8 (0x8)" and client.value("*(uint16_t *)(y + 2)") == "0 (0x0)"

@@ -421,16 +421,17 @@ def test_output_and_end_of_an_image_without_stops() -> None:
 
 
 def test_mistakes_of_a_source_are_listed(clang: Compiler, tmp_path: pathlib.Path) -> None:
-    wrong = tmp_path / "wrong.c"
+    wrong, source, right = (tmp_path / name for name in ("wrong.c", "wrong.s", "right.s"))
     wrong.write_text("int main(void) { return nothing; }\nint other(void) { return 1 }\n")
+    source.write_text("vadd.vv v1, v2, 3\nvad.vv v1, v2, v3\nli a0\n")
+    right.write_text("ebreak\n")
     with Client.started() as client:
         client.ask("initialize")
-        lines = client.refused("launch", program=f"{wrong}", compiler=clang.name).split("\n")
+        numbers = [client.post("launch", program=f"{wrong}", compiler=clang.name)]
+        numbers += [client.post("launch", program=f"{path}", stopOnEntry=True) for path in (source, right)]
+        lines = client.response(numbers[0])["message"].split("\n")
         assert [line.split(": ")[0] for line in lines] == [f"{wrong}:1:25", f"{wrong}:2:27"]
-        source = tmp_path / "wrong.s"
-        source.write_text("vadd.vv v1, v2, 3\nvad.vv v1, v2, v3\nli a0\n")
-        lines = client.refused("launch", program=f"{source}").split("\n")
+        lines = client.response(numbers[1])["message"].split("\n")
         assert [line.removeprefix(f"{source}:").split(":")[0] for line in lines] == ["1", "2", "3"]
-        source.write_text("ebreak\n")
-        client.ask("launch", program=f"{source}", stopOnEntry=True)  # it is corrected
+        assert client.response(numbers[2])["success"]
         assert client.begin()["reason"] == "entry"

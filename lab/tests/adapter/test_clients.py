@@ -1,5 +1,6 @@
 """Clients of the debug adapter that send wrong requests, several at once, or go away; and programs that don't end."""
 
+import json
 import os
 import pathlib
 import re
@@ -15,7 +16,9 @@ from support.busy_host import PATIENCE
 from support.dap_client import DAP, Body, Client
 from support.places import EXAMPLES, SUM, TOP
 from vecmon_lab.__main__ import main
+from vecmon_lab.adapter import session
 from vecmon_lab.adapter.session import CAPABILITIES
+from vecmon_lab.adapter.wire import Wire
 
 SOURCE = EXAMPLES / "strip_mined.s"
 ENDLESS = "loop: addi t0, t0, 1\nj loop\n"
@@ -48,30 +51,43 @@ def test_attach_is_refused_with_the_way_to_launch(client: Client) -> None:
     assert "launch one" in client.refused("attach", pid=1)
 
 
-@pytest.mark.parametrize(
-    "command, arguments, reason",
-    [
-        ("launch", {}, "the argument program is missing"),
-        ("launch", {"program": 5}, "program is no text"),
-        ("launch", {"program": "/nowhere/x.s"}, "/nowhere/x.s: No such file"),
-        ("launch", {"program": f"{SOURCE}", "stopOnEntry": "yes"}, "stopOnEntry is no truth value"),
-        ("launch", {"program": f"{SOURCE}", "policy": "other"}, "policy is one of keep, ones"),
-        ("launch", {"program": f"{SOURCE}", "options": "O9"}, "options is one of O2, "),
-        ("launch", {"program": f"{SOURCE}", "args": "a"}, "args is no list"),
-        ("launch", {"program": f"{SUM}", "input": f"{SOURCE}"}, "symbol input not found"),
-        ("launch", {"program": __file__}, "no ELF file"),
+def test_wrong_launches_are_refused_and_end_the_debugging(client: Client) -> None:
+    wrong: list[tuple[Body, str]] = [
+        ({}, "the argument program is missing"),
+        ({"program": 5}, "program is no text"),
+        ({"program": "/nowhere/x.s"}, "/nowhere/x.s: No such file"),
+        ({"program": f"{SOURCE}", "stopOnEntry": "yes"}, "stopOnEntry is no truth value"),
+        ({"program": f"{SOURCE}", "policy": "other"}, "policy is one of keep, ones"),
+        ({"program": f"{SOURCE}", "options": "O9"}, "options is one of O2, "),
+        ({"program": f"{SOURCE}", "args": "a"}, "args is no list"),
+        ({"program": f"{SUM}", "input": f"{SOURCE}"}, "symbol input not found"),
+        ({"program": __file__}, "no ELF file"),
+    ]
+    assert "the first request is initialize" in client.refused("launch")
+    client.ask("initialize")
+    numbers = [
+        client.post("launch", **arguments) for arguments, _ in wrong
+    ]  # together, so that the session doesn't end
+    for number, (_, reason) in zip(numbers, wrong):
+        response = client.response(number)
+        assert not response["success"] and reason in response["message"]
+        assert client.event("terminated") == {}
+
+
+def test_wrong_requests_are_refused_before_a_launch(client: Client) -> None:
+    wrong: list[tuple[str, Body, str]] = [
         ("next", {}, "no program was launched"),
         ("stackTrace", {}, "no program was launched"),
         ("configurationDone", {}, "no program was launched"),
         ("setDataBreakpoints", {}, "no program was launched"),
         ("gotoTargets", {}, "the request gotoTargets isn't supported"),
         ("source", {"sourceReference": 3}, "the source isn't on this computer"),
-    ],
-)
-def test_wrong_requests_are_refused_before_a_launch(client: Client, command: str, arguments: Body, reason: str) -> None:
-    assert "the first request is initialize" in client.refused(command, **arguments)
+    ]
+    for command, arguments, _ in wrong:
+        assert "the first request is initialize" in client.refused(command, **arguments)
     client.ask("initialize")
-    assert reason in client.refused(command, **arguments)
+    for command, arguments, reason in wrong:
+        assert reason in client.refused(command, **arguments)
     client.ask("launch", program=f"{SOURCE}", stopOnEntry=True)
     assert client.begin()["reason"] == "entry"
 
@@ -114,6 +130,7 @@ def test_wrong_requests_are_refused_at_a_stop(client: Client) -> None:
     client.scope("Vector registers")
     for command, arguments in wrong:
         assert client.refused(command, **arguments), command
+    assert "give that of the scope" in client.refused("setVariable", variablesReference=0, name="a0", value="1")
     assert client.move("next")["reason"] == "step"  # it goes on
 
 
@@ -175,6 +192,81 @@ def test_adapter_ends_with_its_client(client: Client, endless: pathlib.Path, is_
     assert client.program and client.program.stdin
     client.program.stdin.close()
     assert client.program.wait() == 0
+
+
+def test_adapter_ends_with_its_client_whose_requests_wait_for_a_step(
+    endless: pathlib.Path, tmp_path: pathlib.Path
+) -> None:
+    folder = tmp_path / "temporary"
+    folder.mkdir()
+    with Client.started(env={**os.environ, "TMPDIR": f"{folder}"}) as client:
+        client.launch(endless, stopOnEntry=True)
+        client.begin()
+        client.ask("stepOut", threadId=1)  # there is no way out of the loop
+        client.post("stackTrace", threadId=1)
+        assert client.program and client.program.stdin and [*folder.iterdir()]
+        number = client.program.pid
+        (machine,) = pathlib.Path(f"/proc/{number}/task/{number}/children").read_text().split()
+        client.program.stdin.close()
+        assert client.program.wait(PATIENCE) == 0
+    assert not [*folder.iterdir()] and not pathlib.Path(f"/proc/{machine}").exists()
+
+
+def test_loop_of_a_conditional_breakpoint_is_paused_and_ends_with_its_client(
+    client: Client, tmp_path: pathlib.Path
+) -> None:
+    source = tmp_path / "tight.s"
+    source.write_text("li a0, 0\nloop: j loop\n")
+    client.launch(source, stopOnEntry=True)
+    client.lines(source, 2, condition="a0 == 1")
+    client.begin()
+    client.ask("continue", threadId=1)
+    client.ask("pause", threadId=1)
+    assert client.event("stopped")["reason"] == "pause"
+    client.ask("continue", threadId=1)
+    assert client.program and client.program.stdin
+    client.program.stdin.close()
+    assert client.program.wait(PATIENCE) == 0
+
+
+@pytest.mark.parametrize("command", ["launch", "attach"])
+def test_failed_launch_shows_its_mistakes_and_ends_the_debugging(
+    client: Client, tmp_path: pathlib.Path, command: str
+) -> None:
+    source = tmp_path / "wrong.s"
+    source.write_text("vfoo.vv v1, v2, v3\nli a0, 0\nvadd.vv v1, v2\n")
+    client.ask("initialize")
+    numbers = [client.post(command, program=f"{source}"), client.post("disconnect")]
+    response = client.response(numbers[0])
+    assert not response["success"] and client.event("terminated") == {}
+    assert client.output("stderr") == f"{response['message']}\n"
+    if command == "launch":
+        assert re.findall(r"wrong\.s:(\d+):\d+: ", response["message"]) == ["1", "3"]
+    assert client.response(numbers[1])["success"]
+    assert client.program and client.program.wait(PATIENCE) == 0
+
+
+def test_failed_restart_shows_its_mistakes_and_keeps_the_program(client: Client, endless: pathlib.Path) -> None:
+    client.launch(endless, stopOnEntry=True)
+    client.begin()
+    endless.write_text("vfoo.vv v1, v2, v3\n")
+    assert client.output("stderr") == ""
+    message = client.refused("restart")
+    assert f"{endless}:1:" in message and client.output("stderr") == f"{message}\n"
+    assert client.move("next")["reason"] == "step"
+    assert "terminated" not in [event["event"] for event in client.events]
+
+
+def test_session_of_a_failed_launch_ends_if_its_client_is_silent(monkeypatch: pytest.MonkeyPatch) -> None:
+    monkeypatch.setattr(session, "REST_SECONDS", 0)
+    (source, target), sent = os.pipe(), list[bytes]()
+    for number, command in enumerate(["initialize", "launch"], 1):
+        content = json.dumps({"seq": number, "type": "request", "command": command}).encode()
+        os.write(target, b"Content-Length: %d\r\n\r\n%s" % (len(content), content))
+    session.Session(Wire(source, sent.append)).serve()  # the other end is open
+    assert b'"event":"terminated"' in sent[-1]
+    os.close(source)
+    os.close(target)
 
 
 def unignored() -> None:

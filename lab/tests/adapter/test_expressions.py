@@ -1,5 +1,7 @@
 """Expressions of a client: the operators of C, and what isn't one."""
 
+import re
+
 import pytest
 
 from vecmon_lab import LabError
@@ -94,6 +96,7 @@ def test_values_are_those_of_c(text: str, value: int) -> None:
         ("*short_at + short_at[3]", 0x2006),
         ("pair.second * 2 + pair_at->second", 21),
         ("(*pair_at).second == -(-7)", 1),
+        ("(a0) * (vl)", 40),
     ],
 )
 def test_pointers_count_what_they_point_to(text: str, value: int) -> None:
@@ -142,6 +145,21 @@ def test_pointers_count_what_they_point_to(text: str, value: int) -> None:
 )
 def test_what_is_no_expression_is_refused(text: str) -> None:
     with pytest.raises(LabError):
+        value_of(text)
+
+
+@pytest.mark.parametrize(
+    "text, kind",
+    [
+        ("((float *)a0)[0]", "float *"),
+        ("*(double*)a0", "double *"),
+        ("(unsigned int *)a0", "unsigned int *"),
+        ("1 + *(int **)a0", "int **"),
+        ("((void *)(a0 + 1))", "void *"),
+    ],
+)
+def test_types_that_are_not_supported_are_named(text: str, kind: str) -> None:
+    with pytest.raises(LabError, match=re.escape(f"the type {kind} isn't supported here: pointers to int8_t")):
         value_of(text)
 
 

@@ -40,7 +40,7 @@ def test_argument_errors_match_machine_refusals(session: Session) -> None:
 @pytest.mark.parametrize(
     "line, expected",
     [
-        ("1 break nosuch", "nosuch is no address, which has hexadecimal digits alone"),
+        ("1 break nosuch", "nosuch is no address, which has only hexadecimal digits"),
         ("1 break 0x10000", "0x10000 begins with 0x, which is left out here"),
         ("1 setpc 10002", "10002 isn't divisible by 4: the last digit is 0, 4, 8 or c"),
         ("1 asm 10001 nop", "10001 isn't divisible by 4: the last digit is 0, 4, 8 or c"),

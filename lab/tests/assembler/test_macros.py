@@ -31,8 +31,8 @@ def test_mistake_is_where_it_was_typed() -> None:
     assert [(it.line, it.column) for it in program.mistakes] == [(8, 17)]
     assert program.mistakes[0].message.endswith("; in macro step, called in line 8")
     number = next(it for it in program.statements if it.text.endswith("5000"))
-    assert number.places[number.text.index("5000")] == (7, 21)
-    assert number.places[0] == (2, 9)
+    assert number.place(number.text.index("5000")) == (7, 21)
+    assert number.place(0) == (2, 9)
 
 
 def test_mistake_of_body_is_reported_once() -> None:

@@ -1,4 +1,4 @@
-"""Instructions that depend on their line alone: sources are read the same with and without them."""
+"""Instructions that depend only on their line: sources are read the same with and without them."""
 
 
 import pytest

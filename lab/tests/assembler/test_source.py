@@ -211,8 +211,8 @@ ERRORS = [
     (".dword 1 !! 2", 1, 10, "!! between numbers is ^ to GNU as"),
     (".comm a, 8, 3", 1, 13, ".comm takes an alignment that is a power of two"),
     (".byte 1\n nop", 2, 2, "the address of nop isn't divisible by 4"),
-    (".bss\n .byte 1", 2, 2, ".bss has zeros alone"),
-    ('.bss\n .string "a"', 2, 2, ".bss has zeros alone"),
+    (".bss\n .byte 1", 2, 2, ".bss has only zeros"),
+    ('.bss\n .string "a"', 2, 2, ".bss has only zeros"),
     (" .align 13", 1, 9, ".align n aligns to 2^n bytes, with n from 0 to 12"),
     (" .balign 12", 1, 10, ".balign takes a power of two from 1 to 4096"),
     (" .zero -1", 1, 8, ".zero takes how many bytes there are"),
@@ -241,7 +241,7 @@ def test_error_has_line_and_column(text: str, line: int, column: int, message: s
 
 
 def test_mistakes_are_reported_in_order(program: pathlib.Path) -> None:
-    """Of form, and of the machine, where it takes what is right; right lines have none."""
+    """Mistakes of form, and those that the machine reports for lines without such mistakes; correct lines have none."""
     text = """here: jmp here
         addi a0, a0, 4096
         .dword 1, 22222222222222222222

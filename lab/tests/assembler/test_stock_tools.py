@@ -41,7 +41,7 @@ def test_refused_form_has_one_reason(program: pathlib.Path, form: Form) -> None:
 
 @pytest.mark.parametrize("form", TAKEN, ids=[form.source for form in TAKEN])
 def test_form_is_accepted(form: Form) -> None:
-    """A form without an effect gives no word and no byte; a warning is of what clang refuses."""
+    """A form without an effect gives no word and no byte; a form with a warning is one that clang refuses."""
     own = read_source(form.source)
     assert not own.mistakes and bool(own.warnings) == (form.treatment == "warned"), own.mistakes
     if form.treatment == "ignored":

@@ -7,7 +7,7 @@ from typing import Any
 import pytest
 
 from support.class_tabs import served
-from vecmon_lab.assembler import apart
+from vecmon_lab.language import apart
 from vecmon_lab.classes.server import tab_requests
 from vecmon_lab.classes.server.worker_pool import WorkerEnded, WorkerPool
 
@@ -31,15 +31,17 @@ async def test_repeated_source_is_assembled_apart(tmp_path: pathlib.Path, monkey
         assert "error" not in await tab.ask("source", text=REPEATED)
         assert started == [apart.MODULE]
         assert await tab.do("step 256") == [["stepped 256 pc=0000000000010400"]]
-        problems = await tab.ask("problems", text=REPEATED + "add a0, a1, x32\nj nowhere\n")
-        assert [each["line"] for each in problems["mistakes"]] == [5, 6]
+        text = f"vsetivli x0, 4, e8, m1, ta, ma\n{REPEATED}add a0, a1, x32\nj nowhere\n"
+        problems = await tab.ask("problems", text=text)
+        assert [each["line"] for each in problems["mistakes"]] == [6, 7]
+        assert problems["types"] == [{"line": 1, "types": ["c0"], "vl": 4}]
 
 
 async def test_source_beyond_the_limits_has_one_line(tmp_path: pathlib.Path, monkeypatch: pytest.MonkeyPatch) -> None:
     """Other seats, and the same one, go on."""
 
     async def ended(self: WorkerPool, *words: str, script: bytes) -> bytes:
-        raise WorkerEnded("the process of assembler.apart was ended by the signal SIGXCPU")
+        raise WorkerEnded("the process of language.apart was ended by the signal SIGXCPU")
 
     async with served(tmp_path / "class") as room:
         tab, other = await room.sit("A1"), await room.sit("A2")

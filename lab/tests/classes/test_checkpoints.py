@@ -84,7 +84,7 @@ async def test_class_continues_in_next_script(tmp_path: pathlib.Path) -> None:
         assert await tab.do("state") == [["state stopped pc=0000000000010000"]] and tab.view["share"]["used"] == 20
         assert room.members
         room.members.save()
-        room.members.store.flush()
+        room.members.store.texts.flush()
         store = Store(room.folder, find_program(), is_reading=True)  # while the class runs
         assert solo(store, "A2") == [f"2 {line}" for line in (*SUM_LINES, "step 1")]
         own = [f"1 {line}" for line in (*LOOP, "go", "stop", "go", "stop")]

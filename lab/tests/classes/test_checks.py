@@ -20,7 +20,7 @@ from vecmon_lab.classes.server.builds import Builds
 from vecmon_lab.classes.server.checks import Checks
 from vecmon_lab.classes.core.languages import LANGUAGES, C
 from vecmon_lab.classes.server.store import Store
-from vecmon_lab.classes.server.view import Class
+from vecmon_lab.classes.server.served_class import Class
 from vecmon_lab.compilers.compiler import Compiler
 from vecmon_lab.exercises.exercise import OURS
 from vecmon_lab.machine.program import find_program
@@ -466,7 +466,7 @@ async def test_check_under_way_at_end_is_taken_up_again(
         await tab.until(lambda view: view["exercises"]["square"]["passed"])
         own = tab.view["exercises"]["square"]
         assert (own["tries"], own["told"], own["checking"]) == (1, {"cases": cases(True, True)}, False)
-        assert room.members and "checking/A2.json is damaged" in room.members.store.loss
+        assert room.members and "checking/A2.json is damaged" in room.members.store.damage.summary
     assert [path.name for path in (folder / "checking").iterdir()] == ["A2.json.damaged"]
     (folder / "checking" / "A1.json").write_text(
         pending

@@ -28,7 +28,7 @@ ANSWER = """
 from support.desk import Desk
 from support.spawned import SpawnedProgram
 desk = Desk(SpawnedProgram(pathlib.Path({!r})), {{}}, 100_000)
-print(json.dumps([[desk.answer(request), desk.settle()] for request in {}]))
+print(json.dumps([[desk.respond(request), desk.settle()] for request in {}]))
 """
 SOURCE = "li t0, 3\nloop: vsetivli x0, 8, e32, m1, ta, ma\nvid.v v1\naddi t0, t0, -1\nbnez t0, loop\nebreak"
 REQUESTS: list[dict[str, object]] = [
@@ -56,7 +56,7 @@ def test_core_imports_without_server_libraries() -> None:
 
 @pytest.mark.parametrize(
     "module, needed",
-    [("classes.server.room", "asyncio"), ("classes.server.store", "fcntl"), ("machine.pipe", "select")],
+    [("classes.server.room", "asyncio"), ("classes.server.folder_lock", "fcntl"), ("machine.pipe", "select")],
 )
 def test_server_module_outside_core_is_detected(module: str, needed: str) -> None:
     assert f"import of {needed} halted" in imported(module)
@@ -68,7 +68,7 @@ def test_core_answers_without_server_libraries(program: pathlib.Path) -> None:
     command = [sys.executable, "-c", BLOCK + ANSWER.format(str(program), requests)]
     completed = subprocess.run(command, stdout=subprocess.PIPE, check=True, cwd=TOP / "lab")
     desk = Desk(program, {}, 100_000)
-    answers: list[list[Any]] = [[desk.answer(request), desk.settle()] for request in requests]
+    answers: list[list[Any]] = [[desk.respond(request), desk.settle()] for request in requests]
     desk.close()
     assert answers[1][0]["do"] == [["stepped 3 pc=000000000001000c"], ["ok"]]
     assert untimed(json.loads(completed.stdout)) == untimed(json.loads(json.dumps(answers)))

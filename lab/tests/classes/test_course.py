@@ -98,14 +98,14 @@ async def test_order_survives_restart(tmp_path: pathlib.Path) -> None:
         offered = [each["name"] for each in teacher.view["course"]]
         assert offered == [*own, *(name for name in COURSE if name not in own)]
         assert names(tab) == ["filter", "byte_sum"]
-        assert room.members and not room.members.store.lost
+        assert room.members and not room.members.store.damage.sentences
     for report in (
         ["the choice of exercises (filter, byte_sum) is lost, since --exercise and --course replace it"],
         [],
     ):
         async with served(tmp_path / "class", exercises=map(pathlib.Path, own)) as room:
             assert names(await room.sit("A1")) == own
-            assert room.members and room.members.store.lost == report
+            assert room.members and room.members.store.damage.sentences == report
 
 
 async def test_draft_of_exercise_of_before_restart_is_kept(tmp_path: pathlib.Path) -> None:
@@ -151,5 +151,7 @@ async def test_choice_survives_restart(tmp_path: pathlib.Path) -> None:
     store = Store(tmp_path / "class", find_program())
     checks = Checks(store, [], lambda names: None, Builds())
     assert [each["name"] for each in checks.offered() if each["on"]] == ["filter"]
-    assert len(store.lost) == 1 and store.lost[0].startswith("the exercise own isn't offered any more: ")
+    assert len(store.damage.sentences) == 1 and store.damage.sentences[0].startswith(
+        "the exercise own isn't offered any more: "
+    )
     store.close()

@@ -12,7 +12,8 @@ from support.desk import Desk, untimed
 from support.desk_requests import Request, drawn_requests, exercise_requests, source_requests
 from vecmon_lab.classes.server.store import Store
 from vecmon_lab.classes.server.tab_requests import TabRequests
-from vecmon_lab.classes.server.view import Class, Tab
+from vecmon_lab.classes.server.served_class import Class
+from vecmon_lab.classes.server.tab import Tab
 from vecmon_lab.exercises.exercise import OURS
 from vecmon_lab.machine.program import find_program
 
@@ -29,7 +30,7 @@ async def answered_by_server(members: Class, requests: Iterable[Request], has_cl
     clock = asyncio.create_task(room.clock.run())
     sent: Sent = [[desk.hello(tab)]]
     for number, request in enumerate(requests, 1):
-        answer = await desk.answer(tab, json.dumps({"id": number, **request}))
+        answer = await desk.respond(tab, json.dumps({"id": number, **request}))
         while has_clock and members.seat(SEAT).state["run"] == "running" or members.checks.exercises.busy:
             await asyncio.sleep(0.002)
         sent.append([answer, desk.news(tab)])
@@ -43,7 +44,7 @@ def answered_by_desk(members: Class, requests: Iterable[Request], has_clock: boo
     desk.has_clock = has_clock
     sent: Sent = [[desk.hello()]]
     for number, request in enumerate(requests, 1):
-        sent.append([desk.answer(json.dumps({"id": number, **request})), desk.settle()])
+        sent.append([desk.respond(json.dumps({"id": number, **request})), desk.settle()])
     desk.close()
     return sent
 
@@ -124,7 +125,7 @@ def test_state_has_how_its_machine_began(program: pathlib.Path) -> None:
 
     def state_after(*lines: str, look: str = "regs") -> tuple[Any, Any]:
         nonlocal view
-        answer: Any = desk.answer(json.dumps({"id": 1, "ask": "lines", "do": lines, "look": [look]}))
+        answer: Any = desk.respond(json.dumps({"id": 1, "ask": "lines", "do": lines, "look": [look]}))
         view = patched(view, answer.get("patch", {}))
         return view["state"].get("began"), view["state"].get("prepared")
 

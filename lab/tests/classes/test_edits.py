@@ -195,11 +195,11 @@ def test_first_run_stops_at_breakpoint_of_first_instruction(desk: Desk) -> None:
     def run(**more: object) -> tuple[str, str, str]:
         assert "error" not in ask(desk, ask="run", **more)
         desk.settle()
-        return desk.seat.state["pc"], desk.seat.condition, desk.seat.status["kind"]
+        return desk.seat.state["pc"], desk.seat.condition, desk.seat.status.value["kind"]
 
     assert run(text=COUNT, breaks=[1]) == start
     stop = "Stopped at the breakpoint at 0x10000; its instruction is the next one."
-    assert desk.seat.state["stop"] == desk.seat.shown["stop"] == stop
+    assert desk.seat.state["stop"] == desk.seat.display.shown["stop"] == stop
     assert [run(), run()] == [end, start]
     ask(desk, ask="again")
     assert desk.seat.condition == "Ready" and "stop" not in desk.seat.state

@@ -50,7 +50,7 @@ async def test_source_waits_for_disk(tmp_path: pathlib.Path, monkeypatch: pytest
             source = await open_exercise(tab, "doubles")
             assert (source["text"], source["language"]) == (text, language)
             assert not list((room.folder / "drafts").glob("*"))
-        room.members.store.flush()
+        room.members.store.texts.flush()
         assert [path.name for path in (room.folder / "drafts").glob("A1.doubles.*")] == ["A1.doubles.s"]
 
 
@@ -158,9 +158,9 @@ async def test_stored_sources_are_text_files(tmp_path: pathlib.Path) -> None:
     store = Store(tmp_path / "class", find_program())
     for text in ("", "../codes", "a" * 41, "doubles\n", "doubles 1.5", "doubles -1", "doubles " + 13 * "1"):
         (store.folder / "A1.exercise").write_text(text)
-        assert kept_exercise(store, "A1") == ("", 0)
+        assert kept_exercise(store.texts, "A1") == ("", 0)
     (store.folder / "A1.exercise").write_text("doubles")  # as version 1.0 wrote it
-    assert kept_exercise(store, "A1") == ("doubles", 0)
+    assert kept_exercise(store.texts, "A1") == ("doubles", 0)
     (store.folder / "A1.exercise").write_text("doubles 1796031290")
-    assert kept_exercise(store, "A1") == ("doubles", 1796031290)
+    assert kept_exercise(store.texts, "A1") == ("doubles", 1796031290)
     store.close()

@@ -10,17 +10,17 @@ from typing import Any
 import pytest
 
 from support.disk import Disk
-from vecmon_lab.classes.server import disk_files, durable, journal, store
+from vecmon_lab.classes.server import damage, disk_files, durable, folder_lock, journal, script_file
 from vecmon_lab.classes.server.durable import Flusher
 from vecmon_lab.classes.server.journal import Journal, recover
-from vecmon_lab.classes.server.store import ScriptFile
+from vecmon_lab.classes.server.script_file import ScriptFile
 
 
 @pytest.fixture
 def disk(tmp_path: pathlib.Path, monkeypatch: pytest.MonkeyPatch) -> Disk:
     """A recorded disk, and no batches but those of the test."""
     own = Disk(tmp_path)
-    for module in (disk_files, durable, journal, store):
+    for module in (damage, disk_files, durable, folder_lock, journal, script_file):
         monkeypatch.setattr(module, "os", own)
     monkeypatch.setattr(durable, "FLUSH_SECONDS", 1e6)
     monkeypatch.setattr(durable, "JOURNAL_SECONDS", 1e6)

@@ -24,7 +24,7 @@ from vecmon_lab.classes.core.languages import SourceText
 from vecmon_lab.classes.core.requests import LinesRequest
 from vecmon_lab.classes.server.machine_thread import Stopped
 from vecmon_lab.classes.server.store import Store
-from vecmon_lab.classes.server.view import Class
+from vecmon_lab.classes.server.served_class import Class
 from vecmon_lab.machine import session as machine
 from vecmon_lab.machine.program import find_program
 
@@ -190,12 +190,12 @@ async def test_changed_script_with_same_answers_is_reported(tmp_path: pathlib.Pa
     del notes["script"]
     (tmp_path / "old" / "A.json").write_text(json.dumps(notes))
     async with served(folder) as room:
-        assert room.members and room.members.store.lost == [
+        assert room.members and room.members.store.damage.sentences == [
             "A.script: its first 6 lines were changed, and are answered as before"
         ]
     async with served(folder) as room, served(tmp_path / "old") as old:
-        assert room.members and room.members.store.lost == []  # the present lines count from then on
-        assert old.members and old.members.store.lost == []
+        assert room.members and room.members.store.damage.sentences == []  # the present lines count from then on
+        assert old.members and old.members.store.damage.sentences == []
 
 
 async def test_changed_script_answers_are_refused(tmp_path: pathlib.Path, program: pathlib.Path) -> None:
@@ -216,12 +216,14 @@ async def test_changed_script_answers_are_refused(tmp_path: pathlib.Path, progra
         shutil.copytree(folder, copy)
         (copy / "A.script").write_bytes(changed)
         members = Class(Store(copy, program), SECONDS)
-        assert members.store.lost == [f"A.script: {expected}"] and members.rooms["A"].session.script == changed
-        assert expected in members.store.loss
+        assert (
+            members.store.damage.sentences == [f"A.script: {expected}"] and members.rooms["A"].session.script == changed
+        )
+        assert expected in members.store.damage.summary
         members.save()
         members.end()
         members = Class(Store(copy, program), SECONDS)  # whose notes are of the script as it is now
-        assert not members.store.lost
+        assert not members.store.damage.sentences
         members.end()
     (folder / "A.script").write_bytes(script + b"1 step 1\n")  # not covered by the digest
     async with served(folder) as room:
@@ -229,7 +231,7 @@ async def test_changed_script_answers_are_refused(tmp_path: pathlib.Path, progra
     for broken in (b"9 enter\n", b"1 \xff\n", b"\n"):
         (folder / "A.script").write_bytes(script + broken)
         members = Class(Store(folder, program), SECONDS)
-        assert members.store.lost[0].startswith("A.script is damaged behind line 7, and A.script.damaged")
+        assert members.store.damage.sentences[0].startswith("A.script is damaged behind line 7, and A.script.damaged")
         members.end()
 
 
@@ -308,7 +310,7 @@ async def test_files_at_end_are_consistent(tmp_path: pathlib.Path) -> None:
     room = members.rooms["A"]
     await room.lines(room.seats.users["1"], LinesRequest([*LOOP, "go"]), [])
     members.save()
-    members.store.flush()
+    members.store.texts.flush()
     stored, process = notes.read_text(), room.session.process
     assert process
     os.kill(process, signal.SIGSTOP)
@@ -318,13 +320,13 @@ async def test_files_at_end_are_consistent(tmp_path: pathlib.Path) -> None:
     clock.cancel()
     await asyncio.sleep(0.1)
     members.save()
-    members.store.flush()
+    members.store.texts.flush()
     assert room.is_busy() and notes.read_text() == stored
     os.kill(process, signal.SIGCONT)
     with pytest.raises(asyncio.CancelledError):
         await clock
     members.save()
-    members.store.flush()
+    members.store.texts.flush()
     reply = json.loads(notes.read_text())
     assert (reply["lines"], reply["answers"]) == (len(LOOP) + 2, room.session.digest)
     members.end()

@@ -66,7 +66,7 @@ async def test_student_without_headway_needs_help(tmp_path: pathlib.Path, monkey
         assert room.members
         clock = Clock()
         for name in ("A1", "A2"):
-            room.members._headway[name] = Headway(clock)
+            room.members.stuck._headway[name] = Headway(clock)
         room.members.save()
         clock.now += headway.NO_HEADWAY_SECONDS
         await teacher.until(lambda view: view["machines"]["A"]["seats"]["1"]["stuck"])

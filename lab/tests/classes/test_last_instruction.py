@@ -43,15 +43,15 @@ def step(desk: Desk, count: int) -> None:
 
 def test_state_has_data_of_directives(desk: Desk) -> None:
     data = {"11000": {"type": "i32", "count": 8}}
-    assert desk.seat.named["data"] == data and desk.hello()["patch"]["state"]["data"] == data  # type: ignore[index]
+    assert desk.seat.loaded.names["data"] == data and desk.hello()["patch"]["state"]["data"] == data  # type: ignore[index]
     ask(desk, ask="lines", do=["leave"])
-    assert "data" not in desk.seat.named
+    assert "data" not in desk.seat.loaded.names
 
 
 def test_accessed_page_of_zeros_has_row(desk: Desk) -> None:
     ask(desk, ask="lines", do=["map 30000 1 rw", "set x10 30020", "asm 10000 ld x5, 8(x10)", "setpc 10000"])
     for _ in range(2):  # before and after the load
-        memory = desk.seat.shown["memory"]
+        memory = desk.seat.display.shown["memory"]
         assert {row: digits for row, digits in memory.items() if row[:1] == "3"} == {"30020": "00" * 16}
         step(desk, 1)
 
@@ -84,7 +84,7 @@ def test_state_has_elements_of_last_instruction(desk: Desk) -> None:
     executed = desk.seat.state["executed"]
     assert executed["outcomes"] == [{"outcome": "active", "count": 4}, {"outcome": "tail", "count": 4}]
     assert (executed["formula"], executed["end"], executed["known"]) == (["v8[i] = v8[i] + v8[i]"], "ran", True)
-    assert desk.seat.shown["executed"] == executed
+    assert desk.seat.display.shown["executed"] == executed
     step(desk, STORED - DOUBLED)
     executed = desk.seat.state["executed"]
     outcomes = [(each["outcome"], each["count"]) for each in executed["outcomes"]]
@@ -191,14 +191,14 @@ def test_request_completes_what_a_run_left(desk: Desk) -> None:
     read = desk.seat.state["read"]
     assert read["v"] == {"8": BEFORE + 32 * "0"} and read["v0"] == 64 * "0"
     assert (read["vl"], read["vtype"], read["vstart"]) == (4, "d0", 0)
-    assert desk.seat.shown["read"] == read and desk.machine.session.script == script
+    assert desk.seat.display.shown["read"] == read and desk.machine.session.script == script
 
 
 def test_request_completes_a_run_to_an_ebreak(desk: Desk) -> None:
     """lw a0, 4(a0) has lost its base."""
     ask(desk, ask="run")
     desk.settle()
-    assert (desk.seat.state["instruction"], desk.seat.stop[:6]) == ("10028", "ebreak")
+    assert (desk.seat.state["instruction"], desk.seat.execution.stop[:6]) == ("10028", "ebreak")
     ask(desk, ask="last-instruction")
     assert desk.seat.state["read"]["x"] == {"10": "11000"}
     assert desk.seat.state["accessed"] == [{"address": "11004", "length": 4, "kind": "read"}]
@@ -252,7 +252,7 @@ def test_request_finds_the_last_of_many_rounds(desk: Desk) -> None:
     ask(desk, ask="source", text=LOOP)
     ask(desk, ask="run")
     desk.settle()
-    assert desk.seat.stop.startswith("ebreak")
+    assert desk.seat.execution.stop.startswith("ebreak")
     assert desk.seat.state["read"]["v"] == {}
     ask(desk, ask="last-instruction")
     sums = [(300 * element).to_bytes(4, "little").hex() for element in range(4)]

@@ -13,7 +13,8 @@ from vecmon_lab.__main__ import arguments_of
 from vecmon_lab.classes.server.command import run
 from vecmon_lab.classes.core.names import as_csv, checked_name
 from vecmon_lab.classes.core.bad_request import BadRequest
-from vecmon_lab.classes.server.store import BadFolder, forget
+from vecmon_lab.classes.server.folder_lock import BadFolder
+from vecmon_lab.classes.server.unserved_class import forget
 
 NAME = "Zoë O'Brien-Šarić Jr. 2"
 
@@ -99,7 +100,7 @@ async def test_name_is_sent_to_seat_and_teacher_only(tmp_path: pathlib.Path) -> 
         assert (await teacher.ask("name", seat="A9", name="Ada"))["error"] == "there is no such seat"
         assert (await wall.ask("name", seat="A3", name="Ada"))["error"] == "the wall only looks"
         assert room.members
-        room.members.store.flush()
+        room.members.store.texts.flush()
         assert json.loads((folder / "names.json").read_text()) == {"A3": NAME, "B8": "Bo"}
         status, data = await room.get("seats.csv")
         rows = list(csv.reader(io.StringIO(data.decode("utf-8-sig"))))

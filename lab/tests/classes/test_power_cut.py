@@ -12,13 +12,15 @@ import pytest
 
 from support.class_tabs import LOOP, SECONDS
 from support.disk import Contents, Disk
-from vecmon_lab.classes.server import checks, disk_files, durable, journal, store, view
+from vecmon_lab.classes.server import checks, damage, disk_files, durable, folder_lock, journal, saving, script_file
 from vecmon_lab.classes.core.languages import SourceText
 from vecmon_lab.classes.core.live import is_servers
 from vecmon_lab.classes.core.requests import LinesRequest
 from vecmon_lab.classes.server.server import KEEP_SECONDS
-from vecmon_lab.classes.server.store import BadFolder, Store, script_name
-from vecmon_lab.classes.server.view import Class
+from vecmon_lab.classes.server.folder_lock import BadFolder
+from vecmon_lab.classes.server.script_file import script_name
+from vecmon_lab.classes.server.store import Store
+from vecmon_lab.classes.server.served_class import Class
 from vecmon_lab.exercises.exercise import read_exercise
 
 TICK, TICKS = 0.05, 96  # seconds, and their number
@@ -73,11 +75,11 @@ class Lesson:
         for tick in range(TICKS):
             self.now += TICK
             if tick % EVERY == 0:
-                self.members.store.flush()
+                self.members.store.texts.flush()
                 self.members.save(with_counts=False)
                 self.disk.check()
             if tick % SHORTENED == 0:
-                self.members.store.shorten()
+                self.members.store.texts.shorten_journals()
             await acts[tick % len(acts)]()
             if tick % RENEWED == 0:
                 await self._renew()
@@ -133,13 +135,13 @@ async def cuts_of(
     """The different states that cuts of a lesson leave; flushes: whether the disk does what `fsync` asks for."""
     for name in ("FLUSH_SECONDS", "JOURNAL_SECONDS"):
         monkeypatch.setattr(durable, name, 1e6)
-    monkeypatch.setattr(view, "COUNTS_SECONDS", 0.0)
+    monkeypatch.setattr(saving, "COUNTS_SECONDS", 0.0)
     monkeypatch.setattr(checks.Checks, "_run", passing_check)
     monkeypatch.setattr(checks, "settled", lambda program, exercise: exercise)
     monkeypatch.setattr(checks, "read_exercise", functools.cache(read_exercise))  # a thousand classes open
     with monkeypatch.context() as recorded:
         disk = Disk(folder, flushes=flushes)
-        for module in (disk_files, durable, journal, store):
+        for module in (damage, disk_files, durable, folder_lock, journal, script_file):
             recorded.setattr(module, "os", disk)
         lesson = Lesson(folder, program, disk)
         await lesson.work()
@@ -177,7 +179,7 @@ def check(cut: Cut, folder: pathlib.Path, program: pathlib.Path) -> None:
         last = path.read_text().splitlines()[start:] if path.exists() else []
         lines += [line for line in last if not is_servers(line)]
     assert lines[: len(known.lines)] == known.lines
-    log = [entry for entry in members.seat("A1").log if entry[0] == ">"]
+    log = [entry for entry in members.seat("A1").log.entries if entry[0] == ">"]
     assert log == [f">{line}" for line in last if line[0] == "1" and not is_servers(line)]
     assert int(members.students["A2"].source.own.text.removeprefix("draft ") or 0) >= known.drafts
     assert int(members.names.get("A3", "").removeprefix("Ada ") or 0) >= known.names

@@ -21,7 +21,7 @@ import pytest
 from support.busy_host import PATIENCE
 from support.class_tabs import LOOP, Served, Tab, process
 from vecmon_lab.classes.server.store import Store
-from vecmon_lab.classes.server.view import Class
+from vecmon_lab.classes.server.served_class import Class
 
 IN_CI = os.environ.get("CI") and shutil.which("mkfs.ext4") and os.access("/dev/loop-control", os.W_OK)
 CUTS = int(os.environ.get("POWER_CUTS", "4" if IN_CI else "0"))
@@ -60,7 +60,11 @@ def check(image: pathlib.Path, program: pathlib.Path, known: list[int]) -> list[
         members = Class(Store(folder / "class", program), 10.0, clock=False)
         script = members.rooms["A"].session.script.decode().splitlines()
         counts = [script.count(f"{seat[1]} step 1") for seat in SEATS]
-        lost = [sentence for sentence in members.store.lost if not sentence.startswith("A.script is damaged behind")]
+        lost = [
+            sentence
+            for sentence in members.store.damage.sentences
+            if not sentence.startswith("A.script is damaged behind")
+        ]
         members.end()
     assert not lost and all(count >= minimum for count, minimum in zip(counts, known)), (lost, counts, known)
     return counts

@@ -17,12 +17,12 @@ import pytest
 from classes.test_power_cut import passing_check, remove_others
 from support.class_tabs import LOOP, SECONDS
 from support.disk import Contents, Disk
-from vecmon_lab.classes.server import checks, disk_files, durable, journal, store, view
+from vecmon_lab.classes.server import checks, damage, disk_files, durable, folder_lock, journal, saving, script_file
 from vecmon_lab.classes.core.languages import SourceText
 from vecmon_lab.classes.core.requests import LinesRequest
 from vecmon_lab.classes.server.server import KEEP_SECONDS
 from vecmon_lab.classes.server.store import Store
-from vecmon_lab.classes.server.view import Class
+from vecmon_lab.classes.server.served_class import Class
 
 STATES = int(os.environ.get("CUT_STATES", "40"))
 SEATS = [f"{machine}{digit}" for machine in "AB" for digit in range(1, 9)]
@@ -58,9 +58,9 @@ class BusyLesson:
             self.known.append((self.now, self._acknowledged()))
             if tick % FLUSHED == 0:
                 self.members.save(with_counts=False)
-                self.members.store.flush()
+                self.members.store.texts.flush()
             if tick % SHORTENED == SHORTENED - 1:
-                self.members.store.shorten()
+                self.members.store.texts.shorten_journals()
         self.members.end()
         self.disk.before_each = lambda: None
 
@@ -119,7 +119,7 @@ async def test_busy_class_opens_after_cuts_in_seven_ways(
     """The second server starts with a state of the first one, in which files are torn and the journal isn't."""
     for name in ("FLUSH_SECONDS", "JOURNAL_SECONDS"):
         monkeypatch.setattr(durable, name, 1e6)
-    monkeypatch.setattr(view, "COUNTS_SECONDS", 0.0)
+    monkeypatch.setattr(saving, "COUNTS_SECONDS", 0.0)
     monkeypatch.setattr(checks.Checks, "_run", passing_check)
     monkeypatch.setattr(checks, "settled", lambda program, exercise: exercise)
     cuts, start = list[tuple[Contents, Known]](), 0
@@ -132,7 +132,7 @@ async def test_busy_class_opens_after_cuts_in_seven_ways(
             disk.begin_with(contents)
             start = known["number"] + 100
         with monkeypatch.context() as recorded:
-            for module in (disk_files, durable, journal, store):
+            for module in (damage, disk_files, durable, folder_lock, journal, script_file):
                 recorded.setattr(module, "os", disk)
             lesson = BusyLesson(folder, program, disk, start)
             await lesson.work(ticks=30, states=-(-STATES // 2), calls=800)

@@ -24,7 +24,8 @@ def test_problems_leave_the_machine_as_it_is(desk: Desk) -> None:
     answer = ask(desk, ask="problems", text="li a0,\nvadd.vv v1, v2, a0\nnop")
     assert [(each["line"], each["column"], each["length"]) for each in answer["mistakes"]] == [(1, 6, 1), (2, 17, 2)]
     assert answer["mistakes"][1]["code"] == "E15" and answer["warnings"] == []
-    assert ask(desk, ask="problems", text="li a0, 5\nebreak")["mistakes"] == []
+    typed = ask(desk, ask="problems", text="li a0, 5\nvsetvli t0, a0, e32, m2, ta, ma\nebreak")
+    assert typed["mistakes"] == [] and typed["types"] == [{"line": 2, "types": ["d1"], "vl": 5}]
     assert desk.student.view(desk._more()) == before and desk.machine.session.lines == lines
 
 

@@ -15,7 +15,7 @@ from vecmon_lab.classes.core.requests import LinesRequest
 from vecmon_lab.classes.server.builds import Builds
 from vecmon_lab.classes.server.room import Room, RoomCalls
 from vecmon_lab.classes.core.seats import Seat
-from vecmon_lab.classes.server.store import ScriptFile
+from vecmon_lab.classes.server.script_file import ScriptFile
 from vecmon_lab.machine.lines import is_look
 from vecmon_lab.machine.session import Session
 
@@ -51,7 +51,7 @@ class StandIn:
     close = end
 
 
-class Machine:
+class RunningRoom:
     """A room with a fake machine."""
 
     def __init__(self, folder: pathlib.Path) -> None:
@@ -75,7 +75,7 @@ class Machine:
 
 
 async def test_seat_with_many_requests_gets_one_turn(tmp_path: pathlib.Path) -> None:
-    machine = Machine(tmp_path)
+    machine = RunningRoom(tmp_path)
     seats = machine.room.seats.users
     greedy = [machine.ask(seats["1"], "step 1") for _ in range(20)]
     await asyncio.sleep(0)
@@ -84,13 +84,13 @@ async def test_seat_with_many_requests_gets_one_turn(tmp_path: pathlib.Path) -> 
 
 
 async def test_turns_rotate_among_seats(tmp_path: pathlib.Path) -> None:
-    machine = Machine(tmp_path)
+    machine = RunningRoom(tmp_path)
     tasks = [machine.ask(machine.room.seats.users[digit], "step 1", "step 1") for digit in "312" for _ in range(3)]
     assert await machine.order(9, *tasks) == "312" * 3
 
 
 async def test_clock_gets_turn(tmp_path: pathlib.Path) -> None:
-    machine = Machine(tmp_path)
+    machine = RunningRoom(tmp_path)
     machine.room.seats.users["8"].state = {"run": "running", "pc": "0"}
     machine.room.set_clock({"on": True, "ms": 10})
     greedy = [machine.ask(machine.room.seats.users["1"], "step 1") for _ in range(4)]
@@ -109,7 +109,7 @@ async def test_clock_gets_turn(tmp_path: pathlib.Path) -> None:
 async def test_slices_wait_for_late_checkpoint(tmp_path: pathlib.Path, monkeypatch: pytest.MonkeyPatch) -> None:
     """A student who presses on gets a message; the clock skips; students' lines go on; a checkpoint ends the wait."""
     monkeypatch.setattr(scripts, "MAX_BEHIND", 3.0)
-    machine = Machine(tmp_path)
+    machine = RunningRoom(tmp_path)
     room, session = machine.room, machine.session
     room.seats.users["8"].state = {"run": "running", "pc": "0"}
     makes = asyncio.create_task(room.shorten())
@@ -136,7 +136,7 @@ async def test_slices_wait_for_late_checkpoint(tmp_path: pathlib.Path, monkeypat
 
 
 async def test_overview_does_not_wait_for_machine(tmp_path: pathlib.Path) -> None:
-    machine = Machine(tmp_path)
+    machine = RunningRoom(tmp_path)
     task = machine.ask(machine.room.seats.users["1"], "step 1")
     while not machine.room.is_busy():
         await asyncio.sleep(0)

@@ -5,6 +5,8 @@ import time
 
 import pytest
 
+from vecmon_lab.classes.server.student_view import student_view
+
 from support.class_tabs import LOOP, Message, Tab, served
 from vecmon_lab.__main__ import arguments_of
 from vecmon_lab.classes.core import progress
@@ -217,4 +219,4 @@ async def test_used_share_is_reported_from_90_percent(tmp_path: pathlib.Path) ->
         student = room.members.students["A1"]
         for used, sentence in [(1_349_999, ""), (1_350_000, "90 % of the script's room is used up.")]:
             student.seat.used = used
-            assert room.members.student_view(student)["trouble"] == sentence
+            assert student_view(room.members, student)["trouble"] == sentence

@@ -192,7 +192,7 @@ async def test_new_code_ends_old_connections(room: Served) -> None:
     with pytest.raises(EOFError, match="4403"):
         await (await room.open(room.codes["A1"])).receive()
     assert room.members
-    room.members.store.flush()
+    room.members.store.texts.flush()
     assert renewed != room.codes["A1"] and json.loads((room.folder / "codes.json").read_text())["A1"] == renewed
     assert (await (await room.open(renewed)).receive())["who"] == "A1"
     assert await other.do("enter") == [["entered"]]

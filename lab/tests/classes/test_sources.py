@@ -9,7 +9,7 @@ import pytest
 import pytest_asyncio
 
 from support.class_tabs import Served, Tab, served
-from vecmon_lab.classes.server.view import Class
+from vecmon_lab.classes.server.served_class import Class
 
 pytestmark = pytest.mark.asyncio
 LOOP = "loop:   addi t0, t0, 1   # counts\n        li a0, 5\n        j loop\n"
@@ -161,7 +161,7 @@ async def test_given_source_reaches_seats(room: Served) -> None:
 def keep(members: Class) -> None:
     """Brings the class's folder up to date, and waits for the disk."""
     members.save()
-    members.store.flush()
+    members.store.texts.flush()
 
 
 async def test_given_source_is_withdrawn(room: Served) -> None:

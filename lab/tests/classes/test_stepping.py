@@ -43,8 +43,8 @@ def desk(program: pathlib.Path) -> Iterator[Desk]:
 
 def line(desk: Desk) -> int:
     """The number of the source line that is next."""
-    assert desk.seat.program is not None
-    return desk.seat.program.line_at(int(desk.seat.state["pc"], 16))
+    assert desk.seat.loaded.program is not None
+    return desk.seat.loaded.program.line_at(int(desk.seat.state["pc"], 16))
 
 
 def to_line(desk: Desk, number: int) -> None:
@@ -77,7 +77,7 @@ def test_mistakes_leave_machine_as_it_is(desk: Desk) -> None:
         for request in ("run", "step"):
             answer = ask(desk, ask=request, text=f"{VECTORS}{wrong}\n")
             assert [each["line"] for each in answer["mistakes"]] == [6]
-            assert desk.seat.state["vl"] == 4 and line(desk) == 3 and desk.seat.written.text == VECTORS
+            assert desk.seat.state["vl"] == 4 and line(desk) == 3 and desk.seat.loaded.source.text == VECTORS
     assert desk.student.source.own.text.endswith("a0\n")
 
 
@@ -125,8 +125,8 @@ def test_step_out_of_recursive_function(desk: Desk) -> None:
 
 def test_step_over_stops_at_breakpoint_in_function(desk: Desk) -> None:
     to_line(desk, 3)
-    assert desk.seat.program is not None
-    ask(desk, ask="lines", do=[f"break {desk.seat.program.addresses()[16]:x}"])
+    assert desk.seat.loaded.program is not None
+    ask(desk, ask="lines", do=[f"break {desk.seat.loaded.program.addresses()[16]:x}"])
     ask(desk, ask="step", kind="over", count=5)
     assert line(desk) == 16
 
@@ -144,7 +144,7 @@ def test_step_until_line(desk: Desk) -> None:
     """Into the function, at whose label the call ends; a breakpoint ends the steps before, and a loop ends them at last."""
     ask(desk, ask="step", text=FACTORIAL, until=16)
     assert line(desk) == 16 and desk.seat.state["x"]["10"] == "1"
-    ask(desk, ask="lines", do=[f"break {desk.seat.named['stops']['18'][0]}"])
+    ask(desk, ask="lines", do=[f"break {desk.seat.loaded.names['stops']['18'][0]}"])
     ask(desk, ask="step", until=4)
     assert line(desk) == 18
     endless = ask(desk, ask="step", text="one: nop\nj one\nebreak\n", until=3)
@@ -193,7 +193,7 @@ def test_run_starts_ended_program_again(desk: Desk) -> None:
 def test_line_has_addresses_of_its_breakpoints(desk: Desk) -> None:
     """`la` is two instructions, and a breakpoint of its line is at the first."""
     ask(desk, ask="source", text=FACTORIAL)
-    assert {number: desk.seat.named["stops"][number] for number in ("1", "2", "3", "6")} == {
+    assert {number: desk.seat.loaded.names["stops"][number] for number in ("1", "2", "3", "6")} == {
         "1": ["10000"],
         "2": ["10008"],
         "3": ["1000c"],

@@ -19,9 +19,12 @@ from vecmon_lab.classes.server import durable, journal
 from vecmon_lab.classes.server import server as class_server
 from vecmon_lab.classes.server.folder_report import folder_report
 from vecmon_lab.classes.server.stored_files import attempt
-from vecmon_lab.classes.server.store import BadFolder, ScriptFile, Store
+from vecmon_lab.classes.server.folder_lock import BadFolder
+from vecmon_lab.classes.server.script_file import ScriptFile
+from vecmon_lab.classes.server.store import Store
 from vecmon_lab.classes.server.teacher_view import teacher_view
-from vecmon_lab.classes.server.view import Class, Tab
+from vecmon_lab.classes.server.served_class import Class
+from vecmon_lab.classes.server.tab import Tab
 from vecmon_lab.machine.session import ProgramGone
 
 
@@ -109,11 +112,13 @@ def test_folder_without_class_is_refused(tmp_path: pathlib.Path, program: pathli
         Store(folder, program).close()
         (folder / name).write_text(text, "latin-1")
         again = Store(folder, program)
-        assert len(again.lost) == 1 and again.lost[0].startswith(f"{name} is damaged, and is now {name}.damaged: ")
+        assert len(again.damage.sentences) == 1 and again.damage.sentences[0].startswith(
+            f"{name} is damaged, and is now {name}.damaged: "
+        )
         assert (folder / f"{name}.damaged").read_text("latin-1") == text
         again.close()
         again = Store(folder, program)
-        assert not again.lost
+        assert not again.damage.sentences
         again.close()
         shutil.rmtree(folder)
 
@@ -169,7 +174,10 @@ async def test_damaged_file_is_set_aside(tmp_path: pathlib.Path, program: pathli
         await (await room.sit("A2")).ask("name", name="Ada")
         assert room.members
         await (await room.sit("teacher")).ask("write", seat="A3", text="Read page 5")
-        assert room.members.store.write("answers/A1.doubles.1.json", attempt()) and not room.members.store.loss
+        assert (
+            room.members.store.texts.write("answers/A1.doubles.1.json", attempt())
+            and not room.members.store.damage.summary
+        )
     script = (whole / "A.script").read_bytes()
     for name in ("class.json", "codes.json", "names.json", "notices.json", "A.json", "answers/A1.doubles.1.json"):
         folder = tmp_path / name.replace("/", "_")
@@ -184,7 +192,9 @@ async def test_damaged_file_is_set_aside(tmp_path: pathlib.Path, program: pathli
         )
         assert {path: path.read_bytes() for path in folder.rglob("*") if path.is_file()} == before
         members = Class(Store(folder, program), SECONDS)
-        assert [sentence.split(",")[0] for sentence in members.store.lost] == [f"{name} is damaged"] * is_damaged
+        assert [sentence.split(",")[0] for sentence in members.store.damage.sentences] == [
+            f"{name} is damaged"
+        ] * is_damaged
         assert members.rooms["A"].session.script == script and members.store.images["sum"].exists()
         assert (f"{name} is damaged" in teacher_view(members, Tab("teacher"))["trouble"]) == is_damaged
         members.end()
@@ -208,7 +218,7 @@ def test_damaged_script_is_truncated(tmp_path: pathlib.Path, program: pathlib.Pa
         (folder / "A.script").write_bytes(damaged)
         (folder / "A.json").unlink(missing_ok=True)
         members = Class(Store(folder, program), SECONDS)
-        assert sentence in members.store.lost[0] and len(members.store.lost) == 1
+        assert sentence in members.store.damage.sentences[0] and len(members.store.damage.sentences) == 1
         assert members.rooms["A"].session.lines == lines == (folder / "A.script").read_bytes().count(b"\n")
         members.end()
     assert (folder / "A.script.damaged").read_bytes() == b"1 enter\n1 step\0\n1 go\n"
@@ -227,7 +237,7 @@ def test_lost_set_up_loses_stops(
     notes = {"lines": set_up, "scripts": [0, 2, set_up], "stops": {"1": "ebreak pc=0000000000000000"}}
     (folder / "A.json").write_text(json.dumps(notes))
     members = Class(Store(folder, program), SECONDS)
-    assert members.seat("A1").condition == condition and len(members.store.lost) == losses
+    assert members.seat("A1").condition == condition and len(members.store.damage.sentences) == losses
     members.end()
 
 
@@ -243,7 +253,7 @@ def test_unreadable_file_is_refused(tmp_path: pathlib.Path, program: pathlib.Pat
     assert (folder / "class.json").read_bytes() == b""
     (folder / "A.script").write_bytes(b"1 enter\n")
     members = Class(Store(folder, program), SECONDS)
-    assert len(members.store.lost) == 2 and members.rooms["A"].session.lines == 1
+    assert len(members.store.damage.sentences) == 2 and members.rooms["A"].session.lines == 1
     members.end()
 
 
@@ -257,7 +267,7 @@ def test_lost_answer_preserves_other_numbers(tmp_path: pathlib.Path, program: pa
     members = Class(Store(tmp_path / "class", program), SECONDS, exercises=[pathlib.Path("doubles")])
     progress = members.checks.exercises.progress("A1", "doubles")
     assert progress.tries == [(1, 0), (0, 0), (3, 5)] and progress.first == 3
-    assert [members.checks.answer("A1", "doubles", number)["text"] for number in (1, 2, 3)] == ["# 1", "", "# 3"]
+    assert [members.checks.try_of("A1", "doubles", number)["text"] for number in (1, 2, 3)] == ["# 1", "", "# 3"]
     members.end()
 
 
@@ -284,7 +294,7 @@ async def test_damaged_image_is_refused(tmp_path: pathlib.Path, program: pathlib
             assert (await tab.do("load sum"))[-1][0].startswith("E")
     assert (folder / "images" / "sum.elf.damaged").read_bytes() == b"junk"
     again = Store(folder, program, {"sum": SUM})
-    assert path.read_bytes() == SUM.read_bytes() and "it is a copy of" in again.lost[0]
+    assert path.read_bytes() == SUM.read_bytes() and "it is a copy of" in again.damage.sentences[0]
     again.close()
 
 
@@ -300,7 +310,7 @@ async def test_damaged_seat_program_is_dropped(tmp_path: pathlib.Path, program: 
         sentence = (
             "A2.written.*: the source of the seat's machine isn't listed, since the compiler's output can't be read"
         )
-        assert members.store.lost == [sentence] and f"lost: {sentence}" in folder_report(folder, program)[0]
+        assert members.store.damage.sentences == [sentence] and f"lost: {sentence}" in folder_report(folder, program)[0]
         members.end()
 
 

@@ -20,9 +20,11 @@ from vecmon_lab import LabError
 from vecmon_lab.__main__ import arguments_of
 from vecmon_lab.classes.server import server
 from vecmon_lab.classes.server.command import run
-from vecmon_lab.classes.server.store import BadFolder, Store, renew_teacher
+from vecmon_lab.classes.server.folder_lock import BadFolder
+from vecmon_lab.classes.server.store import Store
+from vecmon_lab.classes.server.unserved_class import renew_teacher
 from vecmon_lab.classes.server.tls import tls_context
-from vecmon_lab.classes.server.view import Class
+from vecmon_lab.classes.server.served_class import Class
 from vecmon_lab.machine.program import find_program
 
 pytestmark = pytest.mark.asyncio

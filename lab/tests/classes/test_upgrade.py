@@ -11,8 +11,9 @@ from support.class_tabs import LOOP, SECONDS
 from vecmon_lab.classes.server.folder_report import folder_report
 from vecmon_lab.classes.core.requests import LinesRequest
 from vecmon_lab.classes.server.solo import solo
-from vecmon_lab.classes.server.store import BadFolder, Store
-from vecmon_lab.classes.server.view import Class
+from vecmon_lab.classes.server.folder_lock import BadFolder
+from vecmon_lab.classes.server.store import Store
+from vecmon_lab.classes.server.served_class import Class
 
 SCRIPT = "".join(f"1 {line}\n" for line in [*LOOP, "step 7"]).encode()
 
@@ -56,7 +57,7 @@ def digest(program: pathlib.Path) -> str:
 async def test_program_with_same_answers_continues(folder: pathlib.Path, program: pathlib.Path) -> None:
     assert served_by(folder) == digest(folder.parent / "earlier") != digest(program)
     members = Class(Store(folder, program), SECONDS)
-    assert members.store.has_new_program and not members.store.lost
+    assert members.store.has_new_program and not members.store.damage.sentences
     assert served_by(folder) == digest(program)
     assert members.rooms["A"].session.script == SCRIPT
     assert await do(members, "step 1") == [["stepped 1 pc=0000000000010000"]]

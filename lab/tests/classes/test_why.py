@@ -12,7 +12,7 @@ SOURCE = "li a1, 3\nvsetivli x0, 4, e32, m1, tu, mu\nvid.v v8\nvmacc.vx v8, a1, 
 
 def asked(desk: Desk, **request: object) -> Mapping[str, Any]:
     """The answer to a request."""
-    return desk.answer(json.dumps({"id": 1, **request}))
+    return desk.respond(json.dumps({"id": 1, **request}))
 
 
 def test_why_explains_element(program: pathlib.Path) -> None:

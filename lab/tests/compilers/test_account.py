@@ -19,7 +19,7 @@ from vecmon_lab.compilers import sandbox, sandbox_files
 from vecmon_lab.compilers.account import OWN, Account, account_named
 from vecmon_lab.compilers.compiler import Compiler
 from vecmon_lab.compilers.failures import ToolError
-from vecmon_lab.compilers.sandbox import StartedAsRoot, answer_sandboxed, check_sandbox, check_start
+from vecmon_lab.compilers.sandbox import StartedAsRoot, run_sandboxed, check_sandbox, check_start
 from vecmon_lab.exercises.exercise import OURS
 
 GREY = EXAMPLES / "kernels" / "grey.c"
@@ -80,7 +80,7 @@ def test_sandbox_belongs_to_account(sandboxed_clang: Compiler, monkeypatch: pyte
     user = pwd.getpwnam(name)
     monkeypatch.setenv("SECRET", "1")
     monkeypatch.setattr(sandbox, "MODULE", ("-c", SELF))
-    reply = answer_sandboxed([sandboxed_clang.name, "0"], "", account_named(name))
+    reply = run_sandboxed([sandboxed_clang.name, "0"], "", account_named(name))
     uid, gid, groups, variables = json.loads(reply)
     assert (uid, gid, {*groups} - {user.pw_gid}) == (user.pw_uid, user.pw_gid, set())
     assert {*variables} <= {"PATH", "PYTHONPATH", "LC_ALL", "PWD", "LC_CTYPE"}

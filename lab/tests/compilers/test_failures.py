@@ -22,7 +22,7 @@ from vecmon_lab.compilers.compiling import compile_c
 from vecmon_lab.compilers.failures import ToolError
 from vecmon_lab.compilers.sandbox_main import COMPLAINT_BYTES, Failure, ending_of
 from vecmon_lab.compilers.report import print_compilers
-from vecmon_lab.compilers.sandbox import answer_sandboxed, check_start
+from vecmon_lab.compilers.sandbox import run_sandboxed, check_start
 
 MAIN = "int main(void) { return 0; }\n"
 WORDS = "bwrap: No permissions to create new namespace, likely because the kernel does not allow non-privileged user namespaces."
@@ -169,7 +169,7 @@ def test_image_limit_is_explained(
 ) -> None:
     """Of time, of memory and of depth, as where debug data is crafted."""
     monkeypatch.setattr(sandbox, "MODULE", ("-c", INSTEAD.format(code=code)))
-    assert json.loads(answer_sandboxed([sandboxed_clang.name, "0"], MAIN)) == {
+    assert json.loads(run_sandboxed([sandboxed_clang.name, "0"], MAIN)) == {
         "messages": [[0, 0, True, sentence]], "image": None
     }  # fmt: skip
 
@@ -180,14 +180,14 @@ def test_endless_compile_is_explained(sandboxed_clang: Compiler, monkeypatch: py
     monkeypatch.setattr(
         sandbox, "MODULE", ("-c", f"from vecmon_lab.compilers import sandbox_main\n{limit}\nsandbox_main.main()")
     )
-    reply = json.loads(answer_sandboxed([sandboxed_clang.name, "0"], ENDLESS))
+    reply = json.loads(run_sandboxed([sandboxed_clang.name, "0"], ENDLESS))
     assert reply["messages"][0] == [0, 0, True, "the compiler was stopped: it took more than 1 s of processor time"]
 
 
 def test_compiler_crash_is_explained(sandboxed_clang: Compiler) -> None:
     """And what the compiler prints about itself isn't repeated."""
     text = f"#pragma clang __debug crash\n{MAIN}"
-    [[line, _, is_error, message]] = json.loads(answer_sandboxed([sandboxed_clang.name, "0"], text))["messages"]
+    [[line, _, is_error, message]] = json.loads(run_sandboxed([sandboxed_clang.name, "0"], text))["messages"]
     assert (line, is_error) == (0, True) and message.startswith("the compiler crashed (")
 
 

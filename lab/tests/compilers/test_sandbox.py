@@ -17,7 +17,7 @@ from vecmon_lab.compilers import sandbox
 from vecmon_lab.compilers.compiler import Compiler, choice_of
 from vecmon_lab.compilers.debug import image_of
 from vecmon_lab.compilers.failures import ToolError
-from vecmon_lab.compilers.sandbox import answer_sandboxed, check_sandbox
+from vecmon_lab.compilers.sandbox import run_sandboxed, check_sandbox
 from vecmon_lab.compilers.sandbox_main import CPU_SECONDS
 
 MAIN = "int main(void) { return 0; }\n"
@@ -58,7 +58,7 @@ def answer(clang: Compiler) -> Ask:
         leave_out(NO_SANDBOX)
 
     def ask(text: str, options: str = "O2") -> dict[str, Any]:
-        reply: dict[str, Any] = json.loads(answer_sandboxed([clang.name, f"{choice_of(options)}"], text))
+        reply: dict[str, Any] = json.loads(run_sandboxed([clang.name, f"{choice_of(options)}"], text))
         return reply
 
     return ask

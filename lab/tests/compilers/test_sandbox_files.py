@@ -14,7 +14,7 @@ from support.commands import Lab
 from support.places import TOP
 from vecmon_lab.compilers import sandbox
 from vecmon_lab.compilers.compiler import Compiler, choice_of
-from vecmon_lab.compilers.sandbox import answer_sandboxed
+from vecmon_lab.compilers.sandbox import run_sandboxed
 from vecmon_lab.compilers.sandbox_files import LAB, MODULES, PLACE
 from vecmon_lab.exercises.exercise import OURS
 
@@ -48,7 +48,7 @@ def inside(sandboxed_clang: Compiler, monkeypatch: pytest.MonkeyPatch) -> Inside
     def run(code: str, paths: Iterable[object]) -> list[str]:
         with monkeypatch.context() as patch:
             patch.setattr(sandbox, "MODULE", ("-c", code))
-            reply = answer_sandboxed([sandboxed_clang.name, "0"], "".join(f"{path}\n" for path in paths))
+            reply = run_sandboxed([sandboxed_clang.name, "0"], "".join(f"{path}\n" for path in paths))
         return [line for line in reply.decode().splitlines() if line]
 
     return run
@@ -107,7 +107,7 @@ def test_lab_files_are_hidden_from_c(sandboxed_clang: Compiler) -> None:
     paths = [*names(TOP / "lab"), *(f"/proc/self/fd/{number}" for number in range(20)), "/proc/self/root", "/dev/fd/0"]
     test = '#if __has_include("{0}") || __has_embed("{0}")\n#error there is {0}\n#endif\n'
     text = "".join(test.format(path) for path in paths) + "#if __has_include(<vecmon.h>)\n" + MAIN + "#endif\n"
-    assert messages(answer_sandboxed([sandboxed_clang.name, "0"], text)) == []
+    assert messages(run_sandboxed([sandboxed_clang.name, "0"], text)) == []
 
 
 @pytest.mark.parametrize("options", ["O2", "stock"])
@@ -118,7 +118,7 @@ def test_exercise_cannot_be_included_as_bytes(sandboxed_clang: Compiler, options
     lines = [f'.incbin "{path}"' for path in files]
     text = "".join(f"__asm__({json.dumps(line)});\n" for line in lines) + MAIN
     text = "\n".join(lines) if options == "stock" else text
-    reply = messages(answer_sandboxed([sandboxed_clang.name, f"{choice_of(options)}"], text))
+    reply = messages(run_sandboxed([sandboxed_clang.name, f"{choice_of(options)}"], text))
     assert len([each for each in reply if "Could not find incbin file" in each]) >= len({path.name for path in files})
     assert len(reply) <= len(files) and not any("title" in each or str(OURS) in each for each in reply)
 

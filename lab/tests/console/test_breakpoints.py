@@ -57,7 +57,7 @@ TAKEN = [
     ("break prefix.c:9", "no instruction is of a file prefix.c; the files are prefix_sums.c, runtime.c"),
     ("break sub/prefix_sums.c:58", "ok: at 113dc main+0x158"),
     ("unbreak prefix_sums.c:10", "E13: there is no breakpoint"),
-    ("break 9 if vl < 1x", "1x is no register, no symbol and no value, which has hexadecimal digits alone"),
+    ("break 9 if vl < 1x", "1x is no register, no symbol and no value, which has only hexadecimal digits"),
     ("break nowhere", "there is no symbol nowhere"),
     ("break", "E04: ADDR is missing; the form is break ADDR"),
     ("unbreak \N{SNOWMAN}", r"character 9 of a line, '\u2603', isn't printable ASCII"),

@@ -187,7 +187,7 @@ def test_load_of_file_is_explained(tmp_path: pathlib.Path) -> None:
 
 
 def test_symbol_with_offset_is_resolved() -> None:
-    expected = "E04: _start+zz is no value, which has hexadecimal digits alone; the form is set xN VALUE"
+    expected = "E04: _start+zz is no value, which has only hexadecimal digits; the form is set xN VALUE"
     assert shown(["set a0 _start+zz", "set a0 _start+0x8"], SUM)[1:] == [expected, "ok"]
 
 
@@ -392,7 +392,7 @@ def test_breakpoint_condition_is_evaluated() -> None:
         ("break next if a0 = 5", "a0 = 5 is no condition: a0 == 5 or vl < 8 is one"),
         ("break next if a0 == none", "there is no symbol none"),
         ("break next if v8 == 5", "there is no symbol v8"),
-        ("break next if a0 == -5", "-5 is no register, no symbol and no value, which has hexadecimal digits alone"),
+        ("break next if a0 == -5", "-5 is no register, no symbol and no value, which has only hexadecimal digits"),
         ("break none if a0 == 5", "there is no symbol none"),
         ("break 0x2 if a0 == 5", "E04: 2 isn't divisible by 4: the last digit is 0, 4, 8 or c; the form is break ADDR"),
         ("until", "the form is until PLACE"),

@@ -12,7 +12,7 @@ from support.made_html import links_in, strips_in
 from support.places import DOCS
 from vecmon_lab.compilers.compiling import compile_c
 from vecmon_lab.compilers.compiler import Compiler
-from vecmon_lab.exercises.answer import Answer, Attempt, read_answer, ready, settled
+from vecmon_lab.exercises.answer import ExerciseAnswer, Attempt, read_answer, ready, settled
 from vecmon_lab.exercises.exercise import OURS, Results, read_exercise
 from vecmon_lab.exercises.grade import grade
 from vecmon_lab.exercises.named_files import FILES
@@ -97,7 +97,7 @@ def test_answers_in_c_match_exercise_text(program: pathlib.Path, clang: Compiler
     check_by_chance(program, path.parent.name, read_answer(path, is_own=True))
 
 
-def check_by_chance(program: pathlib.Path, name: str, answer: Answer) -> None:
+def check_by_chance(program: pathlib.Path, name: str, answer: ExerciseAnswer) -> None:
     """An answer to an exercise leaves what Python says, for inputs that are always the same."""
     exercise, random = read_exercise(pathlib.Path(name)), Random(name)
     assert answer.source and answer.source.program

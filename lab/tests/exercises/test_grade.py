@@ -18,7 +18,7 @@ from support.commands import Lab
 from support.images import MARCH, make_image
 from support.places import DATA, DOCS, EXAMPLES, SUM
 from vecmon_lab import LabError
-from vecmon_lab.assembler import apart
+from vecmon_lab.language import apart
 from vecmon_lab.compilers.compiler import Compiler
 from vecmon_lab.exercises.answer import ready, settled, source_answer
 from vecmon_lab.exercises.exercise import OURS, read_exercise, with_course
@@ -84,7 +84,7 @@ def echo(program: pathlib.Path, tmp_path: pathlib.Path) -> Echo:
 
 
 def answer(name: str) -> pathlib.Path:
-    """An answer that is stored: one of the manual's, or one for tests alone."""
+    """Return a stored answer: one of the manual's, or one that only tests use."""
     shown = EXAMPLES / "answers" / name
     return shown if shown.is_file() else DATA / "answers" / name
 
@@ -260,7 +260,7 @@ def test_answer_that_takes_long_to_assemble_fails(echo: Echo, monkeypatch: pytes
     assert echo(f"{repeated}ebreak\n", "answer.s") != apart.TOO_LONG
     assert "there is no instruction ad" in echo(f"{repeated}ad a0\n", "answer.s")
     ended = subprocess.CompletedProcess([], -signal.SIGXCPU, b"", b"")
-    monkeypatch.setattr("vecmon_lab.assembler.apart.subprocess.run", lambda *_, **words: ended)
+    monkeypatch.setattr("vecmon_lab.language.apart.subprocess.run", lambda *_, **words: ended)
     assert echo(repeated, "answer.s") == apart.TOO_LONG
 
 

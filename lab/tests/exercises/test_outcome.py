@@ -15,7 +15,7 @@ from vecmon_lab import LabError
 from vecmon_lab.compilers.compiler import Compiler
 from vecmon_lab.compilers.container import check_container
 from vecmon_lab.compilers.failures import ToolError
-from vecmon_lab.compilers.sandbox import answer_sandboxed
+from vecmon_lab.compilers.sandbox import run_sandboxed
 from vecmon_lab.exercises.answer import settled
 from vecmon_lab.exercises.check import check_or_failure
 from vecmon_lab.exercises.exercise import OURS, Exercise, read_exercise
@@ -47,16 +47,16 @@ def failing(folder: pathlib.Path, program: pathlib.Path, runs: int) -> pathlib.P
 def test_case_repeats_after_machine_failure(tmp_path: pathlib.Path, program: pathlib.Path, doubles: Exercise) -> None:
     """The answer is graded again, and passes."""
     stub = failing(tmp_path, program, 1)
-    assert graded_or_failure(stub, doubles, answer_sandboxed, GOOD, False) == ([""] * 5, None)
+    assert graded_or_failure(stub, doubles, run_sandboxed, GOOD, False) == ([""] * 5, None)
 
 
 def test_second_machine_failure_is_reported(tmp_path: pathlib.Path, program: pathlib.Path, doubles: Exercise) -> None:
     """The answer has no outcome: not that of one that fails. A student reads that nothing was counted."""
     with pytest.raises(ToolError, match="status 7"):
-        graded(failing(tmp_path, program, 1), doubles, answer_sandboxed, GOOD)
+        graded(failing(tmp_path, program, 1), doubles, run_sandboxed, GOOD)
     folder = tmp_path / "again"
     folder.mkdir()
-    failure = graded_or_failure(failing(folder, program, 2), doubles, answer_sandboxed, GOOD, False)
+    failure = graded_or_failure(failing(folder, program, 2), doubles, run_sandboxed, GOOD, False)
     assert isinstance(failure, ToolError) and "status 7" in str(failure)
     folder = tmp_path / "class"
     folder.mkdir()
@@ -68,7 +68,7 @@ def test_second_machine_failure_is_reported(tmp_path: pathlib.Path, program: pat
 
 
 def test_hidden_cases_are_not_shown(lab: Lab, tmp_path: pathlib.Path, program: pathlib.Path, doubles: Exercise) -> None:
-    """An answer that saturates fails the hidden case with large numbers alone, and neither a class nor a report has these."""
+    """An answer that saturates fails only the hidden case with large numbers; neither a class nor a report shows these."""
     text = GOOD.read_text().replace("vadd.vv", "vsadd.vv")
     (tmp_path / "answer.s").write_text(text)
     reply = check_or_failure(program, doubles, text, None, None)

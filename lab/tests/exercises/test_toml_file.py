@@ -9,7 +9,7 @@ from vecmon_lab import LabError
 from vecmon_lab.exercises.exercise import read_exercise
 
 CASES = "[[cases]]\nexpected.registers = { a0 = 1 }\n"
-HEX = "0x" + "f" * 5_000  # Python prints no number of so many digits
+HEX = "0x" + "f" * 5_000  # Python refuses to print a number with this many digits
 LONG = "a number of more than 4,300 digits"
 FOUND = {
     "[" * 3_000 + "]" * 3_000: "lists or tables are nested too deeply",

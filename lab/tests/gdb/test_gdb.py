@@ -362,9 +362,9 @@ def test_progress_is_printed(
     with started(tmp_path / "image", write=lambda data: None) as guest:
         link = Output()
         target = Target(guest, link, tmp_path / "image", lambda words: None)
-        assert target.answer("c") == "S05" and not link.sent
+        assert target.reply_to("c") == "S05" and not link.sent
         monkeypatch.setattr("vecmon_lab.replay.control.SECONDS", 0.0)
-        assert [target.answer(packet) for packet in packets][-1] != "S02"
+        assert [target.reply_to(packet) for packet in packets][-1] != "S02"
         assert link.sent and all(PROGRESS.fullmatch(text(packet)) for packet in link.sent)
         assert text(link.sent[0]).startswith(f"vecmon: {work}: ")
 

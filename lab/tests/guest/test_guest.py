@@ -83,7 +83,7 @@ def test_excess_arguments_are_refused() -> None:
 
 @pytest.mark.parametrize("at_once", [1, 3, 1000])
 def test_breakpoint_stops_at_any_slice_boundary(at_once: int) -> None:
-    """The loop takes 25 ticks, so that each fifth slice ends before its store, which is cut by the three behind it."""
+    """The loop takes 25 ticks, so that each fifth slice ends before its store, which the next three cut."""
     with started(SQUARES, quantum=5) as guest:
         guest.session.do("1 break 10198")
         for _ in range(64):

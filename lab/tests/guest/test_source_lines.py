@@ -78,7 +78,7 @@ def test_consecutive_rows_of_line_have_one_address() -> None:
 
 
 def test_inlined_code_belongs_to_calling_line() -> None:
-    """So a line that goes on behind it stops once, and each copy has an address of its own."""
+    """So a line that continues after the inlined code stops once, and each copy has an address of its own."""
     whole = Copy(0, 0, 32, 1, -1, "f", "a.c:1", "", (0,))
     inner = [Copy(1, at, at + 8, number, 1, "g", "a.c:9", "a.c:2", (at + 4,)) for at, number in ((8, 2), (16, 3))]
     rows = [(0, "a.c:1", True), (4, "a.c:2", True), (8, "a.c:9", True), (16, "a.c:9", True), (24, "a.c:2", True)]

@@ -140,7 +140,7 @@ def test_arrays_of_numpy_keep_their_type(kernel: Kernel) -> None:
 
 
 def test_array_of_absent_numpy(kernel: Kernel, monkeypatch: pytest.MonkeyPatch) -> None:
-    """As numpy's, with a stand-in that has its names: an array comes back by `frombuffer`, with its shape and its class."""
+    """As numpy's, with a class that has its names: an array comes back by `frombuffer`, with its shape and its class."""
 
     class Array(ctypes.c_int * 2):  # type: ignore[misc]
         """A buffer with a dtype and a shape."""

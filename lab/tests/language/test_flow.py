@@ -217,7 +217,7 @@ def test_planted_errors_are_found(
 
 
 def test_work_is_bounded_for_functions_that_go_on_into_others(trial: Trial, monkeypatch: pytest.MonkeyPatch) -> None:
-    """400 functions, each of which calls one and goes on into the next one: each instruction is followed a few times."""
+    """Each of 400 functions calls one and continues into the next one: each instruction is followed a few times."""
     followed, follow = list[int](), vector_flow.Flow._follow
 
     def counted(flow: vector_flow.Flow, address: int) -> None:
@@ -228,4 +228,4 @@ def test_work_is_bounded_for_functions_that_go_on_into_others(trial: Trial, monk
     functions = (f"l{number}: bnez a0, s{number}\njal l{number * 7 % 400}\ns{number}: nop\n" for number in range(400))
     read = Analysis("".join(functions) + "vadd.vv v1, v2, v3\nret\n", trial)
     assert len(followed) < 20 * 3 * 400
-    assert said(read.state(read.program.statements[-1])) == "? ?"  # it returns to more calls than are told apart
+    assert said(read.state(read.program.statements[-1])) == "? ?"  # it returns to more calls than are distinguished

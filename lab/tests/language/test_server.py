@@ -11,7 +11,7 @@ import pytest
 from support.language_client import URI, Editor, marked
 from support.places import EXAMPLES
 from vecmon_lab.assembler import line as line_module
-from vecmon_lab.assembler import plain
+from vecmon_lab.assembler import plain, pseudo
 from vecmon_lab.assembler.assembly import FileReader
 from vecmon_lab.assembler.source import Program, read_source
 from vecmon_lab.assembler.trial import Trial
@@ -55,7 +55,7 @@ loop:   csrr t0, mhartid
 
 
 def at(text: str, word: str, offset: int = 1) -> tuple[int, int]:
-    """The line and the character at which a word of a text starts, or some characters after that."""
+    """Return the line and the character at which a word starts in a text, or some characters after that."""
     before = text[: text.index(word)]
     return before.count("\n"), len(before) - before.rfind("\n") - 1 + offset
 
@@ -451,4 +451,23 @@ def test_lines_of_a_change_are_read_again_alone() -> None:
         read = read_source("\n".join([*lines[:1000], *change, *lines[1001:]]))
         assert plain._found.cache_info().misses - before == 1
         assert line_module._tokens_typed_here.cache_info().misses - tokens == 1
-        assert read.statements[-1].line == 1999 + len(change) and read.statements[-1].places[0][0] == 1999 + len(change)
+        assert read.statements[-1].line == 1999 + len(change) and read.statements[-1].place(0)[0] == 1999 + len(change)
+
+
+def test_lines_that_move_keep_what_is_known_of_them() -> None:
+    """A line inserted above 1,000 others copies no plain instruction and compares no form of a pseudo-instruction again."""
+    text = "\n".join(f"l{number}: vadd.vv v1, v2, v3\n bnez a0, l{number}" for number in range(500))
+    first, compared = read_source(text), pseudo._form_of_pattern.cache_info().misses
+    moved = read_source(f"\n{text}")
+    assert pseudo._form_of_pattern.cache_info().misses == compared
+    pairs = [*zip(first.statements, moved.statements)]
+    assert all(before.offsets is after.offsets for before, after in pairs[::2])
+    ends = [(before.place(len(before.text)), after.place(len(after.text))) for before, after in pairs]
+    assert ends == [
+        ((line, column), (line + 1, column))
+        for number in range(500)
+        for line, column in (
+            (2 * number + 1, len(f"l{number}: vadd.vv v1, v2, v3") + 1),
+            (2 * number + 2, 11 + len(f"l{number}")),
+        )
+    ]

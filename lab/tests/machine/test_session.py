@@ -85,7 +85,7 @@ def test_ended_process_is_replaced(counting: Session, ending: signal.Signals) ->
 def spare_of(session: Session) -> int:
     """The system's number of a session's spare process, once it has followed; 0 without one."""
     session.follow()
-    return session._spare.process.number if session._spare else 0
+    return session._live._spare.process.number if session._live._spare else 0
 
 
 def test_spare_process_replaces_ended_process(counting: Session) -> None:

@@ -17,7 +17,7 @@ Sit = Callable[[str], Tab]
 
 @pytest.fixture(scope="module")
 def served(program: pathlib.Path, tmp_path_factory: pytest.TempPathFactory) -> Iterator[Served]:
-    """A class for all tests that leave its server alone."""
+    """A class for all tests that don't restart or change its server."""
     served = Served(tmp_path_factory.mktemp("class") / "class", program)
     yield served
     served.end()

@@ -1,4 +1,4 @@
-"""The pages for readers who use keys, a screen reader, or less motion: names, roles, the order of focus, and an exercise by keys alone."""
+"""The pages for readers who use keys, a screen reader, or less motion: names, roles, the order of focus, and an exercise with only keys."""
 
 import pathlib
 from collections.abc import Callable

@@ -156,7 +156,7 @@ def test_pasted_text_is_taken_or_refused(sit: Sit, served: Served) -> None:
 
 
 def _check_help(tab: Tab) -> None:
-    """`help` describes a command or an instruction in the browser alone; a line that is typed has a hint."""
+    """`help` describes a command or an instruction only in the browser; a line that is typed has a hint."""
     from selenium.webdriver.common.keys import Keys
 
     tab.keys("#line", "help peek\n")
@@ -213,7 +213,7 @@ def _check_search(tab: Tab) -> None:
 
 
 def test_first_view_and_keys_work(sit: Sit) -> None:
-    """The source is open; keys alone write, step and change it; names have explanations."""
+    """The source is open; keys are enough to write, step and change it; names have explanations."""
     from selenium.webdriver.common.keys import Keys
 
     tab = sit("A6")
@@ -493,7 +493,7 @@ def test_teacher_controls_two_machines(program: pathlib.Path, tmp_path: pathlib.
 
 
 def test_tab_shows_killed_and_hanging_program(program: pathlib.Path, tmp_path: pathlib.Path, tabs: "Chrome") -> None:
-    """Students see a delay alone, and the replay is the same."""
+    """Students see nothing but a delay, and the replay is the same."""
     served = Served(tmp_path / "class", program, "--patience", "3")
     tab, teacher = Tab(tabs, served, "A1"), Tab(tabs, served, "teacher")
     tab.begin(*COUNT_UP)

@@ -51,6 +51,7 @@ def test_breakpoint_is_set_at_line(started: Tab) -> None:
     from selenium.webdriver import ActionChains
     from selenium.webdriver.common.keys import Keys
 
+    started.wait("one('#editor [data-type]')")  # the vector type, which may move the lines below it
     started.run("(code().focus(), code().setCursor(2, 0))")
     started.type(Keys.F9)
     started.wait(f"{SIGNS} === '▶2,●3' && id('log').textContent.includes('> break 10004')")
@@ -67,7 +68,7 @@ def test_breakpoint_is_set_at_line(started: Tab) -> None:
 
 
 def test_console_takes_labels(started: Tab) -> None:
-    """As the address that a command starts with, and alone with a sentence; the program's first address is 10000."""
+    """As the address that a command starts with, and without a command, with a sentence; the program's first address is 10000."""
     started.command("dis start 1")
     assert started.text("#log > li:last-child").startswith("0000000000010000 ")
     started.command("start")

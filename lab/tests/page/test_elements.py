@@ -126,7 +126,7 @@ def test_cards_and_details_have_own_operands(shown: dict[str, dict[str, Any]]) -
 
 
 def test_a_count_of_no_changes_has_no_colour(shown: dict[str, dict[str, Any]]) -> None:
-    """Of vfirst.m, which writes a scalar register alone."""
+    """Of vfirst.m, which writes only a scalar register."""
     assert shown["first one"]["card"]["counts"] == [["active", "8 active"], ["", "0 changed"]]
 
 
@@ -253,7 +253,7 @@ def test_strips_fold_tails_and_fit(shown: dict[str, dict[str, Any]]) -> None:
     assert wide == {"columns": 8, "size": "large", "head": "wide"}
     # 350 px less the head of 84 are 33 for each of 8 columns: 3 letters of 13 px and 6 px are 30
     assert narrow == {"columns": 8, "size": "medium", "head": "narrow"}
-    # −25769803774 has 12 letters: of 15 px they have 129 px with their room, and 4 columns 184 each; in 350 px 2 columns alone fit
+    # −25769803774 has 12 letters: of 15 px they have 129 px with their room, and 4 columns 184 each; in 350 px only 2 columns fit
     wide, narrow = shown["illegal"]["fits"]
     assert wide == {"columns": 4, "size": "large", "head": "wide"} and narrow == {
         "columns": 2,

@@ -23,7 +23,7 @@ View = dict[str, Any]
 
 
 def scripts() -> Iterator[tuple[str, Script]]:
-    """The scripts of the tour and of the course's lessons, each with the name of what it belongs to."""
+    """The scripts of the tour and of the course's lessons, each with the name of its lesson or exercise."""
     yield from (("tour", script) for script in tours().values())
     yield from (("course", script_before(read_exercise(OURS / name))) for name, _ in read_table("course"))
 

@@ -177,7 +177,7 @@ def test_check_by_key_unfolds_exercise(tabs: "Chrome", course: Served) -> None:
 
 
 def test_exercise_is_solved(tabs: "Chrome", course: Served) -> None:
-    """As one would who sees its text alone: with its source to begin with, a mistake, hints, a lesson and an answer."""
+    """As a student does who sees only its text: with its first source, a mistake, hints, a lesson and an answer."""
     tab = Tab(tabs, course, "A1")
     choose(tab, "doubles")
     assert "Double a2 numbers of 32 bits" in tab.text("#exercise .text")

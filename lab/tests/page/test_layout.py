@@ -141,7 +141,7 @@ def test_splitters_move_are_kept_and_reset(tabs: "Chrome", served: Served) -> No
 
 
 def test_type_has_size_that_reader_chooses(tabs: "Chrome", served: Served) -> None:
-    """At 125 % letters are larger by a quarter, also after a reload; a larger window alone changes none."""
+    """At 125 % letters are larger by a quarter, also after a reload; a larger window by itself changes none."""
     tab = Tab(tabs, served, "A2")
     size = "parseFloat(getComputedStyle(one('#registers, #vectors h2')).fontSize)"
     try:

@@ -337,7 +337,7 @@ def test_lesson_links_to_other_lessons(
 
 
 def test_source_is_shown_as_it_was_written(opened: Callable[[str], "Chrome"], program: pathlib.Path) -> None:
-    """With the line that was executed and the next one; `la` has two instructions. A script has its listing alone."""
+    """With the line that was executed and the next one; `la` has two instructions. A script has only its listing."""
     text = (EXAMPLES / "strip_mined.s").read_text("utf-8")
     script = read_assembled(text, "x")
     browser = opened(lesson_page("x", make_frames(script, program), script))

@@ -202,7 +202,7 @@ def test_two_windows_of_a_seat_type_at_once(sit: Sit) -> None:
 
 
 def test_window_makes_its_text_the_seats(sit: Sit) -> None:
-    """The other window, where nothing was typed since, shows it then; its text is a version."""
+    """The other window shows it then, since nothing was typed there; its text becomes a version."""
     ahead, behind = sit("A7"), sit("A7")
     behind.wait("!id('windows').hidden")
     versions = behind.run("[...id('versions').options].length")  # of other tests of this seat

@@ -39,7 +39,7 @@ def _step_thrice(tab: Tab, teacher: Tab) -> None:
 
 
 def test_steps_back_and_forth(sit: Sit) -> None:
-    """An earlier state is shown, plainly as the past, where nothing can be done; Now returns, and so does a line."""
+    """An earlier state is shown, marked as the past, and can't be changed; Now returns to the present, and so does a line."""
     from selenium.webdriver.common.keys import Keys
 
     tab, teacher = sit("A1"), sit("teacher")

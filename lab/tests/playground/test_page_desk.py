@@ -52,7 +52,7 @@ class Page:
         """The answer to a request."""
         self.id += 1
         request = json.dumps({"id": self.id, "ask": ask, **more})
-        answer = self.desk.answer(request)
+        answer = self.desk.respond(request)
         assert "error" not in answer, answer
         check_request("A1", json.loads(request))
         check_message(answer)
@@ -279,7 +279,7 @@ def test_an_image_is_loaded_and_comes_back(program: pathlib.Path, tmp_path: path
     assert again.do("regs") == registers and again.view["images"] == ["my-sum"] and again.desk.lost == []
     assert again.view["state"]["image"] is True
     again.do("leave", "enter", "setpc 10000")
-    assert "image" not in again.desk.seat.shown
+    assert "image" not in again.desk.seat.display.shown
     again.close()
 
 

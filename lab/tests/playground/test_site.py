@@ -93,6 +93,8 @@ def test_the_page_steps_goes_and_goes_back(tabs: "Chrome", site: pathlib.Path) -
     tab = SiteTab(tabs, (site / "playground.html").as_uri())
     tab.write(LOOP)
     tab.wait("id('run').textContent === 'Ready'")
+    tab.click("#show-source")
+    tab.wait("one('.lines [data-type]')?.dataset.type === 'e32 m1 · vl 8'")  # the only vset
     for _ in range(4):
         tab.click("#one")
     tab.wait("one('#log > li:last-child').textContent.includes('stepped 1')")

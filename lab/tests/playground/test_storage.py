@@ -155,7 +155,7 @@ def test_second_tab_takes_over(browser: "Chrome", address: str) -> None:
 
 
 def test_text_of_the_last_moment_comes_back(browser: "Chrome", address: str) -> None:
-    """A reload at once loses nothing of what was typed."""
+    """A reload at once loses nothing that was typed."""
     page = f"{address}/play/index.html"
     tab = SiteTab(browser, page)
     tab.write(LOOP)

@@ -1,4 +1,4 @@
-"""One history over two runs, of a guest alone and of a user among others: equal states, compared with those counted by hand."""
+"""One history over two runs, of a guest by itself and of a user among others: equal states, compared with those counted by hand."""
 
 import pathlib
 from collections.abc import Iterator

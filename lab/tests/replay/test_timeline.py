@@ -13,7 +13,7 @@ from vecmon_lab.machine.answers import Addresses, ScalarRegisters, Stop
 from vecmon_lab.replay.timeline import Timeline
 from vecmon_lab.replay.watches import Watch
 
-# Of v0 element 5 alone is active, and v1 has 0 to 7.
+# By v0 only element 5 is active, and v1 has 0 to 7.
 ACCESSES = """
         lui x6, 17
         addi x7, x0, 2

@@ -122,7 +122,7 @@ def test_mistakes_of_source_are_reported(lab: Lab, tmp_path: pathlib.Path) -> No
 
 
 def test_ignored_inputs_are_reported(lab: Lab, tmp_path: pathlib.Path) -> None:
-    """In one line, and not for lines that only a lesson carries out, such as those of the first example."""
+    """In one line, and not for lines that only a lesson executes, such as those of the first example."""
     source = tmp_path / "three.s"
     source.write_text(
         "#> a0 = 5\n#> step 60\n        addi a0, a0, 3\n #> set x11 1\n        li a7, 93\n        ecall\n", "ascii"

@@ -15,7 +15,7 @@ def test_ticks_are_divided_between_callers() -> None:
 
 
 def test_recursive_functions_have_frames() -> None:
-    """`odd` is called by `even` alone, and its calls of `even` lead back; so does what `even` calls of itself."""
+    """Only `even` calls `odd`. Calls of `even` by `odd`, and by `even` itself, lead back to a function that is already there."""
     calls = {("main", "even"): 1, ("even", "odd"): 9, ("odd", "even"): 9, ("even", "even"): 3}
     callers = Callers({"main": 1, "even": 20, "odd": 18}, calls, "main")
     assert callers.total == {"main": 39, "even": 38, "odd": 18}

@@ -71,7 +71,7 @@ end:    li a0, 0
         ecall
 """
 SAVED = f"""
-# Saves and restores a register whose tail is anything, and uses its first elements alone.
+# Saves and restores a register whose tail is anything, and uses only its first elements.
         vsetivli zero, 4, e8, mf2, ta, ma
         vmv.v.i v8, 1
         lui a1, 0x11

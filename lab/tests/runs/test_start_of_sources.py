@@ -60,7 +60,7 @@ def test_lesson_and_console(
 @pytest.mark.parametrize("text, sentence, value", SENTENCES)
 def test_page(program: pathlib.Path, text: str, sentence: str, value: int) -> None:
     desk = Desk(program, {}, 100_000)
-    desk.answer(json.dumps({"id": 1, "ask": "run", "text": text, "language": 0}))
+    desk.respond(json.dumps({"id": 1, "ask": "run", "text": text, "language": 0}))
     desk.settle()
     state = desk.seat.state
     desk.close()
@@ -105,9 +105,9 @@ def test_gdb(tmp_path: pathlib.Path, text: str, sentence: str, value: int) -> No
     link, image = NoLink(), assembled_image(path)
     with started(image, arguments=["own"]) as guest:
         target = Target(guest, link, image, lambda words: None)
-        assert target.answer("c") == "T05replaylog:end;"
+        assert target.reply_to("c") == "T05replaylog:end;"
         assert sentence in link.sent
-        assert target.answer("c") == "W00"
+        assert target.reply_to("c") == "W00"
 
 
 def test_registers_at_the_start(program: pathlib.Path) -> None:

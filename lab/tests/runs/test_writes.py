@@ -9,7 +9,7 @@ from support.images import make_image
 from support.sources import EXIT
 
 WRITES = f"""
-# Writes COUNT bytes of what begins at its first instruction, and then COUNT of what begins STEP behind that.
+# Writes COUNT bytes from its first instruction on, and then COUNT bytes from STEP after that on.
         lui s1, 0x10
         li s0, 2
 next:   li a0, 1

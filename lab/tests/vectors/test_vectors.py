@@ -148,7 +148,7 @@ def test_extension_names_select_instructions(
 
 
 def test_cases_after_qemu_crash_are_run(monkeypatch: pytest.MonkeyPatch) -> None:
-    """A process that ends at each case of zeros: the next one begins behind it."""
+    """A process that ends at each case of zeros: the next one begins after it."""
     size = on_qemu.LAYOUT.size
 
     def run(cases: bytes, policy: str) -> bytes:

@@ -54,7 +54,7 @@ class BreakpointRequests:
         return False
 
     def holds_text(self, condition: str) -> bool:
-        """Whether a condition holds; one that can't be evaluated does, and the client is told why."""
+        """Return whether a condition holds. If it can't be evaluated, report why to the client, and return True."""
         try:
             return bool(self._debuggee.now().number(condition))
         except LabError as error:
@@ -96,7 +96,7 @@ class BreakpointRequests:
         return {"dataId": f"{address:x}:{size}", "description": description, "accessTypes": kinds, "canPersist": False}
 
     def _watched(self, program: Program, wanted: DataBreakpointInfo) -> tuple[int | None, int, str]:
-        """The address and the size of what a data breakpoint watches; or None, and why there is none."""
+        """Return the address and the size of the data that a data breakpoint watches, or None and the reason."""
         if wanted.bytes is not None and wanted.bytes < 1:
             raise BadArguments("bytes is 1 or more")
         if wanted.as_address:

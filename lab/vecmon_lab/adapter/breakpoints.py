@@ -32,7 +32,7 @@ class Breakpoint:
 
     number: its identifier; kind: FUNCTIONS, INSTRUCTIONS, or the path of a source
     addresses: of its instructions, in rising order
-    file, line: where it is, if that is known
+    file, line: its place in a source, if that is known
     problem: why it isn't verified, in a sentence, or ""
     """
 

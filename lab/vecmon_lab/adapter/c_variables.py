@@ -30,13 +30,13 @@ class CVariable:
     """A variable, a field, or an element of an array.
 
     name, type: as C writes them; expression: that evaluates to it
-    kind: of its numbers with their bits, as `i32`, or "" where it has none; counts: an array's dimensions
+    kind: of its numbers with their bits, as `i32`, or "" if it has none; counts: an array's dimensions
     data: the bytes of it, or why there are none, in words
-    address: where it lies; None if that isn't in memory
+    address: its address; None if it isn't in memory
     put: gives a number new bytes; None for what can't be changed
-    target: the kind of the numbers that a pointer points to, or "" where that is no number
+    target: the kind of the numbers that a pointer points to, or "" if that is no number
     layout: its type in the debug data; None if that has none
-    at: returns a variable in memory, from one without bytes, its address, and its number of bytes; None of numbers alone
+    at: returns a variable in memory, from one without bytes, its address, and its number of bytes; None for a variable that is only numbers
     """
 
     name: str
@@ -83,6 +83,8 @@ class CVariable:
 
     def number(self) -> int:
         """Its unsigned number. Raises LabError if it has none."""
+        if self.data == UNREADABLE and self.address is not None:
+            raise LabError(f"memory at {self.address:#x} can't be read")
         if isinstance(self.data, str):
             raise LabError(f"{self.name} is {self.data}")
         if not self.kind or self.counts:

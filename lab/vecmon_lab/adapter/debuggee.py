@@ -1,4 +1,4 @@
-"""The program of a session as its requests share it: where it is stopped, and what the client is shown there."""
+"""The program of a session as its requests share it: its place, and the values that the client is shown there."""
 
 from collections.abc import Callable, Mapping, Sequence
 from typing import Any
@@ -22,7 +22,7 @@ RUNNING = "the program is running: pause it first"
 
 
 class Debuggee:
-    """The program, what the client said about it, and what it was shown.
+    """The program, the client's settings for it, and the values that the client was shown.
 
     client: how the client counts; launch, program: None before a launch
     is_running: whether the program moves; shown: None before the first question at a stop

@@ -21,6 +21,7 @@ from .vectors import group_at
 
 _VECTOR = re.compile(r"v(\d|[12]\d|3[01])")
 _COMMAND = re.compile(r"(why|help)\b\s*(.*)")
+_COMMAND_ANYWHERE = re.compile(r"(why|help)\s+([.\w].*)")  # which is no expression, whatever variables there are
 _NUMBER = re.compile(r"0[xX][0-9a-fA-F]+|[0-9]+")
 _MAX_DIGITS = 20  # of a decimal number with 64 bits
 
@@ -57,11 +58,11 @@ def _number(text: str) -> int:
 
 
 def evaluate(instant: Instant, frame: Frame, text: str, context: str, is_hex: bool) -> Item:
-    """Return the row of an expression. In the debug console `why v8[3]` and `help NAME` are answered, too. Raises LabError.
+    """Return the row of an expression, or the answer to `why v8[3]` or `help NAME`. Raises LabError.
 
-    context: where the client shows the result: `hover`, `watch`, `repl` and others
+    context: where the client shows the result: `hover`, `watch`, `repl` (the debug console) and others
     """
-    if context == "repl" and (found := _COMMAND.fullmatch(text.strip())):
+    if found := (_COMMAND if context == "repl" else _COMMAND_ANYWHERE).fullmatch(text.strip()):
         answer = why(instant, *read_name(found[2])) if found[1] == "why" else "\n".join(help_lines(found[2]))
         return Item(text, answer)
     if context == "hover" and (lines := _described(instant, frame, text)):

@@ -49,6 +49,7 @@ _TOKEN = re.compile(
 )
 _KINDS = {f"{'u' * (sign == 'u')}int{bits}_t": f"{sign}{bits}" for sign in "iu" for bits in (8, 16, 32, 64)}
 _KINDS |= {"char": "c8", "short": "i16", "int": "i32", "long": "i64"}
+_POINTERS = "pointers to int8_t up to int64_t, uint8_t up to uint64_t, char, short, int and long are"
 _MAX_LETTERS, _MAX_DEPTH = 1000, 50
 _WORD = (1 << 64) - 1
 
@@ -156,7 +157,7 @@ def name_in(text: str, names: Names) -> tuple[str, Path]:
 
 
 class _Parser:
-    """Reads the tokens of an expression. Raises ValueError if they are none."""
+    """Reads the tokens of an expression. Raises ValueError if they are none, and LabError for types that aren't supported."""
 
     def __init__(self, text: str) -> None:
         self._tokens, at = list[str](), 0
@@ -204,19 +205,31 @@ class _Parser:
         if sign in (*_UNARY, "*"):
             self._take()
             node: _Node = _Unary(sign, self._unary())
-        elif self._is_cast():
-            kind = _KINDS[self._tokens[self._at + 1]]
-            self._at += 4
+        elif kind := self._take_cast():
             node = _Cast(kind, self._unary())
         else:
             node = self._with_parts(self._primary())
         self._depth -= 1
         return node
 
-    def _is_cast(self) -> bool:
-        """Whether a pointer's type in parentheses is next, such as `(int32_t *)`."""
-        opening, kind, *closing = [*self._tokens[self._at : self._at + 4], "", ""][:4]
-        return opening == "(" and kind in _KINDS and closing == ["*", ")"]
+    def _take_cast(self) -> str:
+        """Read a pointer's type in parentheses if it is next, such as `(int32_t *)`; return the kind that it points to, else "".
+
+        Raises LabError for other types, such as `(float *)`.
+        """
+        end = self._at + 1
+        while self._next() == "(" and "".join(self._tokens[end : end + 1]).isidentifier():
+            end += 1
+        names = self._tokens[self._at + 1 : end]
+        stars = 0
+        while self._tokens[end : end + 1] == ["*"]:
+            end, stars = end + 1, stars + 1
+        if not names or not stars or self._tokens[end : end + 1] != [")"]:
+            return ""
+        self._at = end + 1
+        if stars == 1 and len(names) == 1 and names[0] in _KINDS:
+            return _KINDS[names[0]]
+        raise LabError(f"the type {' '.join(names)} {'*' * stars} isn't supported here: {_POINTERS}")
 
     def _primary(self) -> _Node:
         token = self._take()

@@ -21,7 +21,7 @@ from .running import THREAD
 
 
 class Inspection:
-    """Answers what a client shows of the program: frames, variables, expressions, memory and instructions."""
+    """The answers to a client that shows the program: frames, variables, expressions, memory and instructions."""
 
     def __init__(self, debuggee: Debuggee) -> None:
         self._debuggee = debuggee

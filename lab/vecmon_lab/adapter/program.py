@@ -40,7 +40,7 @@ class Line(NamedTuple):
 class Program:
     """A program on a machine of its own, until `close`.
 
-    path: what was launched: an image or a source; image: what the machine has loaded
+    path: the image or source that was launched; image: the image that the machine has loaded
     guest, timeline: the program, and its way forward and back
     """
 

@@ -8,7 +8,8 @@ from .. import LabError
 from .breakpoint_requests import BreakpointRequests
 from .debuggee import NO_PROGRAM, Body, Debuggee, Handlers
 from .instants import Instant
-from .movement import Client, Halt, Movement, StepKind
+from .halts import Client, Halt, Halts
+from .movement import Movement, StepKind
 from .program import Program
 from .requests import Launch, NoArguments, Resume
 from .shown import Shown
@@ -69,9 +70,8 @@ class Running:
         debuggee.launch, debuggee.program, debuggee.shown = launch, program, None
         reports.forget_program()
         own = self._breakpoints
-        self._movement = Movement(
-            program, own.breakpoints, self._client, own.holds, own.holds_text, debuggee.frames_now
-        )
+        halts = Halts(program, own.breakpoints, self._client, own.holds, own.holds_text)
+        self._movement = Movement(halts, debuggee.frames_now)
         own.breakpoints.attach(program)
 
     def _configuration_done(self, _: NoArguments) -> Body:
@@ -99,7 +99,7 @@ class Running:
         return {"start": self._begin_again}
 
     def _begin_again(self) -> None:
-        """Start the program again. The client is told, as the program before was stopped."""
+        """Start the program again, and report that to the client, for which the program was stopped."""
         self._reports.event("continued", threadId=THREAD, allThreadsContinued=True)
         self._begin()
 

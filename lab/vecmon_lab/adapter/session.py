@@ -41,6 +41,12 @@ STOPPING = ("pause", "cancel", "disconnect", "terminate", "restart")
 MEANWHILE = ("setBreakpoints", "setFunctionBreakpoints", "setInstructionBreakpoints", "setDataBreakpoints", "threads")
 """Requests that are answered during a step, too; others wait for its end."""
 
+STARTING = ("launch", "attach")
+"""Requests whose failure ends the debugging, as no program is there."""
+
+REST_SECONDS = 3.0
+"""How long the client may be silent after a failed launch, until the session ends without its `disconnect`."""
+
 NO_ATTACH = "there is no running program to attach to: launch one, with the path of a source or an image in `program`"
 
 
@@ -49,6 +55,7 @@ class Session:
 
     def __init__(self, wire: Wire) -> None:
         self._wire, self._is_open, self._is_initialized = wire, True, False
+        self._has_failed = False  # whether a launch has
         self._reports = Reports(wire)
         self._debuggee = Debuggee(self._reports, self.wants_stop)
         breakpoints = BreakpointRequests(self._debuggee)
@@ -63,9 +70,14 @@ class Session:
         self._handlers: Handlers = {name: handler for part in parts for name, handler in part.items()}
 
     def serve(self) -> None:
-        """Answer requests until the client ends the session or has gone. Raises LabError for input that has no requests."""
+        """Answer requests until the client ends the session or has gone, or is silent after a launch that failed.
+
+        Raises LabError for input that has no requests.
+        """
         try:
             while self._is_open:
+                if self._has_failed and not self._debuggee.program and not self._wire.comes_within(REST_SECONDS):
+                    break
                 self._answer(self._wire.receive())
         except (EOFError, BrokenPipeError, ConnectionError):
             pass
@@ -75,11 +87,11 @@ class Session:
     # A moving program asks these (`Client`)
 
     def has_requests(self) -> bool:
-        """Whether the client has sent something that is answered while the program moves."""
-        return any(self._is_urgent(each) for each in self._wire.waiting())
+        """Whether the client has sent something that is answered while the program moves, or has gone."""
+        return any(self._is_urgent(each) for each in self._wire.waiting()) or self._wire.has_ended
 
     def is_stopping(self) -> bool:
-        """Answer what a moving program can; return whether the client wants it to stop.
+        """Answer what a moving program can; return whether the client wants it to stop, or has gone.
 
         Requests that end it are answered once it is stopped, but `pause` before.
         """
@@ -92,11 +104,11 @@ class Session:
                 return True
             self._wire.take(urgent[0])
             self._answer(urgent[0])
-        return False
+        return self._wire.has_ended
 
     def wants_stop(self) -> bool:
-        """Whether the client wants long work to end; nothing is answered."""
-        return any(each["command"] in STOPPING for each in self._wire.waiting())
+        """Whether the client wants long work to end, or has gone; nothing is answered."""
+        return any(each["command"] in STOPPING for each in self._wire.waiting()) or self._wire.has_ended
 
     def _is_urgent(self, message: Message) -> bool:
         """Whether a request is answered while the program moves: of a step, which ends soon, only some are."""
@@ -117,14 +129,25 @@ class Session:
             kind, handle = self._handlers[command]
             body = handle(read_arguments(kind, message.get("arguments") or {}))
         except (LabError, OSError) as error:
-            text = _text_of(error)
-            details = {"id": 1, "format": text.replace("{", "(").replace("}", ")"), "showUser": True}
-            self._wire.send("response", success=False, message=text, body={"error": details}, **fields)
+            self._refuse(command, _text_of(error), fields)
             return
         start = body.pop("start", None)
         self._wire.send("response", success=True, body=body, **fields)
         if start:
             start()
+
+    def _refuse(self, command: str, text: str, fields: Message) -> None:
+        """Report to the client why a request fails. Clients that show no response see the output of a build that fails.
+
+        If there is no program then, the debugging is over, and the client is expected to disconnect.
+        """
+        if command in (*STARTING, "restart"):
+            self._reports.output(f"{text}\n", "stderr")
+        details = {"id": 1, "format": text.replace("{", "(").replace("}", ")"), "showUser": True}
+        self._wire.send("response", success=False, message=text, body={"error": details}, **fields)
+        if command in STARTING and self._is_initialized and self._debuggee.program is None:
+            self._has_failed = True
+            self._reports.event("terminated")
 
     def _initialize(self, client: Initialize) -> Body:
         if self._is_initialized:

@@ -34,7 +34,7 @@ class Shown:
         self._references = [*references]
 
     def renewed(self, instant: Instant) -> "Shown":
-        """The same references at the same place of the program, which the client has changed."""
+        """Return these references for a program that the client has changed, at the same place."""
         return Shown(instant, self._references)
 
     def scopes(self, frame: int) -> list[dict[str, Any]]:
@@ -104,7 +104,7 @@ class Shown:
         return self._row(self._reference(number), name, False).place
 
     def place_of_expression(self, frame: int, text: str) -> tuple[int, int] | None:
-        """The same of an expression; None also if it has no value."""
+        """Return the address and the number of bytes of an expression in memory; None if it isn't there, or has no value."""
         try:
             return evaluation.evaluate(self.instant, self._frame(frame), text, "", False).place
         except LabError:
@@ -118,6 +118,8 @@ class Shown:
         return frames[max(0, number - 1)]
 
     def _reference(self, number: int) -> _Reference:
+        if number == 0:
+            raise LabError("variablesReference 0 contains nothing: give that of the scope or the variable above")
         if not 1 <= number <= len(self._references):
             raise LabError(f"there is no variablesReference {number} at this stop")
         return self._references[number - 1]

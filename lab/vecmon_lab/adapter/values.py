@@ -22,7 +22,7 @@ def digits(value: int, bits: int) -> str:
 
 
 def number_text(value: int, bits: int, is_hex: bool) -> str:
-    """An element or a register: its signed number and its digits, or the digits alone."""
+    """Return the text of an element or a register: its signed number and its digits, or only the digits."""
     if bits == 1:
         return f"{value}"
     return digits(value, bits) if is_hex else f"{signed(value, bits)} ({digits(value, bits)})"
@@ -40,7 +40,7 @@ def typed_text(kind: str, value: int, is_hex: bool) -> str:
 
 
 def read_number(text: str, bits: int) -> int:
-    """Return the unsigned number with these bits that a user typed; what a value shows after it is ignored. Raises LabError."""
+    """Return the unsigned number with these bits that a user typed. Text after it, as a shown value has, is ignored. Raises LabError."""
     word, *_ = [*text.strip().split(), ""]
     if character := _CHARACTER.fullmatch(text.strip()):
         return ord(character[1][-1]) & (1 << bits) - 1

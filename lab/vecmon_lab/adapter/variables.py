@@ -107,7 +107,7 @@ def _scalars(instant: Instant, frame: Frame, is_hex: bool) -> Iterator[Item]:
 
 
 def _mapped(guest: Guest, values: Sequence[int]) -> set[int]:
-    """Those of some values that are addresses of memory."""
+    """Return the values that are addresses of mapped memory."""
     addresses = [value for value in dict.fromkeys(values) if value < 1 << 48]
     answers = guest.ask(*(f"peek {address:x} 1" for address in addresses))
     return {address for address, answer in zip(addresses, answers) if isinstance(answer, Memory)}

@@ -47,7 +47,7 @@ class VectorGroup:
 
 
 def outcome_text(outcome: str) -> str:
-    """How an element took part, in the words of the pages."""
+    """Return how an element took part, as the pages say it."""
     return read_texts(LANGUAGE)[f"outcome.{outcome}"]
 
 

@@ -34,6 +34,15 @@ class Wire:
         """Return the next message; wait for it. Raises EOFError if the client has gone, BadMessage, BadContent and BadHead."""
         return self._waiting.popleft() if self._waiting else _request_of(self._contents.next())
 
+    def comes_within(self, seconds: float) -> bool:
+        """Wait for a message for this time at most; return whether one comes, or the end of the input."""
+        return bool(self._waiting) or self._contents.comes_within(seconds)
+
+    @property
+    def has_ended(self) -> bool:
+        """Whether the client sends nothing more, as far as its input was read; messages from before may be waiting."""
+        return self._contents.has_ended
+
     def take(self, message: Message) -> None:
         """Take a message out of those that are waiting."""
         self._waiting.remove(message)

@@ -1,1 +1,1 @@
-"""Assembler source as lines of the monitor, and the monitor's commands and refusals in words."""
+"""Assembler source as lines of the monitor, and explanations of the monitor's commands and refusals."""

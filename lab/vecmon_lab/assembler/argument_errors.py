@@ -1,4 +1,4 @@
-"""Find the argument of a line that doesn't fit its command, and why."""
+"""Find the argument of a line that doesn't fit the line's command, and the reason."""
 
 import re
 
@@ -8,7 +8,10 @@ _DEMANDS = [(where.split(), re.compile(pattern), message) for where, pattern, me
 
 
 def argument_error(line: str, form: str) -> str:
-    """Why a line is answered E04, by the first of its words that doesn't fit the form of its command."""
+    """Return why the machine refuses a line with E04: its first argument that doesn't fit the form of its command.
+
+    form: the form of the command, as `peek ADDR N`
+    """
     name, *kinds = form.removeprefix("* ").split()
     _, *words = line[2:].split(None, len(kinds) if "TEXT" in kinds else -1)
     for kind, word in zip(kinds, words):

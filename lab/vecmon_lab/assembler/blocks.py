@@ -1,8 +1,8 @@
-"""Statements of a source with its macros called, its repetitions repeated, and its conditions decided."""
+"""Expand a source's macros and repetitions, and evaluate its conditions."""
 
 import re
 from collections.abc import Callable, Iterable, Iterator, Mapping
-from dataclasses import dataclass, replace
+from dataclasses import dataclass
 
 from .assembly import Assembly
 from .data_directives import read_file
@@ -10,10 +10,10 @@ from .line import Line, tokens_of
 from .macros import Macro, Parameter, called, read_parameters, separate_arguments, with_arguments
 from .statements import statements, without_comments
 
-MAX_DEPTH = 50  # of calls and repetitions inside each other
-MAX_STATEMENTS = 20_000  # of all calls and repetitions
-MAX_CHARACTERS = 400_000  # of these statements
-STATEMENT_CHARACTERS = 16  # that each statement counts for besides its own, if fewer are allowed
+MAX_DEPTH = 50  # nested calls and repetitions
+MAX_STATEMENTS = 20_000  # that all calls and repetitions make
+MAX_CHARACTERS = 400_000  # in the statements that all calls and repetitions make
+STATEMENT_CHARACTERS = 16  # added for each statement, if the limit is below MAX_CHARACTERS
 _HEAD = re.compile(r"\s*((?:[\w.$]+\s*:\s*)*)([A-Za-z_.$][\w.$]*)?", re.ASCII)
 _REPETITIONS = (".rept", ".rep", ".irp", ".irpc")
 _RARS_END = ".end_macro"
@@ -40,7 +40,11 @@ BLOCK_DIRECTIVES = (*_CONDITIONS, *_BRANCHES, *_ENDS, ".endr", ".endm", ".exitm"
 
 @dataclass
 class _Condition:
-    """An .if: where it is, whether its branch is assembled, and whether one was; is_reached: whether itself is assembled."""
+    """An .if, with the line where it begins.
+
+    is_reached: whether the .if itself is assembled; is_active: whether its current branch is assembled
+    was_taken: whether one of its branches up to here was assembled; has_else: whether its .else was read
+    """
 
     line: Line
     is_reached: bool
@@ -50,14 +54,14 @@ class _Condition:
 
 
 class TooMuchMade(Exception):
-    """Calls and repetitions make more than they may where a source is assembled; elsewhere it may be right."""
+    """Calls and repetitions make more than a limit below MAX_CHARACTERS allows. With a higher limit, the source may be right."""
 
 
 class Blocks:
-    """The statements of a source after its blocks. The statements so far decide its conditions."""
+    """The statements of a source, with its blocks expanded. Conditions depend on the statements before them."""
 
     def __init__(self, assembly: Assembly, most: int = MAX_CHARACTERS) -> None:
-        """most: characters of statements that calls and repetitions make, before TooMuchMade is raised"""
+        """most: characters that calls and repetitions may make; if it is below MAX_CHARACTERS, more of them raise TooMuchMade"""
         self._assembly, self._most = assembly, most
         self.macros: dict[str, Macro] = {}
         self._conditions: list[_Condition] = []
@@ -73,7 +77,7 @@ class Blocks:
         }
 
     def expanded(self, lines: Iterable[Line]) -> Iterator[Line]:
-        """The statements to assemble, one after another, of a whole source."""
+        """Yield the statements of a whole source to assemble, in order."""
         yield from self._expand(iter(lines))
         for condition in self._conditions[:1]:
             self._assembly.note(condition.line.error(0, "this condition doesn't end: .endif is missing"))
@@ -90,7 +94,7 @@ class Blocks:
                 yield line
 
     def _expand_line(self, name: str, line: Line, head: re.Match[str], lines: Iterator[Line]) -> Iterator[Line]:
-        """The statements of a line that begins with a directive or with the name of a macro, after labels."""
+        """Yield the statements of a line that begins, after its labels, with a directive or the name of a macro."""
         is_macro = name in self.macros and not re.match(r"\s*=(?!=)", line.text[head.end() :])
         is_condition = name in _CONDITIONS or name in _BRANCHES
         if not is_macro and not is_condition and name not in self._handlers:
@@ -113,7 +117,7 @@ class Blocks:
         return not self._conditions or self._conditions[-1].is_active
 
     def _nested(self, lines: Iterator[Line], opening: Line) -> Iterator[Line]:
-        """The statements of a call or a repetition. Raises SourceError where these are too many."""
+        """Yield the statements of a call or a repetition. Raises SourceError if it is nested too deep, or too long."""
         if self._depth == MAX_DEPTH:
             self._assembly.is_ended = True
             raise opening.error(0, f"calls and repetitions are nested more than {MAX_DEPTH} deep here")
@@ -128,7 +132,7 @@ class Blocks:
         self._is_leaving = False
 
     def _counted(self, lines: Iterator[Line], opening: Line) -> Iterator[Line]:
-        """The lines, of which each counts. Raises SourceError after MAX_STATEMENTS or MAX_CHARACTERS."""
+        """Yield the lines, and count each. Raises SourceError after MAX_STATEMENTS or MAX_CHARACTERS."""
         for line in lines:
             self._count_one(opening)
             self._characters += len(line.text)
@@ -146,7 +150,7 @@ class Blocks:
             raise opening.error(0, f"calls and repetitions make more than {MAX_STATEMENTS:,} statements")
 
     def _call(self, macro: Macro, line: Line) -> Iterator[Line]:
-        """The statements of a macro that a line calls."""
+        """Yield the statements of a macro that a line calls."""
         length = len(macro.name)
         self._calls += 1
         made = called(macro, line, 0, length, self._calls - 1)
@@ -154,13 +158,13 @@ class Blocks:
         yield from self._nested(self._made(made), line)
 
     def _made(self, makers: Iterable[Callable[[], Line]]) -> Iterator[Line]:
-        """The statements that functions make, without those that have mistakes."""
+        """Yield the statements that functions make. Note a SourceError of a function, and leave out its statement."""
         for make in makers:
             with self._assembly.noting():
                 yield make()
 
     def _define(self, name: str, line: Line, lines: Iterator[Line]) -> Iterable[Line]:
-        """Takes up a macro."""
+        """Define the macro that begins at a line."""
         body = self._body(name, line, lines)
         match = re.compile(r"\.\w+\s+([A-Za-z_.$][\w.$]*)", re.ASCII).match(line.text)
         if match is None:
@@ -173,7 +177,7 @@ class Blocks:
         return ()
 
     def _body(self, name: str, line: Line, lines: Iterator[Line]) -> list[Line]:
-        """The statements up to the end of a block, which is left out. Raises SourceError if it doesn't end.
+        """Return the statements up to the directive that ends a block, without this directive. Raises SourceError if there is no end.
 
         In a repetition, .endm ends a macro that the repetition defines.
         """
@@ -195,7 +199,7 @@ class Blocks:
         raise line.error(0, f"{name} doesn't end: {_ENDS[name][0]} is missing")
 
     def _repeat(self, name: str, line: Line, lines: Iterator[Line]) -> Iterator[Line]:
-        """The statements of a block once for each of its values."""
+        """Yield the statements of a repetition: its block, once for each of its values."""
         body = self._body(name, line, lines)
         for arguments in self._rounds(name, line):
             self._count_one(line)
@@ -204,12 +208,12 @@ class Blocks:
                 return
 
     def _with(self, line: Line, arguments: Mapping[str, Line]) -> Callable[[], Line]:
-        """Returns a function that makes a statement of a repetition, which is executed where it was typed."""
+        """Return a function that makes a statement of a repetition. The statement has the line and column where it was typed."""
         column = line.column + len(line.text) - len(line.text.lstrip())
-        return lambda: line if not arguments else replace(with_arguments(line, arguments, None), column=column)
+        return lambda: line if not arguments else with_arguments(line, arguments, None)._replace(column=column)
 
     def _rounds(self, name: str, line: Line) -> Iterable[Mapping[str, Line]]:
-        """The arguments of each repetition. Raises SourceError."""
+        """Return the arguments of each round of a repetition, by name. Raises SourceError."""
         start = len(name)
         if name in (".rept", ".rep"):
             number = self._number(line)
@@ -224,7 +228,7 @@ class Blocks:
         return [{symbol.text: value} for value in values or [line.part(len(line.text))]]
 
     def _include(self, name: str, line: Line, lines: Iterator[Line]) -> Iterator[Line]:
-        """The statements of a file, which are executed at the line that names it."""
+        """Yield the statements of a file. The line that executes them is the line that includes the file."""
         directive, *operand = tokens_of(line)
         if not operand:
             raise directive.error(".include takes the name of a file")
@@ -234,14 +238,14 @@ class Blocks:
         yield from self._nested(_at(line, operand[0].text, statements(text)), line)
 
     def _leave(self, name: str, line: Line, lines: Iterator[Line]) -> Iterable[Line]:
-        """Leaves the call or the repetition that is assembled."""
+        """Leave the call or the repetition that is being expanded."""
         if not self._depth:
             raise line.error(0, ".exitm is outside of a macro")
         self._is_leaving = True
         return ()
 
     def _purge(self, name: str, line: Line, lines: Iterator[Line]) -> Iterable[Line]:
-        """Forgets macros."""
+        """Delete the definitions of macros."""
         for argument in separate_arguments(line, len(name)):
             if self.macros.pop(argument.text.lower(), None) is None:
                 raise argument.error(0, f"there is no macro {argument.text}")
@@ -252,7 +256,7 @@ class Blocks:
         raise line.error(0, f"{name} has no {start} before it")
 
     def _decide(self, name: str, line: Line) -> None:
-        """Begins a condition, or goes on to its next branch. Raises SourceError."""
+        """Begin a condition, go on to its next branch, or end it. Raises SourceError."""
         if name in _CONDITIONS:
             is_reached = self._is_active()
             self._conditions.append(_Condition(line, is_reached, False, False))
@@ -271,13 +275,13 @@ class Blocks:
             self._take(may and (name == ".else" or self._holds(".if", line)))
 
     def _take(self, holds: bool) -> None:
-        """Assembles the branch of the last condition from here on, if it holds."""
+        """Assemble the statements from here on if the current branch's condition holds, or else skip them."""
         condition = self._conditions[-1]
         condition.is_active = holds
         condition.was_taken = condition.was_taken or holds
 
     def _holds(self, name: str, line: Line) -> bool:
-        """Whether the test of a condition holds. Raises SourceError."""
+        """Return whether a conditional directive, such as .ifdef, holds. Raises SourceError."""
         head = re.compile(r"\.\w+\s*").match(line.text)
         text = line.part(head.end() if head else 0)
         if name in _NUMBER_TESTS:
@@ -292,7 +296,7 @@ class Blocks:
         return (values[0] == values[1]) == (name in (".ifc", ".ifeqs"))
 
     def _number(self, line: Line) -> int:
-        """The value of the expression after a directive. Raises SourceError."""
+        """Return the value of the expression after a directive. Raises SourceError."""
         directive, *tokens = tokens_of(line)
         if not tokens:
             raise directive.error(f"{directive.text} takes a number")
@@ -300,7 +304,7 @@ class Blocks:
 
 
 def _at(line: Line, file: str, lines: Iterable[Line]) -> Iterator[Line]:
-    """The lines of a file as if they were typed where a line includes it."""
+    """Yield the statements of a file, each with the place of the line that includes the file."""
     for each in lines:
         within = (f"in {file}, line {each.number}", *line.within)
         yield Line(each.text, line.number, line.place(0)[1], [line.place(0)] * (len(each.text) + 1), within)

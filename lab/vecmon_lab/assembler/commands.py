@@ -1,4 +1,4 @@
-"""Commands by name and refusals in words, from the tables that the manuals have their tables from."""
+"""Descriptions of commands and meanings of refusals. The manuals' tables have the same source."""
 
 import itertools
 import operator
@@ -15,7 +15,7 @@ from .argument_errors import argument_error
 
 @dataclass(frozen=True)
 class Command:
-    """A command of the monitor or the console: its form, as `peek ADDR N`, its effect, and its own refusals."""
+    """A command of the monitor or the console: its form, as `peek ADDR N`, its effect, and the codes of its own refusals."""
 
     form: str
     does: str
@@ -23,26 +23,29 @@ class Command:
 
 
 def _plain(text: str) -> str:
-    """Markdown without its backquotes, its links, and parentheses that have a link alone."""
+    """Return Markdown as plain text, without backquotes and links, and without parentheses that contain only a link."""
     return re.sub(r" \(\[[^]]*\]\([^)]*\)\)|\[([^]]*)\]\([^)]*\)", r"\1", text).replace("`", "")
 
 
 def _name(form: str) -> str:
-    """The name of a command with this form: its first word, with the operator's `*` before it."""
+    """Return the name of a command with this form: its first word, with `*` before it for the operator's commands."""
     return " ".join(form.split()[: 2 if form[0] == "*" else 1])
 
 
 _COMMANDS, _REFUSALS = read_table("commands"), read_table("refusals")
 COMMANDS = {_name(form): Command(form, _plain(does), own.split(" ")) for _, form, does, _, own in _COMMANDS}
 OF_THE_CONSOLE = {_name(form) for section, form, *_ in _COMMANDS if section == "Commands of the console"}
-"""The names of commands that the machine doesn't have."""
+"""The names of the console's own commands, which the machine doesn't have."""
 
 _IMAGE_FAULTS = dict(read_table("image_faults"))
 MEANINGS = {code: _plain(meaning) for code, meaning, _ in _REFUSALS}
 
 
 def help_on(name: str) -> list[str]:
-    """The effect of a command, or the meaning of a refusal; for an empty name, the forms of all commands by section."""
+    """Return lines about a command (its form, its effect and its refusals) or about a refusal's code.
+
+    name: a command or a code; an empty name stands for all commands: their forms, a line for each section
+    """
     if not name:
         sections = itertools.groupby(_COMMANDS, operator.itemgetter(0))
         return [f"{section}: {', '.join(form for _, form, *_ in rows)}" for section, rows in sections]
@@ -56,7 +59,7 @@ def help_on(name: str) -> list[str]:
 
 
 def explain_refusal(line: str, answer: Refused) -> list[str]:
-    """The meaning of a line's refusal. Below a text that is no instruction, the wrong part is marked."""
+    """Return lines that explain why a line was refused. If asm refused a text, its wrong character is marked in a second line."""
     word = "".join(words_of(line)[:1])
     own, other, whose = (f"* {word}", word, "a user") if line[0] == "*" else (word, f"* {word}", "the operator")
     match answer.code:
@@ -74,8 +77,8 @@ def explain_refusal(line: str, answer: Refused) -> list[str]:
             message = _IMAGE_FAULTS[str(answer)]
         case "E15":
             text = line[2:].strip(" ").split(maxsplit=2)[2]
-            places = tuple((1, column) for column in range(1, len(text) + 2))
-            message = refusal(Statement(0, 1, 1, text, places), int(answer.detail)).message
+            offsets = tuple((0, column) for column in range(1, len(text) + 2))
+            message = refusal(Statement(0, 1, 1, text, offsets), int(answer.detail)).message
             return [text, f"{'^':>{answer.detail}}", f"E15: {message}"]
         case code:
             message = MEANINGS[code]
@@ -83,7 +86,7 @@ def explain_refusal(line: str, answer: Refused) -> list[str]:
 
 
 def refusal_on_pages(line: str, answer: Sequence[str]) -> str:
-    """The meaning of a line's refusal, as pages show it, with code between backquotes; "" if it isn't refused."""
+    """Return the meaning of a line's refusal for pages, with code between backquotes; "" if the answer isn't a refusal."""
     parsed = read(answer) if is_refusal(answer) else None
     if not isinstance(parsed, Refused):
         return ""
@@ -92,7 +95,7 @@ def refusal_on_pages(line: str, answer: Sequence[str]) -> str:
 
 
 def log_entries(line: str, answer: Sequence[str]) -> list[str]:
-    """The lines of an answer as entries of a log: behind `*` if a program stopped, else behind `<`.
+    """Return the lines of an answer as entries of a log: each starts with `*` if a program stopped, and otherwise with `<`.
 
     A refusal is followed by a newline and its meaning.
     """

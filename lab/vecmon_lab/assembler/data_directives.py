@@ -1,4 +1,4 @@
-"""Directives that put numbers, texts and room into a section."""
+"""Directives that put numbers, texts and zeros into a section."""
 
 from collections.abc import Callable, Sequence
 from dataclasses import replace
@@ -13,8 +13,13 @@ from .value import Value
 
 WIDTHS = {".byte": 1, ".half": 2, ".word": 4, ".dword": 8}
 WIDTHS |= {".2byte": 2, ".hword": 2, ".short": 2, ".4byte": 4, ".long": 4, ".int": 4, ".8byte": 8, ".quad": 8}
-STRINGS = {".ascii": b"", ".asciz": b"\0", ".string": b"\0"}  # and what ends them
-_OTHER_SIZES = {".float": 4, ".single": 4, ".double": 8, ".octa": 16}  # of an operand, of directives that are refused
+STRINGS = {".ascii": b"", ".asciz": b"\0", ".string": b"\0"}  # with the bytes after each text
+_OTHER_SIZES = {
+    ".float": 4,
+    ".single": 4,
+    ".double": 8,
+    ".octa": 16,
+}  # bytes for each operand of directives that are refused
 MOST_BYTES = PROGRAM_PAGES * PAGE_BYTES
 
 Directive = Callable[[Token, list[Operand]], None]
@@ -35,7 +40,7 @@ class DataDirectives:
         }
 
     def keep_room(self, name: str, operands: Sequence[Operand]) -> None:
-        """Makes room for the data of a directive that is refused, so that what follows keeps its address."""
+        """Make room for the data of a directive that is refused, so that the data after it has the right addresses."""
         self._assembly.sections.current.size += _OTHER_SIZES.get(name, 0) * len(operands)
 
     def _put_strings(self, name: Token, operands: list[Operand]) -> None:
@@ -59,18 +64,18 @@ class DataDirectives:
                 self._assembly.put_item(name, width, partial(self._symbols.data, operand, here, width), value)
 
     def _put_rars_copies(self, operand: Operand, width: int) -> None:
-        """Make room for copies in the form of RARS, as 0:10, and note that .fill makes them."""
+        """Make room for copies in RARS's form, as 0:10, and note the mistake that .fill must be used instead."""
         number, colon, count = operand
         form = f".fill {count.text}, {width}, {number.text}"
         self._assembly.note(colon.error(f"{number.text}:{count.text} isn't in this assembler: write {form}"))
         self._assembly.put(number, width * self._size(replace(number, text=".fill"), [count]))
 
     def _number(self, operand: Operand, here: Value) -> int:
-        """The value of an operand, once sections have their bases. Raises SourceError."""
+        """Return the value of an operand, once sections have their bases. Raises SourceError."""
         return self._symbols.evaluate(operand, here).resolved()
 
     def _put_room(self, name: Token, operands: list[Operand]) -> None:
-        """Room of a number of bytes, which are 0 or have the value of the second operand."""
+        """Put a number of bytes, which are 0 or have the value of the second operand."""
         check_count(name, operands, 1, 2)
         size = self._size(name, operands[0])
         if len(operands) == 1:
@@ -79,7 +84,7 @@ class DataDirectives:
             self._assembly.put(name, size, lambda: self._symbols.data(operands[1], Value(0), 1) * size)
 
     def _put_copies(self, name: Token, operands: list[Operand]) -> None:
-        """Copies of a number: how many, of which size, and the number."""
+        """Put copies of a number; the operands are their count, their size and the number."""
         check_count(name, operands, 1, 3)
         count = self._size(name, operands[0])
         size = self._assembly.constant(operands[1]) if len(operands) > 1 else 1
@@ -88,13 +93,13 @@ class DataDirectives:
         number = self._assembly.constant(operands[2]) if len(operands) > 2 else 0
         copy = (number % (1 << 32)).to_bytes(8, "little")[
             :size
-        ]  # 4 bytes at most are the number's, as in stock assemblers
+        ]  # the number takes at most 4 bytes, as in stock assemblers
         if count * size > MOST_BYTES:
             raise operands[0][0].error(f"these are more than the {MOST_BYTES:,} bytes that a user has")
         self._assembly.put(name, count * size, partial(bytes, copy * count) if any(copy) else None)
 
     def _size(self, name: Token, operand: Operand) -> int:
-        """The number of bytes or copies that an operand gives. Raises SourceError."""
+        """Return the number of bytes or copies that an operand gives. Raises SourceError."""
         size = self._assembly.constant(operand)
         if size < 0:
             raise operand[0].error(
@@ -105,7 +110,7 @@ class DataDirectives:
         return size
 
     def _put_leb(self, name: Token, operands: list[Operand]) -> None:
-        """Numbers in the variable length of DWARF."""
+        """Put numbers in DWARF's variable-length encoding (LEB128)."""
         _check_some(name, operands)
         for operand in operands:
             number = self._assembly.constant(operand)
@@ -115,7 +120,7 @@ class DataDirectives:
             self._assembly.put_item(name, len(data), partial(bytes, data), None)
 
     def _put_file(self, name: Token, operands: list[Operand]) -> None:
-        """The bytes of a file, from an offset on, and at most a number of them."""
+        """Put the bytes of a file. Further operands are the offset of the first byte, and the greatest number of bytes."""
         check_count(name, operands, 1, 3)
         content = read_file(self._assembly, name, operands[0])
         skipped, *count = [self._assembly.constant(operand) for operand in operands[1:]] or [0]
@@ -128,7 +133,7 @@ class DataDirectives:
 
 
 def read_file(assembly: Assembly, name: Token, operand: Operand) -> bytes:
-    """The bytes of the file that a directive names. Raises SourceError, also where files aren't read."""
+    """Return the bytes of the file that a directive names. Raises SourceError if the file can't be read, or if files are refused."""
     path = b"".join(token.string() for token in operand).decode("utf-8", "replace")
     if assembly.files is None:
         raise name.error(
@@ -146,7 +151,7 @@ def _check_some(name: Token, operands: Sequence[Operand]) -> None:
 
 
 def _leb(number: int, is_signed: bool) -> bytes:
-    """A number in groups of 7 bits, the lowest first, each but the last with a bit above."""
+    """Return a number in LEB128: groups of 7 bits, the lowest first; bit 7 is set in each byte except the last."""
     groups = bytearray()
     while True:
         group, number = number & 0x7F, number >> 7

@@ -1,4 +1,4 @@
-"""The numbers and texts that directives lay in memory, in runs of one type."""
+"""The numbers and texts that directives put into memory, as runs of one type."""
 
 from collections.abc import Callable, Collection, Iterable
 from dataclasses import dataclass
@@ -17,7 +17,8 @@ _UNSIGNED: dict[int, DataType] = {1: "u8", 2: "u16", 4: "u32", 8: "u64"}
 class DataItem:
     """A number or a text in a section.
 
-    size: in bytes; value: returns the number, once sections have their bases; None for a text
+    offset: of its first byte in the section; size: in bytes
+    value: returns the number, once sections have their bases; None for a text
     """
 
     section: Section
@@ -27,15 +28,16 @@ class DataItem:
 
     @property
     def address(self) -> int:
-        """The address of its first byte, once sections have their bases."""
+        """Return the address of the first byte, once sections have their bases."""
         return self.section.base + self.offset
 
 
 @dataclass(frozen=True)
 class DataRun:
-    """Numbers of one type, one behind another, or a text.
+    """Consecutive numbers of one type, or a text.
 
-    type: unsigned only if a number doesn't fit into the signed type; count: of numbers, or bytes of a text
+    type: an unsigned type only if some number doesn't fit into the signed type
+    count: the number of numbers, or of bytes of a text
     """
 
     type: DataType
@@ -43,7 +45,10 @@ class DataRun:
 
 
 def data_runs(items: Iterable[DataItem], labels: Collection[int]) -> dict[int, DataRun]:
-    """Return the runs by their first address; a label begins another run. labels: their addresses"""
+    """Return the runs of data items, by the address of their first byte. A label starts a new run.
+
+    labels: the addresses that have labels
+    """
     runs = list[list[DataItem]]()
     for item in sorted(items, key=lambda each: each.address):
         last = runs[-1][-1] if runs else None

@@ -1,4 +1,4 @@
-"""Directives of sections, names and alignment, those without an effect, and those that are refused."""
+"""Directives for sections, names and alignment, directives without an effect, and directives that are refused."""
 
 from collections.abc import Sequence
 from difflib import get_close_matches
@@ -17,19 +17,19 @@ IGNORED = frozenset(name for treatment, names in _ROWS if treatment == "none" fo
 """Directives of stock assemblers that have no effect here."""
 
 EXPORTING = frozenset([".globl", ".global", ".weak"])
-"""Those of them that name symbols for other sources."""
+"""Directives that name symbols for other sources."""
 
 REFUSED = {name: reason for reason, names in _ROWS if reason != "none" for name in names}
-"""Why other directives of stock assemblers are refused."""
+"""Other directives of stock assemblers, each with the reason why it is refused."""
 
 _NOP = b"\x13\0\0\0"
-_MAX_SUBSECTION = 8192  # of GNU as; larger numbers after .data are addresses, as in RARS
+_MAX_SUBSECTION = 8192  # GNU as's limit; larger numbers after .data are addresses, as in RARS
 _PAGE_POWER = PAGE_BYTES.bit_length() - 1
 _IN_ANY_SECTION = {".section", ".pushsection", ".popsection", ".previous", TEXT, DATA, BSS, ".rodata", ".end"}
 
 
 class Directives:
-    """The directives of a source, but for those of macros and conditions."""
+    """The directives of a source, except those of macros and conditions."""
 
     def __init__(self, assembly: Assembly) -> None:
         self._assembly, self._symbols, self._sections = assembly, assembly.symbols, assembly.sections
@@ -53,7 +53,10 @@ class Directives:
         }
 
     def execute(self, name: Token, operands: list[Operand], others: Sequence[str]) -> None:
-        """Executes a directive, whose name is in small letters. Raises SourceError. others: names of directives in `near` fixes"""
+        """Execute a directive, whose name is in lower case. Raises SourceError.
+
+        others: more names to compare an unknown directive with, for the nearest names in the error
+        """
         is_loaded = bool(self._sections.current.permissions)
         if name.text in self.directives:
             if is_loaded or name.text in _IN_ANY_SECTION or name.text in (".equ", ".set", ".equiv"):
@@ -69,7 +72,7 @@ class Directives:
         raise name.error(f"there is no directive {name.text}", near)
 
     def assign(self, name: Token, operand: Operand, is_once: bool = False) -> None:
-        """Gives a name the value of an operand, or with a dot goes on at an address. Raises SourceError."""
+        """Give a name the value of an operand; for a dot, move to the operand's address. Raises SourceError."""
         if name.text == ".":
             self._go_to(name, [operand])
         elif name.kind is not Kind.NAME:
@@ -110,7 +113,10 @@ class Directives:
         self.assign(operands[0][0], operands[1], name.text == ".equiv")
 
     def _align(self, name: Token, operands: list[Operand]) -> None:
-        """Go on at a multiple: of 2^n or n bytes; with a value for the bytes between; with a number of them at most."""
+        """Align the next byte to a multiple of 2^n or n bytes, as the directive's name says.
+
+        A second operand is the value of the bytes between. A third operand is their greatest number: if more are needed, do nothing.
+        """
         empty = {number for number, operand in enumerate(operands) if not operand}
         check_count(name, operands, 1, 3)
         size = self._alignment(name, operands[0])
@@ -132,7 +138,7 @@ class Directives:
         self._assembly.put(name, padding, partial(bytes, data) if is_written else None)
 
     def _alignment(self, name: Token, operand: Operand) -> int:
-        """The number of bytes of which the next address is a multiple. Raises SourceError."""
+        """Return the number of bytes by which the next address must be divisible. Raises SourceError."""
         number = self._assembly.constant(operand)
         if name.text.startswith((".balign", ".comm", ".lcomm")):
             if not 1 <= number <= PAGE_BYTES or number & number - 1:
@@ -144,7 +150,7 @@ class Directives:
         return 1 << number
 
     def _go_to(self, name: Token, operands: list[Operand]) -> None:
-        """Go on at a later offset in the section."""
+        """Move to a later offset in the section."""
         check_count(name, operands, 1, 2)
         section = self._sections.current
         value = self._symbols.evaluate(operands[0], self._assembly.here())
@@ -159,7 +165,7 @@ class Directives:
         self._assembly.put(name, size, partial(bytes, bytes([fill]) * size) if fill else None)
 
     def _put_common(self, name: Token, operands: list[Operand]) -> None:
-        """Room with a name in .bss, for .comm after all of .bss; a third operand is its alignment."""
+        """Make room with a name in .bss; the room of .comm is after all of .bss. A third operand is the alignment."""
         check_count(name, operands, 2, 3)
         label, size = operands[0][0], self._assembly.constant(operands[1])
         if label.kind is not Kind.NAME or len(operands[0]) != 1 or size < 0:
@@ -187,7 +193,7 @@ class Directives:
         self._assembly.is_ended = True
 
     def _report(self, name: Token, operands: list[Operand]) -> None:
-        """A mistake or a warning of the source's author."""
+        """Report a mistake or a warning that the source's author wrote."""
         text = b"".join(token.string() for token in operands[0]).decode("utf-8", "replace") if operands else ""
         error = name.error(text or f"{name.text} is executed here")
         if name.text == ".warning":

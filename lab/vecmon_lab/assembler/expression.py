@@ -1,12 +1,12 @@
 """Expressions of a source, with the operators and precedences of GNU as."""
 
 from collections.abc import Callable
-from dataclasses import dataclass, field, replace
+from dataclasses import dataclass, field
 
 from .line import Kind, Operand, Token
 from .value import Value
 
-MAX_DEPTH = 50  # of parentheses and prefixes
+MAX_DEPTH = 50  # nested parentheses and prefixes
 _RANKS: dict[str, int] = {
     **dict.fromkeys(("||",), 1),
     **dict.fromkeys(("&&",), 2),
@@ -15,7 +15,7 @@ _RANKS: dict[str, int] = {
     **dict.fromkeys(("|", "&", "^", "!"), 5),
     **dict.fromkeys(("*", "/", "%", "<<", ">>"), 6),
 }
-_COMPARISONS: dict[str, Callable[[int], bool]] = {  # of the difference with 0
+_COMPARISONS: dict[str, Callable[[int], bool]] = {  # comparisons of the sides' difference with 0
     "==": lambda difference: difference == 0,
     "!=": lambda difference: difference != 0,
     "<>": lambda difference: difference != 0,
@@ -32,17 +32,17 @@ ONLY_DIFFERENCES = "of two addresses only the difference can be taken"
 
 
 def signed(number: int) -> int:
-    """The lowest 64 bits of a number, as a signed number."""
+    """Return the lowest 64 bits of a number, as a signed number."""
     return (number + (1 << 63)) % (1 << 64) - (1 << 63)
 
 
 def _wrapped(number: int) -> int:
-    """A number of 64 bits, signed or unsigned, unchanged; of others the lowest 64 bits."""
+    """Return a number unchanged if it fits into 64 bits, signed or unsigned; otherwise its lowest 64 bits."""
     return number if -(1 << 63) <= number < 1 << 64 else signed(number)
 
 
 def _quotient(left: int, right: int) -> int:
-    """The quotient rounded to 0, as in C."""
+    """Return the quotient, rounded towards 0 as in C."""
     left, right = signed(left), signed(right)
     quotient = abs(left) // abs(right)
     return quotient if (left < 0) == (right < 0) else -quotient
@@ -65,7 +65,7 @@ _OPERATIONS: dict[str, Callable[[int, int], int]] = {
 
 @dataclass
 class Expression:
-    """An operand that is evaluated from its first token on.
+    """An operand, and the index of the token at which its evaluation has arrived.
 
     term: returns the value of a name or a dot; function: returns the value of %NAME(..) for the tokens between its parentheses
     """
@@ -77,7 +77,7 @@ class Expression:
     _depth: int = field(default=0, init=False)
 
     def value(self) -> Value:
-        """The value of the whole operand. Raises SourceError."""
+        """Return the value of the whole operand. Raises SourceError."""
         value = self._operation(1)
         if token := self._peek():
             if token.text == "(":
@@ -97,7 +97,7 @@ class Expression:
         return self.tokens[self._next - 1]
 
     def _operation(self, rank: int) -> Value:
-        """The value of terms and operators of this rank and above."""
+        """Return the value of the next terms and the operators between them, up to an operator with a precedence below this rank."""
         left = self._term()
         while (operator := self._peek()) and operator.kind is Kind.MARK and _RANKS.get(operator.text, 0) >= rank:
             self._take()
@@ -117,7 +117,7 @@ class Expression:
         return value
 
     def _term_from(self, token: Token) -> Value:
-        """The value of the term that begins with a token."""
+        """Return the value of the term that begins with a token."""
         if token.kind is Kind.NUMBER and not token.symbol:
             return Value(token.number())
         if token.kind is not Kind.MARK:
@@ -156,7 +156,7 @@ class Expression:
 
 
 def _closing(tokens: Operand, start: int) -> int:
-    """The index of the closing parenthesis for one before `start`; the number of tokens if there is none."""
+    """Return the index of the closing parenthesis for the opening one before `start`; the number of tokens if there is none."""
     depth = 1
     for index in range(start, len(tokens)):
         depth += {"(": 1, ")": -1}.get(tokens[index].text, 0)
@@ -166,20 +166,20 @@ def _closing(tokens: Operand, start: int) -> int:
 
 
 def _number(token: Token, value: Value) -> int:
-    """A value that has to be a number for this operator."""
+    """Return a value as a number. Raises SourceError if it is an address, which this operator doesn't take."""
     if not value.is_number:
         raise token.error(f"{token.text} takes numbers, and this has an address: {ONLY_DIFFERENCES}")
     return value.number
 
 
 def _sum(left: Value, right: Value, sign: int) -> Value:
-    """The sum of two values, or with sign -1 their difference, in 64 bits."""
+    """Return the sum of two values in 64 bits, or with sign -1 their difference."""
     total = left.plus(right, sign)
-    return replace(total, number=_wrapped(total.number))
+    return total._replace(number=_wrapped(total.number))
 
 
 def _applied(operator: Token, left: Value, right: Value) -> Value:
-    """The value of two terms and an operator between them. Raises SourceError."""
+    """Return the value of an operator between two terms. Raises SourceError."""
     name = operator.text
     if name in "+-":
         return _sum(left, right, 1 if name == "+" else -1)

@@ -22,9 +22,18 @@ from .sections import USER_PAGES
 from .source import Program, in_order
 
 ARRAYS = 0x20_0000
-"""The address from which on arrays lie, each in pages of its own; no program reaches it."""
+"""The address of the first array. Each array has its own pages; no program reaches these addresses."""
 
-_LETTERS = {"i8": "b", "u8": "B", "i16": "h", "u16": "H", "i32": "i", "u32": "I", "i64": "q", "u64": "Q"}  # of struct
+_LETTERS = {
+    "i8": "b",
+    "u8": "B",
+    "i16": "h",
+    "u16": "H",
+    "i32": "i",
+    "u32": "I",
+    "i64": "q",
+    "u64": "Q",
+}  # codes of the module struct
 _TYPES: Mapping[str, DataType] = {
     "i8": "i8",
     "u8": "u8",
@@ -38,22 +47,31 @@ _TYPES: Mapping[str, DataType] = {
 }
 FORM = "#> a0 = 5, or #> a0 = i32 3, 1, 4"
 
-_SET_UP = ("asm", "break", "map", "poke", "policy", "set", "setpc", "vset")  # commands that pages take
+_SET_UP = (
+    "asm",
+    "break",
+    "map",
+    "poke",
+    "policy",
+    "set",
+    "setpc",
+    "vset",
+)  # commands that a `#>` line may have outside of lessons, too
 _INPUT = re.compile(r"#>\s*(?P<place>[\w.$]+)\s*=\s*(?:(?P<type>[iu](?:8|16|32|64)|text)\b(?:\[(?P<count>\d+)\])?)?\s*")
 _NUMBER = re.compile(r"[+-]?(?:0x[0-9a-fA-F]+|0b[01]+|[0-9]+)")
 _REGISTERS = {**REGISTERS, **{f"x{number}": f"x{number}" for number in range(32)}}
 
 
 class LessonCommand(SourceError):
-    """A `#>` line with a command that lessons execute, and nothing else does."""
+    """A `#>` line has a command that only lessons execute."""
 
 
 @dataclass
 class Inputs:
-    """What the `#>` lines of a source say.
+    """The settings that the `#>` lines of a source contain.
 
-    commands: of the monitor, each with the number of its line; mistakes, warnings: of the lines
-    data: the numbers and texts of arrays, by address; size: of all of them, in bytes
+    commands: commands of the monitor, each with the number of its line; mistakes, warnings: those of the lines
+    data: the numbers and texts of arrays, by address; size: of all arrays, in bytes
     """
 
     commands: list[tuple[int, str]] = field(default_factory=list)
@@ -64,12 +82,12 @@ class Inputs:
 
 
 def is_input(line: str) -> bool:
-    """Whether a line that starts with `#>` is an input, and no command of the monitor."""
+    """Return whether a line that starts with `#>` is an input, not a command of the monitor."""
     return _INPUT.match(line) is not None
 
 
 def lines_with_inputs(text: str) -> list[int]:
-    """The numbers of a source's lines that set registers or memory before it runs."""
+    """Return the numbers of the source lines that set registers or memory before the program runs."""
     lines = [line.strip() for line in text.split("\n")]
     commands = [line[2:].split()[:1] if line.startswith("#>") else [] for line in lines]
     return [
@@ -80,7 +98,7 @@ def lines_with_inputs(text: str) -> list[int]:
 
 
 def with_inputs(program: Program, text: str) -> Program:
-    """A program with the commands, the mistakes and the data of the `#>` lines of its source."""
+    """Return a program with the commands, the mistakes and the data of the `#>` lines in its source."""
     lines = [(number, line) for number, line in enumerate(text.split("\n"), 1) if line.lstrip().startswith("#>")]
     if not lines:
         return program
@@ -91,7 +109,10 @@ def with_inputs(program: Program, text: str) -> Program:
 
 
 def read_inputs(lines: list[tuple[int, str]], labels: Mapping[str, int]) -> Inputs:
-    """The inputs of `#>` lines with their numbers. labels: their addresses, for which the names stand"""
+    """Read `#>` lines, each given with its number.
+
+    labels: the addresses of names
+    """
     inputs, place = Inputs(), ARRAYS
     for number, line in lines:
         try:
@@ -105,12 +126,12 @@ def read_inputs(lines: list[tuple[int, str]], labels: Mapping[str, int]) -> Inpu
 
 
 def with_addresses(command: str, labels: Mapping[str, int]) -> str:
-    """A command of the monitor with the addresses of labels in place of their names."""
+    """Return a command of the monitor, with addresses in place of the labels that it names."""
     return re.sub(r"\S+", lambda word: f"{labels[word[0]]:x}" if word[0] in labels else word[0], command)
 
 
 def _read_command(inputs: Inputs, number: int, line: str, labels: Mapping[str, int]) -> None:
-    """Take up a command of the monitor. Raises SourceError."""
+    """Add a command of the monitor to the inputs. Raises SourceError."""
     command = line.lstrip()[2:].strip()
     column = line.index("#>") + 1
     name = "".join(command.split()[:1])
@@ -131,7 +152,10 @@ def _read_command(inputs: Inputs, number: int, line: str, labels: Mapping[str, i
 
 
 def _read_input(inputs: Inputs, number: int, line: str, labels: Mapping[str, int], place: int) -> int:
-    """Take up an input. Return the address for the next array. Raises SourceError."""
+    """Add an input to the inputs. Return the address for the next array. Raises SourceError.
+
+    number: of the line; place: the address for an array of this line
+    """
     start = line.index("#>")
     found = _INPUT.match(line, start)
     assert found
@@ -163,12 +187,12 @@ def _read_input(inputs: Inputs, number: int, line: str, labels: Mapping[str, int
 
 
 def _run(kind: str, size: int) -> DataRun:
-    """The type and the number of an array's numbers. size: in bytes"""
+    """Return the type and the count of the numbers in an array. size: of the array, in bytes"""
     return DataRun(_TYPES[kind], size if kind == "text" else size // struct.calcsize(_LETTERS[kind]))
 
 
 def _scalar(number: int, column: int, text: str, labels: Mapping[str, int]) -> int:
-    """The value of a register as 64 bits. Raises SourceError."""
+    """Return the 64-bit value of a register. Raises SourceError."""
     if text in labels:
         return labels[text]
     if not _NUMBER.fullmatch(text):
@@ -180,9 +204,9 @@ def _scalar(number: int, column: int, text: str, labels: Mapping[str, int]) -> i
 
 
 def _data(number: int, column: int, kind: str, count: int, text: str, room: int) -> bytes:
-    """The bytes of an array, at most `room`. Raises SourceError.
+    """Return the bytes of an array, at most `room`. Raises SourceError.
 
-    count: of its numbers, of which the last ones are 0; 0 for those that the text has
+    count: how many numbers the array has; numbers that the text lacks are 0. If it is 0, the array has just the text's numbers
     """
     too_large = SourceError(
         number, column, f"with this one, arrays are larger than the {USER_PAGES} pages that a user has"
@@ -212,7 +236,7 @@ def _data(number: int, column: int, kind: str, count: int, text: str, room: int)
 
 
 def _element(number: int, column: int, kind: str, text: str) -> int:
-    """A number of an array. Raises SourceError."""
+    """Return a number of an array. Raises SourceError."""
     bits = int(kind[1:])
     minimum = -(1 << bits - 1) if kind[0] == "i" else 0
     maximum = minimum + (1 << bits) - 1

@@ -1,10 +1,11 @@
-"""An instruction of a source as the machine takes it, and the places in the source that its text comes from."""
+"""An instruction of a source in the machine's syntax, and the places in the source that its text comes from."""
 
 import functools
 import re
 from collections.abc import Callable, Iterator, Sequence
-from dataclasses import dataclass, replace
+from dataclasses import dataclass
 from string import Formatter
+from typing import NamedTuple
 
 from ..instructions.table import Row, instruction_table
 from .expression import signed
@@ -17,36 +18,43 @@ from .value import Value
 _TEXT_BYTES, _VECTOR_TYPE = 256, "eSEW, mLMUL, ta|tu, ma|mu"
 _REACH = {"jal": 1 << 20, "auipc": 1 << 30}
 
-_Pieces = list[tuple[str, Place]]  # of a text, each with the place in the source that it comes from
+_Pieces = list[tuple[str, Place]]  # pieces of a text, each with its place in the source
 
 
-@dataclass(frozen=True)
-class Statement:
+class Statement(NamedTuple):
     """A machine instruction: its address, its source line, its text for asm, and where each character of it was typed.
 
     line: that executes it; column: in that line, where the instruction begins
-    places: one more than the text has characters, for its end; within: the calls and files that it comes from, innermost first
-    alias: what the source has, if that is a pseudo-instruction with another name, and this is its first instruction; or ""
+    offsets: where each character of the text was typed, and the text's end: the number of lines after `line`, and the column.
+        They are the same wherever the line is, so that an instruction that moves keeps them
+    within: the calls and files that it comes from, innermost first
+    alias: the name of the source's pseudo-instruction, if it has another name and this is its first instruction; or ""
     """
 
     address: int
     line: int
     column: int
     text: str
-    places: tuple[Place, ...]
+    offsets: tuple[Place, ...]
     within: tuple[str, ...] = ()
     alias: str = ""
 
+    def place(self, at: int) -> Place:
+        """Return where the character at an index of the text was typed; for the text's length, the end of the last character."""
+        lines, column = self.offsets[at]
+        return self.line + lines, column
+
     @property
     def command(self) -> str:
-        """The monitor's command that writes it."""
+        """Return the monitor's command that writes the instruction."""
         return f"asm {self.address:x} {self.text}"
 
 
 def refusal(statement: Statement, column: int, written: str = "") -> SourceError:
-    """The error in the source for the machine's answer E15 to a statement, with the column that it names.
+    """Return the error in the source, after the machine refused a statement with E15 and a column.
 
-    written: the text that the source has, if the statement has another operand in place of one that doesn't fit
+    column: of the statement's text, as the machine names it
+    written: the text in the source, if the statement has another operand in place of one that doesn't fit
     """
     read = written or statement.text
     is_negative = statement.text[: column - 1].endswith("-")  # the machine names the column of the digits
@@ -66,7 +74,7 @@ def refusal(statement: Statement, column: int, written: str = "") -> SourceError
         is_number = token[0].lstrip("-")[:1].isdecimal()
         limits = number_range(row, statement.text[: column - 1]) if row and is_number else ""
         message = f"{token[0]} doesn't fit here, as the machine reads it: {read}{form}{limits}"
-    return SourceError(*statement.places[column - 1], message + chain(statement.within), "E15", fix)
+    return SourceError(*statement.place(column - 1), message + chain(statement.within), "E15", fix)
 
 
 _FITTING = {"imm": "0", "shamt": "0", "uimm": "0", "offset": "0", "csr": "vl", "imm(rs1)": "0(x0)", "(rs1)": "(x0)"}
@@ -78,7 +86,10 @@ _FITTING |= {
 
 
 def with_fitting_operand(statement: Statement, column: int) -> Statement | None:
-    """A statement with an operand that fits in place of the one at a column; None if it has none there, or the type is wrong."""
+    """Return a statement with a valid operand in place of the operand at a column.
+
+    Return None if there is no operand at the column, or if no operand is known that fits there.
+    """
     name, space, _ = statement.text.partition(" ")
     row = instruction_table().get(name)
     forms = row.operands.replace("[, v0.t]", "").split(", ") if row else []
@@ -88,20 +99,20 @@ def with_fitting_operand(statement: Statement, column: int) -> Statement | None:
     if column <= start or column > len(statement.text) or number >= len(forms) or forms[number] not in _FITTING:
         return None
     form = forms[number]
-    if form.endswith("(rs1)") and "(" in statement.text[start:]:  # the number and the register are tried by themselves
+    if form.endswith("(rs1)") and "(" in statement.text[start:]:  # replace either the number or the register
         opening = statement.text.index("(", start)
         form, start, stop = ("rs1", opening + 1, ")") if column > opening else ("imm", start, "(")
     else:
         stop = ","
     end = statement.text.find(stop, column - 1)
     end = len(statement.text) if end < 0 else end
-    fitting, places = _FITTING[form], statement.places
+    fitting, offsets = _FITTING[form], statement.offsets
     text = statement.text[:start] + fitting + statement.text[end:]
-    return replace(statement, text=text, places=(*places[:start], *[places[start]] * len(fitting), *places[end:]))
+    return statement._replace(text=text, offsets=(*offsets[:start], *[offsets[start]] * len(fitting), *offsets[end:]))
 
 
 def number_range(row: Row, before: str) -> str:
-    """The end of a message with the range of the number that an operand takes, or "". before: the text up to the number"""
+    """Return the end of a message: the range of an operand's number, or "" if it has none. before: the text up to the number"""
     forms = row.operands.replace("[, v0.t]", "").split(", ")
     place = before.count(",")
     form = forms[place].split("(")[0] if place < len(forms) else ""
@@ -118,15 +129,16 @@ def number_range(row: Row, before: str) -> str:
 
 @functools.lru_cache(maxsize=1024)
 def _holes(template: str) -> Sequence[tuple[str, str | None, str | None]]:
-    """The texts of a template, each with the number and the kind of the hole after it, if there is one."""
+    """Return the literal texts of a template, each with the number and the kind of the hole after it, or with None."""
     return [(literal, hole, what) for literal, hole, what, _ in Formatter().parse(template)]
 
 
 @dataclass(frozen=True)
 class Instruction:
-    """An instruction or pseudo-instruction, and its expansion; its operands wait for addresses.
+    """An instruction or pseudo-instruction with its expansion. Its operands are evaluated when sections have their bases.
 
-    line, column: where it begins in the line that executes it, which for the body of a macro is the line that calls it
+    place: its address; templates: its expansion, one for each machine instruction
+    line, column: where it starts in the line that executes it; for the body of a macro, that is the line that calls the macro
     """
 
     name: Token
@@ -137,7 +149,10 @@ class Instruction:
     column: int
 
     def statements(self, symbols: Symbols, note: Callable[[SourceError], None]) -> Iterator[Statement]:
-        """The machine's instructions, once sections have their bases, without those that have mistakes, which it notes."""
+        """Yield the machine's instructions, once sections have their bases. An instruction with mistakes is left out.
+
+        note: is called with each mistake
+        """
         for index, template in enumerate(self.templates):
             errors = list[SourceError]()
             pieces = self._template_pieces(symbols, template, errors)
@@ -149,20 +164,20 @@ class Instruction:
                 note(error)
             if not errors:
                 last = self.operands[-1][-1] if self.operands else self.name
-                places = [place for piece, place in pieces for _ in piece]
-                places.append((last.line, last.column + len(last.text)))
+                offsets = [(line - self.line, column) for piece, (line, column) in pieces for _ in piece]
+                offsets.append((last.line - self.line, last.column + len(last.text)))
                 address = self.place.resolved() + 4 * index
                 alias = "" if index or text.split()[0] == self.name.text else self._written
-                yield Statement(address, self.line, self.column, text, tuple(places), self.name.within, alias)
+                yield Statement(address, self.line, self.column, text, tuple(offsets), self.name.within, alias)
 
     @property
     def _written(self) -> str:
-        """The name and the operands as the source has them, with a space after each comma."""
+        """Return the name and the operands as the source has them, with a space after each comma."""
         operands = ("".join(token.text for token in operand) for operand in self.operands)
         return f"{self.name.text} {', '.join(operands)}".rstrip()
 
     def _template_pieces(self, symbols: Symbols, template: str, errors: list[SourceError]) -> _Pieces:
-        """The text of a template, with its operands in its holes. errors: takes up their mistakes"""
+        """Return the text of a template with its holes filled. errors: the operands' mistakes are appended here"""
         pieces = _Pieces()
         for literal, hole, what in _holes(template):
             operand = [] if hole is None else self.operands[int(hole)]
@@ -174,7 +189,10 @@ class Instruction:
         return pieces
 
     def _pieces(self, symbols: Symbols, operand: Operand, what: str) -> _Pieces:
-        """The text for a hole: an operand as the machine takes it, or the value that the template makes from it."""
+        """Return the text for a hole: an operand in the machine's syntax, or a value computed from the operand.
+
+        what: the kind of the hole (see pseudo.py)
+        """
         first, place = operand[0], _place(operand[0])
         if what.startswith(("label", "symbol")):
             return [(self._distance(symbols, operand, what.partition(".")[2]), place)]
@@ -196,7 +214,7 @@ class Instruction:
         return self._number_pieces(operand, register, signed(number) if number >> 63 == 1 else number, what)
 
     def _number_pieces(self, operand: Operand, register: Token | None, number: int, what: str) -> _Pieces:
-        """The text of a number, or of an address with this number before the register."""
+        """Return the text of a number; if there is a register, the text of an address, with the number before the register."""
         place, is_vector = _place(operand[0]), self.name.text.startswith("v")
         if what == "imm-1" and not -15 <= number <= 16:
             raise operand[0].error(f"{self.name.text} takes a number from -15 to 16")
@@ -208,7 +226,7 @@ class Instruction:
         return [("(" if is_vector else f"{number}(", place), (text, _place(register))]
 
     def _distance(self, symbols: Symbols, operand: Operand, part: str) -> str:
-        """The distance to a label, whole for a jump and in parts for auipc and addi."""
+        """Return the distance to a label: all of it for a jump, or the part for auipc or addi."""
         value = symbols.evaluate(operand, self.place)
         if value.section is None:
             message = "a label is needed here: a number is an address to some assemblers, and a distance to others"
@@ -223,5 +241,5 @@ class Instruction:
 
 
 def _place(token: Token) -> Place:
-    """Where a token was typed."""
+    """Return the place where a token was typed."""
     return token.line, token.column

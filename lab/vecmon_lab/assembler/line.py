@@ -1,10 +1,11 @@
-"""Lines of assembler source in tokens and operands. Lines, and columns in characters, begin with 1."""
+"""Lines of assembler source, their tokens and their operands. Lines are numbered from 1, and so are columns, in characters."""
 
 import enum
 import functools
 import re
 from collections.abc import Sequence
 from dataclasses import dataclass, replace
+from typing import NamedTuple
 
 from .. import LabError
 
@@ -14,42 +15,44 @@ _TOKEN = re.compile(
     | (?P<MARK><<|>>|<=|>=|==|!=|<>|&&|\|\||.)""",
     re.VERBOSE,
 )
-MAX_CALLS = 3  # that a message names
+MAX_CALLS = 3  # calls and files that a message names, at most
 _REPLACEMENTS = {"–": "-", "—": "-", "−": "-", "“": '"', "”": '"', "„": '"', "‘": "'", "’": "'"}
-_NAMES = {  # of characters that can't be seen, or that look like others, by Unicode; the playground's Python has no unicodedata
-    "\u00a0": "no-break space",
-    "\u00ad": "soft hyphen",
-    "\u200b": "zero width space",
-    "\u200e": "left-to-right mark",
-    "\u200f": "right-to-left mark",
-    "\u2013": "en dash",
-    "\u2014": "em dash",
-    "\u2018": "left single quotation mark",
-    "\u2019": "right single quotation mark",
-    "\u201c": "left double quotation mark",
-    "\u201d": "right double quotation mark",
-    "\u201e": "double low-9 quotation mark",
-    "\u2028": "line separator",
-    "\u202e": "right-to-left override",
-    "\u2212": "minus sign",
-    "\ufeff": "zero width no-break space",
-}
+_NAMES = (
+    {  # Unicode's names of characters that are invisible or look like others; the playground's Python lacks unicodedata
+        "\u00a0": "no-break space",
+        "\u00ad": "soft hyphen",
+        "\u200b": "zero width space",
+        "\u200e": "left-to-right mark",
+        "\u200f": "right-to-left mark",
+        "\u2013": "en dash",
+        "\u2014": "em dash",
+        "\u2018": "left single quotation mark",
+        "\u2019": "right single quotation mark",
+        "\u201c": "left double quotation mark",
+        "\u201d": "right double quotation mark",
+        "\u201e": "double low-9 quotation mark",
+        "\u2028": "line separator",
+        "\u202e": "right-to-left override",
+        "\u2212": "minus sign",
+        "\ufeff": "zero width no-break space",
+    }
+)
 _NUMBER = re.compile("0|[1-9][0-9]*|0[xX][0-9A-Fa-f]+|0[bB][01]+")
 _PIECE = re.compile(r"\\([0-7]{1,3})|\\x([0-9A-Fa-f]{1,2})(?![0-9A-Fa-f])|\\(.)|([^\\]+)")
 _LETTERS = {"b": "\b", "f": "\f", "n": "\n", "r": "\r", "t": "\t", '"': '"', "\\": "\\"}
 
 Place = tuple[int, int]
-"""A line of a source and a column in it, both from 1 on."""
+"""A line of a source and a column in it. Both start at 1."""
 
 Kind = enum.Enum("Kind", "NAME NUMBER STRING MARK")
-"""The kinds of tokens; a mark is any other character."""
+"""The kinds of tokens. A MARK is any other character."""
 
 
 class SourceError(LabError):
     """A mistake in a source, with its line and column.
 
-    code: the machine's refusal, or ""; fix: texts that may replace the token there, the nearest one first
-    name: that is missing, of which the first use is reported, or ""
+    code: the machine's refusal, or ""; fix: texts that may replace the token at the mistake, the nearest one first
+    name: the name that isn't defined, of which only the first use is reported; "" for other mistakes
     """
 
     name = ""
@@ -62,24 +65,23 @@ class SourceError(LabError):
         return f"line {self.line}, column {self.column}: {self.message}"
 
     def diagnostic(self, name: str) -> str:
-        """The same in a line of a source of this name; line 0 if it is at no line."""
+        """Return the mistake in the form of compilers' messages. name: the source's; if the mistake has no line, there is no place"""
         return f"{name}:{self.line}:{self.column}: {self.message}" if self.line else f"{name}: {self.message}"
 
 
 def chain(within: Sequence[str]) -> str:
-    """The end of a message: the calls and files that a statement comes from, innermost first, MAX_CALLS at most."""
+    """Return the end of a message: at most MAX_CALLS of the calls and files that a statement comes from, innermost first."""
     more = len(within) - MAX_CALLS
     shown = "".join(f"; {each}" for each in within[:MAX_CALLS])
     return f"{shown}; ... {more} more" if more > 0 else shown
 
 
-@dataclass(frozen=True)
-class Line:
+class Line(NamedTuple):
     """A statement of a source: a line, or the part of one up to a semicolon, without its comment.
 
-    number: of the line that executes it, which for the body of a macro is the line that calls it
-    column: of its first character, or where the line that executes it calls it
-    places: where each character was typed, if that isn't one after another in this line
+    number: the number of the line that executes it; for the body of a macro, that is the line that calls the macro
+    column: the column of its first character; for the body of a macro, the column of the call
+    places: where each character was typed; empty if the characters are consecutive in this line
     within: the calls and files that it comes from, innermost first, as `in macro NAME, called in line 7`
     """
 
@@ -90,20 +92,20 @@ class Line:
     within: tuple[str, ...] = ()
 
     def place(self, at: int) -> Place:
-        """Where the character at this index was typed; at the end, one after the last character."""
+        """Return where the character at an index was typed. The index may be the text's length: then the place after the last character."""
         if not self.places:
             return self.number, self.column + at
         line, column = self.places[min(at, len(self.places) - 1)]
         return line, column + (at >= len(self.places))
 
     def part(self, start: int, end: int | None = None) -> "Line":
-        """The part between two indices."""
+        """Return the part of the statement between two indices."""
         if not self.places:
-            return replace(self, text=self.text[start:end], column=self.column + start)
-        return replace(self, text=self.text[start:end], places=self.places[start:end] or [self.place(start)])
+            return self._replace(text=self.text[start:end], column=self.column + start)
+        return self._replace(text=self.text[start:end], places=self.places[start:end] or [self.place(start)])
 
     def error(self, at: int, message: str, fix: Sequence[str] = ()) -> SourceError:
-        """An error at the character of this index. fix: texts that may replace the token there"""
+        """Return an error at the character with this index. fix: texts that may replace the token there"""
         return SourceError(*self.place(at), message + chain(self.within), fix=fix)
 
 
@@ -111,7 +113,7 @@ class Line:
 class Token:
     """A token and where it was typed.
 
-    symbol: the name of its value where that isn't its text, as of the label that `1b` means; within: as of its line
+    symbol: the name under which its value is stored, if that isn't its text, as for `1b`; within: as in Line
     """
 
     kind: Kind
@@ -121,12 +123,16 @@ class Token:
     within: tuple[str, ...] = ()
     symbol: str = ""
 
+    def in_line(self, number: int) -> "Token":
+        """Return the same token in the line with a number."""
+        return replace(self, line=number)
+
     def error(self, message: str, fix: Sequence[str] = ()) -> SourceError:
-        """An error that points at this token. fix: texts that may replace it"""
+        """Return an error that points at this token. fix: texts that may replace the token"""
         return SourceError(self.line, self.column, message + chain(self.within), fix=fix)
 
     def number(self) -> int:
-        """The value of a number below 2^64: decimal, hexadecimal after 0x, binary after 0b, or a character."""
+        """Return the value of a number below 2^64: decimal, hexadecimal after 0x, binary after 0b, or a character."""
         if self.text.startswith("'"):
             return self._character()
         if re.fullmatch("0[0-9]+", self.text):
@@ -140,7 +146,7 @@ class Token:
         raise self.error(f"{self.text} {problem}")
 
     def _character(self) -> int:
-        """The code of a character between apostrophes; the second apostrophe may be missing."""
+        """Return the code of a character between apostrophes; the second apostrophe may be missing."""
         text = self.text[1:].removesuffix("'") or "'"
         escape = re.fullmatch(r"\\(?:([0-7]{1,3})|(.))", text)
         if escape and escape[1]:
@@ -153,7 +159,7 @@ class Token:
         return data[0]
 
     def string(self) -> bytes:
-        r"""The bytes of a string, in UTF-8. Escapes are \b \f \n \r \t \" \\, \101 and shorter octal ones, and \x41."""
+        r"""Return the bytes of a string, in UTF-8. Escapes are \b \f \n \r \t \" \\, octal ones of up to three digits, and \x41."""
         if self.kind is not Kind.STRING:
             raise self.error("a string in double quotes is needed here")
         data = b""
@@ -173,11 +179,14 @@ _PREPROCESSOR_LINE = re.compile(
     |\s+(?:ifn?def|elif|elifn?def|endif|undef|pragma)\b|\s+include\s*["<]))""",
     re.VERBOSE,
 )
-"""A directive of the preprocessor. After a space, the English words are left to comments, as `# if a0 is 0`; an #endif ends each #if."""
+"""A directive of the preprocessor. An #endif ends each #if.
+
+If a space follows the `#`, most English words are taken as a comment, as in `# if a0 is 0`.
+"""
 
 
 def refuse_preprocessor_lines(text: str) -> None:
-    """Raise SourceError for the first line of a .S source that the preprocessor of stock assemblers reads as a directive."""
+    """Raise SourceError for the first line of a .S source that stock assemblers' preprocessor takes as a directive."""
     for number, line in enumerate(text.split("\n"), 1):
         if found := _PREPROCESSOR_LINE.match(line):
             problem = "the lab's assembler has no preprocessor: use --options stock, or .equ"
@@ -185,20 +194,23 @@ def refuse_preprocessor_lines(text: str) -> None:
 
 
 Operand = list[Token]
-"""The tokens of an operand, one or more."""
+"""The tokens of an operand, at least one."""
 
 
 _KINDS = {**Kind.__members__}
 
 
 def tokens_of(line: Line) -> list[Token]:
-    """The tokens of a statement. Raises SourceError."""
+    """Return the tokens of a statement. Raises SourceError."""
     return [*_tokens_typed_here(line)] if not line.places and not line.within else _tokens(line)
 
 
 @functools.lru_cache(maxsize=4096)
 def _tokens_typed_here(line: Line) -> Sequence[Token]:
-    """The tokens of a statement that isn't from a macro. An editor's source is read again and again, nearly as before."""
+    """Return the tokens of a statement that isn't from a macro.
+
+    Results are cached, since an editor's source is read again after each change.
+    """
     return _tokens(line)
 
 
@@ -216,7 +228,7 @@ def _tokens(line: Line) -> list[Token]:
 
 
 def _problem_of(character: str) -> str:
-    """Why a character is refused outside of texts and comments."""
+    """Return why a character is refused outside of texts and comments."""
     number = ord(character)
     if 0xDC80 <= number <= 0xDCFF:
         return f"the byte 0x{number - 0xDC00:x} isn't UTF-8: save the file as UTF-8"
@@ -228,14 +240,14 @@ def _problem_of(character: str) -> str:
 
 
 def _replacement_of(character: str) -> list[str]:
-    """The character of ASCII that a refused one looks like."""
+    """Return the ASCII character that looks like a refused one; an empty list if there is none."""
     if character.isspace():
         return [" "]
     return [_REPLACEMENTS[character]] if character in _REPLACEMENTS else []
 
 
 def token_length(text: str, column: int) -> int:
-    """Return the length of the token at a column of a line, or of an escape in a string; 0 behind the last token."""
+    """Return the length of the token at a column of a line, or of an escape in a string; 0 after the last token."""
     token = _TOKEN.match(text, column - 1) if column else None
     if token is None or token.lastgroup in ("SPACE", "COMMENT"):
         return 0
@@ -245,7 +257,7 @@ def token_length(text: str, column: int) -> int:
 
 
 def split_operands(tokens: Sequence[Token], may_be_empty: bool = False) -> list[Operand]:
-    """The operands that commas separate. Raises SourceError for one without tokens, unless it may be empty."""
+    """Split operands at commas. Raises SourceError if one has no tokens, unless `may_be_empty`."""
     operands: list[Operand] = [[]]
     for token in tokens:
         if token.text != ",":
@@ -260,7 +272,7 @@ def split_operands(tokens: Sequence[Token], may_be_empty: bool = False) -> list[
 
 
 def check_count(name: Token, operands: Sequence[Operand], count: int, most: int = 0) -> None:
-    """Raise SourceError unless there is this number of operands, or one up to `most`."""
+    """Raise SourceError unless the number of operands is `count`, or is from `count` to `most`."""
     if not count <= len(operands) <= max(count, most):
         numbers = f"{count} to {most}" if most else f"{count}"
         raise name.error(f"{name.text} takes {numbers} operand{'s' * (numbers != '1')}, not {len(operands)}")

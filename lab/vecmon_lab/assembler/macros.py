@@ -1,12 +1,12 @@
-"""Macros of a source: their parameters, the arguments of a call, and their texts with arguments."""
+"""Macros of a source: their parameters, the arguments of a call, and the statements that a call makes."""
 
 import re
 from collections.abc import Callable, Iterator, Mapping, Sequence
-from dataclasses import dataclass, replace
+from dataclasses import dataclass
 
 from .line import Line, Place
 
-MAX_CHARACTERS = 10_000  # of a statement with its arguments
+MAX_CHARACTERS = 10_000  # characters of a statement with its arguments
 _NAME = r"[A-Za-z_.$][\w.$]*"
 _QUOTED = r'"(?:[^"\\]|\\.)*"'
 _PARAMETER = re.compile(rf"[\s,]*({_NAME})(?:\s*:\s*(\w+))?(?:\s*=\s*({_QUOTED}|[^\s,]*))?", re.ASCII)
@@ -17,7 +17,10 @@ _HOLE = re.compile(rf"\\(?:(@)|(\(\))|({_NAME}))", re.ASCII)
 
 @dataclass(frozen=True)
 class Parameter:
-    """A parameter of a macro. default: its text if a call gives none"""
+    """A parameter of a macro.
+
+    default: its text if a call gives none; is_required: whether a call must give it; takes_rest: whether it takes all further arguments
+    """
 
     name: str
     default: Line | None = None
@@ -34,7 +37,10 @@ class Macro:
     body: Sequence[Line]
 
     def arguments(self, line: Line, start: int, end: int) -> dict[str, Line]:
-        """The texts of the parameters in a call, whose name is between these indices. Raises SourceError."""
+        """Return the text of each parameter in a call. Raises SourceError.
+
+        start, end: the indices of the macro's name in the line
+        """
         given: dict[str, Line] = {}
         positions = iter(self.parameters)
         text, by_name = line.text.rstrip(), {each.name: each for each in self.parameters}
@@ -60,7 +66,7 @@ class Macro:
 
 
 def read_parameters(line: Line, start: int) -> list[Parameter]:
-    """The parameters of a macro, from an index of its first line on. Raises SourceError."""
+    """Return the parameters of a macro. Raises SourceError. start: the index in the macro's first line at which they begin"""
     parameters, at, text = list[Parameter](), start, line.text.rstrip()
     while at < len(text):
         match = _PARAMETER.match(text, at)
@@ -79,7 +85,7 @@ def read_parameters(line: Line, start: int) -> list[Parameter]:
 
 
 def separate_arguments(line: Line, start: int) -> list[Line]:
-    """The arguments from an index on, which commas or spaces separate."""
+    """Return the arguments from an index on. Commas or spaces separate them."""
     found, at = list[Line](), _skip_separator(line.text, start)
     while at < len(line.text):
         stop = _argument_end(line.text, at)
@@ -89,13 +95,13 @@ def separate_arguments(line: Line, start: int) -> list[Line]:
 
 
 def _skip_separator(text: str, at: int) -> int:
-    """The index after spaces, and a comma between them."""
+    """Return the index after spaces, which may have one comma among them."""
     match = re.compile(r"\s*,?\s*").match(text, at)
     return match.end() if match else at
 
 
 def _argument_end(text: str, start: int) -> int:
-    """The index after an argument: a comma ends it, and a space that isn't next to an operator."""
+    """Return the index after an argument. A comma ends an argument; so does a space, unless it is next to an operator."""
     end = start
     while match := _ARGUMENT.match(text, end):
         end = match.end()
@@ -103,12 +109,15 @@ def _argument_end(text: str, start: int) -> int:
 
 
 def unquoted(line: Line) -> Line:
-    """A text without the quotation marks around it."""
+    """Return a text without the quotation marks around it, if it has them."""
     return line.part(1, len(line.text) - 1) if re.fullmatch(_QUOTED, line.text) else line
 
 
 def with_arguments(line: Line, arguments: Mapping[str, Line], count: int | None) -> Line:
-    r"""A statement with arguments in place of \NAME, and a number in place of \@, if there is one. Raises SourceError."""
+    r"""Return a statement with arguments in place of \NAME. Raises SourceError.
+
+    count: the number in place of \@; None to leave \@ unchanged
+    """
     if "\\" not in line.text:
         return line
     text, places, at = list[str](), list[Place](), 0
@@ -126,11 +135,14 @@ def with_arguments(line: Line, arguments: Mapping[str, Line], count: int | None)
     places += [line.place(index) for index in range(at, len(line.text))]
     if len(places) > MAX_CHARACTERS:
         raise line.error(0, f"this statement has more than {MAX_CHARACTERS:,} characters with its arguments")
-    return replace(line, text="".join(text), places=places or [line.place(0)])
+    return line._replace(text="".join(text), places=places or [line.place(0)])
 
 
 def _value_of(line: Line, match: re.Match[str], arguments: Mapping[str, Line], count: int | None) -> Line | None:
-    """The text for a hole; None if it isn't one of an argument. Raises SourceError for one that a dot hides."""
+    """Return the text for a match of _HOLE; None if it doesn't name an argument.
+
+    Raises SourceError if a dot after an argument's name makes it another name.
+    """
     if match[1] or match[2]:
         here = [line.place(match.start())] * 20
         return Line(f"{count}" if match[1] else "", line.number, places=here)
@@ -142,14 +154,17 @@ def _value_of(line: Line, match: re.Match[str], arguments: Mapping[str, Line], c
 
 
 def called(macro: Macro, line: Line, start: int, end: int, count: int) -> Iterator[Callable[[], Line]]:
-    """The statements of a call, whose name is between two indices of a line; each raises SourceError where it is made."""
+    """Yield a function for each statement of a call. It makes the statement, or raises SourceError.
+
+    start, end: the indices of the macro's name in the line; count: the number that replaces \\@
+    """
     arguments = macro.arguments(line, start, end)
     within = (f"in macro {macro.name}, called in line {line.place(start)[0]}", *line.within)
     column = line.column if line.places else line.place(start)[1]
 
     def make(each: Line) -> Line:
         places = each.places or [each.place(index) for index in range(len(each.text) + 1)]
-        own = replace(each, number=line.number, column=column, places=places, within=within)
+        own = each._replace(number=line.number, column=column, places=places, within=within)
         return with_arguments(own, arguments, count)
 
     for each in macro.body:

@@ -8,7 +8,7 @@ from .line import SourceError, token_length
 
 Severity = Literal["error", "warning"]
 
-_WORD = re.compile(r'"(?:[^"\\]|\\.)*"?|[A-Za-z_]\w*|[0-9][\w.]*|\S')  # of C
+_WORD = re.compile(r'"(?:[^"\\]|\\.)*"?|[A-Za-z_]\w*|[0-9][\w.]*|\S')  # a token of C
 _OPTION = re.compile(r" \[(-W[^\]\s]+)\]$")
 _MEANT = re.compile(r"; did you mean ['‘]([^'’]+)['’]\?")
 
@@ -34,7 +34,7 @@ class Mistake(TypedDict):
 def mistakes_json(
     errors: Iterable[SourceError], text: str, is_c: bool = False, severity: Severity = "error"
 ) -> list[Mistake]:
-    """Return mistakes of a source with this text, or warnings, as messages."""
+    """Return the mistakes or warnings of a source as messages. text: the source"""
     lines = text.split("\n")
     return [_mistake(error, lines, is_c, severity) for error in errors]
 
@@ -57,6 +57,6 @@ def _mistake(error: SourceError, lines: list[str], is_c: bool, severity: Severit
 
 
 def _word_length(line: str, column: int) -> int:
-    """The length of the word of C at a column of a line."""
+    """Return the length of the C token at a column of a line."""
     word = _WORD.match(line, column - 1) if column else None
     return len(word[0]) if word else 0

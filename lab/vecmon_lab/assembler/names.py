@@ -1,4 +1,4 @@
-"""The names of instructions and pseudo-instructions, and which are nearest to a name that is none."""
+"""The names of instructions and pseudo-instructions, and the nearest of them for a name that doesn't exist."""
 
 import functools
 from collections.abc import Set
@@ -17,25 +17,31 @@ MAX_NEAR = 3
 
 @functools.lru_cache(maxsize=1024)
 def near_names(name: str, names: Set[str] = SOURCE_NAMES) -> list[str]:
-    """Return the nearest of these names with the same first letter, MAX_NEAR at most.
+    """Return the nearest of these names with the same first letter, at most MAX_NEAR.
 
-    Of equally near ones those come first that start with more of the same letters, as vadd.vv before vand.vv for vad.
+    Of equally near names, a name that starts with more of the same letters comes first: for vad, vadd.vv before vand.vv.
     """
     own, small = sorted(each for each in names if each[0] == name[0].lower()), name.lower()
     near = get_close_matches(small, own, len(own) or 1)
-    if len(name) <= 3 and not near:  # as jmp, which has one letter of jal
+    if len(name) <= 3 and not near:  # as for jmp, which shares one letter with jal
         near = get_close_matches(small, [each for each in own if len(each) <= len(name) + 2], len(own) or 1, 1 / 3)
     ranks = {each: (SequenceMatcher(None, each, small).ratio(), len(commonprefix([each, small]))) for each in near}
     return sorted(near, key=ranks.__getitem__, reverse=True)[:MAX_NEAR]
 
 
 def absence(name: str) -> str:
-    """Why the machine lacks an instruction or a control register of another extension, without a full stop; "" if it isn't one."""
+    """Return why the machine lacks an instruction or a control register of another extension, without a full stop.
+
+    Return "" if no other extension has the name.
+    """
     return next((does for pattern, does in absent() if pattern.fullmatch(name.lower())), "").rstrip(".")
 
 
 def no_instruction(name: str, names: Set[str] = SOURCE_NAMES) -> str:
-    """What is said of a name that isn't one of these: why the machine lacks it, if that is known, or the nearest names."""
+    """Return the message about a name that isn't one of `names`.
+
+    It says why the machine lacks the name, if that is known, or else names the nearest ones.
+    """
     if reason := absence(name):
         return f"there is no instruction {name} here. {reason}"
     near = near_names(name, names)

@@ -5,15 +5,15 @@ import pathlib
 from .. import LabError
 from .assembly import FileReader
 
-MAX_BYTES = 1 << 20  # of a file, as many as a user has
+MAX_BYTES = 1 << 20  # the largest file: the size of a user's memory
 
 
 def files_beside(source: pathlib.Path) -> FileReader:
-    """A reader of the files in the folder of your own source, and in folders below it."""
+    """Return a function that reads files in the folder of your own source, and in folders below it."""
     folder = source.absolute().parent.resolve()
 
     def read(name: str) -> bytes:
-        """The bytes of a file. Raises LabError if it isn't one below the folder, or too large."""
+        """Return the bytes of a file. Raises LabError if the file isn't below the source's folder, or is too large."""
         try:
             path = (folder / name).resolve()
             if not path.is_relative_to(folder):

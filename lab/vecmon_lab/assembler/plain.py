@@ -1,11 +1,13 @@
-"""Instructions that depend on nothing but their own line: their operands are registers, keywords and numbers.
+"""Instructions that depend only on their own line: their operands are registers, keywords and numbers.
 
-They are the most of a source, and an editor's source is read again after each change. So they are kept by the text of their line.
+Most instructions of a source are plain ones, and an editor's source is read again after each change. So they are cached by the text of
+their line, without its number: a line that moves is not read again.
 """
 
 import functools
-from collections.abc import Callable, Iterator, Sequence
+from collections.abc import Callable, Iterable, Sequence
 from dataclasses import dataclass, replace
+from typing import NamedTuple
 
 from .instruction import Instruction, Statement
 from .line import Kind, Line, Operand, SourceError, Token, split_operands, tokens_of
@@ -16,14 +18,14 @@ from .symbols import Symbols
 from .value import Value
 from .vector_type import completed
 
-_SAVED = 1 << 13  # lines
+_SAVED = 1 << 13  # lines in the cache
 
 
 @dataclass(frozen=True)
 class PlainInstruction:
-    """An instruction or pseudo-instruction of a line, and the labels before it.
+    """An instruction or pseudo-instruction of a line, and the labels before it, all as if the line were line 0 of the source.
 
-    made: the machine's instructions, with addresses from 0 on
+    made: the machine's instructions; the address of the first one is 0
     """
 
     labels: Sequence[Token]
@@ -31,41 +33,32 @@ class PlainInstruction:
     made: Sequence[Statement]
 
 
-@dataclass(frozen=True)
-class PlacedInstruction:
-    """A plain instruction at a place."""
+class PlacedInstruction(NamedTuple):
+    """A plain instruction at a place. line: the number of its line in the source"""
 
     plain: PlainInstruction
+    line: int
     place: Value
 
-    def statements(self, symbols: Symbols, note: Callable[[SourceError], None]) -> Iterator[Statement]:
-        """The machine's instructions, once sections have their bases."""
-        first = self.place.resolved()
-        for each in self.plain.made:
-            yield Statement(first + each.address, each.line, each.column, each.text, each.places, (), each.alias)
+    def statements(self, symbols: Symbols, note: Callable[[SourceError], None]) -> Iterable[Statement]:
+        """Return the machine's instructions, once sections have their bases."""
+        first, line = self.place.resolved(), self.line
+        return [
+            Statement(first + each.address, line, each.column, each.text, each.offsets, (), each.alias)
+            for each in self.plain.made
+        ]
 
 
 def plain_instruction(line: Line) -> PlainInstruction | None:
-    """The plain instruction that a statement is; None for any other statement, one with a mistake, and one of a macro."""
-    return None if line.places or line.within else _at_line(line.text, line.number, line.column)
-
-
-@functools.lru_cache(maxsize=_SAVED)
-def _at_line(text: str, number: int, column: int) -> PlainInstruction | None:
-    """The instruction of a text at a line of this number."""
-    found = _found(text, column)
-    if found is None:
-        return None
-    made = [replace(each, line=number, places=tuple((number, at) for _, at in each.places)) for each in found.made]
-    labels = [replace(label, line=number) for label in found.labels]
-    return PlainInstruction(labels, replace(found.name, line=number), made)
+    """Return a statement as a plain instruction; None for other statements, for those of a macro, and if it has a mistake."""
+    return None if line.places or line.within else _found(line.text, line.column)
 
 
 @functools.lru_cache(maxsize=_SAVED)
 def _found(text: str, column: int) -> PlainInstruction | None:
-    """The same at line 1."""
+    """Return the plain instruction of a text, with its places in line 0."""
     try:
-        tokens, labels = tokens_of(Line(text, 1, column)), list[Token]()
+        tokens, labels = tokens_of(Line(text, 0, column)), list[Token]()
         while len(tokens) > 1 and tokens[1].text == ":" and tokens[0].kind is Kind.NAME:
             label, _, *tokens = tokens
             labels.append(label)
@@ -79,14 +72,14 @@ def _found(text: str, column: int) -> PlainInstruction | None:
             return None
         symbols, errors, start = Symbols(), list[SourceError](), Value(0)
         texts = templates(name, operands, lambda operand: symbols.constant(operand, start))
-        made = [*Instruction(name, operands, start, texts, 1, name.column).statements(symbols, errors.append)]
+        made = [*Instruction(name, operands, start, texts, 0, name.column).statements(symbols, errors.append)]
     except SourceError:
         return None
     return None if errors else PlainInstruction(labels, name, made)
 
 
 def _is_plain(name: Token, operand: Operand) -> bool:
-    """Whether an operand is a register, a keyword, or a number or address without names."""
+    """Return whether an operand is a register, a keyword, a number, or an address without names."""
     if len(operand) == 1 and operand[0].text in REGISTER_NAMES:
         return True
     if len(operand) == 1 and KEYWORD.fullmatch(f"{name.text} {operand[0].text}"):
@@ -96,5 +89,5 @@ def _is_plain(name: Token, operand: Operand) -> bool:
 
 
 def _is_number(token: Token) -> bool:
-    """Whether a token is a number, and no numeric label as `1f`."""
+    """Return whether a token is a number, and not a numeric label such as `1f`."""
     return token.kind is Kind.NUMBER and not (token.text[-1] in "bf" and token.text[:-1].isdecimal())

@@ -1,12 +1,13 @@
-"""Pseudo-instructions: the expansion of each, as in stock assemblers, in texts of the machine with holes.
+"""Pseudo-instructions: the expansion of each, as in stock assemblers, as texts of the machine with holes.
 
-A hole is {N:WHAT}, where N is the number of an operand. It is the operand unchanged, unless WHAT is `label` or `symbol`, the
-distance to it; `label.high` and `label.low`, the parts of that distance for auipc and addi; or `imm-1`, one less.
+A hole is {N:WHAT}, where N is the number of an operand. WHAT decides which text replaces the hole: `label` or `symbol`, the
+distance to the operand; `label.high` and `label.low`, the parts of that distance for auipc and addi; `imm-1`, the operand
+minus 1; and any other, the operand unchanged.
 """
 
 import functools
 import re
-from collections.abc import Callable
+from collections.abc import Callable, Sequence
 
 from ..tables.table import read_table
 from .line import Operand, Token, check_count
@@ -17,31 +18,36 @@ _LABEL_LAST = ("beq", "bne", "blt", "bge", "bltu", "bgeu", "jal")
 _ROWS = [
     (form.split()[0], re.split(",? ", form)[1:], texts) for form, *texts in read_table("aliases") + read_table("pseudo")
 ]
-_FORMS: dict[str, list[tuple[list[str], list[str]]]] = {}
+_Form = tuple[list[str], list[str]]
+"""The operands of a row, and its texts."""
+_FORMS: dict[str, list[_Form]] = {}
 for _name, _form, _texts in _ROWS:
     _FORMS.setdefault(_name, []).append((_form, _texts))
+_BY_VALUE = {name for name, form, _ in _ROWS if "0" in form}
+"""The names whose form depends on the value of a constant."""
+_LITERALS = ("v0", "v0.t")
 _SHAPES = {"scalar": "scalar", "indirect": "indirect", "number": "number", "symbol": "number"}
 _FENCE_SETS = re.compile("i?o?r?w?")
 
 Operation = tuple[str, int]
-"""One of the instructions that make a constant: its name and its number. It works on what the one before it made."""
+"""An instruction that makes a constant: its name and its immediate. It works on the result of the instruction before it."""
 
 
 def templates(name: Token, operands: list[Operand], constant: Callable[[Operand], int]) -> list[str]:
-    """The expansion of a name with these operands, which may depend on the value of a constant. Raises SourceError."""
+    """Return the expansion of a pseudo-instruction, which may depend on the value of a constant operand. Raises SourceError."""
     if name.text == "li":
         check_count(name, operands, 2)
         return _load_constant(operands[1], constant(operands[1]))
     if name.text == "fence" and operands:
         return [_fence(name, operands)]
     forms = _FORMS.get(name.text, [])
-    for form, texts in forms:
-        if _fits(form, operands, constant):
-            if texts[0].startswith("error at "):
-                place = int(texts[0].removeprefix("error at "))
-                raise (operands[place - 1][0] if place else name).error(texts[1])
-            first, *others = [_filled(text, tuple(form)) for text in texts]
-            return [first + (f", {{{len(form)}:v0.t}}" if len(operands) > len(form) else ""), *others]
+    if found := _form_of(name.text, operands, constant) if forms else None:
+        form, texts = found
+        if texts[0].startswith("error at "):
+            place = int(texts[0].removeprefix("error at "))
+            raise (operands[place - 1][0] if place else name).error(texts[1])
+        first, *others = [_filled(text, tuple(form)) for text in texts]
+        return [first + (f", {{{len(form)}:v0.t}}" if len(operands) > len(form) else ""), *others]
     if forms and name.text not in INSTRUCTION_NAMES:
         check_count(name, [operand for operand in operands if operand[0].text != "v0.t"], len(forms[-1][0]))
     last = "label" if name.text in _LABEL_LAST else "operand"
@@ -49,22 +55,45 @@ def templates(name: Token, operands: list[Operand], constant: Callable[[Operand]
     return [f"{name.text} {', '.join(holes)}".rstrip()]
 
 
-def _fits(form: list[str], operands: list[Operand], constant: Callable[[Operand], int]) -> bool:
-    """Whether a form takes these operands. Raises SourceError where one should be a number and isn't."""
+def _form_of(name: str, operands: list[Operand], constant: Callable[[Operand], int]) -> _Form | None:
+    """Return the first form of a name that takes these operands, or None. Raises SourceError if an operand must be a number and isn't."""
     words = [operand[0].text if len(operand) == 1 else "" for operand in operands]
+    shapes = tuple(shape(operand) for operand in operands)
+    if name not in _BY_VALUE:
+        return _form_of_pattern(name, tuple(map(_pattern(words), words)), shapes)
+    values = [functools.partial(constant, operand) for operand in operands]
+    return next((form for form in _FORMS[name] if _fits(form[0], words, shapes, values)), None)
+
+
+def _pattern(words: list[str]) -> Callable[[str], str]:
+    """What forms distinguish in a word: whether it is a literal, and which other words are the same."""
+    return lambda word: word if not word or word in _LITERALS else f"{words.index(word)}"
+
+
+@functools.lru_cache(maxsize=4096)
+def _form_of_pattern(name: str, pattern: tuple[str, ...], shapes: tuple[str, ...]) -> _Form | None:
+    """Return the first form that takes operands with these patterns and shapes, or None."""
+    return next((form for form in _FORMS[name] if _fits(form[0], pattern, shapes, ())), None)
+
+
+def _fits(form: list[str], words: Sequence[str], shapes: Sequence[str], values: Sequence[Callable[[], int]]) -> bool:
+    """Return whether a form takes operands with these words and shapes. Raises SourceError if one must be a number and isn't.
+
+    values: return the value of each operand
+    """
     more = words[len(form) :]
     if form == ["*"]:
         return True
-    if len(words) < len(form) or more and (more != ["v0.t"] or "v0.t" in form):
+    if len(words) < len(form) or more and ([*more] != ["v0.t"] or "v0.t" in form):
         return False
-    meant = dict(zip(form, words)) | {"v0": "v0", "v0.t": "v0.t"}
-    own = zip(form, words, operands)
-    shapes = all(_SHAPES.get(name, "") in ("", shape(operand)) for name, operand in zip(form, operands))
-    return shapes and all(constant(it) == 0 if name == "0" else word == meant[name] for name, word, it in own)
+    meant = dict(zip(form, words)) | dict(zip(_LITERALS, _LITERALS))
+    if any(_SHAPES.get(name, "") not in ("", kind) for name, kind in zip(form, shapes)):
+        return False
+    return all(values[at]() == 0 if name == "0" else words[at] == meant[name] for at, name in enumerate(form))
 
 
 def _fence(name: Token, operands: list[Operand]) -> str:
-    """The word of a fence with two sets, each of i, o, r and w in this order. Raises SourceError."""
+    """Return the encoding of a fence. Its two sets consist of i, o, r and w, in this order. Raises SourceError."""
     check_count(name, operands, 2)
     word = 0x0000000F
     for operand, shift in zip(operands, (24, 20)):
@@ -79,7 +108,7 @@ def _fence(name: Token, operands: list[Operand]) -> str:
 
 @functools.lru_cache(maxsize=1024)
 def _filled(text: str, form: tuple[str, ...]) -> str:
-    """An instruction with holes for the operands of a form."""
+    """Return the text of an instruction with a hole for each operand of a form."""
     for place, operand in enumerate(form):
         text = re.sub(rf"(?<!{{)\b{operand}\b(?:\.\w+|-1)?", rf"{{{place}:\g<0>}}", text)
     return text
@@ -96,9 +125,9 @@ def _load_constant(operand: Operand, value: int) -> list[str]:
 
 
 def constant_steps(value: int) -> list[Operation]:
-    """The steps by which LLVM 19 makes a constant of 64 bits, signed or unsigned: the first of its shortest ways."""
+    """Return the instructions with which LLVM 19 makes a constant of 64 bits, signed or unsigned: the first of its shortest sequences."""
     value = _signed(value, 64)
-    zeros = max(0, (value & -value).bit_length() - 1)  # at the end
+    zeros = max(0, (value & -value).bit_length() - 1)  # trailing zero bits
     ways = [_plain_steps(value), _plain_steps(value >> zeros) + [("slli", zeros)]]
     if -32 <= value >> zeros < 32:
         ways.reverse()
@@ -113,7 +142,7 @@ def constant_steps(value: int) -> list[Operation]:
 
 
 def _plain_steps(value: int) -> list[Operation]:
-    """From the top down: what is above the lowest 12 bits, shifted as far as it has zeros, then those."""
+    """Return the instructions that make the bits above the lowest 12, shift them left, and then add the lowest 12."""
     low = _signed(value, 12)
     rest, shift = _signed(value - low, 64), 0
     if _signed(value, 32) == value:
@@ -130,13 +159,13 @@ def _plain_steps(value: int) -> list[Operation]:
 
 
 def _steps_with_leading_zeros(value: int) -> list[list[Operation]]:
-    """Ways to make a positive value shifted to the top, with ones or with zeros below it, and shifted back."""
+    """Return sequences that make a positive value shifted left as far as possible, with ones or zeros below it, and shift it back."""
     zeros = 64 - value.bit_length()
     shifted = value << zeros
     return [_plain_steps(_signed(top, 64)) + [("srli", zeros)] for top in (shifted | (1 << zeros) - 1, shifted)]
 
 
 def _signed(value: int, bits: int) -> int:
-    """The lowest bits of a value as a signed number."""
+    """Return the lowest `bits` bits of a value as a signed number."""
     value &= (1 << bits) - 1
     return value - (1 << bits) if value >> bits - 1 else value

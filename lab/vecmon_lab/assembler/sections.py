@@ -1,6 +1,6 @@
-"""The sections of a source: which there are, where their bytes go, and the section that lines are in.
+"""The sections of a source, the places of their bytes, and the current section, to which statements add bytes.
 
-The sections of one kind follow one another, as a linker's default layout has them: code, constants, data, zeros. Each kind begins at a page.
+The sections of one kind follow one another, as in a linker's default layout: code, constants, data, zeros. Each kind begins at a page.
 """
 
 import re
@@ -15,7 +15,7 @@ USER_PAGES = 256
 PROGRAM_PAGES = USER_PAGES - START_PAGES
 TOO_LARGE = f"here the program grows beyond {PROGRAM_PAGES} pages of {PAGE_BYTES} bytes, all that a program has next to its stack"
 TEXT, DATA, BSS = ".text", ".data", ".bss"
-_Kind = tuple[str, bool]  # permissions, and whether it has zeros alone
+_Kind = tuple[str, bool]  # permissions, and whether it has only zeros
 _ORDER: list[_Kind] = [("rx", False), ("rwx", False), ("r", False), ("rw", False), ("rw", True)]
 _NAMED = [
     (re.compile(pattern), kind)
@@ -31,9 +31,9 @@ NO_THREADS = "thread-local storage isn't in this machine: a program has one hart
 
 
 class Sections:
-    """The sections of a source by name, and the one that lines are in.
+    """The sections of a source by name, and the current one.
 
-    end: the address after the last instruction, once sections have their bases; 0 if other bytes follow
+    end: the address after the last instruction, once sections have their bases; 0 if other bytes follow the last instruction
     """
 
     def __init__(self) -> None:
@@ -44,41 +44,43 @@ class Sections:
         self.end = 0
 
     def here(self) -> Value:
-        """The address of the next byte."""
+        """Return the address of the next byte."""
         return Value(self.current.size, ((self.current, 1),))
 
     def enter(self, section: Section) -> None:
-        """Goes on in a section."""
+        """Make a section the current one."""
         self._previous, self.current = self.current, section
 
     def named(self, name: str) -> Section:
-        """One of .text, .data and .bss."""
+        """Return one of the sections .text, .data and .bss."""
         return self._sections[name]
 
     def common(self, alignment: int) -> Section:
-        """The section of .comm, behind .bss. alignment: of the next name in it, a power of two"""
+        """Return the section of .comm, after .bss. alignment: of the next name in the section, a power of two"""
         self._common.size += -self._common.size % alignment
         self._common.alignment = max(self._common.alignment, alignment)
         return self._common
 
     def push(self) -> None:
-        """Keeps the section, for `pop`."""
+        """Save the current section, for `pop`."""
         self._stack.append((self.current, self._previous))
 
     def pop(self, name: Token) -> None:
-        """Goes on in the section that the last `push` kept. Raises SourceError without one."""
+        """Return to the section that the last `push` saved. Raises SourceError if there is none."""
         if not self._stack:
             raise name.error(f"{name.text} has no .pushsection before it")
         self.current, self._previous = self._stack.pop()
 
     def return_to_previous(self) -> None:
-        """Goes on in the section before this one."""
+        """Return to the section that was current before this one."""
         self.enter(self._previous)
 
     def open(self, which: Token, name: str, operands: list[Operand]) -> bool:
-        """Goes on in the section of a name, with the flags and the type of .section. Raises SourceError.
+        """Make the section with a name the current one. Raises SourceError.
 
-        Returns whether it is known to be loaded: of an unknown name without flags stock tools load nothing.
+        Return whether the section is known to be loaded: stock tools don't load a section with an unknown name and no flags.
+
+        operands: the flags and the type, as .section has them
         """
         is_new = name not in self._sections
         kind = _kind_of(which, name, operands)
@@ -89,12 +91,12 @@ class Sections:
         return not is_new or kind is not None
 
     def filled(self) -> list[Section]:
-        """The sections that have bytes, in the order of their addresses."""
+        """Return the sections that have bytes, in the order of their addresses."""
         sections = [*self._sections.values(), self._common]
         return [each for kind in _ORDER for each in sections if (each.permissions, each.zeros) == kind and each.size]
 
     def pages(self) -> int:
-        """How many pages the sections take, without the room that alignment takes between two of them."""
+        """Return the number of pages of all sections, without the bytes that alignment adds between two sections."""
         sizes = dict.fromkeys(_ORDER, 0)
         for each in (*self._sections.values(), self._common):
             if each.permissions:
@@ -102,9 +104,9 @@ class Sections:
         return sum(-(-size // PAGE_BYTES) for size in sizes.values())
 
     def place(self, origin: int) -> Iterator[str]:
-        """Give all sections their bases, from an address that is a multiple of a page; the lines that map their pages.
+        """Give all sections their bases, and yield the lines that map their pages. There is room for one more instruction after the last.
 
-        After the last instruction there is room for one more.
+        origin: the address of the first section, a multiple of a page
         """
         for kind in _ORDER:
             start, last = origin, Section("")
@@ -123,7 +125,7 @@ class Sections:
 
 
 def _kind_of(which: Token, name: str, operands: list[Operand]) -> _Kind | None:
-    """What a section is by its flags, or else by its name; None if neither says so."""
+    """Return the kind of a section, by its flags, or else by its name; None if neither is known."""
     if re.match(r"\.t(data|bss|comm)\b", name):
         raise which.error(NO_THREADS)
     if operands and operands[0][0].kind is Kind.STRING:

@@ -1,11 +1,12 @@
-"""Assembler source to lines of the monitor: labels, directives, pseudo-instructions. Each word is made by the machine.
+"""Translate assembler source to lines of the monitor: labels, directives, pseudo-instructions. The machine encodes each instruction.
 
-The text begins at the origin, data at the first page behind it, bss at the first page behind that. A program may read
-and execute the text, and read and write data and bss; asm and poke ask only that a page is there.
+The text begins at the origin, data at the first page after the text, bss at the first page after the data. A program may read
+and execute the text, and read and write data and bss; asm and poke only need a page to be mapped there.
 """
 
 from collections.abc import Iterable, Iterator, Mapping, Sequence
 from dataclasses import dataclass, field, replace
+from typing import NotRequired, TypedDict
 
 from ..instructions.accesses import PAGE_BYTES
 from ..instructions.table import instruction_table
@@ -30,15 +31,29 @@ __all__ = ["Program", "SourceError", "Statement", "assemble", "in_order", "read_
 MAX_MISTAKES = 100
 
 
+class LineType(TypedDict):
+    """The vector types that may be in force from a line of a source on, until another line has some.
+
+    line: its number; it sets them itself, or its first instruction is reached with them
+    types: as vtype, in hexadecimal digits; none if any may be in force
+    vl: missing if it is unknown
+    """
+
+    line: int
+    types: list[str]
+    vl: NotRequired[int]
+
+
 @dataclass(frozen=True)
 class Program:
-    """Lines of the monitor (map, asm, poke) behind digit and space, addresses by label, where the program begins.
+    """An assembled source: lines of the monitor (map, asm, poke) without the user's digit, addresses by label, and the entry address.
 
-    mistakes: of form, one for a place in the source and MAX_MISTAKES at most, in order; with any there are no lines
+    mistakes: mistakes of form in order, at most MAX_MISTAKES and one for each place; if there are any, there are no lines
     data: the numbers and texts of its directives, by address; warnings: of the assembler, or of a compiler
-    set_up: commands of the monitor of its `#>` lines, each with the number of its line, if these were read (`inputs.py`)
-    end: the address after its last instruction, which gets an ebreak; 0 if other bytes follow there
-    exported: the names that other sources may use, by `.globl` and the like
+    set_up: the commands of the monitor in its `#>` lines, each with its line number, if these lines were read (`inputs.py`)
+    end: the address after its last instruction, where an ebreak is added; 0 if other bytes follow there
+    exported: the names that .globl and similar directives export to other sources
+    types: the vector types at lines of the source, if they were computed (`language/line_types.py`)
     """
 
     lines: list[str]
@@ -51,39 +66,40 @@ class Program:
     set_up: Sequence[tuple[int, str]] = field(default=(), kw_only=True)
     end: int = field(default=0, kw_only=True)
     exported: frozenset[str] = field(default=frozenset(), kw_only=True)
+    types: Sequence[LineType] = field(default=(), kw_only=True)
 
     def load_lines(self) -> list[str]:
-        """The lines of the monitor after `enter` that load it: its own, and those of its start."""
+        """Return the lines of the monitor that load the program after `enter`, and set its start."""
         after_last = [f"asm {self.end:x} ebreak"] if self.end else []
         return [*self.lines, *after_last, *start_lines(self.labels), f"setpc {self.entry:x}"]
 
     def names(self) -> dict[str, list[str]]:
-        """The labels by address, which is in hexadecimal digits."""
+        """Return the labels of each address, in hexadecimal digits."""
         names: dict[str, list[str]] = {}
         for label, address in self.labels.items():
             names.setdefault(f"{address:x}", []).append(label)
         return names
 
     def addresses(self) -> dict[int, int]:
-        """The address of the first instruction of each line of the source that has one."""
+        """Return the address of the first instruction of each source line that has instructions."""
         return {statement.line: statement.address for statement in reversed(self.statements)}
 
     def line_at(self, address: int) -> int:
-        """The number of the line that the instruction at an address is of; 0 for none."""
+        """Return the number of the source line of the instruction at an address; 0 if there is none."""
         return next((statement.line for statement in self.statements if statement.address == address), 0)
 
     def line_numbers(self) -> dict[str, int]:
-        """The number of the line that each instruction is of, by its address in hexadecimal digits."""
+        """Return the source line number of each instruction, by its address in hexadecimal digits."""
         return {f"{statement.address:x}": statement.line for statement in self.statements}
 
     def line_stops(self) -> dict[str, list[str]]:
-        """The address of the breakpoint of each line that has an instruction, by its number."""
+        """Return the breakpoint addresses of each source line that has instructions, by its number: the first instruction's address."""
         return {f"{number}": [f"{address:x}"] for number, address in self.addresses().items()}
 
     def source_lines(self, text: str) -> dict[str, str]:
-        """The text of each line of the source after its labels, by the address of its first word.
+        """Return the text after the labels of each source line that has instructions, by the address of its first instruction.
 
-        A line without a comment has that of the line above, if that has nothing else.
+        If the line has no comment and the line above is only a comment, that comment is added.
         """
         lines, first = ["", *text.split("\n")], dict[int, Statement]()
         for statement in self.statements:
@@ -96,7 +112,7 @@ class Program:
         return comments
 
     def aliases(self) -> dict[str, str]:
-        """The pseudo-instructions that the source has for vector instructions, by their addresses in hexadecimal digits."""
+        """Return the source's pseudo-instructions that expand to vector instructions, by their addresses in hexadecimal digits."""
         table = instruction_table()
         return {
             f"{statement.address:x}": statement.alias
@@ -106,11 +122,11 @@ class Program:
 
     @property
     def size(self) -> int:
-        """The number of its instructions."""
+        """The number of instructions."""
         return len(self.statements)
 
     def summary(self) -> str:
-        """The number of its instructions and where it starts, and the bytes of its data."""
+        """Return a text with the number of instructions, the start address, and the number of bytes of data."""
         parts = [f"{self.size:,} instruction{'s' * (self.size != 1)}, from 0x{self.entry:x}"]
         pokes = [line.split() for line in self.lines if self.statements and line.startswith("poke ")]
         if pokes:
@@ -120,7 +136,7 @@ class Program:
 
 
 def assemble(text: str, origin: int = 0x10000, files: FileReader | None = None) -> Program:
-    """Assembles a source. The text's address is the origin, a multiple of 4,096. Raises SourceError for a mistake."""
+    """Assemble a source. Raises SourceError for a mistake. origin: the address of .text, a multiple of 4,096"""
     program = read_source(text, origin, files)
     if program.mistakes:
         raise program.mistakes[0]
@@ -130,10 +146,10 @@ def assemble(text: str, origin: int = 0x10000, files: FileReader | None = None) 
 def read_source(
     text: str, origin: int = 0x10000, files: FileReader | None = None, most_made: int = MAX_CHARACTERS
 ) -> Program:
-    """Assembles a source that may have mistakes; what is right in it has its statements.
+    """Assemble a source that may have mistakes. The program has the statements of all parts without mistakes.
 
-    files: reads the files of .include and .incbin, which are refused without it
-    most_made: characters that calls and repetitions may make; raises TooMuchMade if they make more
+    files: reads the files of .include and .incbin; None to refuse these directives
+    most_made: the characters that calls and repetitions may make; beyond this limit, TooMuchMade is raised
     """
     if origin % PAGE_BYTES or not 0 <= origin <= (1 << 48) - USER_PAGES * PAGE_BYTES:
         raise ValueError(f"{origin:#x} is no multiple of {PAGE_BYTES} with room for {USER_PAGES} pages below 2^48")
@@ -146,7 +162,7 @@ def read_source(
 
 
 def in_order(mistakes: Iterable[SourceError]) -> list[SourceError]:
-    """The first mistakes, in the order of the source: one at each place, and one for each missing name."""
+    """Return the first mistakes in the order of the source, at most one for each place and one for each undefined name."""
     places, names = dict[tuple[int, int], SourceError](), set[str]()
     for mistake in sorted(mistakes, key=lambda mistake: (mistake.line, mistake.column)):
         if mistake.name not in names:
@@ -156,7 +172,7 @@ def in_order(mistakes: Iterable[SourceError]) -> list[SourceError]:
 
 
 class _Assembler:
-    """Reads the statements of a source, and then gives the program. Parts that need addresses are made at the end."""
+    """Reads the statements of a source, and then returns the program. Parts that need addresses are completed at the end."""
 
     def __init__(self, files: FileReader | None, most_made: int) -> None:
         self.assembly = Assembly(files)
@@ -164,14 +180,14 @@ class _Assembler:
         self._symbols, self._sections = self.assembly.symbols, self.assembly.sections
 
     def lines(self, text: str) -> Iterator[Line]:
-        """The statements of a source, each made after the one before is read."""
+        """Yield the statements of a source. Each depends on the statements before it, which must have been read."""
         plain, error = without_comments(text.replace("\ufeff", " ", text.startswith("\ufeff")))  # a byte order mark
         if error:
             self.assembly.note(error)
         return self._blocks.expanded(statements(plain))
 
     def read(self, line: Line) -> None:
-        """Reads the next statement."""
+        """Read the next statement."""
         self.assembly.line = line
         section = self._sections.current
         plain = plain_instruction(line) if "x" in section.permissions and section.size % 4 == 0 else None
@@ -182,17 +198,17 @@ class _Assembler:
             self._read(tokens_of(line))
 
     def _put(self, plain: PlainInstruction) -> None:
-        """Takes up an instruction that is known already, and the labels before it."""
+        """Add an instruction that depends only on its line, and the labels before it."""
         for label in plain.labels:
             with self.assembly.noting():
-                self._symbols.define(label, self.assembly.here())
+                self._symbols.define(label.in_line(self.assembly.line.number), self.assembly.here())
         try:
             self.assembly.put_plain(plain)
         except SourceError as error:
             self.assembly.note(error)
 
     def _read(self, tokens: list[Token]) -> None:
-        """Reads labels, and an instruction or a directive. Raises SourceError."""
+        """Read labels, and an instruction or a directive after them. Raises SourceError."""
         while len(tokens) > 1 and tokens[1].text == ":":
             label, _, *tokens = tokens
             with self.assembly.noting():
@@ -224,7 +240,7 @@ class _Assembler:
             self._read_instruction(name, [self._symbols.bound(each) for each in split_operands(tokens[1:])])
 
     def _refuse_label(self, first: Token, second: Token) -> None:
-        """Note that two words are no label. Statements that use one of them have no mistake."""
+        """Note that a label can't consist of two words. Both words are defined, so that statements that use them have no mistake."""
         for word in (first, second):
             if word.kind is Kind.NAME and not self._symbols.is_defined(word.text):
                 self._symbols.define(word, self.assembly.here())
@@ -255,7 +271,7 @@ class _Assembler:
         self.assembly.put_instruction(name, operands, texts)
 
     def _go_on_in_text(self, name: Token) -> None:
-        """Note that an instruction is outside .text, and go on there, so that the next ones have no mistake."""
+        """Note that an instruction is outside .text, and enter .text, so that the next instructions have no mistake."""
         self.assembly.note(
             name.error(f"{name.text} is outside .text, where programs can't execute it: write .text before it")
         )
@@ -264,12 +280,12 @@ class _Assembler:
         self._symbols.move(before, self.assembly.here())
 
     def mistakes(self) -> list[SourceError]:
-        """The first mistakes, in order, with what may replace missing names."""
+        """Return the first mistakes in order. An undefined name has the nearest names as fixes."""
         noted = self.assembly.mistakes.values()
         return self._symbols.suggest(in_order(self._symbols.explained(each) for each in noted))
 
     def finish(self, origin: int) -> Program:
-        """The program, with its text at the origin, or what is wrong with it."""
+        """Return the program with its text at the origin, or with its mistakes."""
         assembly = self.assembly
         lines = [*self._sections.place(origin)]
         self._symbols.is_placed = True
@@ -295,14 +311,14 @@ class _Assembler:
 
 
 def _entry(labels: Mapping[str, int], statements: Sequence[Statement], text: int) -> int:
-    """Where a program starts: at _start, else at main if it is an instruction, else at the start of .text."""
+    """Return the address where a program starts: _start, or main if it is an instruction, or the start of .text."""
     main = labels.get("main")
     is_function = main is not None and any(statement.address == main for statement in statements)
     return labels.get("_start", main if main is not None and is_function else text)
 
 
 def _checked_label(label: Token) -> Token:
-    """A label. Raises SourceError if it isn't a name, nor a decimal number."""
+    """Return a label. Raises SourceError if it is neither a name nor a decimal number."""
     if label.kind is Kind.STRING:
         return replace(label, kind=Kind.NAME, text=label.string().decode("utf-8", "replace"))
     if label.kind is Kind.NAME or label.kind is Kind.NUMBER and label.text.isdecimal():

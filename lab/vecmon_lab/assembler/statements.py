@@ -1,4 +1,4 @@
-"""A source as statements: without comments, and with the semicolons of a line as ends."""
+"""Divide a source into statements: remove comments, and split lines at semicolons."""
 
 import re
 from collections.abc import Iterator
@@ -12,13 +12,13 @@ _END = re.compile(rf"(?:{_TEXT})|(?P<END>;)")
 
 _BYTE_ORDER_MARK = "\ufeff"
 _UTF_16 = re.compile(r"(?:\udcff\udcfe|\udcfe\udcff|\ufffd\ufffd)?(?:(?:\0[^\0]){2}|(?:[^\0]\0){2})")
-"""The start of ASCII in UTF-16 that was read as UTF-8: maybe a byte order mark, whose bytes are escaped or replaced, and zeros."""
+"""The start of UTF-16 text in ASCII that was decoded as UTF-8: zeros, perhaps after a byte order mark, escaped or replaced."""
 
 
 def without_comments(text: str) -> tuple[str, SourceError | None]:
-    """A source with spaces in place of its comments, so that columns stay, and the error of a comment that doesn't end.
+    """Return a source with spaces in place of its comments, so that columns are unchanged, and the error of a comment without end.
 
-    A byte order mark at its start is a space, too. A source in UTF-16 is empty, and has an error.
+    A byte order mark at the start also becomes a space. For a source in UTF-16, return an empty text and an error.
     """
     error: SourceError | None = None
     if _UTF_16.match(text):
@@ -39,13 +39,13 @@ def without_comments(text: str) -> tuple[str, SourceError | None]:
 
 
 def statements(text: str) -> Iterator[Line]:
-    """The statements of a source without comments."""
+    """Yield the statements of a source without comments."""
     for number, line in enumerate(text.split("\n"), 1):
         yield from split_line(Line(line.removesuffix("\r"), number))
 
 
 def split_line(line: Line) -> Iterator[Line]:
-    """The statements of a line, which semicolons end."""
+    """Yield the statements of a line, which semicolons separate."""
     start = 0
     for match in _END.finditer(line.text) if ";" in line.text else ():
         if match["END"]:

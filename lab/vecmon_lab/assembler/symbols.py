@@ -17,7 +17,7 @@ _NO_FUNCTIONS = {
     "t": "thread-local storage isn't in this machine",
     "": "those of this assembler are %hi, %lo, %pcrel_hi and %pcrel_lo",
 }
-MAX_DEPTH = 50  # of constants that are defined by later ones
+MAX_DEPTH = 50  # the depth of constants that are defined by later ones
 MAX_EVALUATED = (
     100_000  # tokens of such constants, each time that their value is needed before sections have their bases
 )
@@ -26,7 +26,7 @@ _CONTROL_REGISTERS = dict(read_table("keywords"))[r"csr\w*"].split()
 
 
 class UnknownName(SourceError):
-    """A name that has no value here."""
+    """A name has no value at the place where it is used."""
 
     def __init__(self, token: Token, message: str) -> None:
         super().__init__(token.line, token.column, message + chain(token.within))
@@ -34,19 +34,19 @@ class UnknownName(SourceError):
 
 
 class DefinitionLoop(SourceError):
-    """A constant that is defined by itself."""
+    """A constant is defined by itself."""
 
 
 @dataclass(frozen=True)
 class _Later:
-    """An operand that is evaluated when its value is asked for, since a name in it isn't known before."""
+    """An operand that is evaluated when its value is needed, because a name in it is defined later."""
 
     operand: Operand
     here: Value
 
 
 class Symbols:
-    """Labels and constants by name, and the values of operands that use them.
+    """The labels and constants of a source by name, and the values of operands that use them.
 
     is_placed: whether sections have their bases
     """
@@ -55,9 +55,7 @@ class Symbols:
         self.is_placed = False
         self._values: dict[str, Value | _Later] = {}
         self._lines: dict[str, int] = {}
-        self._versions: dict[
-            str, str
-        ] = {}  # of constants that directives define, the name of the value that counts now
+        self._versions: dict[str, str] = {}  # the key of the current value of each constant that directives define
         self._numeric = Counter[int]()
         self._highs: dict[Value, tuple[Operand, Value]] = {}  # operands of %pcrel_hi by the instruction's address
         self._pending: set[str] = set()
@@ -65,7 +63,7 @@ class Symbols:
         self._evaluated = 0  # tokens of constants that are defined by later ones
 
     def define(self, name: Token, here: Value) -> None:
-        """Defines a label, which may be a number. Raises SourceError if a name is defined already."""
+        """Define a label, which may be numeric. Raises SourceError if the name is already defined."""
         self._found.clear()
         if name.kind is Kind.NUMBER:
             self._numeric[int(name.text)] += 1
@@ -75,9 +73,9 @@ class Symbols:
         self._values[name.text], self._lines[name.text] = here, name.line
 
     def assign(self, name: Token, operand: Operand, here: Value, is_once: bool = False) -> None:
-        """Gives a name the value of an operand, in place of one that it got so before. Raises SourceError.
+        """Give a name the value of an operand. Raises SourceError.
 
-        is_once: whether it must not have a value yet
+        The new value replaces one that `assign` gave the name, unless `is_once`: then it is an error if the name has a value.
         """
         if is_once or name.text not in self._versions:
             self._check_is_new(name)
@@ -95,12 +93,12 @@ class Symbols:
         self._versions[name.text], self._lines[name.text] = version, name.line
 
     def move(self, place: Value, destination: Value) -> None:
-        """Moves the labels at a place to another one."""
+        """Move the labels at a place to another one."""
         self._found.clear()
         self._values |= {name: destination for name, value in self._values.items() if value == place}
 
     def assume(self, name: str) -> None:
-        """Gives a name a value, whose definition is refused, so that what uses it isn't refused too."""
+        """Give a name a value after its definition was refused, so that statements that use the name aren't refused too."""
         self._found.clear()
         self._values.setdefault(name, Value(0))
         self._lines.setdefault(name, 0)
@@ -110,11 +108,11 @@ class Symbols:
             raise name.error(f"{name.text} is defined in line {self._lines[name.text]} already")
 
     def is_defined(self, name: str) -> bool:
-        """Whether a name has a value up to here."""
+        """Return whether the statements before this one define a name."""
         return name in self._values
 
     def bound(self, operand: Operand) -> Operand:
-        """An operand whose numeric labels, and names that may get another value later, mean those of here."""
+        """Return an operand whose numeric labels and reassignable names are bound to their current meaning."""
         return [self._bound(token) for token in operand]
 
     def _bound(self, token: Token) -> Token:
@@ -126,14 +124,14 @@ class Symbols:
         return token
 
     def note_high(self, operands: Sequence[Operand], here: Value) -> None:
-        """Notes the symbol of %pcrel_hi in an instruction, for %pcrel_lo of its label."""
+        """Note the symbol of %pcrel_hi in an instruction at `here`, for %pcrel_lo of the instruction's label."""
         for operand in operands:
             texts = [token.text for token in operand[:3]]
             if texts == ["%", "pcrel_hi", "("] and len(operand) > 4:
                 self._highs[here] = operand[3:-1], here
 
     def evaluate(self, operand: Operand, here: Value) -> Value:
-        """The value of an operand; a dot is the address here. Raises SourceError."""
+        """Return the value of an operand; a dot in it is the address `here`. Raises SourceError."""
         return Expression(
             operand,
             lambda token: here if token.text == "." else self._named(token),
@@ -141,7 +139,7 @@ class Symbols:
         ).value()
 
     def constant(self, operand: Operand, here: Value) -> int:
-        """The value of an operand that has to be a number. Raises SourceError."""
+        """Return the value of an operand that must be a number. Raises SourceError."""
         value = self.evaluate(operand, here)
         if value.section is not None:
             raise operand[0].error("a number is needed here, and this is an address: la loads one into a register")
@@ -150,19 +148,19 @@ class Symbols:
         return value.resolved()
 
     def data(self, operand: Operand, here: Value, size: int) -> bytes:
-        """The value of an operand, signed or unsigned, in this number of bytes. Raises SourceError if it needs more."""
+        """Return the value of an operand, signed or unsigned, in `size` bytes. Raises SourceError if it doesn't fit."""
         value, width = self.evaluate(operand, here).resolved(), 8 * size
         if not -(1 << width - 1) <= value < 1 << width:
             raise operand[0].error(f"{value} is out of range: {-(1 << width - 1)} to {(1 << width) - 1} fit")
         return (value % (1 << width)).to_bytes(size, "little")
 
     def addresses(self) -> dict[str, int]:
-        """The addresses that have names, once sections have their bases; of loaded sections, without numeric labels."""
+        """Return the addresses of labels in loaded sections, without numeric labels, once sections have their bases."""
         values = {name: value for name, value in self._values.items() if _is_word(name) and isinstance(value, Value)}
         return {name: it.resolved() for name, it in values.items() if it.section and it.section.permissions}
 
     def _named(self, token: Token) -> Value:
-        """The value of a name. Raises SourceError."""
+        """Return the value of a name. Raises SourceError."""
         name = token.symbol or (token.string().decode("utf-8", "replace") if token.kind is Kind.STRING else token.text)
         if name not in self._values:
             raise self._unknown(token)
@@ -190,21 +188,21 @@ class Symbols:
         return found
 
     def loop(self) -> DefinitionLoop | None:
-        """The mistake of the first constant that is defined by itself, once sections have their bases."""
+        """Return the error of the first constant that is defined by itself, or None. Sections must have their bases."""
         for value in self._values.values():
             try:
                 if isinstance(value, _Later):
                     self.evaluate(value.operand, value.here)
             except DefinitionLoop as error:
                 return error
-            except SourceError:  # of a name that is missing: the constant may be unused
+            except SourceError:  # a name is undefined, but the constant may be unused
                 continue
         return None
 
     def suggest(self, mistakes: Sequence[SourceError]) -> list[SourceError]:
-        """Mistakes, of which those with a missing name get the nearest names that have a value as fixes.
+        """Give undefined names in mistakes the nearest defined names as fixes, and return the mistakes.
 
-        A name is compared with MAX_COMPARED others, those of the most similar lengths with the same first letter.
+        A name is compared with at most MAX_COMPARED others, first those with the same first letter, then those of similar length.
         """
         words = [name for name in self._values if _is_word(name)]
         for error in mistakes:
@@ -214,7 +212,7 @@ class Symbols:
         return [*mistakes]
 
     def explained(self, error: SourceError) -> SourceError:
-        """A mistake; of a name that is missing there, with the line that defines it later."""
+        """Return a mistake. If a name in it is defined later, the mistake names the line that defines it."""
         line = self._lines.get(error.name, 0)
         if not line or not isinstance(error, UnknownName):
             return error
@@ -230,7 +228,7 @@ class Symbols:
         return UnknownName(token, message)
 
     def _function(self, name: Token, inner: Operand, here: Value) -> Value:
-        """The value of %hi, %lo, %pcrel_hi and %pcrel_lo of a symbol. Raises SourceError."""
+        """Return the value of %hi, %lo, %pcrel_hi or %pcrel_lo of a symbol. Raises SourceError."""
         function = name.text.lower()
         if function not in ("hi", "lo", "pcrel_hi", "pcrel_lo"):
             reason = next(text for start, text in _NO_FUNCTIONS.items() if function.startswith(start))
@@ -251,17 +249,17 @@ class Symbols:
 
 
 def _difference(word: str, other: str) -> tuple[bool, int]:
-    """Whether the first letters of two names differ, and by how much their lengths do."""
+    """Return whether the first letters of two names differ, and the difference of their lengths."""
     return word[:1] != other[:1], abs(len(word) - len(other))
 
 
 def _is_word(name: str) -> bool:
-    """Whether a name is one of a label or a constant, and has no space."""
+    """Return whether a name in the table is that of a label or a constant, without a space: not a numeric label or an older version."""
     return " " not in name and "\n" not in name
 
 
 def control_register_error(token: Token) -> SourceError:
-    """The error of a name that isn't a control register, with the reason if it is one elsewhere."""
+    """Return the error for a name that isn't a control register. If another extension has the register, the error says so."""
     *others, last = _CONTROL_REGISTERS
     reason = absence(token.text)
     return token.error(

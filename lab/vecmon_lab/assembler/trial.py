@@ -1,8 +1,8 @@
-"""All mistakes of a source: those of form, and what the machine refuses, which a process of its own is asked."""
+"""All mistakes of a source: those of form, and the instructions that the machine refuses. A vecmon process tries them."""
 
 import contextlib
 import itertools
-from collections.abc import Iterable, Mapping
+from collections.abc import Collection, Iterable, Mapping
 from dataclasses import replace
 
 from ..machine.answers import Refused, Word, read
@@ -12,18 +12,21 @@ from .assembly import FileReader
 from .blocks import MAX_CHARACTERS
 from .commands import explain_refusal
 from .inputs import with_inputs
-from .instruction import with_fitting_operand
+from .instruction import Statement, with_fitting_operand
 from .source import Program, SourceError, in_order, read_source, refusal
 
-MAX_OPERANDS = 5  # of an instruction
+MAX_OPERANDS = 5  # operands of an instruction that are tried
 MAX_SCRIPT = 1_000_000  # bytes of a trial's script, after which another machine goes on
-MAX_ANSWERS = 100_000  # that a trial remembers
+MAX_ANSWERS = 100_000  # in the cache of a trial
 
 
 def read_whole_source(
     text: str, vecmon: Vecmon, files: FileReader | None = None, most_made: int = MAX_CHARACTERS
 ) -> Program:
-    """The program of a source; where that has mistakes of form, with all its mistakes. files, most_made: as in `read_source`"""
+    """Return the program of a source. If it has mistakes of form, add the instructions that the machine refuses to its mistakes.
+
+    files, most_made: as in `read_source`
+    """
     program = with_inputs(read_source(text, files=files, most_made=most_made), text)
     return replace(program, mistakes=all_mistakes(program, vecmon)) if program.mistakes else program
 
@@ -31,13 +34,13 @@ def read_whole_source(
 def read_tried_source(
     text: str, vecmon: Vecmon, files: FileReader | None = None, most_made: int = MAX_CHARACTERS
 ) -> Program:
-    """The program of a source, with all its mistakes, also those that only the machine refuses."""
+    """Return the program of a source with all its mistakes, also those that only the machine finds."""
     program = with_inputs(read_source(text, files=files, most_made=most_made), text)
     return replace(program, mistakes=all_mistakes(program, vecmon) or refused_set_up(program, vecmon))
 
 
 def refused_set_up(program: Program, vecmon: Vecmon) -> list[SourceError]:
-    """A mistake for each command of `#>` lines that a new machine with the program refuses."""
+    """Return a mistake for each command in `#>` lines that a new machine with the program refuses."""
     if not program.set_up:
         return []
     lines = [
@@ -54,15 +57,15 @@ def refused_set_up(program: Program, vecmon: Vecmon) -> list[SourceError]:
 
 
 def all_mistakes(source: Program, vecmon: Vecmon) -> list[SourceError]:
-    """The mistakes of form of a source, and what a new machine refuses of all other instructions, in order."""
+    """Return the mistakes of form of a source and the instructions that a new machine refuses, in order."""
     with Trial(vecmon) as trial:
         return trial.mistakes(source)
 
 
 class Trial(contextlib.AbstractContextManager["Trial"]):
-    """A machine that tries instructions, and the answers by their texts, so that none is tried twice.
+    """A machine that tries instructions, and its answers by the instructions' texts, so that each text is tried once.
 
-    An instruction's text has distances in place of labels, so its word is the same at each address.
+    An instruction's text has distances in place of labels, so its encoding is the same at each address.
     """
 
     def __init__(self, vecmon: Vecmon) -> None:
@@ -74,7 +77,7 @@ class Trial(contextlib.AbstractContextManager["Trial"]):
 
     @staticmethod
     def _started(vecmon: Vecmon) -> Session:
-        """A session with a page for the instructions."""
+        """Return a session with a page for the instructions."""
         session = Session(vecmon)
         try:
             session.do_all(["1 enter", "1 map 0 1 rx"])
@@ -84,7 +87,7 @@ class Trial(contextlib.AbstractContextManager["Trial"]):
         return session
 
     def answers(self, texts: Iterable[str]) -> Mapping[str, Word | Refused]:
-        """The machine's answers to instructions, by their texts: the word, or a refusal with the column."""
+        """Return the machine's answers by the texts of instructions: the word, or a refusal with the column."""
         if len(self._answers) > MAX_ANSWERS:
             self._answers = {}
         new = [text for text in dict.fromkeys(texts) if text not in self._answers]
@@ -99,22 +102,31 @@ class Trial(contextlib.AbstractContextManager["Trial"]):
                 self._answers[text] = answer
         return self._answers
 
-    def mistakes(self, source: Program) -> list[SourceError]:
-        """The mistakes of form of a source, and what the machine refuses of all other instructions, in order.
+    def words(self, source: Program) -> dict[int, int]:
+        """Return the words of a program's instructions by address, without instructions that the machine refuses."""
+        answers = self.answers(statement.text for statement in source.statements)
+        return {
+            statement.address: answer.word
+            for statement in source.statements
+            if isinstance(answer := answers[statement.text], Word)
+        }
 
-        An instruction with an operand that doesn't fit is tried again with one that does, since another one may not fit either.
+    def mistakes(self, source: Program) -> list[SourceError]:
+        """Return the mistakes of form of a source and the instructions that the machine refuses, in order.
+
+        A refused instruction is tried again with a valid operand in place of the wrong one, to find further wrong operands.
         """
         mistakes = list(source.mistakes)
-        tried = [(statement, statement) for statement in source.statements]  # and how they are in the source
-        for _ in range(MAX_OPERANDS):
-            if not tried:
-                break
-            answers = self.answers(each.text for each, _ in tried)
-            parsed = ((each, written, answers[each.text]) for each, written in tried)
-            refused = [
-                (each, written, int(answer.detail)) for each, written, answer in parsed if isinstance(answer, Refused)
-            ]
+        refused = [(statement, statement, column) for statement, column in self._refused(source.statements)]
+        for _ in range(MAX_OPERANDS):  # each with its repair, and how it is in the source
             mistakes += [refusal(each, column, written.text) for each, written, column in refused]
             repaired = [(with_fitting_operand(each, column), written) for each, written, column in refused]
-            tried = [(each, written) for each, written in repaired if each]
+            written_as = {each: written for each, written in repaired if each}
+            refused = [(each, written_as[each], column) for each, column in self._refused(written_as)]
         return in_order(mistakes)
+
+    def _refused(self, statements: Collection[Statement]) -> list[tuple[Statement, int]]:
+        """Return the statements that the machine refuses, each with the column that the refusal names."""
+        answers = self.answers(statement.text for statement in statements)
+        tried = ((statement, answers[statement.text]) for statement in statements)
+        return [(statement, int(answer.detail)) for statement, answer in tried if isinstance(answer, Refused)]

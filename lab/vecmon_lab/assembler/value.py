@@ -1,20 +1,21 @@
-"""Values in a source: numbers, and addresses as offsets in sections that get a place at the end."""
+"""Values in a source: numbers, and addresses as offsets in sections. Sections get their bases at the end."""
 
 from collections import Counter
 from collections.abc import Callable, Iterator
 from dataclasses import dataclass, field
+from typing import NamedTuple
 
 from ..instructions.accesses import LINE_BYTES, PAGE_BYTES
 
 
 @dataclass(eq=False)
 class Section:
-    """A section: its permissions, its bytes so far, its address at the end, and functions for bytes made at the end.
+    """A section: its permissions, its size so far, its base address, and functions that return its bytes at the end.
 
-    permissions: "" if it isn't loaded, as of notes; zeros: whether it has no bytes but zeros
-    alignment: of its address, in bytes
-    is_certain: whether no directive was refused whose size isn't known since the last alignment
-    code_end: its size after its last instruction; 0 without one
+    permissions: "" if it isn't loaded, as .note sections; zeros: whether it can have only zeros
+    alignment: of its base, in bytes
+    is_certain: whether its size since the last alignment is known; it isn't after a refused directive of unknown size
+    code_end: its size after its last instruction; 0 without an instruction
     """
 
     permissions: str
@@ -27,11 +28,11 @@ class Section:
     contents: list[tuple[int, Callable[[], bytes]]] = field(default_factory=list)  # by offset; all else is zeros
 
     def pages(self) -> int:
-        """How many pages it takes."""
+        """Return the number of pages that the section takes."""
         return -(-self.size // PAGE_BYTES)
 
     def pokes(self) -> Iterator[str]:
-        """The lines that write its bytes, but for those that would write zeros alone. Raises SourceError."""
+        """Yield the lines that write the section's bytes, except lines that would only write zeros. Raises SourceError."""
         runs: list[tuple[int, bytearray]] = []
         for offset, make in self.contents:
             if not runs or runs[-1][0] + len(runs[-1][1]) != offset:
@@ -44,30 +45,29 @@ class Section:
                     yield f"poke {self.base + offset + start:x} {piece.hex()}"
 
 
-@dataclass(frozen=True)
-class Value:
-    """A number, or the sum of a number and the addresses of sections, each taken a number of times."""
+class Value(NamedTuple):
+    """A number, or the sum of a number and of multiples of sections' base addresses."""
 
     number: int
     sections: tuple[tuple[Section, int], ...] = ()
 
     @property
     def is_number(self) -> bool:
-        """Whether it is known before sections have their bases."""
+        """Whether the value is known before sections have their bases."""
         return not self.sections
 
     @property
     def section(self) -> Section | None:
-        """The section, if it is the address of an offset in one."""
+        """The section, if the value is the address of an offset in one section; otherwise None."""
         return self.sections[0][0] if [count for _, count in self.sections] == [1] else None
 
     @property
     def is_difference(self) -> bool:
-        """Whether it is the distance between addresses in two sections."""
+        """Whether the value is the distance between addresses in two sections."""
         return sorted(count for _, count in self.sections) == [-1, 1]
 
     def plus(self, other: "Value", sign: int = 1) -> "Value":
-        """The sum, or with sign -1 the difference."""
+        """Return the sum of two values, or with sign -1 their difference."""
         total = Counter(dict(self.sections))
         for section, count in other.sections:
             total[section] += sign * count
@@ -75,5 +75,8 @@ class Value:
         return Value(self.number + sign * other.number, sections)
 
     def resolved(self) -> int:
-        """The number or address, once sections have their bases."""
-        return self.number + sum(count * section.base for section, count in self.sections)
+        """Return the number or the address, once sections have their bases."""
+        total = self.number
+        for section, count in self.sections:
+            total += count * section.base
+        return total

@@ -1,4 +1,4 @@
-"""Vector types of which a source names some of the four parts."""
+"""Complete vector types for which a source doesn't name all four parts."""
 
 from collections.abc import Sequence
 
@@ -7,13 +7,16 @@ from .line import Operand, SourceError, Token
 
 _WORDS = dict((name, words.split()) for name, words in read_table("keywords"))["vset\\w*"]
 PARTS = [[word for word in _WORDS if word in part] for part in (_WORDS[:4], _WORDS[4:11], _WORDS[11:13], _WORDS[13:])]
-"""The words of each part of a vector type: the width of elements, the group multiplier, and the policies."""
+"""The words for each part of a vector type: the element width, the group multiplier, the tail policy and the mask policy."""
 
-_DEFAULTS = ("e8", "m1", "tu", "mu")  # of GNU as
+_DEFAULTS = ("e8", "m1", "tu", "mu")  # GNU as uses these for missing parts
 
 
 def completed(name: Token, operands: Sequence[Operand]) -> tuple[str, SourceError] | None:
-    """The template and the warning of a vsetvli or vsetivli whose vector type lacks parts; None for any other instruction."""
+    """Return the template and the warning of a vsetvli or vsetivli whose vector type lacks parts.
+
+    Return None for other instructions and for complete vector types.
+    """
     given = [operand[0].text if len(operand) == 1 else "" for operand in operands[2:]]
     if name.text not in ("vsetvli", "vsetivli") or not 0 < len(given) < len(PARTS):
         return None
@@ -27,7 +30,7 @@ def completed(name: Token, operands: Sequence[Operand]) -> tuple[str, SourceErro
 
 
 def _warning(name: Token, given: Sequence[Operand], places: Sequence[int]) -> SourceError:
-    """The warning at the first part that another one is missing next to, which it may be replaced with."""
+    """Return the warning about missing parts. It points at a part next to the first missing one; the fixes replace this part."""
     missing = [_DEFAULTS[number] for number in range(4) if number not in places]
     first = min(number for number in range(4) if number not in places)
     token = given[max(first - 1, 0)][0]

@@ -1,1 +1,1 @@
-"""Checkpoints: a machine's present state as ordinary lines, which begin another script."""
+"""Checkpoints: ordinary lines that bring a new machine into another machine's present state, and start another script."""

@@ -1,4 +1,7 @@
-"""Makes a checkpoint: lines that leave a new machine as a script does, but for the counts of its vector unit."""
+"""Make a checkpoint: lines that bring a new machine into the state in which a script leaves its machine.
+
+The counts of the vector unit may differ.
+"""
 
 import os
 import pathlib
@@ -10,20 +13,34 @@ from .. import LabError
 from ..machine.answers import Granted, read
 from ..machine.program import images_of
 from ..machine.session import Checkpoint, Session
-from .machine_state import Machine, Opening, replay_script, fresh_memory, machine_after
+from .machine_state import MachineState, Opening, replay_script, fresh_memory, machine_after
 from .set_up import lines_of
 
-MOMENTS = (0, 1, 2, 4, 8, 16, 32, 64, 128, 256, 512)  # lines before the end of a script at which it is tried
+MOMENTS = (
+    0,
+    1,
+    2,
+    4,
+    8,
+    16,
+    32,
+    64,
+    128,
+    256,
+    512,
+)  # distances from the end of a script, in lines, at which a checkpoint is tried
 
 
 class NoCheckpoint(LabError):
-    """No lines leave a machine as it is; the text says why."""
+    """No checkpoint of a machine's state can be made; the text says why."""
 
 
 def checkpoint(opening: Opening, script: bytes, images: Mapping[str, pathlib.Path]) -> Checkpoint:
-    """A checkpoint of the last moment of a script, or of one before, if there is none of that.
+    """Make a checkpoint of the end of a script, or of an earlier place if the end has none.
 
-    Raises NoCheckpoint, and as a session does.
+    opening: opens a session on a new machine; images: paths by name
+
+    Raises NoCheckpoint, and errors of a session.
     """
     lines, why = script.splitlines(keepends=True), NoCheckpoint("the script has no line")
     for number in (len(lines) - back for back in MOMENTS if back < len(lines)):
@@ -35,7 +52,7 @@ def checkpoint(opening: Opening, script: bytes, images: Mapping[str, pathlib.Pat
 
 
 def whole_checkpoint(opening: Opening, script: bytes, images: Mapping[str, pathlib.Path]) -> bytes:
-    """The lines that replace a whole script, once they were compared with it. Raises NoCheckpoint."""
+    """Return lines that replace a whole script; both machines are compared. Raises NoCheckpoint."""
     with opening() as session:
         machine = machine_after(session, script, images)
     waiting = [digit for digit, shown in machine.shown.items() if shown.is_at_breakpoint]
@@ -52,15 +69,18 @@ def whole_checkpoint(opening: Opening, script: bytes, images: Mapping[str, pathl
     return lines
 
 
-def _stops_at_once(session: Session, machine: Machine, digit: str) -> bool:
-    """Whether a slice leaves a running program at the breakpoint it is at: `go` skips that, and no other line does."""
+def _stops_at_once(session: Session, machine: MachineState, digit: str) -> bool:
+    """Return whether the next slice would stop a running program at its present breakpoint.
+
+    No lines could restore this state, since `go` skips a breakpoint at the program counter.
+    """
     granted = read(session.do(f"* run {digit}"))
     pc = machine.shown[digit].registers.pc
     return isinstance(granted, Granted) and any((stop.kind, stop.pc) == ("break", pc) for _, stop in granted.stops)
 
 
 def main(program: str, quantum: str, *images: str) -> None:
-    """Write the checkpoint of a script on standard input, after the number of lines that it replaces."""
+    """Read a script from standard input; print the number of lines that its checkpoint replaces, and the checkpoint."""
     paths = images_of(list(images))
     opening = partial(Session, pathlib.Path(program), paths, quantum=int(quantum))
     made = checkpoint(opening, sys.stdin.buffer.read(), paths)

@@ -1,4 +1,7 @@
-"""The whole state of a machine: from its script's lines, from looks, and from tests that destroy it."""
+"""The whole state of a machine, found from the lines of its script, by read-only commands, and by commands that change the machine.
+
+No read-only command shows some of the state, such as the user of the last turn. So the machine can't be used afterwards.
+"""
 
 import pathlib
 from collections.abc import Callable, Iterator, Mapping
@@ -30,31 +33,32 @@ TOUCHING = "vadd.vv v0, v1, v2, v0.t"
 Opening = Callable[[], Session]
 """Opens a session on a new machine."""
 
-_FOLLOWED = set(" elmv")  # how the commands begin that `follow_line` knows
+_FOLLOWED = set(" elmv")  # first letters of the commands that `follow_line` knows
 
 
 @dataclass
 class User:
-    """The state of a present user, known from lines.
+    """The state of a present user that follows from the lines of the script.
 
-    image: the name of the one that was loaded, if any
-    maps: since then, each an address, a number of pages and a permission
-    has_area: whether the vector unit's save area has a state of the user's; as far as lines say, whether `vset` was given
+    image: the name of the loaded image, or ""
+    maps: the address, number of pages and permission of each `map` since the image was loaded
+    has_area: whether the vector unit has a save area with the user's state; from lines alone, whether there was a `vset`
+    pages: permissions by the addresses of pages
     """
 
     image: str = ""
     maps: list[tuple[int, int, str]] = field(default_factory=list)
     has_area: bool = False
-    pages: dict[int, str] = field(default_factory=dict)  # permissions, by address
+    pages: dict[int, str] = field(default_factory=dict)
 
     def first(self, permission: str) -> int | None:
-        """The address of the first page with a permission."""
+        """Return the address of the first page with a permission; None if there is none."""
         return next((page for page, allowed in self.pages.items() if permission in allowed), None)
 
 
 @dataclass(frozen=True)
 class Shown:
-    """The state of a stopped user, known from looks, with memory by the addresses of pages."""
+    """The state of a stopped user that read-only commands show. memory: the contents of pages, by their addresses"""
 
     is_running: bool
     registers: ScalarRegisters
@@ -68,16 +72,18 @@ class Shown:
 
     @property
     def is_at_breakpoint(self) -> bool:
-        """Whether the program runs, and is at a breakpoint."""
+        """Whether the program runs, and its program counter is at a breakpoint."""
         return self.is_running and self.registers.pc in self.breakpoints
 
 
 @dataclass(frozen=True)
-class Machine:
-    """A machine, but for the counts of its vector unit; users by digit.
+class MachineState:
+    """The state of a machine, except for the counts of its vector unit.
 
-    owner, is_dirty: whose state the vector unit holds, or 0, and whether it was changed since it came there
-    last: the user whose turn was the last
+    users, shown: by the user's digit
+    owner: the user whose state the vector unit holds, or 0
+    is_dirty: whether the state in the vector unit has changed since it was loaded there
+    last: the user of the last turn
     """
 
     users: Mapping[str, User]
@@ -87,7 +93,7 @@ class Machine:
     last: str
 
     def _repr_html_(self) -> str:
-        """The registers of each user, as a notebook shows them."""
+        """Return the registers of each user as a notebook shows them."""
         texts = []
         for digit, it in self.shown.items():
             registers = registers_html(it.registers.pc, it.registers.x, it.control, it.vectors)
@@ -96,7 +102,7 @@ class Machine:
 
 
 def replay_script(session: Session, script: bytes) -> dict[str, User]:
-    """Carries out a script that a session recorded; its users by digit."""
+    """Execute a script that a session recorded; return its users by digit."""
     users = dict[str, User]()
     for line, answer in session.do_script(script):
         if line[2:3] in _FOLLOWED and line[0] != "*" and not is_refusal(answer):
@@ -104,19 +110,19 @@ def replay_script(session: Session, script: bytes) -> dict[str, User]:
     return users
 
 
-def machine_after(session: Session, script: bytes, images: Mapping[str, pathlib.Path]) -> Machine:
-    """The machine that a script leaves in a new session, which is of no use any more then."""
+def machine_after(session: Session, script: bytes, images: Mapping[str, pathlib.Path]) -> MachineState:
+    """Return the state in which a script leaves the machine of a new session. The session is of no use afterwards."""
     users = replay_script(session, script)
     for user in users.values():
         user.pages = dict(pages_of(user, images))
     owner = _switches(session)["owner"]
     shown = {digit: _look(Guest(session, int(digit)), user) for digit, user in users.items()}
     is_dirty = _find_areas(session, users, str(owner))
-    return Machine(users, shown, str(owner), is_dirty, _last(session))
+    return MachineState(users, shown, str(owner), is_dirty, _last(session))
 
 
 def fresh_memory(opening: Opening, user: User) -> dict[int, bytes]:
-    """The contents of a user's new pages, by their addresses."""
+    """Return the contents of a user's pages before the program starts, by their addresses."""
     memory = dict.fromkeys(user.pages, bytes(PAGE_BYTES))
     if user.image:
         with opening() as session:
@@ -127,7 +133,7 @@ def fresh_memory(opening: Opening, user: User) -> dict[int, bytes]:
 
 
 def follow_line(users: dict[str, User], line: str) -> None:
-    """Takes up a user's line that was accepted."""
+    """Take up a user's line, which the machine has accepted. users: by digit; the line may add or remove its user"""
     digit = line[0]
     match words_of(line):
         case ["enter"]:
@@ -143,7 +149,7 @@ def follow_line(users: dict[str, User], line: str) -> None:
 
 
 def pages_of(user: User, images: Mapping[str, pathlib.Path]) -> Iterator[tuple[int, str]]:
-    """The addresses of a user's pages, with what programs may do there."""
+    """Return the address and the permissions of each of a user's pages. images: paths by name"""
     if user.image:
         segments = (
             (address, rights, size) for address, rights, size, _ in segments_of(images[user.image].read_bytes())
@@ -155,7 +161,7 @@ def pages_of(user: User, images: Mapping[str, pathlib.Path]) -> Iterator[tuple[i
 
 
 def _look(guest: Guest, user: User) -> Shown:
-    """Looks at a user, whose program is stopped for that, and whose output buffer is emptied."""
+    """Return the state of a user. The program is stopped first, and the output buffer is emptied."""
     is_running = guest.query("state", Position).run == "running"
     if is_running:
         guest.query("stop", Position)
@@ -173,14 +179,17 @@ def _look(guest: Guest, user: User) -> Shown:
 
 
 def _switches(session: Session) -> dict[str, int]:
-    """The counts of the vector unit, and its owner."""
+    """Return the counts of the vector unit, and its owner, by name."""
     switches = read(session.do("* stats"))
     assert isinstance(switches, Switches)
     return switches.counts
 
 
 def _find_areas(session: Session, users: Mapping[str, User], owner: str) -> bool:
-    """Finds out who has a save area, and whether the owner's state was changed: each touches the unit, the owner last."""
+    """Find which users have a save area, and set `has_area`. Return whether the owner's state has changed since it was loaded.
+
+    Each user executes a vector instruction, the owner last, so that the counts of saves and restores show this.
+    """
     touching = {digit: page for digit, user in users.items() if (page := user.first("x")) is not None}
     own_page, is_dirty = touching.pop(owner, None), False
     if own_page is not None:
@@ -202,7 +211,7 @@ def _find_areas(session: Session, users: Mapping[str, User], owner: str) -> bool
 
 
 def _last(session: Session) -> str:
-    """Whose turn was the last: now each user's program runs, and faults at once."""
+    """Return the user of the last turn. Each user's program is started and faults in its first slice, so the first fault shows the order."""
     for digit in DIGITS:
         for command in ("leave", "enter", "go"):
             session.do(f"{digit} {command}")

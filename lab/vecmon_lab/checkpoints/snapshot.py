@@ -1,4 +1,4 @@
-"""The state of one user's stopped program, taken by looks alone, and the lines that set it up on a new machine."""
+"""The state of one user's stopped program, read by read-only commands, and the lines that restore it on a new machine."""
 
 from collections.abc import Mapping, Sequence
 from dataclasses import dataclass
@@ -8,7 +8,7 @@ from ..instructions.accesses import LINE_BYTES, PAGE_BYTES
 from ..machine.answers import Addresses, ControlRegisters, Memory, ScalarRegisters, Switches, read
 from ..machine.lines import DIGITS
 from ..machine.session import TOGETHER
-from .machine_state import Machine, Shown, User
+from .machine_state import MachineState, Shown, User
 from .set_up import lines_of
 
 LINES_OF_A_PAGE = PAGE_BYTES // LINE_BYTES
@@ -16,7 +16,7 @@ LINES_OF_A_PAGE = PAGE_BYTES // LINE_BYTES
 
 @dataclass(frozen=True)
 class Snapshot:
-    """The state of a user who is alone on a machine, whose program is stopped, and whose output buffer is empty.
+    """The state of the only user of a machine, whose program is stopped, and whose output buffer is empty.
 
     user: the image and the pages; shown: registers, memory, breakpoints, trace and policy
     is_owner: whether the vector unit holds this user's state
@@ -27,19 +27,19 @@ class Snapshot:
     is_owner: bool
 
     def lines(self, digit: str, fresh: Mapping[int, bytes]) -> Sequence[str]:
-        """The lines that leave a new machine in this state, but for the counts of its vector unit.
+        """Return the lines that bring a new machine into this state, except for the counts of its vector unit.
 
         digit: the user's; fresh: the contents of new pages, by their addresses
         """
         owner = digit if self.is_owner else "0"
-        machine = Machine({digit: self.user}, {digit: self.shown}, owner, self.is_owner, DIGITS[-1])
+        machine = MachineState({digit: self.user}, {digit: self.shown}, owner, self.is_owner, DIGITS[-1])
         return lines_of(machine, {digit: fresh})
 
 
 def take_snapshot(guest: Guest, user: User, before: Snapshot | None = None) -> Snapshot:
-    """Take a guest's snapshot by looks, which change nothing. Pages that are as in an earlier snapshot share its memory.
+    """Take a guest's snapshot by read-only commands.
 
-    user: the image and the pages
+    user: the image and the pages; before: an earlier snapshot, with which equal pages share memory
     """
     switches = read(guest.session.looks(["* stats"]))
     assert isinstance(switches, Switches)
@@ -58,7 +58,7 @@ def take_snapshot(guest: Guest, user: User, before: Snapshot | None = None) -> S
 
 
 def _memory(guest: Guest, pages: Mapping[int, str]) -> dict[int, bytes]:
-    """The contents of pages."""
+    """Return the contents of pages, by their addresses."""
     places = [page + at for page in pages for at in range(0, PAGE_BYTES, LINE_BYTES)]
     lines = [f"{guest.user} peek {place:x} {LINE_BYTES}" for place in places]
     groups = (lines[at : at + TOGETHER] for at in range(0, len(lines), TOGETHER))
@@ -69,6 +69,6 @@ def _memory(guest: Guest, pages: Mapping[int, str]) -> dict[int, bytes]:
 
 
 def _shared(memory: dict[int, bytes], before: Snapshot | None) -> dict[int, bytes]:
-    """The same memory, with the pages of an earlier snapshot in place of equal ones."""
+    """Return the same memory, with pages of an earlier snapshot in place of equal ones."""
     old = before.shown.memory if before else dict[int, bytes]()
     return {page: old[page] if old.get(page) == data else data for page, data in memory.items()}

@@ -1,1 +1,1 @@
-"""C sources: compiled in a sandbox by a stock compiler, and brought in as lines of the monitor."""
+"""C sources: a stock compiler compiles them in a sandbox, and monitor lines load the result."""

@@ -1,4 +1,4 @@
-"""The user that compiles others' sources, by `--as USER`: root starts the sandbox of compilers as a user with fewer rights."""
+"""The option `--as USER`: if root starts the lab, the sandbox of compilers runs as this user, who has fewer rights."""
 
 import argparse
 import os
@@ -11,14 +11,14 @@ from .. import LabError
 
 @dataclass(frozen=True)
 class Account:
-    """A user and its group, by their numbers; None for those of this process. The user has no other groups."""
+    """The numbers of a user and its group; None for those of this process. The user has no other groups."""
 
     user: int | None = None
     group: int | None = None
 
     @property
     def groups(self) -> Sequence[int] | None:
-        """The additional groups of a process of the user; None for those of this process."""
+        """The additional groups of a process of this user; None for those of the lab's process."""
         return None if self.user is None else ()
 
 
@@ -33,15 +33,15 @@ def add_account(parser: argparse.ArgumentParser) -> None:
 
 
 def account_named(name: str | None) -> Account:
-    """Return the account of a user, or the process's own without a name.
+    """Return the account of a user, or the account of this process if there is no name.
 
-    Raises LabError for an unknown user, for root, and for another user than the own one unless this process is root's.
+    Raises LabError for an unknown user and for root. Unless root runs this process, also raises it for any user other than this process's.
     """
     if name is None:
         return OWN
     try:
         found = pwd.getpwnam(name)
-    except (KeyError, ValueError) as error:  # a name with a zero byte
+    except (KeyError, ValueError) as error:  # ValueError: the name has a zero byte
         raise LabError(
             f"--as {name!r}: there is no such user; `--as nobody` names Debian's user without rights"
         ) from error

@@ -1,4 +1,4 @@
-"""Types of C by their entries in debug data: in C's words, and as numbers of a kind."""
+"""Types of C in debug data: their declarations, integer ranges, and the kinds of their numbers."""
 
 from typing import TYPE_CHECKING, NamedTuple
 
@@ -10,16 +10,23 @@ if TYPE_CHECKING:
 QUALIFIERS = {f"DW_TAG_{word}_type": word for word in ("const", "volatile", "restrict")}
 QUALIFIERS["DW_TAG_atomic_type"] = "_Atomic"
 _KINDS = {"DW_TAG_structure_type": "struct ", "DW_TAG_union_type": "union ", "DW_TAG_enumeration_type": "enum "}
-_NUMBERS = {2: "u", 5: "i", 6: "i", 7: "u", 8: "u"}  # by how a base type is encoded (DW_ATE_boolean and so on)
+_NUMBERS = {
+    2: "u",
+    5: "i",
+    6: "i",
+    7: "u",
+    8: "u",
+}  # kinds of numbers by the encoding of a base type (DW_ATE_boolean and so on)
 _CHARACTERS = (6, 8)
 _BIT_INT = "_BitInt"  # clang's debug data has no number of bits for it
 _UNICODE = 16  # DW_ATE_UTF, of char16_t and char32_t
 _POINTERS = {"DW_TAG_pointer_type": "*", "DW_TAG_reference_type": "&", "DW_TAG_rvalue_reference_type": "&&"}
-_COUNTS = (("DW_AT_count", 0), ("DW_AT_upper_bound", 1))  # and what is added
+# Attributes, and the number to add to get the number of elements.
+_COUNTS = (("DW_AT_count", 0), ("DW_AT_upper_bound", 1))
 
 
 class Integer(NamedTuple):
-    """An integer type, an enumeration or a pointer.
+    """The range of an integer type, an enumeration or a pointer.
 
     bits: 8, 16, 32 or 64; smallest, largest: the range of its values, which is 0 to 1 for `_Bool`
     """
@@ -38,14 +45,15 @@ BOOLEAN = Integer(8, 0, 1)
 
 
 def integer_of(bits: int, is_signed: bool) -> Integer:
-    """An integer type of this number of bits."""
+    """Return the integer type of a number of bits."""
     return Integer(bits, -(1 << bits - 1), (1 << bits - 1) - 1) if is_signed else Integer(bits, 0, (1 << bits) - 1)
 
 
 def integer(entry: "DIE | None") -> Integer | None:
-    """The integer type that an entry is; None for void, `_BitInt(N)`, and types that are no integer, enumeration or pointer.
+    """Return the integer type of an entry of debug data.
 
-    Raises RecursionError for a type that has itself in it.
+    Returns None for void, for `_BitInt(N)`, and for a type that isn't an integer, an enumeration or a pointer. Raises RecursionError for a
+    type that contains itself.
     """
     if entry is None:
         return None
@@ -71,9 +79,9 @@ def integer(entry: "DIE | None") -> Integer | None:
 
 
 def declaration(entry: "DIE | None", inner: str) -> str:
-    """The declaration of a name of this type; `inner` is the name: `const int *from`, `int x[3][4]`.
+    """Return the C declaration of the name `inner` with the type of an entry, such as `const int *from` or `int x[3][4]`.
 
-    Raises RecursionError for a type that has itself in it.
+    Raises RecursionError for a type that contains itself.
     """
     if entry is None:
         return f"void {inner}"
@@ -93,9 +101,10 @@ def declaration(entry: "DIE | None", inner: str) -> str:
 
 
 def shape(entry: "DIE | None") -> tuple[str, list[int]]:
-    """The kind of a type's numbers with their bits, as `i32`, or "" where it has none; and an array's dimensions.
+    """Return the kind of a type's numbers, and the dimensions of an array.
 
-    Kinds are `i` and `u`, `c` for char and `x` for a pointer. Raises RecursionError for a type that has itself in it.
+    A kind is `i`, `u`, `c` for char or `x` for a pointer, followed by the number of bits, such as `i32`; "" for other types.
+    Raises RecursionError for a type that contains itself.
     """
     if entry is None:
         return "", []
@@ -117,9 +126,9 @@ def shape(entry: "DIE | None") -> tuple[str, list[int]]:
 
 
 def pointed_kind(entry: "DIE | None") -> str:
-    """The kind of the numbers that a pointer, or an array's pointers, point to, as `shape` has it; "" where there is none.
+    """Return the kind of the numbers that a pointer, or each pointer of an array, points to, in the form of `shape`; "" if there is none.
 
-    Raises RecursionError for a type that has itself in it.
+    Raises RecursionError for a type that contains itself.
     """
     if entry is None:
         return ""
@@ -131,7 +140,7 @@ def pointed_kind(entry: "DIE | None") -> str:
 
 
 def _counts(entry: "DIE") -> list[int]:
-    """The dimensions of an array; 0 for one without a constant."""
+    """Return the dimensions of an array; 0 for a dimension that isn't constant."""
     ranges = [child.attributes for child in entry.iter_children() if child.tag == "DW_TAG_subrange_type"]
     counts = [[each[name].value + more for name, more in _COUNTS if name in each] for each in ranges]
     return [number[0] if number and isinstance(number[0], int) else 0 for number in counts]

@@ -1,4 +1,4 @@
-"""A source compiled to lines of the monitor, which load its image; they replay without a compiler."""
+"""A compiled source as monitor lines that load its image, so that a replay needs no compiler."""
 
 import bisect
 import json
@@ -19,23 +19,24 @@ from .debug import MESSAGE_LETTERS, MAX_BYTES, MAX_MESSAGES, MAX_ROWS, MAX_SEGME
 from .failures import ToolError
 from .variables import Variable, read_variables
 
-IMAGE_BYTES, IMAGE_PAGES = 1 << 16, 200  # of what isn't zeros; and of all pages
+IMAGE_BYTES, IMAGE_PAGES = 1 << 16, 200  # largest number of bytes that aren't zeros, and of pages
 
-_DATA = re.compile(rb"[^\0]+(?:\0{1,15}[^\0]+)*")  # bytes with few zeros between them
+_DATA = re.compile(rb"[^\0]+(?:\0{1,15}[^\0]+)*")  # matches bytes with at most 15 successive zeros between them
 
 Isolation = Callable[[Sequence[str], str], bytes]
-"""A function that runs `sandbox_main` with these arguments for a source of others, apart from the user's files; its output."""
+"""Runs `sandbox_main` with arguments for a source of others, isolated from the user's files; returns its output."""
 
 
 @dataclass(frozen=True)
 class CompiledProgram(Program):
     """A program that a compiler made.
 
-    reply: the data it was read from
-    rows: where instructions of a line of the source begin, with that line (0 for none) and the function that was inlined
-    there, in rising order; variables: those of the source
-    stops: the addresses of a line's breakpoints, by its number; entries: where functions and their inlined copies are
-    entered, by name
+    rows: in rising order each address where instructions of another line begin, with the number of the line (0 for none) and the name of
+        the function that was inlined there ("" for none)
+    variables: the variables in the source's debug data
+    stops: the addresses of breakpoints, by line number
+    entries: the first addresses of functions and their inlined copies, by name
+    reply: the output of the compiler's process from which the program was read
     """
 
     rows: Sequence[tuple[int, int, str]] = ()
@@ -45,39 +46,42 @@ class CompiledProgram(Program):
     reply: bytes = b""
 
     def check(self, name: str) -> None:
-        """Raises SourceMistakes where a source of this name has mistakes, with a line for each."""
+        """Raise SourceMistakes, with a line for each mistake, if the source has mistakes. name: the source's name in these lines"""
         if self.mistakes:
             raise SourceMistakes("\n".join(error.diagnostic(name) for error in self.mistakes))
 
     def text(self) -> range:
-        """The addresses of its instructions."""
+        """The addresses of the program's instructions."""
         return range(self.rows[0][0], self.rows[-1][0], 4) if self.rows else range(0)
 
     @property
     def size(self) -> int:
-        """The number of its instructions."""
+        """The number of the program's instructions."""
         return len(self.text())
 
     def line_at(self, address: int) -> int:
-        """The number of the line that the instruction at an address is of; 0 for none."""
+        """Return the source line of the instruction at an address; 0 if it belongs to none."""
         at = bisect.bisect_right(self.rows, address, key=lambda row: row[0])
         return self.rows[at - 1][1] if at else 0
 
     def line_starts(self) -> dict[str, int]:
-        """Where instructions of another line of the source begin: its number, 0 for none, by their address.
+        """Return the addresses where instructions of another line begin, each with the line's number (0 for none).
 
-        An instruction is of the last line that begins at its address or before it.
+        An instruction belongs to the line of the last such address that isn't above its own.
         """
-        numbers = {address: number for address, number, _ in self.rows}  # of several at an address the last one
+        numbers = {address: number for address, number, _ in self.rows}  # the last row at each address
         pairs = zip(numbers.items(), [None, *numbers.values()])
         return {f"{address:x}": number for (address, number), before in pairs if number != before}
 
     def line_stops(self) -> dict[str, list[str]]:
-        """The addresses of each line's breakpoints, by its number."""
+        """Return the addresses of each line's breakpoints, by line number."""
         return {f"{number}": [f"{address:x}" for address in addresses] for number, addresses in self.stops.items()}
 
     def source_lines(self, text: str) -> dict[str, str]:
-        """The number and the text of the line that instructions are of, by the address of their first word."""
+        """Return the number and the text of each source line that has instructions, by the address of its first instruction.
+
+        text: the source
+        """
         lines = ["", *text.split("\n")]
         texts, before = {}, 0
         for address, number, inlined in self.rows:
@@ -88,14 +92,14 @@ class CompiledProgram(Program):
         return texts
 
     def addresses(self) -> dict[int, int]:
-        """The first instruction of each line of the source that has one."""
+        """Return the address of the first instruction of each line that has one, by line number."""
         return {number: address for address, number, _ in reversed(self.rows) if number}
 
 
 def read_compiled_program(reply: bytes, limit: int = IMAGE_BYTES) -> CompiledProgram:
-    """The program of what `sandbox_main` printed. Raises LabError where that is in bad form, or too much.
+    """Parse the program that `sandbox_main` printed. Raises LabError if the text is malformed, or the program is too large.
 
-    Raises ToolError where the source couldn't be compiled, and that says nothing about it.
+    Raises ToolError if the compiler failed for a reason outside the source.
     """
     errors, warnings = list[SourceError](), list[SourceError]()
     try:
@@ -116,9 +120,9 @@ def read_compiled_program(reply: bytes, limit: int = IMAGE_BYTES) -> CompiledPro
 def program_of(
     image: Mapping[str, Any], warnings: Sequence[SourceError] = (), most_bytes: int = IMAGE_BYTES
 ) -> CompiledProgram:
-    """The program of an image, as it is answered from the sandbox. Raises LabError where it is too large.
+    """Return the program of an image, which has the form of `debug.Image`. Raises LabError if it is too large.
 
-    most_bytes: of those that aren't zeros
+    most_bytes: the limit of bytes that aren't zeros
     """
     segments = [(address, rights, size, bytes.fromhex(data)) for address, rights, size, data in image["segments"]]
     if len(segments) > MAX_SEGMENTS or not all(0 < size <= MAX_BYTES for _, _, size, _ in segments):
@@ -139,7 +143,7 @@ def program_of(
 
 
 def variable_rows(variables: Sequence[Variable]) -> list[int]:
-    """The rows of memory with numbers of variables that lie at an address, in the variables' order."""
+    """Return the addresses of the rows of memory that have numbers of global variables, in the order of the variables."""
     rows = dict[int, None]()
     for variable in variables:
         size = int(variable.element[1:]) // 8 * math.prod(variable.counts) if variable.element else 0
@@ -151,7 +155,10 @@ def variable_rows(variables: Sequence[Variable]) -> list[int]:
 def _stops(
     addresses_by_name: Mapping[str, Sequence[int]] | None, rows: Sequence[tuple[int, int, str]]
 ) -> tuple[dict[int, list[int]], dict[str, list[int]]]:
-    """The addresses of breakpoints by line, and by function. Images of version 1.0 have none, so a line's are where it begins."""
+    """Return the addresses of breakpoints, by line and by function.
+
+    Images of version 1.0 have none. In these, a line's breakpoints are where its instructions begin.
+    """
     stops, entries = dict[int, list[int]](), dict[str, list[int]]()
     for name, addresses in islice((addresses_by_name or {}).items(), MAX_ROWS):
         places = sorted({int(address) for address in islice(addresses, MAX_STOPS)})
@@ -168,13 +175,13 @@ def _stops(
 
 
 def _own_line(line: str) -> int:
-    """The number of a line of the source; 0 for one of another file."""
+    """Return the number of a line of the source, such as 12 for `source.c:12`; 0 for a line of another file."""
     file, _, number = line.rpartition(":")
     return int(number) if file in OWN_SOURCES else 0
 
 
 def rights_by_page(segments: Iterable[tuple[int, str, int]]) -> dict[int, str]:
-    """The permissions of each page, by its address, from all segments in it."""
+    """Return the permissions of each page, by its address. A page has the permissions of all segments in it."""
     pages: dict[int, str] = {}
     for address, rights, size in segments:
         for page in range(address // PAGE_BYTES * PAGE_BYTES, address + size, PAGE_BYTES):
@@ -184,7 +191,7 @@ def rights_by_page(segments: Iterable[tuple[int, str, int]]) -> dict[int, str]:
 
 
 def maps(pages: Mapping[int, str]) -> Iterator[str]:
-    """The lines that map pages, one for those that follow each other and are alike."""
+    """Yield the lines that map pages. Consecutive pages with equal permissions need only one line."""
     ordered = enumerate(sorted(pages.items()))
     numbered = ((page - PAGE_BYTES * place, rights, page) for place, (page, rights) in ordered)
     for (_, rights), run in groupby(numbered, key=lambda each: each[:2]):

@@ -1,4 +1,4 @@
-"""The available compilers, and their options: a closed list, chosen by a number."""
+"""The installed compilers, and their options, which are chosen by number from a fixed list."""
 
 import os
 import pathlib
@@ -14,19 +14,19 @@ from ..places import tools_advice
 RUNTIME = pathlib.Path(__file__).parent / "runtime"
 C_SOURCE, ASSEMBLER_SOURCE, PREPROCESSED_SOURCE, IMAGE = "source.c", "source.s", "source.S", "image"
 OWN_SOURCES = (C_SOURCE, ASSEMBLER_SOURCE, PREPROCESSED_SOURCE)
-"""The names that sources and their image always have; PREPROCESSED_SOURCE only in messages and debug data."""
+"""The names of sources in their folder, with IMAGE; PREPROCESSED_SOURCE occurs only in messages and debug data."""
 
 C_SUFFIX, PREPROCESSED_SUFFIX = ".c", ".S"
 ASSEMBLER_SUFFIXES = (".s", PREPROCESSED_SUFFIX)
-"""The ends of the names of users' sources."""
+"""Suffixes of users' assembler sources."""
 
 FUNCTION = "answer"
-"""The function that begins an image which is to answer an exercise; others begin with `main`."""
+"""The function that each case calls in an answer to an exercise. Other images start with `main`."""
 
 CXX_SUFFIXES = (".cc", ".cpp", ".cxx", ".c++", ".C")
-"""Of sources in C++, which the lab doesn't compile."""
+"""Suffixes of sources in C++, which the lab doesn't compile."""
 
-MIN_CLANG, MIN_GCC = 17, 14  # which have the intrinsics of vectors by their present names
+MIN_CLANG, MIN_GCC = 17, 14  # the first versions with the present names of vector intrinsics
 
 COMPILERS_ADVICE = tools_advice("clang-19", "lld-19", "bubblewrap")
 """How to install the compilers of sources in C, and their sandbox."""
@@ -42,9 +42,10 @@ _GCC = ("-no-pie", "-Wl,--no-relax", "-fno-diagnostics-show-caret", "-fmax-error
 
 @dataclass(frozen=True)
 class Choice:
-    """Options that a page offers by their name; clang and gcc have words of their own for some.
+    """Options of a compiler that a page offers by name.
 
-    source: the name of its sources, always the same; the last letter is the language
+    clang, gcc: the arguments of each compiler for these options
+    source: the name of the source in its folder; its suffix shows the language
     """
 
     name: str
@@ -63,35 +64,35 @@ CHOICES = [
 
 @dataclass(frozen=True)
 class Compiler:
-    """A compiler of the system's, by the name of its program, as `clang-19`."""
+    """A compiler of the system, by the name of its program, such as `clang-19`."""
 
     name: str
 
     @property
     def is_clang(self) -> bool:
-        """Whether it is a clang, else a gcc."""
+        """Whether the compiler is a clang; otherwise it is a gcc."""
         return self.name.startswith("clang")
 
     @property
     def has_vectors(self) -> bool:
-        """Whether it has the intrinsics of vectors."""
+        """Whether the compiler has vector intrinsics."""
         return self.is_clang or _version(self.name) >= MIN_GCC
 
     def title(self, choice: int) -> str:
-        """The compiler with its options, as pages name it; and what it lacks."""
+        """Return the name of the compiler with the options of this number, for pages, and a note if it lacks vector intrinsics."""
         lacking = "" if self.has_vectors else " (scalar C alone: it has no intrinsics)"
         return f"{self.name} {CHOICES[choice].name}{lacking}"
 
     def words(
         self, choice: int, is_answer: bool = False, is_alone: bool = False, named: str = "", has_memory: bool = False
     ) -> list[str]:
-        """The command that compiles the source in its folder. Raises LabError where there is no such choice.
+        """Return the command that compiles the source in the present folder. Raises LabError for an unknown choice.
 
-        is_answer: to an exercise, whose loops have vectors where the source asks for them alone
-        is_alone: whether the source begins by itself, and nothing is linked to it
-        named: the path that debug data names in place of the source's name; the preprocessor reads an assembler source first
-            if this ends in .S
-        has_memory: whether memmove and memcmp are linked, too
+        choice: the number of the options
+        is_answer: whether the source answers an exercise; then the compiler doesn't vectorize loops by itself
+        is_alone: whether the source has its own `_start`, so that no runtime is linked
+        named: the path that debug data has for the source; if it ends in .S, the preprocessor reads an assembler source first
+        has_memory: whether memmove and memcmp are linked as well
         """
         source = source_of(choice)
         if self.is_clang:
@@ -106,7 +107,8 @@ class Compiler:
             own += ["-DVECMON_ANSWER", f"-Wl,--entry={FUNCTION}", *plain]
         # a named source is debugged here, with the runtime's source; any other image is the same in each folder
         places = {source: named} if named else {str(RUNTIME): "runtime", source: source}
-        if named and source == ASSEMBLER_SOURCE:  # whose name a line marker has, since assemblers map only folders
+        # A line marker sets this source's name, since assemblers map only folders.
+        if named and source == ASSEMBLER_SOURCE:
             places = {**places, ".": str(pathlib.PurePath(named).parent)}
         folder = (f"-I{RUNTIME}", *(f"-fdebug-prefix-map={place}={name}" for place, name in places.items()))
         runtime = ("runtime.c", *["memory.c"] * has_memory) if source == C_SOURCE and not is_alone else ()
@@ -117,14 +119,14 @@ class Compiler:
 
 
 def source_of(choice: int) -> str:
-    """The name of a source for options of this number. Raises LabError where there are none."""
+    """Return the name of a source for options of this number. Raises LabError for an unknown number."""
     if not 0 <= choice < len(CHOICES):
         raise LabError(f"options have numbers from 0 to {len(CHOICES) - 1}")
     return CHOICES[choice].source
 
 
 def choice_of(name: str) -> int:
-    """The number of options by their name. Raises LabError where there are none of it."""
+    """Return the number of the options of this name. Raises LabError for an unknown name."""
     names = [choice.name for choice in CHOICES]
     if name not in names:
         raise LabError(f"{name} aren't options; there are {', '.join(names)}")
@@ -139,9 +141,9 @@ def refuse_cxx(path: pathlib.Path) -> None:
 
 
 def choice_for(path: pathlib.Path, name: str | None) -> int | None:
-    """The number of a file's options by their name; without one, of the first options for C, or None for any other file.
+    """Return the number of the options of this name for a file. Without a name it is 0 for a C file, and None for other files.
 
-    Raises LabError where they don't fit.
+    Raises LabError if the options are for another language, or if the file is in C++.
     """
     refuse_cxx(path)
     if name is None:
@@ -155,7 +157,7 @@ def choice_for(path: pathlib.Path, name: str | None) -> int | None:
 
 
 def find_compilers() -> list[Compiler]:
-    """The compilers that there are, the newest clang first."""
+    """Return the installed compilers, the newest clang first."""
     clangs = [Compiler(f"clang-{version}") for version in range(MIN_CLANG + 12, MIN_CLANG - 1, -1)]
     gccs = [Compiler(f"riscv64-linux-gnu-gcc{ending}") for ending in ("-16", "-15", "-14", "")]
     gccs.append(Compiler("riscv64-unknown-elf-gcc"))
@@ -163,7 +165,7 @@ def find_compilers() -> list[Compiler]:
 
 
 def find_compiler(name: str | None) -> Compiler:
-    """The compiler of this name, or the first one. Raises LabError where it isn't there."""
+    """Return the compiler of this name, or the first one if there is no name. Raises LabError if it isn't installed."""
     for compiler in find_compilers():
         if name in (None, compiler.name):
             return compiler
@@ -172,22 +174,22 @@ def find_compiler(name: str | None) -> Compiler:
 
 
 def install_compilers() -> None:
-    """Install Debian's compilers if there are none, in a clone, as root or by a sudo that asks for no password."""
+    """Install Debian's compilers in a clone that has none, if this is root, or sudo asks for no password."""
     if find_compilers() or not INSTALLER.is_file():
         return
-    import subprocess  # which the synchronous core does without
+    import subprocess  # not needed by the synchronous core
 
     if os.geteuid() == 0 or subprocess.run("sudo -n true", shell=True, capture_output=True).returncode == 0:
         subprocess.run([INSTALLER, "compilers"], stdout=subprocess.DEVNULL)
 
 
 def _is_installed(compiler: Compiler) -> bool:
-    """Whether a compiler and, for a clang, the linker of its version are in the system's folder."""
+    """Return whether a compiler is in /usr/bin. For a clang, the linker of the same version must be there too."""
     linker = f"ld.lld{compiler.name.removeprefix('clang')}" if compiler.is_clang else compiler.name
     return all(shutil.which(name, path="/usr/bin") for name in (compiler.name, linker))
 
 
 def _version(name: str) -> int:
-    """The version that a program's name ends in, or the name of what it is a link to; 0 where it has none."""
+    """Return the version number at the end of a program's name, after symbolic links were followed; 0 if there is none."""
     found = re.search(r"-(\d+)[.\d]*$", str(pathlib.Path("/usr/bin", name).resolve()))
     return int(found[1]) if found else 0

@@ -1,7 +1,7 @@
-"""Others' sources without a sandbox, for root of a container that is deleted after one answer: compiled as the user nobody.
+"""Compile sources of others without a sandbox: root of a container compiles them as the user nobody.
 
-A container that Docker starts by default can make no sandbox. There the compiler can read every file of the container that all
-users can read, and no other file: so an exercise that it can read isn't graded.
+The container is deleted after one answer to an exercise. By default, Docker's containers can't make a sandbox. The compiler can read all
+files of the container that every user can read. So files of exercises must be readable only by root.
 """
 
 import asyncio
@@ -23,7 +23,10 @@ _LIMITED = ("/usr/bin/prlimit", f"--nproc={PROCESSES}", "/usr/bin/python3", "-B"
 
 
 def check_container(*private: pathlib.Path) -> None:
-    """Raises LabError where the user nobody can't be used, or can read one of these files, or a file of these folders."""
+    """Raise LabError if root doesn't run this process, or if the user nobody can read one of these files, or a file in these folders.
+
+    Raises ToolError if this can't be found out.
+    """
     if os.geteuid():
         raise LabError("--no-sandbox is for root of a container: the compiler then runs as the user nobody")
     paths = [str(path.resolve()) for path in private]
@@ -39,12 +42,15 @@ def check_container(*private: pathlib.Path) -> None:
         raise LabError(f"without a sandbox a source in C could include {found}: chmod -R go= {place}")
 
 
-def answer_as_nobody(words: Sequence[str], text: str) -> bytes:
-    """The output of `sandbox_main` with these arguments, which runs as the user nobody. Raises LabError, and ToolError."""
+def run_as_nobody(words: Sequence[str], text: str) -> bytes:
+    """Run `sandbox_main` as the user nobody; return its output. Raises LabError and ToolError.
+
+    words: its arguments; text: the source
+    """
     with tempfile.TemporaryDirectory() as place:
         lab, folder = pathlib.Path(place, "lab"), pathlib.Path(place, "folder")
         os.chmod(place, 0o755)
-        copy_lab(lab)  # since only root may be able to read the lab's own folder
+        copy_lab(lab)  # only root may be able to read the lab's own folder
         folder.mkdir()
         os.chown(folder, NOBODY, NOBODY)
         variables = {"PATH": "/usr/bin", "PYTHONPATH": str(lab), "LC_ALL": "C.UTF-8", "TMPDIR": str(folder)}

@@ -15,7 +15,7 @@ from .variables import Variable, variables_of
 if TYPE_CHECKING:
     from elftools.elf.elffile import ELFFile
 
-MAX_MESSAGES, MESSAGE_LETTERS = 100, 400  # of a compiler's
+MAX_MESSAGES, MESSAGE_LETTERS = 100, 400  # of a compiler: messages, and letters of each
 MAX_SEGMENTS, MAX_BYTES, MAX_SYMBOLS, MAX_ROWS = 64, 1 << 20, 2000, 20_000
 MAX_STOPS = 64  # addresses of a line or a function
 _CODE = 4  # SHF_EXECINSTR: the section has instructions
@@ -26,7 +26,7 @@ NO_THREADS = "the machine has no threads, and so no _Thread_local variables: use
 
 
 class Segment(NamedTuple):
-    """A part of memory: its address, permissions, size, and its first bytes in hexadecimal."""
+    """A segment of memory: its address, permissions and size, and its first bytes in hexadecimal; the others are 0."""
 
     address: int
     rights: str
@@ -35,8 +35,11 @@ class Segment(NamedTuple):
 
 
 class LineRow(NamedTuple):
-    """Where instructions of a line begin: the file and the line, as `source.c:12`, or "" for none; and the function
-    that was inlined there, or ""."""
+    """An address where instructions of another line begin.
+
+    line: the file and the number of the line, such as `source.c:12`, or "" for none
+    inlined: the name of the function that was inlined there, or ""
+    """
 
     address: int
     line: str
@@ -44,9 +47,9 @@ class LineRow(NamedTuple):
 
 
 class Image(TypedDict):
-    """An image, as it is answered.
+    """The parts of an image, in the form of the sandbox's output.
 
-    stops: the addresses of breakpoints, by a line of the source, as `source.c:12`, or by the name of a function in it
+    stops: the addresses of breakpoints, by a line of the source such as `source.c:12`, or by the name of a function in it
     """
 
     entry: int
@@ -58,9 +61,10 @@ class Image(TypedDict):
 
 
 def image_of(path: pathlib.Path) -> Image:
-    """The parts of an image, as far as its debug data can be read. Raises ValueError if it has too many, or its headers are damaged.
+    """Return the parts of an image, as far as its debug data can be read.
 
-    An image without an entry begins at `_start`, or at its first code.
+    An image without an entry address starts at `_start`, or at its first code. Raises ValueError if the image has too many parts,
+    or its headers are damaged.
     """
     from elftools.elf.elffile import ELFFile
 
@@ -75,7 +79,10 @@ def image_of(path: pathlib.Path) -> Image:
 
 
 def missing_start_code(path: pathlib.Path) -> list[str]:
-    """What an image needs before `main` that the runtime doesn't do, a sentence each. Raises OSError, and what pyelftools does."""
+    """Return a sentence for each thing that an image needs before `main` and the runtime doesn't do.
+
+    Raises OSError, and the exceptions of pyelftools.
+    """
     from elftools.elf.elffile import ELFFile
 
     with path.open("rb") as file:
@@ -86,7 +93,7 @@ def missing_start_code(path: pathlib.Path) -> list[str]:
 
 
 def _parts(elf: "ELFFile", symbols: Sequence[tuple[str, int]]) -> Image:
-    """The parts of an open image with these symbols."""
+    """Return the parts of an open image with these symbols."""
     rows, stops = _rows(elf)
     code = [section["sh_addr"] for section in elf.iter_sections() if section["sh_flags"] & _CODE]
     return {
@@ -100,7 +107,7 @@ def _parts(elf: "ELFFile", symbols: Sequence[tuple[str, int]]) -> Image:
 
 
 def _segments(elf: "ELFFile") -> Iterator[Segment]:
-    """The segments that are loaded. Raises ValueError where they are too many or too large."""
+    """Return the loaded segments. Raises ValueError if they are too many or too large."""
     left = MAX_BYTES
     if elf.num_segments() > MAX_SEGMENTS:
         raise ValueError(f"the image has more than {MAX_SEGMENTS} segments")
@@ -113,7 +120,7 @@ def _segments(elf: "ELFFile") -> Iterator[Segment]:
 
 
 def _rows(elf: "ELFFile") -> tuple[list[LineRow], dict[str, list[int]]]:
-    """The rows of the line tables, by addresses, and where breakpoints of lines and functions of the source are; none if those are damaged."""
+    """Return the rows of the line tables by address, and `Image.stops`; nothing if the tables are damaged."""
     try:
         listed, copies = [*islice(source_rows(elf), MAX_ROWS)], [*copies_in(elf)]
     except Exception:  # pylint: disable=broad-except  # damaged data makes pyelftools raise what its parts do
@@ -129,5 +136,5 @@ def _rows(elf: "ELFFile") -> tuple[list[LineRow], dict[str, list[int]]]:
 
 
 def _is_own(line: str) -> bool:
-    """Whether a line, as `source.c:12`, is of the source."""
+    """Return whether a line such as `source.c:12` is one of the source."""
     return line.rpartition(":")[0] in OWN_SOURCES

@@ -8,9 +8,9 @@ _FOLDERS = re.compile(r"(?:/[\w.+-]+)+/")
 
 
 class ToolError(LabError):
-    """A tool failed: the sandbox, the compiler's process or the machine. It says nothing about the source, which may be right."""
+    """A tool failed: the sandbox, the compiler's process or the machine. The source may be right."""
 
 
 def without_folders(text: str) -> str:
-    """A text in which files of this system have their names alone."""
+    """Return a text in which paths of files are reduced to their names."""
     return _FOLDERS.sub("", text)

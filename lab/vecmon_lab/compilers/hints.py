@@ -1,7 +1,7 @@
 """Advice for messages of compilers and linkers whose cause is the machine: it has no C library and no floating point.
 
-The texts of these messages are the only source: neither a compiler nor a linker gives them a code. So the patterns are whole messages
-of clang, GCC, lld and GNU ld, and no message with another text gets advice.
+These messages have no codes, so they are recognized by their texts. The patterns are whole messages of clang, GCC, lld and GNU ld.
+A message with another text gets no advice.
 """
 
 import re
@@ -14,7 +14,7 @@ _LIBRARY_HEADERS = frozenset(
     "assert complex ctype errno fenv inttypes locale math pthread setjmp signal stdio stdlib string strings tgmath"
     " threads time uchar unistd wchar wctype".split()
 )
-"""Headers of C and POSIX that need a C library, without `.h`; compilers have all others of C themselves."""
+"""Headers of C and POSIX that need a C library, without `.h`. Compilers bring the other headers of C."""
 
 _OF_GLIBC = (
     "bits/",
@@ -45,19 +45,22 @@ _OF_LIBGCC = [(_SOFT_FLOAT, NO_FLOATS), (_WIDE_INTEGERS, NO_WIDE_INTEGERS), (_AT
 
 
 def with_advice(message: str) -> str:
-    """A message of a compiler or a linker, followed by advice if the machine is the cause."""
+    """Return a message of a compiler or a linker, with advice if the machine is the cause."""
     advice = _advice(message)
     return f"{message}: {advice}" if advice else message
 
 
 def undefined_reference(line: str) -> tuple[str, int, str] | None:
-    """A message of GNU ld, which doesn't call it an error: the file, the line or 0, and the symbol; None for any other line."""
+    """Parse GNU ld's message on an undefined symbol, which lacks the word error; return the file, the line or 0, and the symbol.
+
+    Return None for any other line.
+    """
     found = _REFERENCE.fullmatch(line)
     return (found[1], int(found[2] or 0), found[3]) if found else None
 
 
 def _advice(message: str) -> str:
-    """Advice for a message, or ""."""
+    """Return the advice for a message, or ""."""
     if found := _NO_HEADER.fullmatch(message):
         header = found[1] or found[2]
         is_library = header.removesuffix(".h") in _LIBRARY_HEADERS or header.startswith(_OF_GLIBC)

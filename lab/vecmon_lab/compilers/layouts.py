@@ -1,5 +1,4 @@
-"""Types of C by their entries in debug data, for a debugger: fields of structures, elements of arrays and vectors, and what pointers
-point to."""
+"""Types of C in debug data, for a debugger: fields of structures, elements of arrays and vectors, and targets of pointers."""
 
 import math
 from collections.abc import Callable, Iterator, Sequence
@@ -26,7 +25,7 @@ class Field(NamedTuple):
     """A field of a structure or union.
 
     offset: in bytes, from the start of the structure
-    bits: of a bit field, the number of the first bit, from the start of the structure, and how many; None for other fields
+    bits: of a bit field the number of its first bit, counted from the start of the structure, and its width; None for other fields
     """
 
     name: str
@@ -37,22 +36,22 @@ class Field(NamedTuple):
 
 @dataclass(frozen=True)
 class Layout:
-    """A type. Its parts are read when they are asked for, as a structure may have a pointer to its own type."""
+    """A type of C. Its parts are read on demand, since a structure may have a pointer to its own type."""
 
     entry: "DIE"
 
     def declaration(self, name: str = "") -> str:
-        """The declaration of a name of this type, as `struct pair *x`; the type's own words without a name."""
+        """Return the declaration of a name with this type, such as `struct pair *x`; without a name, that of the type alone."""
         return self._read(lambda: " ".join(declaration(self.entry, name).split()), name)
 
     @cached_property
     def kind(self) -> str:
-        """The kind of the type's numbers with their bits, as `i32`; "" if it has none."""
+        """The kind of the type's numbers, such as `i32`; "" if it has none."""
         return self._shape[0]
 
     @cached_property
     def counts(self) -> Sequence[int]:
-        """The dimensions of an array; of a vector the number of its elements."""
+        """The dimensions of an array, or the number of a vector's elements."""
         return self._shape[1]
 
     @cached_property
@@ -63,12 +62,12 @@ class Layout:
 
     @cached_property
     def is_vector(self) -> bool:
-        """Whether it is a vector type, such as `vint32m1_t`."""
+        """Whether the type is a vector type, such as `vint32m1_t`."""
         return self._read(lambda: _is_vector(_plain(self.entry)), False)
 
     @cached_property
     def is_mask(self) -> bool:
-        """Whether it is a mask type, such as `vbool8_t`: a vector of bits."""
+        """Whether the type is a mask type, such as `vbool8_t`: a vector of bits."""
 
         def is_boolean() -> bool:
             encoding = _plain(_inside(_plain(self.entry))).attributes.get("DW_AT_encoding")
@@ -78,12 +77,15 @@ class Layout:
 
     @cached_property
     def fields(self) -> Sequence[Field]:
-        """The fields of a structure or union, with those of structures without a name inside it; none of other types."""
+        """The fields of a structure or union, including those of unnamed structures in it; none for other types."""
         return self._read(lambda: [*_fields(_plain(self.entry), 0)][:MAX_FIELDS], [])
 
     @cached_property
     def element(self) -> "Layout | None":
-        """The type of an array's elements, behind all of its dimensions."""
+        """The type of an array's elements, after all of its dimensions; for other types, the type itself.
+
+        None if the debug data is damaged.
+        """
 
         def innermost() -> "Layout | None":
             entry = _plain(self.entry)
@@ -106,7 +108,7 @@ class Layout:
 
     @cached_property
     def pointed_kind(self) -> str:
-        """The kind of the numbers that a pointer points to, as `i32`; "" if there is none."""
+        """The kind of the numbers that a pointer points to, such as `i32`; "" if there is none."""
         return self._read(lambda: pointed_kind(self.entry), "")
 
     @cached_property
@@ -119,7 +121,7 @@ class Layout:
         return self._read(read, nothing)
 
     def _read(self, read: Callable[[], Read], default: Read) -> Read:
-        """What is read from debug data; the default if that is damaged."""
+        """Return the result of `read`; the default if the debug data is damaged."""
         try:
             return read()
         except Exception:  # pylint: disable=broad-except  # damaged data makes pyelftools raise what its parts do
@@ -127,7 +129,7 @@ class Layout:
 
 
 def _plain(entry: "DIE") -> "DIE":
-    """A type without its qualifiers and names. Raises ValueError for one that is `void`, or has itself in it."""
+    """Return a type without qualifiers and typedefs. Raises ValueError for `void`, and for a type that contains itself."""
     for _ in range(MAX_TYPEDEFS):
         if entry.tag not in (*QUALIFIERS, "DW_TAG_typedef"):
             return entry
@@ -136,7 +138,7 @@ def _plain(entry: "DIE") -> "DIE":
 
 
 def _inside(entry: "DIE") -> "DIE":
-    """The type that a type is made from. Raises ValueError if there is none."""
+    """Return the type in DW_AT_type of a type. Raises ValueError if there is none."""
     inside = entry_at(entry, "DW_AT_type")
     if inside is None:
         raise ValueError("a type of nothing")
@@ -144,7 +146,7 @@ def _inside(entry: "DIE") -> "DIE":
 
 
 def _size(entry: "DIE") -> int:
-    """The bytes of a type without qualifiers and names."""
+    """Return the number of bytes of a type without qualifiers and typedefs."""
     if entry.tag == "DW_TAG_array_type":
         counts = _vector_counts(entry) if _is_vector(entry) else shape(entry)[1]
         element = Layout(entry).element if not _is_vector(entry) else Layout(_inside(entry))
@@ -158,7 +160,7 @@ def _is_vector(entry: "DIE") -> bool:
 
 
 def _vector_counts(entry: "DIE") -> Sequence[int]:
-    """The number of elements of a vector type, which the debug data calculates from the bytes of a vector register."""
+    """Return the number of elements of a vector type, which debug data may calculate from vlenb."""
     (bounds,) = (child.attributes for child in entry.iter_children() if child.tag == "DW_TAG_subrange_type")
     if "DW_AT_count" in bounds:
         return [int(bounds["DW_AT_count"].value)]
@@ -167,7 +169,7 @@ def _vector_counts(entry: "DIE") -> Sequence[int]:
 
 
 def _fields(entry: "DIE", start: int, depth: int = 0) -> Iterator[Field]:
-    """The fields of a structure that starts at this number of bytes."""
+    """Return the fields of a structure. start: its offset in bytes in the outermost structure"""
     if entry.tag not in _STRUCTURES or depth > MAX_TYPEDEFS:
         return
     for child in entry.iter_children():
@@ -180,7 +182,8 @@ def _fields(entry: "DIE", start: int, depth: int = 0) -> Iterator[Field]:
             yield from _fields(_plain(layout.entry), offset, depth + 1)
         elif bits and first:
             yield Field(name_of(child), layout, start, (8 * start + int(first.value), int(bits.value)))
-        elif bits and (first := child.attributes.get("DW_AT_bit_offset")):  # from the highest bit, as before DWARF 4
+        # Counted from the highest bit, as before DWARF 4.
+        elif bits and (first := child.attributes.get("DW_AT_bit_offset")):
             size = child.attributes.get("DW_AT_byte_size")
             width = 8 * (int(size.value) if size else layout.size)
             at = 8 * offset + width - int(first.value) - int(bits.value)

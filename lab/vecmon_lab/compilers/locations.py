@@ -1,4 +1,4 @@
-"""Where a variable lies, by an expression of debug data (DWARF 4, section 2.5) that comes to a register and a number."""
+"""The place of a variable, from an expression of debug data (DWARF 4, section 2.5) that is a register plus a number."""
 
 import re
 from collections.abc import Sequence
@@ -7,28 +7,28 @@ from typing import TYPE_CHECKING, NamedTuple
 if TYPE_CHECKING:
     from elftools.dwarf.structs import DWARFStructs
 
-CODE_END = 1 << 48  # no code is as high
+CODE_END = 1 << 48  # above all addresses of code
 MAX_BYTES = 64  # of an expression
 
-_LITERAL, _REGISTER, _BASE = 0x30, 0x50, 0x70  # of 32 operations each, the first one
-_VECTOR, _LENGTH, _VECTOR_BYTES = 96, 7202, 32  # the numbers of v0 and of vlenb, and what that is here
+_LITERAL, _REGISTER, _BASE = 0x30, 0x50, 0x70  # the first of 32 operations each
+_VECTOR, _LENGTH, _VECTOR_BYTES = 96, 7202, 32  # the numbers of v0 and of vlenb in DWARF, and the value of vlenb here
 FRAME = 32
-"""In place of a register's number: the canonical frame address, which the caller of the function has as its stack pointer."""
+"""In place of a register's number: the canonical frame address, which is the stack pointer of the function's caller."""
 _NUMBER = re.compile("addr|const[1248]?[us]")
 
 Operation = tuple[int, str, list[int], int]
-"""An operation as pyelftools has it: its code, its name, its arguments, and its place."""
+"""An operation in pyelftools' form: its code, its name, its arguments, and its offset."""
 
 Sum = tuple[int, int]
-"""The number of a scalar register, and what is added to it. Register 0 is zero, so that it is a number alone."""
+"""The number of a scalar register, and a number that is added to it. With register 0 it is the number alone."""
 
 
 class Location(NamedTuple):
-    """Where a variable lies while the program counter is at `first` or behind it, and before `end`.
+    """The place of a variable while the program counter is from `first` up to, but not at, `end`.
 
-    kind: `register`, the scalar one of this number; `vector`, the vector register of this number; `memory`, at the
-    register plus the offset; `value`, which is that sum itself; `untold`
-    offset: 64 bits, in hexadecimal digits
+    kind: `register`, the scalar register of this number; `vector`, the vector register of this number; `memory`, at the address that is the
+        sum of the register and the offset; `value`, this sum itself; `untold`, unknown
+    offset: 64 bits in hexadecimal digits
     """
 
     first: int
@@ -39,8 +39,12 @@ class Location(NamedTuple):
 
 
 def location(first: int, end: int, operations: Sequence[Operation], frame: Sum | None) -> Location:
-    """A location by its operations, and by the base of the function's frame, where that is known. Raises ValueError and IndexError for
-    operations that aren't known here."""
+    """Return the location that operations of an expression describe, for program counters from `first` up to `end`.
+
+    frame: the base of the function's frame; None if it is unknown
+
+    Raises ValueError and IndexError for unknown operations.
+    """
     match operations:
         case [(code, name, arguments, _)] if re.fullmatch(r"DW_OP_reg(x|\d+)", name):
             number = arguments[0] if arguments else code - _REGISTER
@@ -54,7 +58,7 @@ def location(first: int, end: int, operations: Sequence[Operation], frame: Sum |
 
 
 def constant(structs: "DWARFStructs", expression: Sequence[int]) -> int:
-    """The number of an expression without registers but `vlenb`. Raises ValueError for another one."""
+    """Return the value of an expression that has no register except `vlenb`. Raises ValueError for another expression."""
     from elftools.dwarf.dwarf_expr import DWARFExprParser
 
     if len(expression) > MAX_BYTES:
@@ -66,7 +70,7 @@ def constant(structs: "DWARFStructs", expression: Sequence[int]) -> int:
 
 
 def _sum(operations: Sequence[Operation], frame: Sum | None) -> Sum:
-    """The stack after operations. Raises ValueError and IndexError."""
+    """Return the top of the stack after operations. Raises ValueError and IndexError."""
     stack = list[Sum]()
     for code, name, arguments, _ in operations:
         kind = name.removeprefix("DW_OP_").rstrip("0123456789")
@@ -92,7 +96,7 @@ def _sum(operations: Sequence[Operation], frame: Sum | None) -> Sum:
 
 
 def _of(sign: str, one: Sum, other: Sum) -> Sum:
-    """The result of an operation on two values. Raises ValueError unless that is one register and a number."""
+    """Return the result of the operation `sign` on two values. Raises ValueError unless it is one register plus a number."""
     match sign, one, other:
         case "plus", (register, number), (0, more):
             return register, number + more

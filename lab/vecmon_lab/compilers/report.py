@@ -9,7 +9,7 @@ from .sandbox import sandboxed_compiler
 
 
 def print_compilers() -> None:
-    """Print which compilers there are for C, and why sources of others aren't compiled, if they aren't."""
+    """Print the names of the compilers for C, and the reason why sources of others can't be compiled, if there is one."""
     names = [each.name if each.has_vectors else f"{each.name} (without intrinsics)" for each in find_compilers()]
     print(f"compilers for sources in C: {', '.join(names) or f'not installed: {COMPILERS_ADVICE}'}")
     try:

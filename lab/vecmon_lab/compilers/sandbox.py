@@ -1,7 +1,7 @@
-"""A sandbox around a compiler: no network, no file but those of `sandbox_files`, and limits of memory, time and output.
+"""A sandbox around a compiler: no network, no files except those of `sandbox_files`, and limits of memory, time and output.
 
-A source can make a compiler read files (`#include`, `.incbin`), use all memory, and print without end. If root starts it,
-the sandbox belongs to the user of an `Account`, so that it has no right of root's even outside.
+A source can make a compiler read files (`#include`, `.incbin`), use all memory, and print without end. If root starts the lab, the sandbox
+runs as the user of an `Account`, so that it has none of root's rights even outside.
 """
 
 import asyncio
@@ -23,9 +23,13 @@ from .compiler import Compiler, find_compiler
 from .failures import ToolError
 from .sandbox_files import IS_ROOT, LAB, PLACE, TRUE, elftools, readable_lab, sandbox_files
 
-SECONDS, ANSWER_BYTES, FOLDER_BYTES = 20, 4 << 20, 64 << 20  # by the clock; of the answer; of all files in /tmp
-COMPLAINT_BYTES = 4096  # of standard error, the last ones
-PROCESSES = 32  # and threads
+SECONDS, OUTPUT_BYTES, FOLDER_BYTES = (
+    20,
+    4 << 20,
+    64 << 20,
+)  # the time limit; bytes of output; bytes of all files in /tmp
+COMPLAINT_BYTES = 4096  # the last bytes of standard error
+PROCESSES = 32  # processes and threads
 REMEDIES = "CLASS_ADMIN.md, `Where the sandbox doesn't start`, says what helps"
 MODULE = ("-m", "vecmon_lab.compilers.sandbox_main")
 
@@ -37,15 +41,16 @@ _VARIABLES = ("--setenv", "PATH", "/usr/bin", "--setenv", "PYTHONPATH", PLACE, "
 _PYTHON = ("/usr/bin/prlimit", f"--nproc={PROCESSES}", "/usr/bin/python3", "-B")
 _NOBODY = ("/usr/bin/setpriv", "--reuid=65534", "--regid=65534", "--clear-groups", "/usr/bin/unshare", "--user")
 _INSIDE = ("--unshare-user-try", "--", *_PYTHON)
-_INSIDE_AS_ROOT = ("--", *_NOBODY, *_PYTHON)  # since no limit counts root's processes
+# Root changes its user inside, since the limit of processes doesn't count root's.
+_INSIDE_AS_ROOT = ("--", *_NOBODY, *_PYTHON)
 
 
 class StartedAsRoot(LabError):
-    """Others' sources aren't compiled, since root has started this and named no other user."""
+    """Sources of others can't be compiled, since root has started the lab without the option `--as USER`."""
 
 
 def check_sandbox(account: Account = OWN) -> None:
-    """Raises LabError if there can be no sandbox of this user's, StartedAsRoot if it would be root's."""
+    """Raise LabError if no sandbox can be made. Raise StartedAsRoot if it would run as root."""
     if shutil.which("bwrap") is None:
         raise LabError(f"others' C is compiled behind bwrap alone, which isn't here: {tools_advice('bubblewrap')}")
     if account == OWN and os.geteuid() == 0:
@@ -74,29 +79,36 @@ def check_start(compiler: Compiler, account: Account = OWN) -> None:
 
 
 def sandboxed_compiler(name: str | None, account: Account = OWN) -> Compiler:
-    """The compiler of this name, or the first one, for others' sources. Raises LabError if its sandbox doesn't start."""
+    """Return the compiler for sources of others: the one of this name, or the first one if there is no name.
+
+    Raises LabError if its sandbox doesn't start.
+    """
     compiler = find_compiler(name)
     check_sandbox(account)
     check_start(compiler, account)
     return compiler
 
 
-def answer_sandboxed(words: Sequence[str], text: str, account: Account = OWN) -> bytes:
-    """The output of `sandbox_main` with these arguments for a source of others. Raises LabError, and ToolError."""
+def run_sandboxed(words: Sequence[str], text: str, account: Account = OWN) -> bytes:
+    """Run `sandbox_main` in the sandbox for a source of others; return its output. Raises LabError and ToolError.
+
+    words: arguments; text: the source
+    """
     return asyncio.run(run_in_sandbox_async(words, text, account))
 
 
 async def run_in_sandbox_async(words: Sequence[str], text: str, account: Account = OWN) -> bytes:
-    """As `answer_sandboxed`, without blocking an event loop."""
+    """As `run_sandboxed`, without blocking an event loop."""
     files = await asyncio.to_thread(_sandbox, Compiler(words[0]), account)
     inside = _INSIDE_AS_ROOT if _is_of_root(account) else _INSIDE
     return await run_inside([*files, *inside, *MODULE, *words], text, pathlib.Path("/"), _environment(), account)
 
 
-def answer_of_own(words: Sequence[str], text: str, headers: pathlib.Path, saved: pathlib.Path | None = None) -> bytes:
-    """The output of `sandbox_main` for your own source, which includes headers of a folder. Raises LabError, and ToolError.
+def run_unsandboxed(words: Sequence[str], text: str, headers: pathlib.Path, saved: pathlib.Path | None = None) -> bytes:
+    """Run `sandbox_main` without a sandbox for your own source; return its output. Raises LabError and ToolError.
 
-    saved: the folder that keeps source and image; without it they are deleted
+    headers: a folder from which the source may include files
+    saved: the folder in which source and image remain; None to delete them
     """
     elftools()
     variables = os.environ | {"PYTHONPATH": f"{LAB}", "CPATH": f"{headers.absolute()}", "LC_ALL": "C.UTF-8"}
@@ -107,25 +119,28 @@ def answer_of_own(words: Sequence[str], text: str, headers: pathlib.Path, saved:
 
 
 def _is_of_root(account: Account) -> bool:
-    """Whether the processes of the sandbox belong to root before they change their user."""
+    """Return whether root runs the processes of the sandbox before they change their user."""
     return account == OWN and IS_ROOT
 
 
 def _sandbox(compiler: Compiler, account: Account) -> list[str]:
-    """The command that starts a compiler's sandbox, up to the program that it runs. Raises ToolError."""
+    """Return the command that starts a compiler's sandbox, up to the program that it runs. Raises ToolError."""
     lab = LAB if account == OWN else readable_lab()
     return ["bwrap", *_EMPTY, *sandbox_files(compiler, lab, _is_of_root(account)), *_FOLDER, *_VARIABLES]
 
 
 def _environment() -> dict[str, str]:
-    """The variables of bwrap itself."""
+    """Return the environment of bwrap itself."""
     return {"PATH": os.environ.get("PATH", os.defpath), "LC_ALL": "C.UTF-8"}
 
 
 async def run_inside(
     command: Sequence[str], text: str, folder: pathlib.Path, variables: Mapping[str, str], account: Account = OWN
 ) -> bytes:
-    """The output of a command that runs `sandbox_main` for a text. Raises LabError if that is too much, and ToolError if it fails."""
+    """Run a command that starts `sandbox_main` for a source; return its output.
+
+    Raises LabError if the output is too large, and ToolError if the command fails.
+    """
     try:
         child = await asyncio.create_subprocess_exec(
             *command,
@@ -145,7 +160,7 @@ async def run_inside(
     errors = asyncio.create_task(_last_bytes(child.stderr))
     try:
         async with asyncio.timeout(SECONDS):
-            answer = await _output(child, text.encode("utf-8", "surrogateescape"))
+            output = await _output(child, text.encode("utf-8", "surrogateescape"))
             status = await child.wait()
             stderr = await errors
     except asyncio.TimeoutError as error:
@@ -157,25 +172,25 @@ async def run_inside(
         await child.wait()
     if status:
         raise _failure(status, stderr)
-    return answer
+    return output
 
 
 async def _output(child: asyncio.subprocess.Process, text: bytes) -> bytes:
-    """The output of a process that reads a text. Raises LabError where that is too much."""
+    """Write a text to a process; return its output. Raises LabError if the output is too large."""
     assert child.stdin and child.stdout
-    with contextlib.suppress(ConnectionError):  # it may end without reading all of it
+    with contextlib.suppress(ConnectionError):  # the process may end before it has read all of the text
         child.stdin.write(text)
         await child.stdin.drain()
     child.stdin.close()
     try:
-        await child.stdout.readexactly(ANSWER_BYTES + 1)
+        await child.stdout.readexactly(OUTPUT_BYTES + 1)
     except asyncio.IncompleteReadError as end:
         return end.partial
-    raise LabError(f"the compiler was stopped: its image and debug data have more than {ANSWER_BYTES:,} bytes")
+    raise LabError(f"the compiler was stopped: its image and debug data have more than {OUTPUT_BYTES:,} bytes")
 
 
 async def _last_bytes(stream: asyncio.StreamReader) -> bytes:
-    """The last bytes of a stream."""
+    """Read a stream to its end; return its last bytes."""
     last = b""
     while data := await stream.read(1 << 16):
         last = (last + data)[-COMPLAINT_BYTES:]
@@ -183,12 +198,12 @@ async def _last_bytes(stream: asyncio.StreamReader) -> bytes:
 
 
 def _failure(status: int, stderr: bytes) -> ToolError:
-    """The failure of the sandbox, or of the process in it, by its status and the last bytes of its standard error."""
+    """Return the error of the sandbox, or of the process in it, from its status and the last bytes of standard error."""
     lines = stderr.decode("utf-8", "replace").strip().splitlines()
     last = lines[-1] if lines else "it printed no message"
     if any(line.startswith("bwrap: ") for line in lines):
         return ToolError(f"the sandbox of compilers doesn't start: {last} ({REMEDIES})")
-    number = -status if status < 0 else status - 128  # bwrap's status has the signal of the process in it
+    number = -status if status < 0 else status - 128  # bwrap's status shows the signal that ended the process in it
     if number in {*signal.Signals}:
         return ToolError(f"the compiler's process was ended by the signal {signal.Signals(number).name}")
     return ToolError(f"the compiler's process ended with status {status}: {last}")

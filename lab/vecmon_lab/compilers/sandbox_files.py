@@ -1,7 +1,7 @@
-"""The files in the sandbox of a compiler: a closed list, as arguments of bwrap.
+"""The files in the sandbox of a compiler: a fixed list, as arguments of bwrap.
 
-The list has the compiler with its headers and libraries, Python with its standard library and pyelftools, the modules that
-run there, and the runtime with `vecmon.h`. It has no folder of exercises and no file of a user.
+The list has the compiler with its headers and libraries, Python with its standard library and pyelftools, the lab's modules that run in the
+sandbox, and the runtime with `vecmon.h`. It has no folder of exercises and no file of a user.
 """
 
 import atexit
@@ -21,7 +21,7 @@ from .compiler import Compiler
 from .failures import ToolError
 
 LAB = pathlib.Path(__file__).resolve().parents[2]
-PLACE = "/lab"  # where Python finds the modules within
+PLACE = "/lab"  # the folder of the lab's modules in the sandbox
 MODULES = (
     "vecmon_lab/__init__.py",
     *(f"vecmon_lab/compilers/{name}.py" for name in ("__init__", "c_types", "compiler", "debug")),
@@ -39,19 +39,19 @@ MODULES = (
 )
 """The files of the lab in the sandbox: `sandbox_main.py`, the modules that it imports, and what is linked to a source."""
 
-TRUE = "/usr/bin/true"  # which the sandbox runs once, to see whether it starts
+TRUE = "/usr/bin/true"  # the sandbox runs it once to check that it starts
 IS_ROOT = os.geteuid() == 0
-_PROGRAMS_OF_ROOT = ("/usr/bin/setpriv", "/usr/bin/unshare")  # by which root's sandbox changes its user
+_PROGRAMS_OF_ROOT = ("/usr/bin/setpriv", "/usr/bin/unshare")  # root's sandbox changes its user with these programs
 _PROGRAMS = ("/usr/bin/python3", "/usr/bin/prlimit", TRUE)
 _LINKS = ("--symlink", "usr/lib", "/lib", "--symlink", "usr/lib64", "/lib64")
-_LIBRARY = re.compile(r"(/\S+) \(0x[0-9a-f]+\)")  # of ldd's output
+_LIBRARY = re.compile(r"(/\S+) \(0x[0-9a-f]+\)")  # matches a line of ldd's output
 
 
 @functools.cache
 def sandbox_files(compiler: Compiler, lab: pathlib.Path, is_of_root: bool) -> Sequence[str]:
-    """The arguments of bwrap that make a compiler's files visible, read-only. Raises ToolError if one is missing.
+    """Return the arguments of bwrap that make a compiler's files visible, read-only. Raises ToolError if one is missing.
 
-    lab: the folder of the lab's files, LAB or `readable_lab`; is_of_root: whether root starts the sandbox as root
+    lab: the folder of the lab's files, LAB or the result of `readable_lab`; is_of_root: whether root starts the sandbox
     """
     programs, folders = _gcc_files(compiler) if not compiler.is_clang else _clang_files(compiler)
     programs = [*_PROGRAMS, *_PROGRAMS_OF_ROOT * is_of_root, *programs]
@@ -59,7 +59,8 @@ def sandbox_files(compiler: Compiler, lab: pathlib.Path, is_of_root: bool) -> Se
     links, files = dict[str, str](), dict[str, str]()
     for program in programs:
         files |= _followed(program, links)
-    extensions = map(str, pathlib.Path("/usr/lib", python, "lib-dynload").glob("zlib.*"))  # unless it is built in
+    # The file doesn't exist if zlib is built into Python.
+    extensions = map(str, pathlib.Path("/usr/lib", python, "lib-dynload").glob("zlib.*"))
     files |= {_merged(path): path for path in _libraries([*programs, *_plugins(folders), *extensions])}
     files |= {folder: folder for folder in [*folders, f"/usr/lib/{python}"]}
     files |= {f"{PLACE}/elftools": str(elftools() if lab == LAB else lab / "elftools")}
@@ -69,10 +70,9 @@ def sandbox_files(compiler: Compiler, lab: pathlib.Path, is_of_root: bool) -> Se
 
 @functools.cache
 def readable_lab() -> pathlib.Path:
-    """Return a copy of the lab's files for the sandbox that all users can read, which exists until this process ends.
+    """Return the folder of a copy of the lab's files that all users can read. It exists until this process ends.
 
-    The lab itself may be in a folder that only root can enter, such as /root, and so may TMPDIR. Raises ToolError if
-    pyelftools is missing.
+    The lab itself may be in a folder that only root can enter, such as /root, and so may TMPDIR. Raises ToolError if pyelftools is missing.
     """
     folder = tempfile.TemporaryDirectory(prefix="vecmon-lab-", dir="/tmp")
     atexit.register(folder.cleanup)
@@ -90,7 +90,7 @@ def copy_lab(folder: pathlib.Path) -> None:
 
 
 def elftools() -> pathlib.Path:
-    """The folder of Python's package pyelftools. Raises ToolError where it isn't installed."""
+    """Return the folder of Python's package pyelftools. Raises ToolError if it isn't installed."""
     found = importlib.util.find_spec("elftools")
     if found is None or not found.submodule_search_locations:
         raise ToolError(f"Python's package pyelftools isn't installed: {install_command('pyelftools')}")
@@ -98,13 +98,13 @@ def elftools() -> pathlib.Path:
 
 
 def _clang_files(compiler: Compiler) -> tuple[list[str], list[str]]:
-    """The programs and the folders of a clang."""
+    """Return the programs of a clang, and the folders that it reads."""
     linker = f"/usr/bin/ld.lld{compiler.name.removeprefix('clang')}"
     return [f"/usr/bin/{compiler.name}", linker], [f"{_asked(compiler, '-print-resource-dir')}/include"]
 
 
 def _gcc_files(compiler: Compiler) -> tuple[list[str], list[str]]:
-    """The programs and the folders of a gcc."""
+    """Return the programs of a gcc, and the folders that it reads."""
     tools = [os.path.normpath(_asked(compiler, f"-print-prog-name={tool}")) for tool in ("cc1", "collect2", "as", "ld")]
     programs = [shutil.which(tool, path="/usr/bin") or tool for tool in tools]
     folders = [pathlib.Path(programs[0]).parent, pathlib.Path(_asked(compiler, "-print-libgcc-file-name")).parent]
@@ -114,7 +114,7 @@ def _gcc_files(compiler: Compiler) -> tuple[list[str], list[str]]:
 
 
 def _asked(compiler: Compiler, option: str) -> str:
-    """The line that a compiler prints for an option. Raises ToolError where it prints none."""
+    """Return the line that a compiler prints for an option. Raises ToolError if it prints none."""
     completed = _run(f"/usr/bin/{compiler.name}", option)
     if completed.returncode or not completed.stdout.strip():
         raise ToolError(
@@ -124,7 +124,7 @@ def _asked(compiler: Compiler, option: str) -> str:
 
 
 def _run(*command: str) -> "subprocess.CompletedProcess[str]":
-    """Runs a program of the system. Raises ToolError where it can't be started, or doesn't end."""
+    """Run a program of the system. Raises ToolError if it can't be started, or doesn't end in time."""
     try:
         return subprocess.run(command, stdin=DEVNULL, capture_output=True, text=True, errors="replace", timeout=60)
     except (OSError, subprocess.TimeoutExpired) as error:
@@ -132,7 +132,7 @@ def _run(*command: str) -> "subprocess.CompletedProcess[str]":
 
 
 def _followed(path: str, links: dict[str, str]) -> dict[str, str]:
-    """The file that a path leads to by symbolic links of its last part, which are added to `links`."""
+    """Return a path after its symbolic links were followed, as key and value. Links of the path's last part are added to `links`."""
     while os.path.islink(path):
         links[path] = os.readlink(path)
         path = os.path.normpath(os.path.join(os.path.dirname(path), links[path]))
@@ -140,14 +140,14 @@ def _followed(path: str, links: dict[str, str]) -> dict[str, str]:
 
 
 def _plugins(folders: Iterable[str]) -> Iterator[str]:
-    """The programs and shared libraries in the folders of a gcc."""
+    """Return the programs and shared libraries in the folders of a gcc."""
     for path in (path for folder in folders for path in pathlib.Path(folder).iterdir()):
         if path.is_file() and (os.access(path, os.X_OK) or ".so" in path.name):
             yield str(path)
 
 
 def _libraries(programs: Iterable[str]) -> list[str]:
-    """The shared libraries that programs load. Raises ToolError where one is missing."""
+    """Return the shared libraries that programs load. Raises ToolError if one is missing."""
     completed = _run("/usr/bin/ldd", *programs)
     if missing := re.search(r"\S+(?= => not found)", completed.stdout):
         raise ToolError(f"the compiler's library {missing[0]} isn't installed")
@@ -155,19 +155,19 @@ def _libraries(programs: Iterable[str]) -> list[str]:
 
 
 def _merged(path: str) -> str:
-    """A library's path below /usr, since /lib leads there."""
+    """Return a library's path below /usr, since /lib is a link to /usr/lib."""
     return path if path.startswith("/usr/") else f"/usr{path}"
 
 
 def _folders(paths: Iterable[str]) -> Iterator[str]:
-    """The arguments that make the folders above files, which everybody may enter."""
+    """Yield the arguments that make the folders that contain files. All users may enter these folders."""
     folders = {str(folder) for path in paths for folder in pathlib.PurePath(path).parents} - {"/"}
     for folder in sorted(folders):
         yield from ("--perms", "755", "--dir", folder)
 
 
 def _arguments(links: dict[str, str], files: dict[str, str]) -> Iterator[str]:
-    """The arguments for symbolic links, and for files by their paths in the sandbox."""
+    """Return the arguments for symbolic links, and for files by their paths in the sandbox."""
     for path, target in links.items():
         yield from ("--symlink", target, path)
     for path, source in files.items():

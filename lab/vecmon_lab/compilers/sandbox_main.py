@@ -1,8 +1,8 @@
-"""The program in the sandbox: it compiles the source on its input, and prints messages and the image as JSON.
+"""The program in the sandbox: it compiles the source on standard input, and prints messages and the image as JSON.
 
-`sandbox_main COMPILER CHOICE [answer | PATH]` runs in a folder of its own, with `answer` for an answer to an exercise, and a path
-that debug data names. The object has `messages`, `image` where there is one (`debug.py`), and `failure`: why the source
-couldn't be compiled, where that says nothing about the source.
+`sandbox_main COMPILER CHOICE [answer | PATH]` runs in an empty folder. `answer` is for an answer to an exercise; PATH is the name of
+the source in debug data. The JSON object has `messages`, `image` if there is one (`debug.py`), and `failure` if the compiler failed for
+a reason outside the source.
 """
 
 import importlib
@@ -25,7 +25,7 @@ from .hints import undefined_reference, with_advice
 COMPLAINT_BYTES = 1 << 16
 CPU_SECONDS, MEMORY_BYTES, FILE_BYTES = 10, 512 << 20, 32 << 20
 LIMITS = {
-    resource.RLIMIT_CPU: (CPU_SECONDS, CPU_SECONDS + 1),  # SIGXCPU comes before SIGKILL
+    resource.RLIMIT_CPU: (CPU_SECONDS, CPU_SECONDS + 1),  # the signal SIGXCPU precedes SIGKILL
     resource.RLIMIT_AS: (MEMORY_BYTES, MEMORY_BYTES),
     resource.RLIMIT_FSIZE: (FILE_BYTES, FILE_BYTES),
     resource.RLIMIT_NOFILE: (64, 64),
@@ -33,23 +33,23 @@ LIMITS = {
 }
 CRASHED = "that is a fault of the compiler, which another form of the source may avoid"
 MEMORY = f"it took more than {MEMORY_BYTES >> 20} MB of memory"
-MARKABLE = re.compile(r"[\w.+-]+", re.ASCII)  # a file's name that may be in a line marker, and in messages
+MARKABLE = re.compile(r"[\w.+-]+", re.ASCII)  # matches file names that line markers and messages can have
 MISSING_MEMORY = [with_advice(f"undefined symbol: {name}") for name in ("memmove", "memcmp")]
-"""Messages after which the runtime's memory.c is linked, too."""
+"""Messages after which the source is compiled again with the runtime's memory.c."""
 
-OWN_BEGIN = re.compile(rb"\bvoid\s+_start\s*\(")  # of a source that has no need of the runtime's
+OWN_BEGIN = re.compile(rb"\bvoid\s+_start\s*\(")  # the start of a source that needs no runtime
 
 _MESSAGE = re.compile(
     r"(?:(<inline asm>|[^:\s]+):(\d+):(?:(\d+):)? )?(?:[^:\s]+: )?(fatal error|[Ee]rror|[Ww]arning): (.*)"
 )
 _NO_MEMORY = re.compile("out of memory|bad_alloc|[Cc]annot allocate memory|virtual memory exhausted|memory exhausted")
 _NO_ROOM = re.compile("[Ff]ile too large|[Ff]ile size limit|No space left|[Qq]uota exceeded")
-_SIGNAL = re.compile("unable to execute command: (.*)")  # as clang names a crash
+_SIGNAL = re.compile("unable to execute command: (.*)")  # matches clang's report of a crash
 _CRASH = re.compile("internal compiler error|PLEASE submit a bug report|due to signal")
 
 
 class Failure(Exception):
-    """The compiler fails, and that says nothing about the source."""
+    """The compiler failed for a reason outside the source."""
 
 
 class Diagnostic(NamedTuple):
@@ -62,7 +62,10 @@ class Diagnostic(NamedTuple):
 
 
 def read_messages(errors: str, own: Collection[str] = OWN_SOURCES) -> list[Diagnostic]:
-    """The messages of a compiler and its linker, without folders of this system. own: the names of the source"""
+    """Parse the messages of a compiler and its linker, and remove paths of this system.
+
+    errors: their standard error; own: the names under which messages may show the source
+    """
     messages = []
     for line in errors.split("\n"):
         if reference := undefined_reference(line.strip()):
@@ -71,7 +74,7 @@ def read_messages(errors: str, own: Collection[str] = OWN_SOURCES) -> list[Diagn
             messages.append(Diagnostic(*place, True, with_advice(f"undefined symbol: {symbol}")))
         if found := _MESSAGE.fullmatch(line.strip()):
             file, number, column, kind, text = found.groups()
-            if text.startswith("linker command failed"):  # which has said why
+            if text.startswith("linker command failed"):  # earlier messages show the cause
                 continue
             is_own = file in own
             text = text if is_own or not file else f"{file}:{number}: {text}"
@@ -82,13 +85,16 @@ def read_messages(errors: str, own: Collection[str] = OWN_SOURCES) -> list[Diagn
 
 
 def compile_source(command: Sequence[str], own: Collection[str] = OWN_SOURCES) -> list[Diagnostic]:
-    """Compile the source of this folder, and return the compiler's messages. own: the names of the source. Raises Failure."""
+    """Compile the source of this folder; return the compiler's messages. Raises Failure.
+
+    own: the names of the source, as in `read_messages`
+    """
     try:
         with Popen(command, stdin=DEVNULL, stdout=DEVNULL, stderr=PIPE) as child:
             assert child.stderr
-            importlib.import_module("elftools.elf.elffile")  # for the image, meanwhile
+            importlib.import_module("elftools.elf.elffile")  # imported while the compiler runs, for the image
             stderr = child.stderr.read(COMPLAINT_BYTES).decode("utf-8", "replace")
-            child.stderr.close()  # a compiler with more messages ends here
+            child.stderr.close()  # a compiler that prints more messages ends here
             status = child.wait()
     except ImportError as error:
         raise Failure(f"Python's package pyelftools can't be imported ({error})") from error
@@ -109,9 +115,9 @@ def compile_source(command: Sequence[str], own: Collection[str] = OWN_SOURCES) -
 
 
 def ending_of(status: int, stderr: str, seconds: float) -> str:
-    """Why a compiler ended that used so much processor time, or "" where its messages say that. Raises Failure.
+    """Return why a compiler ended without an image; "" if its messages show the reason. Raises Failure.
 
-    status: of its process, which is negative for a signal; said: the start of its standard error
+    status: the exit status, negative for a signal; stderr: the start of standard error; seconds: the processor time
     """
     if seconds > 0.95 * CPU_SECONDS:
         return f"the compiler was stopped: it took more than {CPU_SECONDS} s of processor time"
@@ -133,7 +139,10 @@ def ending_of(status: int, stderr: str, seconds: float) -> str:
 
 
 def compiled(compiler: Compiler, choice: int, is_answer: bool, named: str) -> tuple[list[Diagnostic], Image | None]:
-    """Compiles the source on standard input: the messages, and the image where there is one. Raises Failure."""
+    """Compile the source on standard input. Return the messages, and the image (None if there are errors). Raises Failure.
+
+    choice: the number of the options; is_answer: whether the source answers an exercise; named: its path in debug data, or ""
+    """
     text, source = sys.stdin.buffer.read(), source_of(choice)
     marker = line_marker(named) if source == ASSEMBLER_SOURCE else ""
     pathlib.Path(source).write_bytes(marker.encode("ascii") + text)
@@ -157,35 +166,37 @@ def compiled(compiler: Compiler, choice: int, is_answer: bool, named: str) -> tu
 
 
 def line_marker(named: str) -> str:
-    """The line before an assembler source that names it in messages and debug data; "" without a name that can be there."""
+    """Return a line to put before an assembler source, which sets its name in messages and debug data; "" if the name can't be written
+    there.
+    """
     name = pathlib.PurePath(named).name
-    form = "#line" if name.endswith(PREPROCESSED_SUFFIX) else "#"  # of the preprocessor, or of the assembler
+    form = "#line" if name.endswith(PREPROCESSED_SUFFIX) else "#"  # for the preprocessor, or for the assembler
     return f'{form} 1 "{name}"\n' if MARKABLE.fullmatch(name) else ""
 
 
 def main() -> None:
-    """Prints the messages, and the image or why the source couldn't be compiled."""
-    os.nice(10)  # machines that are stepped come first
+    """Compile the source, and print messages, the image and a failure as JSON."""
+    os.nice(10)  # machines that students step have priority
     for limit, most in LIMITS.items():
         resource.setrlimit(limit, most)
     signal.signal(signal.SIGXCPU, _stop)
     is_answer = sys.argv[3:] == [FUNCTION]
     named = "" if is_answer else "".join(sys.argv[3:])
-    answer: dict[str, object] = {"messages": [], "image": None}
+    reply: dict[str, object] = {"messages": [], "image": None}
     try:
         messages, image = compiled(Compiler(sys.argv[1]), int(sys.argv[2]), is_answer, named)
-        answer |= {"messages": messages, "image": image}
+        reply |= {"messages": messages, "image": image}
     except Failure as error:
-        answer["failure"] = f"{error}"
+        reply["failure"] = f"{error}"
     except MemoryError:
-        answer["messages"] = [Diagnostic(0, 0, True, f"the image can't be read: {MEMORY}")]
+        reply["messages"] = [Diagnostic(0, 0, True, f"the image can't be read: {MEMORY}")]
     except RecursionError:
-        answer["messages"] = [Diagnostic(0, 0, True, "the image can't be read: its debug data nests too deeply")]
-    sys.stdout.write(json.dumps(answer))
+        reply["messages"] = [Diagnostic(0, 0, True, "the image can't be read: its debug data nests too deeply")]
+    sys.stdout.write(json.dumps(reply))
 
 
 def _stop(number: int, frame: object) -> None:
-    """Ends this process with a message, since reading the image takes too much processor time."""
+    """End this process with a message: reading the image has taken too much processor time."""
     text = f"the image can't be read: that takes more than {CPU_SECONDS} s of processor time"
     os.write(1, json.dumps({"messages": [Diagnostic(0, 0, True, text)], "image": None}).encode("ascii"))
     os._exit(0)

@@ -1,4 +1,4 @@
-"""The C types of a function's parameters and of its result, by the debug data of an image (DWARF 4 and 5, section 3.3)."""
+"""The C types of functions' parameters and results, from the debug data of an image (DWARF 4 and 5, section 3.3)."""
 
 import functools
 import io
@@ -21,9 +21,10 @@ _FUNCTION, _PARAMETER, _MORE = "DW_TAG_subprogram", "DW_TAG_formal_parameter", "
 
 
 class Declared(NamedTuple):
-    """A parameter or a result.
+    """A parameter or a result of a function.
 
-    declaration: in C's words, as `uint32_t key`; integer: its type, or None if that is no integer, enumeration or pointer
+    declaration: in C, such as `uint32_t key`
+    integer: the type, or None if it isn't an integer, an enumeration or a pointer
     """
 
     declaration: str
@@ -34,9 +35,9 @@ class Signature(NamedTuple):
     """The types of a function.
 
     result: None for void
-    is_variadic: whether it takes further arguments, as printf does
-    is_callable: whether it takes its arguments as the ABI says; a compiler may change that of a static function, which
-    has DW_CC_nocall or a parameter without a location then
+    is_variadic: whether the function takes a variable number of arguments, as printf does
+    is_callable: whether the function takes its arguments by the ABI. A compiler may change the calling convention of a static function.
+        Then the function has DW_CC_nocall, or one of its parameters has no location.
     """
 
     result: Declared | None
@@ -46,15 +47,15 @@ class Signature(NamedTuple):
 
 
 class Signatures:
-    """The signatures of an image's functions, each read when it is asked for."""
+    """The signatures of an image's functions, which are read on demand."""
 
     def __init__(self, image: bytes) -> None:
-        """image: the bytes of an ELF file, or none"""
+        """image: the bytes of an ELF file; b"" if there is none"""
         self._image = image
         self._found = dict[int, Signature | None]()
 
     def at(self, address: int) -> Signature | None:
-        """The signature of the function that begins at an address; None without debug data, for assembler, or if it is damaged."""
+        """Return the signature of the function at an address; None if the function is in assembler, or has no usable debug data."""
         if address not in self._found:
             self._found[address] = self._read(address)
         return self._found[address]
@@ -71,17 +72,17 @@ class Signatures:
 
     @functools.cached_property
     def _debug(self) -> "DWARFInfo | None":
-        """The debug data of the image."""
+        """Return the debug data of the image; None if there is none."""
         if not self._image:
             return None
-        from elftools.elf.elffile import ELFFile  # which a source for the lab's assembler doesn't need
+        from elftools.elf.elffile import ELFFile  # not needed for a source of the lab's assembler
 
         elf = ELFFile(io.BytesIO(self._image))
         return elf.get_dwarf_info() if elf.has_dwarf_info() else None
 
 
 def _function_at(debug: "DWARFInfo", unit: "CompileUnit", address: int) -> "DIE | None":
-    """The entry of the function of a unit that begins at an address."""
+    """Return the entry of the function that starts at an address; None if a unit has none there."""
     top = unit.get_top_DIE()
     language, ranges = top.attributes.get("DW_AT_language"), [*ranges_of(debug, unit, top)]
     if language and language.value in _ASSEMBLERS:
@@ -96,7 +97,7 @@ def _function_at(debug: "DWARFInfo", unit: "CompileUnit", address: int) -> "DIE 
 
 
 def _functions(scope: "DIE") -> Iterator["DIE"]:
-    """The entries of functions in a unit, a namespace or a class."""
+    """Return the entries of functions in a unit, a namespace or a class."""
     for child in scope.iter_children():
         if child.tag == _FUNCTION:
             yield child
@@ -105,7 +106,7 @@ def _functions(scope: "DIE") -> Iterator["DIE"]:
 
 
 def _signature(entry: "DIE") -> Signature:
-    """The signature by the entry of a function, or by its origin, as a copy of an inlined function may leave out parameters."""
+    """Return the signature of a function's entry. An inlined copy may lack parameters, so those of its origin are used."""
     origin = entry_at(entry, "DW_AT_abstract_origin") or entry
     declared = entry_at(origin, "DW_AT_specification") or origin
     result = entry_at(declared, "DW_AT_type")
@@ -124,10 +125,10 @@ def _signature(entry: "DIE") -> Signature:
 
 
 def _type_of(entry: "DIE") -> "DIE | None":
-    """The type of a parameter."""
+    """Return the type of a parameter's entry."""
     return entry_at(entry_at(entry, "DW_AT_abstract_origin") or entry, "DW_AT_type")
 
 
 def _declared(kind: "DIE | None", name: str) -> Declared:
-    """A parameter of this name and type, or a result."""
+    """Return a parameter of this type and name, or a result, whose name is ""."""
     return Declared(" ".join(declaration(kind, name).split())[:NAME_LETTERS], integer(kind))

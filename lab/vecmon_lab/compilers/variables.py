@@ -1,4 +1,4 @@
-"""The variables in the debug data of a source: their C types, and their places by addresses of code."""
+"""The variables in the debug data of a source: their C types, and their places for each address of code."""
 
 import re
 from collections.abc import Callable, Iterable, Iterator, Sequence
@@ -29,12 +29,12 @@ _FUNCTION, _BLOCKS = "DW_TAG_subprogram", ("DW_TAG_inlined_subroutine", "DW_TAG_
 class Variable(NamedTuple):
     """A variable of the source.
 
-    declaration: in C's words, as `int32_t x[37]`
-    element: the kind of its numbers with their bits, as `i32`, or "" where it has none; counts: an array's dimensions
-    function: of the variable, also an inlined one; "" for a variable of all functions
-    scopes: the addresses where it is known, each from the first to the one behind the last; none for everywhere
-    locations: where none of them has the address, it was optimized out
-    target: the kind of the numbers that a pointer points to, as `i32`; "" if it isn't known
+    declaration: in C, such as `int32_t x[37]`
+    element: the kind of its numbers, such as `i32`, or "" if it has none; counts: the dimensions of an array
+    function: the function that declares it, perhaps an inlined one; "" for a global variable
+    scopes: the ranges of addresses in which it is visible, each with its start and the address after its end; none for all addresses
+    locations: its places. At an address that none of them covers, the compiler has optimized the variable out.
+    target: the kind of the numbers that a pointer points to, such as `i32`; "" if that is unknown
     """
 
     name: str
@@ -48,21 +48,21 @@ class Variable(NamedTuple):
 
 
 class TypedVariable(NamedTuple):
-    """A variable with its type; None if the debug data has none."""
+    """A variable and its type. layout: None if the debug data has no type"""
 
     variable: Variable
     layout: Layout | None
 
 
 def variables_of(elf: "ELFFile") -> list[Variable]:
-    """The variables of the source that a class compiles, as `typed_variables` finds them."""
+    """Return the variables of a source that a class has compiled, as `typed_variables` finds them."""
     return [each.variable for each in typed_variables(elf, lambda name: name == C_SOURCE)]
 
 
 def typed_variables(elf: "ELFFile", is_own: Callable[[str], bool], has_frames: bool = False) -> list[TypedVariable]:
-    """The variables of the source, MAX_VARIABLES at most; those up to where the debug data is damaged.
+    """Return at most MAX_VARIABLES variables. If the debug data is damaged, return only those before the damage.
 
-    is_own: whether the file of this name, as the compiler was given it, is a source whose variables are wanted
+    is_own: is called with the name of a source as the compiler got it; returns whether this source's variables are wanted
     has_frames: whether locations may have FRAME in place of a register
     """
     found = list[TypedVariable]()
@@ -76,7 +76,7 @@ def typed_variables(elf: "ELFFile", is_own: Callable[[str], bool], has_frames: b
 
 
 def read_variables(entries: Iterable[Any]) -> list[Variable]:
-    """Variables as they came as JSON. Raises ValueError and TypeError where that is in another form."""
+    """Read variables from JSON, as the sandbox prints them. Raises ValueError and TypeError for another form."""
     found = list[Variable]()
     for name, words, element, counts, function, scopes, locations, *_ in islice(entries, MAX_VARIABLES):
         if not _ELEMENT.fullmatch(element):
@@ -91,7 +91,7 @@ def read_variables(entries: Iterable[Any]) -> list[Variable]:
 
 
 class _Unit:
-    """The compiled form of one source."""
+    """A unit of the debug data: one source."""
 
     def __init__(self, debug: "DWARFInfo", unit: "CompileUnit", has_frames: bool) -> None:
         from elftools.dwarf.dwarf_expr import DWARFExprParser
@@ -104,20 +104,24 @@ class _Unit:
     def variables(
         self, entry: "DIE", function: str = "", scopes: Sequence[Sum] = (), frame: Sum | None = None
     ) -> Iterator[TypedVariable]:
-        """Those within an entry of this function, of these scopes, and with this base of its frame, if it is known."""
+        """Yield the variables below an entry.
+
+        function, scopes: the function that contains the entry, and the ranges of addresses in which its variables are visible
+        frame: the base of the function's frame; None if it is unknown
+        """
         for child in entry.iter_children():
             if child.tag in _VARIABLES:
                 yield _variable(child, function, scopes, self._locations(child, frame))
             elif child.tag in (_FUNCTION, *_BLOCKS):
                 own = list(islice(ranges_of(self._debug, self._unit, child), MAX_PARTS))
-                if own:  # else it is what a function is inlined from
+                if own:  # otherwise the entry is the abstract origin of inlined copies
                     name = name_of(child) or function
                     base = self._frame(child) if child.tag == _FUNCTION else frame
                     yield from self.variables(child, name, own, base)
                     yield from (_variable(each, name, own, ()) for each in _dropped(child))
 
     def _frame(self, entry: "DIE") -> Sum | None:
-        """The base of a function's frame, if the entry has it: a scalar register."""
+        """Return the base of a function's frame; None if the entry has none that is a scalar register."""
         attribute = entry.attributes.get("DW_AT_frame_base")
         if attribute and self._has_frames and [*attribute.value] == [_CALL_FRAME]:
             return FRAME, 0
@@ -125,7 +129,7 @@ class _Unit:
         return (place.register, 0) if place and place.kind == "register" else None
 
     def _locations(self, entry: "DIE", frame: Sum | None) -> Sequence[Location]:
-        """Where a variable lies."""
+        """Return the places of a variable."""
         attribute, constant = (entry.attributes.get(name) for name in ("DW_AT_location", "DW_AT_const_value"))
         if constant and isinstance(constant.value, int):
             return [Location(0, CODE_END, "value", 0, f"{constant.value % (1 << 64):x}")]
@@ -138,12 +142,13 @@ class _Unit:
             if hasattr(each, "base_address"):
                 base = each.base_address
             else:
-                own = 0 if getattr(each, "is_absolute", False) else base  # as entries of DWARF 5 may be
+                # Entries of DWARF 5 may have absolute addresses.
+                own = 0 if getattr(each, "is_absolute", False) else base
                 found.append(self._location(own + each.begin_offset, own + each.end_offset, each.loc_expr, frame))
         return found
 
     def _operations(self, expression: Sequence[int]) -> list[Operation]:
-        """The operations of an expression. Addresses that it has by their numbers in a table (DWARF 5) are in their places."""
+        """Return the operations of an expression. An index into a table of addresses (DWARF 5) is replaced by the address."""
         found = list[Operation]()
         for code, name, arguments, place in self._parse(expression):
             if name == "DW_OP_addrx":
@@ -152,7 +157,7 @@ class _Unit:
         return found
 
     def _location(self, first: int, end: int, expression: Sequence[int], frame: Sum | None) -> Location:
-        """A location by its expression; `untold` where that is long, damaged, or has what isn't known here."""
+        """Return the location of an expression; its kind is `untold` if the expression is long, damaged, or has unknown operations."""
         try:
             if len(expression) <= MAX_BYTES:
                 return location(first, end, self._operations(expression), frame)
@@ -162,19 +167,19 @@ class _Unit:
 
 
 def _variable(entry: "DIE", function: str, scopes: Sequence[Sum], locations: Sequence[Location]) -> TypedVariable:
-    """A variable by its entry."""
+    """Return the variable of an entry."""
     name, kind = name_of(entry), entry_at(entry_at(entry, "DW_AT_abstract_origin") or entry, "DW_AT_type")
     try:
         words, (element, counts) = " ".join(declaration(kind, name).split()), shape(kind)
         target = pointed_kind(kind)
-    except Exception:  # pylint: disable=broad-except  # types that are damaged, or have themselves in them
+    except Exception:  # damaged types, or types that contain themselves
         words, element, counts, target = name, "", [], ""
     variable = Variable(name, words[:NAME_LETTERS], element, counts, function, scopes, locations, target)
     return TypedVariable(variable, Layout(kind) if kind else None)
 
 
 def _dropped(entry: "DIE") -> list["DIE"]:
-    """The variables of an inlined function that its copy doesn't list: they were optimized out."""
+    """Return the variables of an inlined function that its copy doesn't list, since they were optimized out."""
     origin = entry_at(entry, "DW_AT_abstract_origin")
     saved = {source.offset for each in _all_within(entry) if (source := entry_at(each, "DW_AT_abstract_origin"))}
     whole = _all_within(origin) if origin else ()
@@ -182,7 +187,7 @@ def _dropped(entry: "DIE") -> list["DIE"]:
 
 
 def _all_within(entry: "DIE") -> Iterator["DIE"]:
-    """All entries below one."""
+    """Return all entries below one, at any depth."""
     for child in entry.iter_children():
         yield child
         yield from _all_within(child)

@@ -1,4 +1,4 @@
-"""The console's breakpoints: one at each address of a place, with a condition where there is one."""
+"""The console's breakpoints: one at each address of a place, perhaps with a condition."""
 
 from collections.abc import Mapping, Sequence
 
@@ -12,10 +12,10 @@ from .names import Names, state_of
 from .places import Place, Places, is_number
 from .show import Screen
 
-MAX_BREAKPOINTS = 16  # of a user
+MAX_BREAKPOINTS = 16  # a user's limit
 
 Kept = Mapping[int, Condition | None]
-"""Breakpoints by their addresses, with their conditions."""
+"""The condition of each breakpoint, or None, by the breakpoint's address."""
 
 
 class Breakpoints:
@@ -26,7 +26,7 @@ class Breakpoints:
         self._places, self._conditions = places, conditions
 
     def set(self, text: str) -> None:
-        """Sets the breakpoints of a place, and of a condition behind ` if `. Raises LabError if they can't be set."""
+        """Set breakpoints at `PLACE` or `PLACE if CONDITION`. Raises LabError if they can't be set."""
         word, _, condition_text = text.partition(" if ")
         place, condition = self.find(word.strip()), None
         if condition_text:
@@ -39,7 +39,7 @@ class Breakpoints:
             self._say_done(place)
 
     def remove(self, word: str) -> None:
-        """Removes the breakpoints of a place. Raises LabError if there is no such place."""
+        """Remove the breakpoints of a place. Raises LabError if there is no such place."""
         place, there = self.find(word), self._there()
         old = [each for each in place.addresses if is_number(each) and int(each, 16) in there]
         if self._send("unbreak", old or place.addresses[:1]):
@@ -47,11 +47,11 @@ class Breakpoints:
             self._say_done(place)
 
     def find(self, word: str) -> Place:
-        """The place that a word names. Raises LabError."""
+        """Return the place that an argument names. Raises LabError."""
         return self._places.find(word, state_of(self._guest)[1])
 
     def check_room(self, word: str, place: Place) -> None:
-        """Raises LabError if a place with several addresses needs more breakpoints than there may be."""
+        """Raise LabError if a place with several addresses needs more breakpoints than are left."""
         there = self._there()
         new, left = [each for each in place.addresses if int(each, 16) not in there], MAX_BREAKPOINTS - len(there)
         if len(new) > max(left, 1) or len(new) > left and len(place.addresses) > 1:
@@ -59,11 +59,14 @@ class Breakpoints:
             raise LabError(f"{needed}: none is set; break takes one address, of {', '.join(place.addresses)}")
 
     def all(self) -> Kept:
-        """All breakpoints with their conditions."""
+        """Return all breakpoints with their conditions."""
         return {address: self._conditions.by_address.get(address) for address in self._there()}
 
     def restart(self, saved: Kept, is_same: bool) -> None:
-        """After a program was brought in: sets the breakpoints that there were again if it is the same, or reports their end."""
+        """Set the saved breakpoints again after a program was loaded. If it isn't the same program, report their removal instead.
+
+        saved: the breakpoints before the program was loaded; is_same: whether the program is the same as before
+        """
         if is_same:
             self._guest.ask(*(f"break {address:x}" for address in saved))
             self._conditions.by_address.update({at: condition for at, condition in saved.items() if condition})
@@ -73,12 +76,12 @@ class Breakpoints:
             self._screen.say(f"{number} removed, since the program is another one: {places}")
 
     def _there(self) -> Sequence[int]:
-        """The addresses of all breakpoints; none if the machine doesn't show them."""
+        """Return the addresses of all breakpoints; none if the machine doesn't show them."""
         (reply,) = self._guest.ask("breaks")
         return reply.addresses if isinstance(reply, Addresses) else ()
 
     def _send(self, command: str, addresses: Sequence[str]) -> bool:
-        """Sends a command for each address, up to one that is refused; whether none was."""
+        """Send a command for each address. Stop at a refusal, and print it. Return whether no command was refused."""
         for address in addresses:
             check_text(f"{command} {address}")
             line = f"{self._guest.user} {command} {address}"
@@ -89,7 +92,7 @@ class Breakpoints:
         return True
 
     def _say_done(self, place: Place) -> None:
-        """Says where the breakpoints of a place are, unless an address was named."""
+        """Print where the breakpoints of a place are, unless the user named an address."""
         where = [self._names.place(int(each, 16)) for each in place.addresses if not place.is_address]
         description = ", ".join(filter(None, [place.taken, f"at {', '.join(where)}" if where else ""]))
         self._screen.say(f"ok: {description}" if description else "ok")

@@ -25,20 +25,20 @@ MARK = "vecmon> "
 
 
 def add_arguments(parser: argparse.ArgumentParser) -> None:
-    """The words of `vecmon-lab console`."""
+    """Add the arguments of `vecmon-lab console`."""
     help_text = "an image, or a source in C (.c) or assembler (.s, .S); without one, there is no program"
     add_program(parser, help_text, is_needed=False)
 
 
 def run(arguments: argparse.Namespace) -> int:
-    """Carries out lines up to the end. Raises LabError and OSError where the image or the source isn't taken."""
+    """Execute lines up to the end of the input. Raises LabError and OSError if the image or the source can't be loaded."""
     is_terminal = sys.stdin.isatty() and sys.stdout.isatty()
     is_able = is_terminal and os.environ.get("TERM", "dumb") != "dumb"
     screen = Screen(is_able and not os.environ.get("NO_COLOR"))
     with _console(arguments, screen) as console:
         prompt: Callable[[], str] = functools.partial(_plain_line, MARK if is_terminal else "")
         if is_able:
-            from .prompt import terminal_prompt  # whose library takes a third of a second
+            from .prompt import terminal_prompt  # importing its library takes a third of a second
 
             prompt = terminal_prompt(MARK, console.names.choices, console.bar)
         console.execution.show_place()
@@ -58,7 +58,10 @@ def run(arguments: argparse.Namespace) -> int:
 
 @contextlib.contextmanager
 def _console(arguments: argparse.Namespace, screen: Screen) -> Iterator[Console]:
-    """A console at a machine of its own with what is named. Raises LabError where a source is given words or input."""
+    """Yield a console with a new machine, and load the image or source that the arguments name.
+
+    Raises LabError if a source has arguments or input.
+    """
     path: pathlib.Path | None = arguments.image
     if path is not None and path.suffix not in ASSEMBLER_SUFFIXES:
         words, symbols = [path.name, *arguments.words], Symbols.read(path)
@@ -74,7 +77,7 @@ def _console(arguments: argparse.Namespace, screen: Screen) -> Iterator[Console]
     report = Reporter(lambda address: console.names.symbols.place(address))
     guest = Guest(Session(find_program(), quantum=QUANTUM), write=screen.write, report=report)
     with contextlib.ExitStack() as stack:
-        stack.callback(lambda: guest.session.close())  # which is another one, where it went back
+        stack.callback(lambda: guest.session.close())  # another session, if the guest went back
         guest.ask("enter")
         console = Console(guest, screen, Symbols())
         if path is not None:
@@ -98,7 +101,7 @@ def _typed_ahead(is_terminal: bool) -> Iterator[None]:
 
 
 def _plain_line(mark: str) -> str:
-    """The next line of standard input; bytes that aren't UTF-8 become non-ASCII characters. Raises EOFError."""
+    """Return the next line of standard input; bytes that aren't UTF-8 become non-ASCII characters. Raises EOFError at the end."""
     print(mark, end="", flush=True)
     line = sys.stdin.buffer.readline()
     if not line:

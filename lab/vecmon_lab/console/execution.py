@@ -1,4 +1,4 @@
-"""The console's program runs, is stepped, or goes back, and what changed meanwhile is shown."""
+"""Run, step or move back the console's program, and show the changes."""
 
 import itertools
 import re
@@ -18,13 +18,13 @@ from .conditions import REGISTERS, Conditions
 from .names import DIGITS, VECTORS, Names, state_of
 from .show import Screen, change_rows, change_text
 
-MAX_ROWS = 6  # of what a run has changed
+MAX_ROWS = 6  # that show the changes by a run
 
 
 class Execution:
     """Executes a user's program, up to a stop, a breakpoint whose condition holds, or an interrupt.
 
-    interrupt: set by Ctrl-C; changes: rows of what the last run has changed
+    interrupt: is set by Ctrl-C; changes: rows that show the changes by the last run
     has_mask: whether v0 is the mask of the instruction that was stepped last
     """
 
@@ -37,11 +37,11 @@ class Execution:
         self._timeline = Timeline(guest, lambda advance: screen.report(advance.sentence))
 
     def run(self) -> None:
-        """Runs the program to its next stop, or until Ctrl-C."""
+        """Run the program to its next stop, or until Ctrl-C."""
         self._tell_run(self._go())
 
     def until(self, places: Sequence[str]) -> None:
-        """As `run`, also to one of these addresses."""
+        """Run the program to its next stop, to one of these addresses, or until Ctrl-C."""
         _, errors = self._guest.ask("stop", "breaks")
         there = errors.addresses if isinstance(errors, Addresses) else ()
         numbers = {place: int(place, 16) if re.fullmatch(DIGITS, place) else -1 for place in places}
@@ -60,7 +60,7 @@ class Execution:
         self._tell_run(None if is_there else stop)
 
     def until_changed(self, name: str) -> None:
-        """Steps to the instruction that changes a register, which is shown with what it changed, or to another stop."""
+        """Step up to an instruction that changes a register, and show it with its changes, or up to another stop."""
         self._guest.ask("stop")
         self.look()
         before = self._value(name)
@@ -87,9 +87,9 @@ class Execution:
         self._tell_changes()
 
     def back_to_write(self, digits: str) -> None:
-        """Go back to the last instruction that changed the bytes of a symbol, or else 8, from an address on.
+        """Go back to the last instruction that changed bytes in memory. If there is none, stay at the current instruction.
 
-        If there is none, the program stays where it is.
+        digits: the address; the bytes are those of the symbol there, or else 8
         """
         address, symbols = int(digits, 16) if re.fullmatch(DIGITS, digits) else -1, self._names.symbols
         sizes = (symbols.sizes.get(name, 0) for name, at in symbols.addresses.items() if at == address)
@@ -114,18 +114,21 @@ class Execution:
         self._tell_changes()
 
     def look(self) -> list[Change]:
-        """Look at all registers again, if the machine shows them; return the changes."""
+        """Read all registers again if the program is stopped, and return the changes."""
         return self._stepper.look() if state_of(self._guest)[0] == "stopped" else []
 
     def show_place(self) -> None:
-        """Shows the next instruction."""
+        """Print the next instruction."""
         run, pc = state_of(self._guest)
         if run == "stopped":
             line, text = self._names.symbols.line(pc), self._stepper.fetch(pc)[1]
             self._screen.say(f"=> {self._names.place(pc)}  {text}" + (f"  ({line})" if line else ""))
 
     def _go(self, addresses: Collection[int] = ()) -> Stop | None:
-        """Runs the program to a stop; to a breakpoint only where its condition holds, or it is at one of these addresses."""
+        """Run the program, and return its stop; None after Ctrl-C.
+
+        A breakpoint stops the program if its condition holds, or if it is at one of `addresses`.
+        """
         self._guest.ask("stop")  # it may have gone on in slices of the operator's
         while True:
             stop = self._guest.go(None, self.interrupt.is_set)
@@ -135,7 +138,10 @@ class Execution:
                 return None
 
     def _stepped(self, numbers: Iterable[int]) -> Iterator[Retired]:
-        """Steps instructions of these numbers, 0 first, up to a stop, a breakpoint or Ctrl-C, which is shown."""
+        """Step an instruction for each number, and yield it. Stop at a breakpoint, after Ctrl-C, or if the program stops, and print why.
+
+        numbers: start with 0; a breakpoint at the first instruction is ignored
+        """
         breaks = self._guest.query("breaks", Addresses).addresses
         for number in numbers:
             pc, is_interrupted = self._guest.pc, self.interrupt.is_set()
@@ -150,12 +156,12 @@ class Execution:
             yield retired
 
     def _tell_run(self, stop: Stop | None) -> None:
-        """Why the program stopped, and what has changed since it began."""
+        """Print why the program stopped, and what has changed since the run began."""
         self._screen.say(self._guest.explain(stop) if stop else describe_stop(Position("stopped", self._guest.pc)))
         self._tell_changes()
 
     def _tell_changes(self) -> None:
-        """The changes since the last look, and the next instruction."""
+        """Print the changes since the registers were last read, and the next instruction."""
         self.has_mask = False
         self.changes = rows = self._change_rows(self.look())
         if len(rows) > MAX_ROWS:
@@ -164,19 +170,19 @@ class Execution:
         self.show_place()
 
     def _tell_step(self, retired: Retired) -> None:
-        """Shows an instruction that was stepped, with what it changed."""
+        """Print an instruction that was stepped, with its changes."""
         self._screen.say(f"   {self._names.place(retired.pc)}  {retired.text}")
         self._screen.say(*self._change_rows(retired.changes), kind="changed")
 
     def _change_rows(self, changes: Sequence[Change]) -> list[str]:
-        """The changes: scalar and control registers first, then each vector register, and memory, in separate rows."""
+        """Return rows of changes: scalar and control registers share rows; each vector register and memory have their own."""
         rows = list[str]()
         for _, group in itertools.groupby(changes, lambda change: (type(change), getattr(change, "register", 0))):
             rows += change_rows(map(change_text, group), self._screen.width)
         return rows
 
     def _value(self, name: str) -> object:
-        """The value of a register, at the last look."""
+        """Return the value that a register had when it was last read."""
         registers = self._stepper.registers
         if name in VECTORS:
             return bytes(registers.v[VECTORS[name] * REGISTER_BYTES :][:REGISTER_BYTES])

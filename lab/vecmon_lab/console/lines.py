@@ -1,4 +1,4 @@
-"""Lines of the console: its own commands, and those of the monitor with names for numbers."""
+"""Execute the console's lines: its own commands, and those of the monitor with names in place of numbers."""
 
 import pathlib
 import re
@@ -40,13 +40,16 @@ from .names import DIGITS, VECTORS, Names, remedy_of, state_of
 from .places import Places
 from .show import Screen, control_row, memory_rows, register_rows
 
-STEPS = [str(number) for number in range(1, 257)]  # that the machine takes
+STEPS = [str(number) for number in range(1, 257)]  # numbers of steps that the machine accepts
 HELP_ON_SOURCES = "source FILE loads an assembler source, vecmon-lab console FILE starts with an image"
 HELP_ON_LOAD = f"load reloads the console's image; {HELP_ON_SOURCES}"
 
 
 class Console:
-    """One user's machine, which executes lines. It is open until `quit`."""
+    """One user's machine, which executes lines.
+
+    is_open: False after `quit`
+    """
 
     def __init__(self, guest: Guest, screen: Screen, symbols: Symbols) -> None:
         self.is_open = True
@@ -60,7 +63,7 @@ class Console:
         self._program: Sequence[str] = ["load", "image"]  # the command that loaded the program
 
     def do(self, entry: str) -> None:
-        """Carries out the lines of an entry, up to the one during which Ctrl-C comes; that stops the program alone."""
+        """Execute the lines of an entry. Ctrl-C stops the program, and skips the lines after the current one."""
         before = signal.signal(signal.SIGINT, lambda *_: self.execution.interrupt.set())
         self.execution.interrupt.clear()
         try:
@@ -71,7 +74,10 @@ class Console:
             signal.signal(signal.SIGINT, before)
 
     def source(self, path: pathlib.Path) -> None:
-        """The user's machine begins anew with a source. Raises LabError and OSError, and then it is as before."""
+        """Load an assembler source into a new state of the user's machine.
+
+        Raises LabError and OSError; then the machine is unchanged.
+        """
         content = path.read_bytes()
         if path.suffix == ".c" or content.startswith(b"\x7fELF"):
             raise LabError(f"{path} isn't an assembler source; vecmon-lab console {path} starts with it")
@@ -91,7 +97,7 @@ class Console:
         self.execution.look()
 
     def bar(self) -> str:
-        """The program's place, the vector type, vl and the policy."""
+        """Return a text with the program's place, the vector type, vl and the policy."""
         run, pc = state_of(self._guest)
         if run != "stopped":
             return run
@@ -99,7 +105,7 @@ class Console:
         return f"pc {self.names.place(pc)}   vtype {vtype_text(control.vtype)}   vl {control.vl}   policy {policy}"
 
     def _execute(self, line: str) -> None:
-        """Execute a line; report its mistakes."""
+        """Execute a line; print the mistakes in it."""
         try:
             self._dispatch(self.names.words(line))
         except OSError as error:
@@ -149,7 +155,7 @@ class Console:
                 self._monitor(words)
 
     def _monitor(self, words: Sequence[str]) -> Answer:
-        """Execute a line of the monitor, perhaps with a user or the operator before it; show the answer."""
+        """Execute a line of the monitor, print the answer, and return it. The line may start with a user's digit or `*`."""
         has_user = len(words[0]) == 1 and words[0] in "12345678*"
         if not has_user:
             check_text(" ".join(words))
@@ -180,7 +186,7 @@ class Console:
         return answer
 
     def _shown(self, answer: Answer, lines: Sequence[str]) -> Iterable[str]:
-        """An answer, and its lines, as the console shows it."""
+        """Return the rows in which the console shows an answer. lines: the answer's lines"""
         registers = self._stepper.registers
         match answer:
             case ScalarRegisters():
@@ -201,7 +207,7 @@ class Console:
         return [line[2:] for line in lines]
 
     def _run(self, run: Callable[[], None]) -> None:
-        """Runs the program; where there is none, the monitor refuses."""
+        """Call `run`. If the user hasn't entered, send `go` instead, so that the monitor's refusal is shown."""
         if state_of(self._guest)[0] == "absent":
             self._monitor(["go"])
         else:
@@ -224,7 +230,7 @@ class Console:
             self.execution.show_place()
 
     def _until(self, word: str) -> None:
-        """Run the program to a place; each of its addresses ends the run."""
+        """Run the program until it reaches one of a place's addresses."""
         place = self._breakpoints.find(word)
         self._breakpoints.check_room(word, place)
         self._screen.say(*filter(None, [place.taken]))
@@ -232,7 +238,7 @@ class Console:
 
 
 def _explained(line: str, answer: Refused) -> list[str]:
-    """The meaning of a refusal, with a remedy for an unknown command or image."""
+    """Return the meaning of a refusal, with a remedy for an unknown command or image."""
     (first, *more) = explain_refusal(line, answer)
     if answer.code == "E03":
         first += remedy_of(line[2:].split()[0])
@@ -240,5 +246,5 @@ def _explained(line: str, answer: Refused) -> list[str]:
 
 
 def _behind(line: str) -> str:
-    """A line behind a place, as listings have it."""
+    """Return a source line as listings have it after a place; "" if it is unknown."""
     return f"  ({line})" if line else ""

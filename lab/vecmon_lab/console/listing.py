@@ -9,12 +9,15 @@ from .. import LabError
 from ..compilers.compiler import RUNTIME
 from .names import Names
 
-LINES_BEFORE, LINES = 4, 10  # of a source, before the one that is asked for, and of all
+LINES_BEFORE, LINES = 4, 10  # source lines before the requested one, and in total
 
 
 @dataclass(frozen=True)
 class OwnSource:
-    """A source that the console has assembled: its file, the text that it had, and the lines of its instructions by address."""
+    """A source that the console has assembled: its file, and its text then.
+
+    lines: the line number of each instruction, by address
+    """
 
     path: pathlib.Path
     text: str
@@ -22,14 +25,20 @@ class OwnSource:
 
 
 class SourceListing:
-    """The source of the program: one that the console has assembled, `own`, or those that the image's symbols name."""
+    """The source of the program.
+
+    own: the source that the console has assembled; None if the sources are those that the image's debug data names
+    """
 
     def __init__(self, names: Names) -> None:
         self.own: OwnSource | None = None
         self._names = names
 
     def rows(self, address: int, pc: int) -> Iterator[str]:
-        """The rows around the line of an address; the one of `pc` is marked. Raises LabError where it isn't known, and OSError."""
+        """Yield rows of the source around the line of an address. The row of `pc` is marked.
+
+        Raises LabError if the line isn't known, and OSError if the source can't be read.
+        """
         path, number = self._line(address)
         here = None
         with contextlib.suppress(LabError):
@@ -41,7 +50,7 @@ class SourceListing:
             yield f"{'=>' if here == (path, at) else '  '} {at:4}  {line.expandtabs()}".rstrip()
 
     def _line(self, address: int) -> tuple[pathlib.Path, int]:
-        """The source of an instruction, and the number of its line. Raises LabError where one isn't known."""
+        """Return the source of an instruction, and its line number. Raises LabError if they aren't known."""
         if self.own and address in self.own.lines:
             return self.own.path, self.own.lines[address]
         path = self.own.path if self.own else self._names.symbols.path

@@ -1,4 +1,4 @@
-"""Names in the console's lines: registers, symbols and what may be left out become the words that the monitor takes."""
+"""Names in the console's lines: registers, symbols and omitted arguments become the arguments of the monitor."""
 
 import re
 from collections.abc import Iterable
@@ -37,18 +37,18 @@ GDB_COMMANDS = {
     "unbreak": "d delete clear",
     "until": "u advance finish watch",
 }
-"""Names of gdb's commands by the console's command that does the same, or what is closest to it."""
+"""The names of gdb's commands, by the console's command with the same or the nearest effect."""
 
 
 class Names:
-    """The names that a user's lines may have; `symbols` are those of the program that is loaded."""
+    """The names that a user's lines may contain. symbols: those of the program that is loaded"""
 
     def __init__(self, guest: Guest, stepper: Stepper, symbols: Symbols) -> None:
         self.symbols = symbols
         self._guest, self._stepper = guest, stepper
 
     def choices(self, kind: str) -> Iterable[str]:
-        """The values that an argument of a command's form may have, or TOPIC, of `help`."""
+        """Return the values that an argument may have. kind: its name in a command's form, or TOPIC for `help`"""
         if kind == "TOPIC":
             described = (name for name, record in records().items() if record.kind != "absent")
             return {*COMMANDS, *MEANINGS, *instruction_table(), *described}
@@ -60,7 +60,7 @@ class Names:
         )
 
     def words(self, line: str) -> list[str]:
-        """The arguments of a line for the monitor: with defaults filled in, and with names replaced by their values."""
+        """Return the command and arguments of a line for the monitor, with defaults added and names replaced by their values."""
         name = line.split()[0]
         form = COMMANDS[name].form.split() if name in COMMANDS else [name]
         words = line.split(None, max(len(form) - 1, 1))
@@ -72,7 +72,13 @@ class Names:
         return words[:1] + [self.named(word, kind) for word, kind in zip(words[1:], [*form[1:], ""])]
 
     def named(self, word: str, kind: str) -> str:
-        """A register's number for its name; the digits of a symbol's address, as main or main+8, or of a number with 0x."""
+        """Return an argument for the monitor.
+
+        The name of a register becomes its number, a symbol (main or main+8) its address in hexadecimal digits; 0x is removed.
+        Other arguments are unchanged. Raises LabError for an unknown or ambiguous symbol.
+
+        kind: the argument's name in the command's form
+        """
         if kind == "xN":
             return REGISTERS.get(word, word)
         if kind not in PLACES or kind == "PLACE" and (word in REGISTERS or word in VECTORS):
@@ -88,7 +94,7 @@ class Names:
         return f"{address + int(offset or '0', 16):x}"
 
     def ambiguous(self, name: str, addresses: Iterable[int]) -> LabError:
-        """The error for a name of several places."""
+        """Return the error for a name with several addresses."""
         lines = ((f"{address:x}", self.symbols.line(address)) for address in addresses)
         places = [f"{address} ({line})" if line else address for address, line in lines]
         return LabError(
@@ -96,18 +102,18 @@ class Names:
         )
 
     def place(self, address: int) -> str:
-        """An address, with the symbol before it."""
+        """Return an address, followed by its place relative to a symbol, if there is one."""
         return f"{address:x} {self.symbols.place(address)}".rstrip()
 
 
 def state_of(guest: Guest) -> tuple[str, int]:
-    """Whether the user's program is `stopped` or `running`, and where; or `absent`."""
+    """Return `stopped` or `running` and the program counter, or `absent` and 0 if the user hasn't entered."""
     (state,) = guest.ask("state")
     return (state.run, state.pc) if isinstance(state, Position) else ("absent", 0)
 
 
 def remedy_of(word: str) -> str:
-    """What to type in place of a word that is no command, for the end of a message; "" if the word is a command."""
+    """Return the end of a message about an unknown command: what to type instead; "" if the command exists."""
     if word in COMMANDS or f"* {word}" in COMMANDS:
         return ""
     name = word.partition("/")[0]  # x/4w
@@ -116,5 +122,5 @@ def remedy_of(word: str) -> str:
 
 
 def gdb_command(name: str) -> str | None:
-    """Return the console's command for the name of one of gdb's, or None if gdb has no such command."""
+    """Return the console's command for one of gdb's command names, or None if the name is unknown."""
     return next((own for own, names in GDB_COMMANDS.items() if name in names.split()), None)

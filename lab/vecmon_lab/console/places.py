@@ -16,9 +16,9 @@ _RUNTIMES = {path.name for path in RUNTIME.glob("*")}
 class Place(NamedTuple):
     """A place of code.
 
-    addresses: in hexadecimal digits, or a word that the monitor refuses
-    taken: the meaning of a number, in words; "" if it is plain
-    is_address: whether an address or a symbol with one address was named
+    addresses: hexadecimal digits, or a word that the monitor refuses
+    taken: a text that says how a number was interpreted; "" if there is no doubt
+    is_address: whether the user named an address, or a symbol with one address
     """
 
     addresses: Sequence[str]
@@ -27,13 +27,16 @@ class Place(NamedTuple):
 
 
 class Places:
-    """The places of the program that is loaded."""
+    """The places of code in the program that is loaded."""
 
     def __init__(self, names: Names, listing: SourceListing) -> None:
         self._names, self._listing = names, listing
 
     def find(self, word: str, pc: int) -> Place:
-        """The place that a word names, while the program counter is at pc. Raises LabError if there is none, or several functions."""
+        """Return the place that an argument names. pc: the program counter
+
+        Raises LabError if there is no such place, or if several functions have the name.
+        """
         if found := _LINE.fullmatch(word):
             return Place(self._of_line(*found.groups()))
         if _NUMBER.fullmatch(word) and not self._names.symbols.place(int(word, 16)):
@@ -51,7 +54,7 @@ class Places:
         return {f"{own.path.name}:{line}": [address] for address, line in sorted(own.lines.items(), reverse=True)}
 
     def _of_line(self, file: str, number: str) -> list[str]:
-        """The addresses of a line. Raises LabError if it has none."""
+        """Return the addresses of a line. Raises LabError if it has none."""
         stops, symbols = self._stops, self._names.symbols
         if addresses := stops.get(f"{file}:{number}"):
             return [f"{address:x}" for address in addresses]
@@ -65,19 +68,22 @@ class Places:
         raise LabError(f"no instruction is of line {number} of {file}; {file}:{later} has some")
 
     def _of_number(self, word: str, pc: int) -> Place:
-        """A number that is no address of the program: a line of the file where the program is stopped, or of `main`'s file."""
+        """Return the place for a number at which the program has no symbol.
+
+        It is a line of the file where the program is stopped, or of `main`'s file, or else an address.
+        """
         symbols, stops = self._names.symbols, self._stops
         near = [symbols.line(address).rpartition(":")[0] for address in (pc, symbols.addresses.get("main", pc))]
         files = sorted({line.rpartition(":")[0] for line in stops})
         own = [*(each for each in near if each and each not in _RUNTIMES), *(files if len(files) == 1 else [])]
         for file in own:
-            if f"{file}:{word}" in stops or int(word, 16) % 4:  # which is no address of an instruction
+            if f"{file}:{word}" in stops or int(word, 16) % 4:  # it isn't an instruction's address
                 return Place(self._of_line(file, word), f"{word} is taken as the line {file}:{word}")
         taken = f"{word} is taken as an address; a line is named as FILE:{word}" if stops else ""
         return Place([word], taken, is_address=True)
 
     def _of_function(self, name: str, functions: Mapping[str, Sequence[int]]) -> Place:
-        """A function and its inlined copies. Raises LabError if several functions have the name."""
+        """Return the place of a function and its inlined copies. Raises LabError if several functions have the name."""
         symbols = self._names.symbols
         own = {address for addresses in functions.values() for address in addresses}
         others = set(symbols.places_of.get(name, ())) - own
@@ -87,5 +93,5 @@ class Places:
 
 
 def is_number(word: str) -> bool:
-    """Whether a word has hexadecimal digits alone."""
+    """Return whether a word has only hexadecimal digits."""
     return re.fullmatch(DIGITS, word) is not None

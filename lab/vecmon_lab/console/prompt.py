@@ -1,4 +1,7 @@
-"""The prompt of the console at a terminal: editing, history, completion, pasted lines as one entry, and a bar, by prompt_toolkit."""
+"""The prompt of the console at a terminal, with prompt_toolkit.
+
+It has editing, history, completion, pasted lines as one entry, and a bar.
+"""
 
 import os
 import pathlib
@@ -14,11 +17,11 @@ from prompt_toolkit.output import ColorDepth
 from ..assembler.commands import COMMANDS
 
 Choices = Callable[[str], Iterable[str]]
-"""The names that an argument of a command's form may have, as xN."""
+"""A function that returns the values that an argument may have, by the argument's name in a command's form, such as xN."""
 
 
 def terminal_prompt(mark: str, choices: Choices, bar: Callable[[], str]) -> Callable[[], str]:
-    """Reads an entry of one line, or of several pasted ones. It raises EOFError at Ctrl-D."""
+    """Return a function that reads an entry of one line, or of several pasted lines. The function raises EOFError at Ctrl-D."""
     session: PromptSession[str] = PromptSession(
         mark,
         completer=_Names(choices),
@@ -31,13 +34,13 @@ def terminal_prompt(mark: str, choices: Choices, bar: Callable[[], str]) -> Call
 
 
 class _Names(Completer):
-    """Completes a command, and then what its form has at the place of the word."""
+    """Completes a command, and then its arguments, by the form of the command."""
 
     def __init__(self, choices: Choices) -> None:
         self._choices = choices
 
     def get_completions(self, document: Document, complete_event: CompleteEvent) -> Iterable[Completion]:
-        """The completions of the word before the cursor."""
+        """Return the completions of the word before the cursor."""
         *before, word = re.split(" +", document.current_line_before_cursor.lstrip())
         form = COMMANDS[before[0]].form.split() if before and before[0] in COMMANDS else ["COMMAND"]
         kind = form[len(before)] if len(before) < len(form) else ""
@@ -50,7 +53,7 @@ class _Names(Completer):
 
 
 def _history() -> History:
-    """The entries of this and earlier times, or of this time alone where no file can be kept."""
+    """Return the history of entries, from a file if it can be written, or else only of this session."""
     state = pathlib.Path(os.environ.get("XDG_STATE_HOME") or pathlib.Path.home() / ".local" / "state")
     file = state / "vecmon-lab" / "console"
     try:

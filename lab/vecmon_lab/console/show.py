@@ -16,11 +16,11 @@ from ..instructions.table import ABI_NAMES
 
 COLOURS = {"tail": "2", "masked": "35", "changed": "33", "refused": "31"}
 ROUNDING = ["rnu", "rne", "rdn", "rod"]  # vxrm, the manual's section 3.8
-WIDTH, ELEMENTS_WIDTH = 96, 72  # characters of a row, and of the elements of one, at most
+WIDTH, ELEMENTS_WIDTH = 96, 72  # the most characters of a row, and of the elements in a row
 
 
 class Screen:
-    """Standard output, with colours or without; a row begins a new line, also after output of the program."""
+    """Standard output, with or without colours. A row starts on a new line, also after output of the program."""
 
     def __init__(self, has_colours: bool) -> None:
         self._has_colours = has_colours
@@ -28,12 +28,12 @@ class Screen:
 
     @property
     def columns(self) -> int:
-        """How many characters the terminal has in a row; without one there is no end."""
+        """The characters in a row of the terminal; without a terminal there is no limit."""
         return os.get_terminal_size(sys.stdout.fileno()).columns or WIDTH if sys.stdout.isatty() else sys.maxsize
 
     @property
     def width(self) -> int:
-        """How many characters a row of registers or memory has at most."""
+        """The most characters in a row of registers or memory."""
         return min(WIDTH, self.columns)
 
     def write(self, data: bytes) -> None:
@@ -43,7 +43,7 @@ class Screen:
         self._is_new_line = data.endswith(b"\n")
 
     def say(self, *rows: str, kind: str = "") -> None:
-        """Puts out rows, in the colour of a kind; one that is too long for the terminal goes on below, behind a word."""
+        """Print rows in the colour of a kind. A row that is too long for the terminal is wrapped after a word."""
         columns = self.columns
         wrap = textwrap.TextWrapper(
             columns, subsequent_indent=" " * 8, break_long_words=False, break_on_hyphens=False
@@ -60,11 +60,14 @@ class Screen:
             print(f"{sentence[:1].upper()}{sentence[1:]}.", file=sys.stderr, flush=True)
 
     def paint(self, text: str, kind: str) -> str:
-        """A text in the colour of its kind; an empty kind has none."""
+        """Return a text in the colour of its kind; without colour if the kind is empty."""
         return f"\033[{COLOURS[kind]}m{text}\033[0m" if kind and self._has_colours else text
 
     def element_rows(self, register: VectorRegister, control: ControlRegisters, mask: int | None) -> Iterator[str]:
-        """The elements of a register, some to a row; those of the tail, and those that a mask has off, have colours."""
+        """Yield rows with the elements of a register. Elements in the tail, and masked-off elements, have colours.
+
+        mask: the bits of the mask, or None if there is no mask
+        """
         values = [f"{value:0{register.width // 4}x}" for value in elements_in(register.data, register.width)]
         name, group = f"v{register.number}", max(1, int(Fraction(register.width, control.sew) * control.lmul))
         first = register.number % group * len(values)
@@ -76,7 +79,7 @@ class Screen:
 
 
 def _placement(element: int, control: ControlRegisters, mask: int | None) -> str:
-    """How an element lies: in the tail, masked off, or neither; where there is no vector type, neither."""
+    """Return whether an element is in the tail, masked off, or neither; without a vector type, neither."""
     if control.vtype >> 63:
         return ""
     if element >= control.vl:
@@ -85,18 +88,18 @@ def _placement(element: int, control: ControlRegisters, mask: int | None) -> str
 
 
 def both_names(name: str) -> str:
-    """A scalar register by its number and its name in the ABI, as x10/a0."""
+    """Return a scalar register with its number and its ABI name, as x10/a0."""
     return f"{name}/{ABI_NAMES[name]}" if name in ABI_NAMES else name
 
 
 def change_text(change: Change) -> str:
-    """A change, with a scalar register by both names."""
+    """Return the text of a change. A scalar register has both of its names."""
     text = str(change)
     return text.replace(change.name, both_names(change.name), 1) if isinstance(change, RegisterChange) else text
 
 
 def change_rows(texts: Iterable[str], width: int) -> Iterator[str]:
-    """Changes in rows of this number of characters; one that is too long for a row is divided between its numbers."""
+    """Yield changes in rows of at most `width` characters. A change that is longer than a row is split between its numbers."""
     pieces = [(number, piece) for text in texts for number, piece in enumerate(_pieces(text, width - 8))]
     row = " " * 4
     for number, piece in pieces:
@@ -109,7 +112,7 @@ def change_rows(texts: Iterable[str], width: int) -> Iterator[str]:
 
 
 def _pieces(text: str, limit: int) -> list[str]:
-    """A change in pieces of this number of characters at most, which end after a number, a name or a byte's digits."""
+    """Split a change into pieces of at most `limit` characters. A piece ends after a number, a name or a byte's digits."""
     if len(text) <= limit:
         return [text]
     if "," in text:
@@ -120,7 +123,7 @@ def _pieces(text: str, limit: int) -> list[str]:
 
 
 def register_rows(registers: ScalarRegisters, width: int) -> Iterator[str]:
-    """The program counter and the scalar registers, three to a row at most."""
+    """Yield rows with the program counter and the scalar registers, at most three to a row."""
     named = {"pc": registers.pc} | {f"x{number}": value for number, value in enumerate(registers.x)}
     cells = [f"{both_names(name):8} {value:016x}" for name, value in named.items()]
     room = max(1, min(3, (width + 2) // 27))
@@ -129,13 +132,13 @@ def register_rows(registers: ScalarRegisters, width: int) -> Iterator[str]:
 
 
 def control_row(control: ControlRegisters, policy: str) -> str:
-    """The vector control registers and the policy."""
+    """Return a row with the vector control registers and the policy."""
     first = f"vl={control.vl} vtype={control.vtype:x} ({vtype_text(control.vtype)}) vstart={control.vstart}"
     return f"{first} vxrm={control.vxrm} ({ROUNDING[control.vxrm]}) vxsat={control.vxsat} policy={policy}"
 
 
 def memory_rows(memory: Memory, width: int) -> Iterator[str]:
-    """The bytes, 16 to a row at most, as digits and as ASCII."""
+    """Yield rows of at most 16 bytes, as digits and as ASCII."""
     room = max(each for each in (1, 2, 4, 8, ROW_BYTES) if each == 1 or 4 * each + 11 <= width)
     for place in range(0, len(memory.data), room):
         row = memory.data[place : place + room]

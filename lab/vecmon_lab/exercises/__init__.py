@@ -1,1 +1,1 @@
-"""Exercises, and grades of the answers to them."""
+"""Exercises, and the grading of answers to them."""

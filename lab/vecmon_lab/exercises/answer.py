@@ -1,4 +1,4 @@
-"""An answer to an exercise: an image, a source or a script, loaded and run for one case, and its results."""
+"""Load an answer to an exercise (an image, a source or a script), run it for one case, and read its results."""
 
 import contextlib
 import functools
@@ -27,14 +27,18 @@ from ..machine.target import check_flags, check_kind, target_warnings
 from .exercise import UNLIMITED, Case, Exercise, Limits, Results
 
 TURNED = 0xA5
-"""The bits of a byte that are turned round where something is expected. All would make -32768 of 32767, as sums do."""
+"""The bits that differ between an expected byte and the byte there before the run. With all 8 bits, 32767 would become -32768."""
 
 C_SUFFIX = ".c"
 
 
 @dataclass(frozen=True)
-class Answer:
-    """An answer's file; and, if it is no image, the commands that bring it in, and the source that they are of, if any."""
+class ExerciseAnswer:
+    """An answer's file.
+
+    commands: of the monitor, that load the answer after `enter`; None for an image
+    source: the answer's source; None for an image or a script
+    """
 
     path: pathlib.Path
     commands: Sequence[str] | None = None
@@ -42,15 +46,15 @@ class Answer:
 
     @functools.cached_property
     def reporter(self) -> Reporter:
-        """Prints the answer's unsupported calls: each once, however many cases run."""
+        """Prints each unsupported call of the answer once, however many cases run."""
         return Reporter(lambda address: f"in {printable(str(self.path))}")
 
 
 @dataclass(frozen=True)
 class Attempt:
-    """The contents of the places of a case before an answer runs, and after it.
+    """The contents of a case's expected places before and after an answer runs.
 
-    is_long: whether it took more instructions than the exercise allows
+    is_long: whether the answer took more instructions than the exercise allows
     """
 
     before: Results
@@ -64,13 +68,15 @@ def read_answer(
     is_own: bool = False,
     isolation: Isolation | None = None,
     any_vlen: bool = False,
-) -> Answer:
-    """The answer in a file of at most this number of bytes: an ELF image, a source (.s, .S, .c), or a script.
+) -> ExerciseAnswer:
+    """Return the answer in a file: an ELF image, a source (.s, .S, .c), or a script. Links, pipes and devices are refused.
 
-    Raises LabError with the reason, and ToolError where that isn't the answer's. Links, pipes and devices aren't read.
-    is_own: whether it is your own file; C is compiled without a sandbox then, with the headers next to it
+    Raises LabError with the reason why the answer is refused, and ToolError if a tool fails.
+
+    limit: the most bytes of the file
+    is_own: whether the file is your own; then C is compiled without a sandbox, with the headers next to it
     isolation: compiles untrusted C; None for the sandbox
-    any_vlen: whether an image for longer vector registers is taken
+    any_vlen: whether to accept an image for longer vector registers
     """
     try:
         with open(path, "rb", opener=_open) as file:
@@ -86,7 +92,7 @@ def read_answer(
         check_kind(path)
         check_flags(path)
         target_warnings(path, any_vlen)
-        return Answer(path)
+        return ExerciseAnswer(path)
     try:
         text = data.decode("utf-8")
     except UnicodeDecodeError as error:
@@ -99,10 +105,10 @@ def read_answer(
         compiled = compile_c(text, find_compiler(None), 0, headers, is_answer=True, isolation=isolation)
         return source_answer(text, path, compiled)
     if path.suffix not in (".s", ".S"):
-        return Answer(path, _script_commands(text))
+        return ExerciseAnswer(path, _script_commands(text))
     if is_own:
         return source_answer(text, path)
-    from ..assembler.apart import read_limited  # which needs subprocesses
+    from ..language.apart import read_limited  # which needs subprocesses
 
     return source_answer(text, path, read=lambda it: read_limited("source", it, pathlib.Path()))
 
@@ -112,25 +118,25 @@ def source_answer(
     path: pathlib.Path,
     compiled: CompiledProgram | None = None,
     read: Callable[[str], Program] = read_source,
-) -> Answer:
-    """The answer that a source is, which has this text, and is called so. Raises LabError where it has mistakes.
+) -> ExerciseAnswer:
+    """Return the answer that consists of a source. Raises LabError if the source has mistakes.
 
-    compiled: of a C answer, its compiled form; read: assembles the source
+    text, path: the source and its file; compiled: the compiled form of a C source; read: assembles the source
     """
     name = printable(path.name)
     source = read_compiled(text, name, compiled, True) if compiled else read_assembled(text, name, read=read)
     if not (source.statements or compiled):
         raise LabError("there is no instruction in the source")
-    return Answer(path, [line[2:] for line in source.steps[0].lines[1:]], source)
+    return ExerciseAnswer(path, [line[2:] for line in source.steps[0].lines[1:]], source)
 
 
 def _open(name: str, flags: int) -> int:
-    """Open a file, but no link; a pipe without waiting for its writer."""
+    """Open a file. Raises OSError for a link; doesn't wait for the writer of a pipe."""
     return os.open(name, flags | os.O_NOFOLLOW | os.O_NONBLOCK)
 
 
 def _script_commands(text: str) -> list[str]:
-    """The commands of a script, which are those of one user. Lines that begin with # are sentences. Raises LabError."""
+    """Return the commands of a script, without the user's digit. All are of one user; lines with # are comments. Raises LabError."""
     lines = [(number, line) for number, line in enumerate(text.split("\n"), 1) if line and not line.startswith("#")]
     for number, line in lines:
         with mistakes_in(f"line {number}"):
@@ -148,34 +154,34 @@ def _script_commands(text: str) -> list[str]:
 @contextlib.contextmanager
 def ready(
     program: Vecmon,
-    answer: Answer,
+    answer: ExerciseAnswer,
     exercise: Exercise,
     case: Case,
     write: Callable[[bytes], object] | None = None,
 ) -> Iterator[Guest]:
-    """A machine of its own on which an answer was brought in and given a case. Raises LabError where it can't be.
+    """Yield a new machine with an answer loaded and a case's input set. Raises LabError if that is refused.
 
-    `write` is given what the answer writes from then on.
+    write: is called with the output of the answer from then on
     """
     images = {"image": answer.path} if answer.commands is None else {}
     with contextlib.ExitStack() as stack:
         session = Session(program, images, quantum=min(QUANTUM, exercise.limits.ticks))
         guest = Guest(session, report=answer.reporter)
-        stack.callback(lambda: guest.session.close())  # which is another one, where it went back
+        stack.callback(lambda: guest.session.close())  # another session, if the guest went back
         if answer.commands is None:
             guest.start("image")
         else:
             send(guest, ["enter", *answer.commands], answer.source)
-        guest.ask("stop")  # where a script's last line is `go`
+        guest.ask("stop")  # a script's last line may be `go`
         guest.output()
-        return_page = [] if answer.source else RETURN_PAGE  # which a source has
+        return_page = [] if answer.source else RETURN_PAGE  # a source has its own
         send(guest, [*return_page, *inputs(exercise, case, guest.query("state", Position).pc)])
         guest.write = write or guest.write
         yield guest
 
 
-def attempt(program: Vecmon, answer: Answer, exercise: Exercise, case: Case) -> Attempt:
-    """Runs an answer for a case. Raises LabError with the reason where it comes to no end of its own."""
+def attempt(program: Vecmon, answer: ExerciseAnswer, exercise: Exercise, case: Case) -> Attempt:
+    """Run an answer for a case. Raises LabError with the reason if the answer doesn't end with an ebreak or an exit."""
     output = bytearray()
 
     def write(data: bytes) -> None:
@@ -190,8 +196,11 @@ def attempt(program: Vecmon, answer: Answer, exercise: Exercise, case: Case) -> 
         return Attempt(before, _results(guest, case.expected, bytes(output)), is_long)
 
 
-def _without_end(guest: Guest, answer: Answer, stop: Stop | None, ticks: int) -> str:
-    """Why an answer comes to no end of its own, and at which line of its source; without a stop its ticks ran out."""
+def _without_end(guest: Guest, answer: ExerciseAnswer, stop: Stop | None, ticks: int) -> str:
+    """Return why an answer doesn't end by itself, and the line of its source.
+
+    stop: None if its ticks ran out
+    """
     source, pc = answer.source.program if answer.source else None, stop.pc if stop else guest.pc
     line = source.line_at(pc) if source else 0
     if stop is None:
@@ -202,15 +211,18 @@ def _without_end(guest: Guest, answer: Answer, stop: Stop | None, ticks: int) ->
     return (f"line {line}: " if line else "") + guest.explain(stop)
 
 
-def _runs_on(answer: Answer, pc: int) -> bool:
-    """Whether an address is the one after the last instruction of an answer's source."""
+def _runs_on(answer: ExerciseAnswer, pc: int) -> bool:
+    """Return whether an address is the one after the last instruction of an answer's source."""
     source = answer.source.program if answer.source else None
     return bool(source and source.statements and pc == source.statements[-1].address + 4)
 
 
 def _run(guest: Guest, limits: Limits) -> tuple[Stop | None, bool]:
-    """Runs an answer to a stop; None where its ticks ran out; and whether it took more instructions than it may."""
-    left = limits.instructions + 1 if limits.instructions < UNLIMITED else 0  # the last one may be that which stops it
+    """Run an answer, and return its stop, and whether it took more instructions than the limit.
+
+    The stop is None if the answer's ticks ran out.
+    """
+    left = limits.instructions + 1 if limits.instructions < UNLIMITED else 0  # the last one may be the stop
     while left > 0:
         stop, _ = guest.execute(min(left, MAX_STEPS))
         if stop:
@@ -220,9 +232,11 @@ def _run(guest: Guest, limits: Limits) -> tuple[Stop | None, bool]:
 
 
 def inputs(exercise: Exercise, case: Case, start: int) -> list[str]:
-    """The commands between an answer and its run, which begins at this address.
+    """Return the commands that set a case's input, after the answer is loaded.
 
-    The places don't have the expected values before.
+    They also fill each expected place with something else, so that an answer must write it.
+
+    start: the address where the run begins
     """
     others = [(place.address, bytes(byte ^ TURNED for byte in place.data)) for place in case.expected.memory]
     places = [*others, *((place.address, place.data) for place in case.memory)]
@@ -235,7 +249,7 @@ def inputs(exercise: Exercise, case: Case, start: int) -> list[str]:
 
 
 def _junk(name: str, start: int) -> Iterator[str]:
-    """The commands that fill x5 to x31, v0 to v31 and vxrm with what isn't 0: by the name of the case, always the same."""
+    """Yield commands that fill x5 to x31, v0 to v31 and vxrm with values other than 0, which depend only on the case's name."""
     random = Random(name)
     yield from (f"set x{number} {random.randrange(1, 1 << 64):x}" for number in range(5, 32))
     yield from (f"vset v{number} {random.randbytes(32).hex()}" for number in range(32))
@@ -244,7 +258,7 @@ def _junk(name: str, start: int) -> Iterator[str]:
 
 
 def _results(guest: Guest, expected: Results, output: bytes) -> Results:
-    """The contents of the places with expected values."""
+    """Return the contents of the places that have expected values."""
     x = guest.query("regs", ScalarRegisters).x
     registers = {name: x[int(name[1:])] for name in expected.registers}
     memory = [place.holding(guest.peek(place.address, len(place.data))) for place in expected.memory]
@@ -252,8 +266,8 @@ def _results(guest: Guest, expected: Results, output: bytes) -> Results:
 
 
 def settled(program: Vecmon, exercise: Exercise) -> Exercise:
-    """The exercise with what its reference leaves as what is expected. Raises LabError where a case can't be given."""
-    reference, cases = Answer(pathlib.Path(), [f"setpc {RETURN:x}"]), []  # it returns at once
+    """Return the exercise, with the reference's results as the expected ones. Raises LabError if a case's input can't be set."""
+    reference, cases = ExerciseAnswer(pathlib.Path(), [f"setpc {RETURN:x}"]), []  # it returns at once
     if "reference" in exercise.files:
         with mistakes_in(exercise.title):
             reference = read_answer(exercise.files["reference"], is_own=True)

@@ -3,16 +3,16 @@
 from typing import TypedDict
 
 from ..machine.process import Vecmon
-from .answer import Answer, ready
+from .answer import ExerciseAnswer, ready
 from .exercise import Exercise
 
 AnswerCost = TypedDict("AnswerCost", {"instructions": int, "work": int})
 """The cost of an answer in all visible cases: instructions, and of 100 elements those that did work."""
 
 
-def answer_cost(program: Vecmon, answer: Answer, exercise: Exercise) -> AnswerCost:
-    """The cost of an answer that passes. Raises LabError without a recorder."""
-    from ..runs.initial_state import initial_state_at  # which is for answers that pass
+def answer_cost(program: Vecmon, answer: ExerciseAnswer, exercise: Exercise) -> AnswerCost:
+    """Return the cost of an answer that passes. Raises LabError if there is no recorder."""
+    from ..runs.initial_state import initial_state_at  # needed only for answers that pass
     from ..runs.recorder import record
 
     instructions, elements = 0, [0, 0, 0]

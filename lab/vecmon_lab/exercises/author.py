@@ -1,4 +1,4 @@
-"""Tools for authors of exercises: a folder to begin with, and a try of the exercise, as students would find it."""
+"""Tools for authors of exercises: create a folder with an example, and try an exercise as students will see it."""
 
 import argparse
 import pathlib
@@ -21,14 +21,17 @@ WRONG = "wrong"  # the folder of answers that fail
 
 
 def add_arguments(parser: argparse.ArgumentParser) -> None:
-    """The words of `vecmon-lab exercise`."""
+    """Add the arguments of `vecmon-lab exercise`."""
     help = "new: create a folder with an exercise to change; try: run its good and wrong answers"
     parser.add_argument("what", metavar="new|try", choices=["new", "try"], help=help)
     parser.add_argument("folder", metavar="DIR", type=pathlib.Path, help="the folder of the exercise")
 
 
 def run(arguments: argparse.Namespace) -> int:
-    """Makes an exercise, or tries one; 1 if an answer fails or passes that shouldn't. Raises LabError and OSError."""
+    """Create or try an exercise. Raises LabError and OSError.
+
+    Return 1 if an answer passes that must fail, or fails that must pass; otherwise 0.
+    """
     folder = arguments.folder
     if arguments.what == "new":
         shutil.copytree(SKELETON, folder)
@@ -56,16 +59,16 @@ def run(arguments: argparse.Namespace) -> int:
 
 
 def _check_sandbox() -> None:
-    """Raises ToolError where students' C couldn't be compiled here, since the sandbox is installed and doesn't start."""
+    """Raise ToolError if the sandbox for students' C is installed but doesn't start."""
     compilers = find_compilers()
     if compilers and shutil.which("bwrap"):
         check_start(compilers[0])
 
 
 def _answers(exercise: Exercise) -> Iterator[tuple[pathlib.Path, bool]]:
-    """The answers that an exercise has, and whether each shall pass; the reference's results are expected anyway.
+    """Yield the answers of an exercise, and whether each must pass. The reference isn't among them.
 
-    Raises LabError if the folder of wrong ones is elsewhere.
+    Raises LabError if the folder of wrong answers is a link to another place.
     """
     for key, should_pass in (("good", True), ("start", False), ("start_c", False)):
         if key in exercise.files:
@@ -76,7 +79,7 @@ def _answers(exercise: Exercise) -> Iterator[tuple[pathlib.Path, bool]]:
 
 
 def _warn_of_free_cases(program: pathlib.Path, exercise: Exercise) -> None:
-    """Print the cases that an answer passes which only returns: graders give a point for each case."""
+    """Print a warning with the cases that pass even if an answer only returns, since graders give a point for each case."""
     answer = source_answer("ret\n", pathlib.Path("ret.s"))
     free = [case.name for case in exercise.cases if not outcome(program, answer, exercise, case).reason]
     if free:
@@ -84,12 +87,12 @@ def _warn_of_free_cases(program: pathlib.Path, exercise: Exercise) -> None:
 
 
 def _name(exercise: Exercise, path: pathlib.Path) -> str:
-    """The name of an answer in the exercise's folder, for a terminal."""
+    """Return the path of an answer below the exercise's folder, for a terminal."""
     return printable(str(path.relative_to(exercise.folder)))
 
 
 def _verdict(exercise: Exercise, outcomes: list[str]) -> str:
-    """The first line about an answer: the first visible case that fails, or the names of those that fail."""
+    """Return a row about an answer: how many cases pass, and the first case that fails, a visible one if there is one, with the reason."""
     failing = [(case, reason) for case, reason in zip(exercise.cases, outcomes) if reason]
     if not failing:
         return f"passes {len(outcomes)} cases"

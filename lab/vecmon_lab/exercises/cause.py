@@ -1,4 +1,4 @@
-"""The cause of a wrong number in the results of an answer, where it is known."""
+"""The cause of a wrong number in the results of an answer, if it is known."""
 
 import contextlib
 from collections.abc import Iterator, Sequence
@@ -8,19 +8,24 @@ from .. import LabError
 from ..guest.changes import Stepper
 from ..machine.process import Vecmon
 from ..runs.dataflow import Cell, Executed, bits_of_scalar, parts
-from .answer import Answer, Attempt, ready
+from .answer import ExerciseAnswer, Attempt, ready
 from .exercise import Case, Exercise
 from .outcome import WrongNumber, wrong_numbers
 
 MAX_STEPPED = 500  # instructions of an answer that is stepped
 Cause = Literal["left as it was", "masked off", "tail"]
-"""The number is as it was before, or it comes from an agnostic element that was masked off, or in a tail."""
+"""The causes of a wrong number: its place is unchanged, or the number comes from an agnostic element.
+
+Such an element was masked off, or in the tail.
+"""
 
 
-def cause(program: Vecmon, answer: Answer, exercise: Exercise, case: Case, done: Attempt) -> Cause | None:
-    """The cause of the first wrong number that an answer left in a case; None if it isn't known.
+def cause(program: Vecmon, answer: ExerciseAnswer, exercise: Exercise, case: Case, done: Attempt) -> Cause | None:
+    """Return the cause of the first wrong number that an answer left in a case; None if it isn't known.
 
-    Under the policy `ones` an answer of at most MAX_STEPPED instructions is executed again, one at a time.
+    Under the policy `ones`, the answer is stepped again, if it has at most MAX_STEPPED instructions.
+
+    done: the results of the answer in the case
     """
     wrong = next(wrong_numbers(case.expected, done), None)
     if wrong is None:
@@ -34,12 +39,12 @@ def cause(program: Vecmon, answer: Answer, exercise: Exercise, case: Case, done:
 
 
 def _cells(wrong: WrongNumber) -> set[Cell]:
-    """The bits of the register, or the bytes of memory, that a wrong number is in."""
+    """Return the bits of the register, or the bytes of memory, that hold a wrong number."""
     return bits_of_scalar(int(wrong.register[1:])) if wrong.register else {("memory", at) for at in wrong.memory}
 
 
-def _executed(program: Vecmon, answer: Answer, exercise: Exercise, case: Case) -> Sequence[Executed]:
-    """The instructions of an answer in a case; none if they are too many. Raises LabError."""
+def _executed(program: Vecmon, answer: ExerciseAnswer, exercise: Exercise, case: Case) -> Sequence[Executed]:
+    """Return the instructions that an answer executes in a case; none if there are more than MAX_STEPPED. Raises LabError."""
     with ready(program, answer, exercise, case, lambda data: None) as guest:
         steps = list[Executed]()
         for step in _stepped(Stepper(guest)):
@@ -50,14 +55,14 @@ def _executed(program: Vecmon, answer: Answer, exercise: Exercise, case: Case) -
 
 
 def _stepped(stepper: Stepper) -> Iterator[Executed]:
-    """The next MAX_STEPPED instructions of a guest."""
+    """Step MAX_STEPPED instructions, and yield each."""
     for _ in range(MAX_STEPPED):
         before = stepper.registers.copy()
         yield Executed(stepper.step(), before)
 
 
 def _agnostic_origin(steps: Sequence[Executed], places: set[Cell]) -> Cause | None:
-    """The kind of the agnostic elements that places come from after these instructions; None if they come from none."""
+    """Return the kind of the agnostic elements that the places' contents come from, after these instructions; None if there are none."""
     for step in reversed(steps):
         matching = [part for part in parts(step) if not places.isdisjoint(part[0])]
         kinds = {kind for _, _, kind in matching}

@@ -1,8 +1,10 @@
-"""The result of an answer in a class, and a lesson of it in a case: each is made in a separate process.
+"""Check an answer in a class, or write a lesson from it. Each runs in a separate process.
 
-The words are the program and what is asked for: `check`, the number of a case for a lesson of it, `before` for the
-lesson before the exercise, or `settle` for the exercise with its expected results, pickled. The exercise with its expected results, the answer's source, its compiled form, if that is
-in C, and what a good answer takes, if that is known, come pickled on standard input.
+The arguments are the path of vecmon, and the request: `check`; the number of a case, for a lesson that runs the answer in
+it; `before`, for the lesson before the exercise; or `settle`, for the pickled exercise with its expected results.
+
+Standard input is a pickled tuple: the exercise with its expected results, the answer's source, the source's compiled form or
+None, and the cost of a good answer or None.
 """
 
 import contextlib
@@ -53,7 +55,7 @@ class NumberRow(TypedDict):
 
 
 class CaseRows(TypedDict):
-    """Rows of what a case gives and expects, and notes on the state before it."""
+    """Rows of a case's inputs and expected results, and notes on the state before it."""
 
     given: list[NumberRow]
     expected: list[NumberRow]
@@ -96,7 +98,7 @@ class CheckResult(TypedDict):
 def check_or_failure(
     program: Vecmon, exercise: Exercise, text: str, compiled: CompiledProgram | None, good: AnswerCost | None
 ) -> CheckResult:
-    """As `check`, once more where a tool fails; where one fails again, its failure instead of cases, so that it is no try."""
+    """Return the result of `check`, which is tried twice if a tool fails. After a second failure, return a result without cases."""
     with contextlib.suppress(ToolError):
         return check(program, exercise, text, compiled, good)
     try:
@@ -106,16 +108,16 @@ def check_or_failure(
 
 
 def failed_check(cause: str) -> CheckResult:
-    """The result of a check that failed itself, which is no try."""
+    """Return the result of a check that itself failed, which doesn't count as a try."""
     return {"failure": cause, "unchecked": UNCHECKED}
 
 
 def check(
     program: Vecmon, exercise: Exercise, text: str, compiled: CompiledProgram | None, good: AnswerCost | None
 ) -> CheckResult:
-    """The result of a source, in an exercise with expected results. Raises ToolError.
+    """Return the result of a source, in an exercise with expected results. Raises ToolError.
 
-    compiled: its compiled form, if it is in C; good: the cost of the exercise's good answer, if known
+    compiled: the compiled form of a C source; good: the cost of the exercise's good answer, if known
     """
     try:
         if len(text.encode()) > exercise.limits.size:
@@ -153,13 +155,16 @@ def check(
 
 
 def passes_all(result: CheckResult) -> bool:
-    """Whether an answer was tried, and passes all cases."""
+    """Return whether an answer could be tried, and passes all cases."""
     cases = result.get("cases", [])
     return bool(cases) and all(case["passed"] for case in cases)
 
 
 def lesson(program: Vecmon, exercise: Exercise, number: int, text: str, compiled: CompiledProgram | None) -> str:
-    """A lesson, in HTML, of a source in a case: a frame that sets up the case, and 256 instructions at most."""
+    """Return the HTML of a lesson that runs a source in a case.
+
+    It has a frame that sets up the case, and at most 256 instructions.
+    """
     answer, case = source_answer(text, NAME, compiled), exercise.cases[number]
     assert answer.commands is not None and answer.source is not None and answer.source.program is not None
     title, reason = f"{exercise.title}: {case.name}", outcome(program, answer, exercise, case).reason
@@ -173,7 +178,7 @@ def lesson(program: Vecmon, exercise: Exercise, number: int, text: str, compiled
 
 
 def script_before(exercise: Exercise) -> Script:
-    """The script of the lesson before an exercise. Raises LabError, without a path, if its file isn't as it was."""
+    """Return the script of the lesson before an exercise. Raises LabError, without a path, if its file has changed."""
     file = exercise.files["lesson"]
     try:
         text = named_file(exercise.folder, str(file), SOURCE_BYTES).read_text("utf-8")
@@ -183,41 +188,44 @@ def script_before(exercise: Exercise) -> Script:
 
 
 def lesson_before(program: Vecmon, exercise: Exercise) -> str:
-    """The page in HTML of the lesson before an exercise."""
+    """Return the HTML of the lesson before an exercise."""
     script = script_before(exercise)
     return _page(script.title, script, program)
 
 
 def _page(title: str, script: Script, program: Vecmon, is_introduced: bool = True) -> str:
-    """The page in HTML of a script."""
-    from ..lessons.frames import make_frames  # which a check does without
+    """Return the HTML of a script's lesson."""
+    from ..lessons.frames import make_frames  # a check doesn't need it
     from ..lessons.page import lesson_page
 
     return lesson_page(title, make_frames(script, program), script, is_introduced=is_introduced)
 
 
 def case_rows(exercise: Exercise, case: Case) -> CaseRows:
-    """The given and the expected numbers of a case. Only for a case that isn't hidden."""
+    """Return the rows of a case's inputs and expected results. Don't use it for hidden cases."""
     expected = [_row(strip) for strip in _strips(case.expected)]
     return {"given": _given(case, None), "expected": expected, "notes": _notes(exercise, case)}
 
 
 def _notes(exercise: Exercise, case: Case) -> list[str]:
-    """The state before a case, in addition to numbers in registers and memory."""
+    """Return sentences about the state before a case that the rows of its inputs don't show."""
     agnostic = "Agnostic elements, of a tail or masked off, become all ones here: does the answer use one?"
     junk = "All other registers have arbitrary values."
     return [junk] * exercise.junk + [agnostic] * (case.policy == "ones")
 
 
 def _given(case: Case, cut: NumberRow | None) -> list[NumberRow]:
-    """The rows of what is given, each from the number on that belongs to the first one of a row that is shown of results."""
+    """Return rows of the inputs. If the results' row doesn't start with number 0, start at the corresponding inputs.
+
+    cut: the row of results; None to start with the first number
+    """
     first, of = (cut["first"], cut["first"] + len(cut["numbers"]) + cut["more"]) if cut else (0, 1)
     strips = _strips(Results(case.registers, case.memory, None), True)
     return [_row(strip, first * max(1, len(strip.texts) // of)) for strip in strips]
 
 
 def _compared(expected: Results, found: Results) -> tuple[list[NumberRow], list[NumberRow]]:
-    """The rows of what is expected and of what is found, from the same number on, with the wrong ones marked."""
+    """Return rows of the expected and of the found results. Both start at the same number, and wrong numbers are marked."""
     pairs = []
     for own, other in zip(_strips(expected), _strips(found)):
         wrong = [place for place, pair in enumerate(zip(own.texts, other.texts)) if pair[0] != pair[1]]
@@ -228,7 +236,7 @@ def _compared(expected: Results, found: Results) -> tuple[list[NumberRow], list[
 
 
 class _Strip(NamedTuple):
-    """A place of numbers, the numbers as texts, and the name of the register that it is, or ""."""
+    """A place, its numbers as texts, and the ABI name of the register that it is, or ""."""
 
     where: str
     texts: Sequence[str]
@@ -246,7 +254,10 @@ def _row(strip: _Strip, first: int = 0, wrong: Sequence[int] = ()) -> NumberRow:
 
 
 def _strips(results: Results, with_addresses: bool = False) -> list[_Strip]:
-    """The places of numbers, and the numbers as texts; those of registers may include addresses."""
+    """Return the places of results, with their numbers as texts.
+
+    with_addresses: whether a register's value that may be an address is hexadecimal
+    """
     strips = list[_Strip]()
     for name, value in results.registers.items():
         is_address = with_addresses and ADDRESSES <= value < 1 << 48
@@ -259,8 +270,11 @@ def _strips(results: Results, with_addresses: bool = False) -> list[_Strip]:
 
 
 def main(program: str, what: str) -> None:
-    """Write the result, in JSON, or a lesson, or a pickled exercise, to standard output."""
-    import resource  # which the synchronous core does without
+    """Write the reply to a request to standard output: JSON, HTML or a pickled exercise.
+
+    program: the path of vecmon; what: the request
+    """
+    import resource  # the synchronous core doesn't need it
 
     os.nice(10)
     resource.setrlimit(resource.RLIMIT_CPU, (CPU_SECONDS, CPU_SECONDS))

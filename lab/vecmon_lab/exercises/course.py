@@ -1,4 +1,4 @@
-"""Writes the course: a page with the texts of its exercises and the class's command, and the lessons before them."""
+"""Write the course: a page with its exercises' texts and the command for a class, and the lessons before the exercises."""
 
 import argparse
 import pathlib
@@ -20,7 +20,7 @@ from .exercise import OURS, Exercise, read_exercise
 
 @dataclass(frozen=True)
 class CourseEntry:
-    """An exercise of the course, the number of minutes that it takes with its lesson, and that lesson."""
+    """An exercise of the course, the minutes that it takes with its lesson, and the lesson."""
 
     exercise: Exercise
     minutes: str
@@ -28,7 +28,7 @@ class CourseEntry:
 
 
 def add_arguments(parser: argparse.ArgumentParser) -> None:
-    """The words of `vecmon-lab course`."""
+    """Add the arguments of `vecmon-lab course`."""
     parser.add_argument(
         "folder", metavar="DIR", type=pathlib.Path, help="the folder of the pages, created if necessary"
     )
@@ -38,7 +38,7 @@ def add_arguments(parser: argparse.ArgumentParser) -> None:
 
 
 def run(arguments: argparse.Namespace) -> int:
-    """Writes the pages, and prints their paths in the course's order. Raises LabError and OSError."""
+    """Write the pages, and print their paths in the course's order. Raises LabError and OSError."""
     program, folder, minutes = find_program(), arguments.folder, dict(read_table("course"))
     folder.mkdir(parents=True, exist_ok=True)
     exercises = {name: read_exercise(OURS / name) for name in minutes}
@@ -51,7 +51,7 @@ def run(arguments: argparse.Namespace) -> int:
 
 
 def course_page(title: str, entries: Sequence[CourseEntry], play: str) -> str:
-    """The page of the exercises; play: the address of a playground, or ""."""
+    """Return the HTML of the page of exercises. play: the address of a playground, or """ ""
     checked = page_text("course.checked-in-playground") if play else page_text("course.checked-in-class")
     command = "" if play else element("pre", "vecmon-lab class DIR --course")
     sections = [_section(number, entry, play) for number, entry in enumerate(entries, 1)]
@@ -59,7 +59,7 @@ def course_page(title: str, entries: Sequence[CourseEntry], play: str) -> str:
 
 
 def _section(number: int, entry: CourseEntry, play: str) -> Html:
-    """An exercise: its lesson with a sentence and a picture, its text, and a link into the playground."""
+    """Return the HTML of an exercise: its lesson with a sentence and a picture, its text, and a link to the playground."""
     lesson = entry.lesson
     about = content_of(
         "course.lesson",
@@ -75,7 +75,7 @@ def _section(number: int, entry: CourseEntry, play: str) -> Html:
 
 
 def _block(text: str) -> Html:
-    """A paragraph of an exercise's text, a list or code, as `blocks.js` shows them."""
+    """Return the HTML of a paragraph, a list or code in an exercise's text, as `blocks.js` shows it."""
     lines = text.split("\n")
     if all(line.startswith("    ") for line in lines):
         return element("pre", "\n".join(line[4:] for line in lines))

@@ -17,19 +17,28 @@ from .toml_file import read_toml, shown
 
 OURS = pathlib.Path(__file__).with_name("given")
 UNLIMITED = 1 << 63
-PLACE_BYTES = 1 << 20  # all that a user's pages have
-MAX_CASES, CASES_BYTES = 1_000, 16 << 20  # of an exercise; and of the places of all cases together
-MAX_TICKS = 100_000_000  # of a case, and of its instructions where they are limited: some seconds
-ADDRESSES = 0x10000  # a register with so much in it may have an address
+PLACE_BYTES = 1 << 20  # the size of a user's pages
+MAX_CASES, CASES_BYTES = 1_000, 16 << 20  # cases of an exercise; bytes of the places in all cases together
+MAX_TICKS = 100_000_000  # of a case; also the limit of its instructions, if they are limited: some seconds
+ADDRESSES = 0x10000  # a value from here on may be an address
 
 _NAMES = {bool: "true or false", int: "a number", str: "a text", list: "a list", dict: "a table"}
 _REGISTERS = REGISTERS | {f"x{number}": f"x{number}" for number in range(32)}
-_FORMATS = {"i8": "b", "u8": "B", "i16": "h", "u16": "H", "i32": "i", "u32": "I", "i64": "q", "u64": "Q"}  # of struct
+_FORMATS = {
+    "i8": "b",
+    "u8": "B",
+    "i16": "h",
+    "u16": "H",
+    "i32": "i",
+    "u32": "I",
+    "i64": "q",
+    "u64": "Q",
+}  # codes of the module struct
 
 
 @dataclass(frozen=True)
 class Numbers:
-    """Numbers in memory, one after another, of a type from `u8` to `i64`."""
+    """Consecutive numbers in memory, of a type from `u8` to `i64`."""
 
     address: int
     type: str
@@ -37,17 +46,20 @@ class Numbers:
 
     @property
     def data(self) -> bytes:
-        """The bytes of the numbers."""
+        """Return the bytes of the numbers."""
         return struct.pack(f"<{len(self.numbers)}{_FORMATS[self.type]}", *self.numbers)
 
     def holding(self, data: bytes) -> "Numbers":
-        """The place with the numbers that these bytes are."""
+        """Return the same place, with the numbers that these bytes contain."""
         return replace(self, numbers=struct.unpack(f"<{len(self.numbers)}{_FORMATS[self.type]}", data))
 
 
 @dataclass(frozen=True)
 class Results:
-    """What is looked up after a run, or expected there: registers by number, as x10, memory, and the output, if any."""
+    """Results of a run, found or expected.
+
+    registers: values by name, as x10; memory: places with their numbers; output: None if the output doesn't count
+    """
 
     registers: Mapping[str, int]
     memory: Sequence[Numbers]
@@ -56,7 +68,7 @@ class Results:
 
 @dataclass(frozen=True)
 class Case:
-    """An answer's input, and the expected results."""
+    """A case: an answer's input, and the expected results."""
 
     name: str
     is_hidden: bool
@@ -68,7 +80,7 @@ class Case:
 
 @dataclass(frozen=True)
 class Limits:
-    """Of each case: ticks, bytes of output, and instructions; and how many bytes the file of an answer has."""
+    """The limits of each case, in ticks, bytes of output and instructions, and of an answer's file, in bytes."""
 
     ticks: int = 100_000
     output: int = 4096
@@ -78,14 +90,15 @@ class Limits:
 
 @dataclass(frozen=True)
 class Exercise:
-    """An exercise, as its folder has it.
+    """An exercise, as its folder defines it.
 
-    text: in paragraphs, lists and code, as a student reads it; hints: one more after each try that fails
+    text: the paragraphs, lists and code that a student reads; hints: one more is shown after each try that fails
     set_up: lines of the monitor before each case, without the user's digit
-    junk: whether registers that a case doesn't name hold anything before it, and not 0
-    files: by the keys of FILES that there are: `reference`, an answer whose results are expected in the places that the
-        cases name, which else have them; `good`, another one, with vectors; `start`, the source that a student begins
-        with; `start_c`, one more in C, for who chooses that; `lesson`, the source of a lesson before it
+    junk: whether registers that a case doesn't name have arbitrary values before it; otherwise they are 0
+    files: the files by those keys of FILES that the exercise has:
+    `reference`, an answer whose results are the expected ones (without it, the cases contain the expected results);
+    `good`, another answer, with vectors; `start`, the source that a student starts with; `start_c`, the same in C;
+    `lesson`, the source of a lesson before the exercise
     """
 
     folder: pathlib.Path
@@ -100,7 +113,7 @@ class Exercise:
 
 
 def read_exercise(folder: pathlib.Path) -> Exercise:
-    """The exercise in a folder, or the one of this name that comes with the lab. Raises LabError and OSError."""
+    """Return the exercise in a folder, or the lab's exercise with this name. Raises LabError and OSError."""
     path = _home(folder) / "exercise.toml"
     if not path.is_file():
         raise _not_found(folder)
@@ -130,7 +143,7 @@ def read_exercise(folder: pathlib.Path) -> Exercise:
 
 
 def _check_texts(path: pathlib.Path, toml: str, table: SimpleNamespace) -> None:
-    """Raise LabError if the title, the text or a hint has characters that control a terminal, or reorder what is shown."""
+    """Raise LabError if the title, the text or a hint has characters that control a terminal or reorder the displayed text."""
     for key, texts in (("title", [table.title]), ("text", [table.text]), ("hints", table.hints)):
         for text in texts:
             with mistakes_in(KeyPlace(path, toml, key)):
@@ -138,7 +151,10 @@ def _check_texts(path: pathlib.Path, toml: str, table: SimpleNamespace) -> None:
 
 
 def _files(path: pathlib.Path, toml: str, names: Mapping[str, str]) -> dict[str, pathlib.Path]:
-    """The files in the exercise's folder that its keys name. Raises LabError and OSError."""
+    """Return the files in the exercise's folder, by their keys. Raises LabError and OSError.
+
+    path, toml: exercise.toml and its text; names: the files' names by key
+    """
     files = {}
     for key, name in names.items():
         with mistakes_in(KeyPlace(path, toml, key)):
@@ -149,18 +165,18 @@ def _files(path: pathlib.Path, toml: str, names: Mapping[str, str]) -> dict[str,
 
 
 def with_course(folders: Sequence[pathlib.Path]) -> list[pathlib.Path]:
-    """The folders of the course's exercises in their order, and then those of `folders` that aren't among them."""
+    """Return the folders of the course's exercises in their order, followed by those of `folders` that aren't in the course."""
     course = [(OURS / name).absolute() for name, _ in read_table("course")]
     return course + [folder for folder in folders if _home(folder) not in course]
 
 
 def _home(folder: pathlib.Path) -> pathlib.Path:
-    """The absolute path of a folder if it exists; else of the lab's exercise of this name, which needn't exist."""
+    """Return the absolute path of a folder; if it doesn't exist, the path that the lab's exercise of this name would have."""
     return (folder if folder.exists() else OURS / folder.name).absolute()
 
 
 def _not_found(folder: pathlib.Path) -> LabError:
-    """The error for a folder without an exercise, or for a name, with the nearest name of the course if one is near."""
+    """Return the error for a folder without an exercise, or for an unknown name, with the nearest name of the course."""
     if folder.exists():
         return LabError(f"{folder} is no exercise: there is no file {folder / 'exercise.toml'}")
     near = get_close_matches(folder.name, [name for name, _ in read_table("course")], 1)
@@ -169,20 +185,23 @@ def _not_found(folder: pathlib.Path) -> LabError:
 
 
 def _taken(where: str, entries: object, defaults: Mapping[str, object]) -> SimpleNamespace:
-    """A table's entries, and defaults for those that are missing. Raises LabError for others, and for other types."""
+    """Return a table's entries, with defaults for missing ones. Raises LabError for unknown keys and wrong types.
+
+    where: the place of the table, for messages; defaults: all keys that are allowed; an entry must have the type of its default
+    """
     if not isinstance(entries, dict):
         raise LabError(f"{where} isn't a table")
     for key, value in entries.items():
         if key not in defaults:
             raise LabError(f"{where}: there is nothing that is called {shown(key)}")
         kind = type(defaults[key])
-        if type(value) is not kind:  # a bool is no number here
+        if type(value) is not kind:  # a bool isn't accepted as a number
             raise LabError(f"{where}: {key} isn't {_NAMES[kind]}")
     return SimpleNamespace(**defaults | entries)
 
 
 def _cases(path: pathlib.Path, entries: Sequence[object], by_reference: bool) -> Iterator[Case]:
-    """The cases of an exercise. Raises LabError."""
+    """Yield the cases of an exercise. Raises LabError. by_reference: whether a reference gives the expected results"""
     if len(entries) > MAX_CASES:
         raise LabError(f"{path}: there are {len(entries):,} cases, and {MAX_CASES:,} is the maximum")
     size = 0
@@ -195,7 +214,10 @@ def _cases(path: pathlib.Path, entries: Sequence[object], by_reference: bool) ->
 
 
 def _case(where: str, entries: object, by_reference: bool) -> Case:
-    """A case. The results of a reference are named without values: registers in a list, a length, and output = true."""
+    """Return a case. Raises LabError.
+
+    by_reference: whether the expected results are only named: registers in a list, the length of memory, and output = true
+    """
     inputs = {"hidden": False, "policy": "keep", "registers": {}, "memory": []}
     table = _taken(where, entries, {"name": where.split(": ")[-1], "expected": {}, **inputs})
     results = {"registers": [], "output": False} if by_reference else {"registers": {}, "output": ""}
@@ -217,7 +239,7 @@ def _case(where: str, entries: object, by_reference: bool) -> Case:
 
 
 def _registers(where: str, named: Mapping[str, object]) -> dict[str, int]:
-    """Values of 64 bits by register."""
+    """Return the 64-bit values of registers, by name. Raises LabError."""
     values = {}
     for name, value in named.items():
         if _REGISTERS.get(name, "x0") == "x0":
@@ -229,7 +251,7 @@ def _registers(where: str, named: Mapping[str, object]) -> dict[str, int]:
 
 
 def _places(where: str, entries: Sequence[object], by_reference: bool) -> list[Numbers]:
-    """The places of a case that are given, or expected: together they fit into a user's pages. Raises LabError."""
+    """Return the given or expected places of a case. Raises LabError if they don't fit into a user's pages together."""
     places, size = list[Numbers](), 0
     for each in entries:
         places.append(_place(where, each, by_reference))
@@ -240,7 +262,7 @@ def _places(where: str, entries: Sequence[object], by_reference: bool) -> list[N
 
 
 def _place(where: str, entries: object, by_reference: bool) -> Numbers:
-    """A place in memory: `at`, and the numbers, or how many, by their type; or a text. Raises LabError."""
+    """Return a place in memory. Raises LabError. It has `at`, and its numbers by their type, or their count, or a text."""
     match entries:
         case {"at": int(address), **others} if 0 <= address < 1 << 48:
             place = Numbers(address, *_numbers(f"{where}: the place at {address:#x}", others, by_reference))
@@ -255,7 +277,7 @@ def _place(where: str, entries: object, by_reference: bool) -> Numbers:
 
 
 def _numbers(where: str, entries: Mapping[object, object], by_reference: bool) -> tuple[str, list[int]]:
-    """The numbers of a place, or as many zeros as there are, and their type. Raises LabError."""
+    """Return the type and the numbers of a place, or zeros if only their count is given. Raises LabError."""
     match [*entries.items()]:
         case [("text", str(text))] if not by_reference:
             return "u8", [*text.encode()]

@@ -1,4 +1,4 @@
-"""Grades answers to an exercise: a table, or a row of CSV for each answer, and where each one goes wrong first."""
+"""Grade answers to an exercise: print a table, or a row of CSV for each answer, and the first mistake of each answer."""
 
 import argparse
 import contextlib
@@ -15,9 +15,9 @@ from ..arguments import check_outputs
 from ..compilers.account import account_named, add_account
 from ..compilers.compiled import Isolation
 from ..compilers.compiler import find_compiler
-from ..compilers.container import answer_as_nobody, check_container
+from ..compilers.container import run_as_nobody, check_container
 from ..compilers.failures import ToolError
-from ..compilers.sandbox import StartedAsRoot, answer_sandboxed, sandboxed_compiler
+from ..compilers.sandbox import StartedAsRoot, run_sandboxed, sandboxed_compiler
 from ..guest.entries import printable
 from ..machine.program import find_program
 from ..output import terminal_text
@@ -28,15 +28,15 @@ from .outcome import outcome
 from .reports import Grades, gradescope, junit
 from .answer_cost import AnswerCost, answer_cost
 
-COUNTS = ("instructions", "work")  # columns of what an answer takes
+COUNTS = ("instructions", "work")  # columns of an answer's cost
 Graded = tuple[list[str], AnswerCost | None]
-"""Why an answer fails, or "", for each case; and what it takes, if that is counted and it passes."""
+"""For each case the reason why an answer fails, or ""; and the answer's cost, or None if it fails or costs aren't counted."""
 
 EXERCISE = "a folder with a file exercise.toml, or the name of an exercise of the course"
 
 
 def add_arguments(parser: argparse.ArgumentParser) -> None:
-    """The words of `vecmon-lab grade`."""
+    """Add the arguments of `vecmon-lab grade`."""
     parser.add_argument("exercise", metavar="EXERCISE", type=pathlib.Path, help=EXERCISE)
     parser.add_argument("answers", metavar="ANSWER", type=pathlib.Path, nargs="+", help="an image, source or script")
     form = parser.add_mutually_exclusive_group()
@@ -54,14 +54,14 @@ def add_arguments(parser: argparse.ArgumentParser) -> None:
 
 
 def names() -> list[str]:
-    """The exercises that come with the lab."""
+    """Return the names of the exercises that come with the lab."""
     return sorted(path.parent.name for path in OURS.glob("*/exercise.toml"))
 
 
 def run(arguments: argparse.Namespace) -> int:
-    """Grades the answers side by side; 1 if one of them fails, 2 if one can't be graded.
+    """Grade the answers in parallel. Return 1 if one of them fails, and 2 if one can't be graded.
 
-    Raises LabError and OSError for bad input, and where the sandbox that C needs doesn't start.
+    Raises LabError and OSError for bad input, and if C needs the sandbox and it doesn't start.
     """
     if len(arguments.answers) > 1 and (arguments.gradescope or arguments.no_sandbox):
         option = "--gradescope" if arguments.gradescope else "--no-sandbox"
@@ -86,25 +86,25 @@ def run(arguments: argparse.Namespace) -> int:
 
 
 def _isolation(arguments: argparse.Namespace, exercise: Exercise) -> Isolation:
-    """The function that compiles answers in C. Raises LabError, before anything is graded, where that isn't possible."""
+    """Return the function that compiles answers in C. Raises LabError if they can't be compiled."""
     account = account_named(arguments.account)
     if arguments.no_sandbox and arguments.account:
         raise LabError("--as is for the sandbox, and --no-sandbox compiles as the user nobody: give one of them")
     if not any(path.suffix == C_SUFFIX for path in arguments.answers):
-        return answer_sandboxed
+        return run_sandboxed
     if arguments.no_sandbox:
         find_compiler(None)
         check_container(exercise.folder, *exercise.files.values())
-        return answer_as_nobody
+        return run_as_nobody
     try:
         sandboxed_compiler(None, account)
     except StartedAsRoot as error:
         raise LabError(f"{error}; in a container for one answer, `grade --no-sandbox` compiles it") from error
-    return partial(answer_sandboxed, account=account)
+    return partial(run_sandboxed, account=account)
 
 
 def _report(arguments: argparse.Namespace, exercise: Exercise, done: Sequence[tuple[pathlib.Path, Graded]]) -> None:
-    """Prints the table or the rows of answers that were graded, and writes the other reports."""
+    """Print the table or the rows of the graded answers, and write the other reports."""
     grades = [(path, outcomes) for path, (outcomes, _) in done]
     more = [_cells(cost) for _, (_, cost) in done] if arguments.counts else [[] for _ in done]
     if arguments.junit:
@@ -118,8 +118,11 @@ def _report(arguments: argparse.Namespace, exercise: Exercise, done: Sequence[tu
 
 
 def grade(program: pathlib.Path, exercise: Exercise, path: pathlib.Path, is_own: bool = False) -> list[str]:
-    """Why an answer, which may be your own, fails, or "", for each case. Raises ToolError."""
-    return graded(program, exercise, answer_sandboxed, path, is_own)[0]
+    """Return why an answer fails, or "", for each case. Raises ToolError.
+
+    path: the answer; is_own: whether it is your own
+    """
+    return graded(program, exercise, run_sandboxed, path, is_own)[0]
 
 
 def graded(
@@ -130,9 +133,9 @@ def graded(
     is_own: bool = False,
     is_counted: bool = False,
 ) -> Graded:
-    """As `grade`; and what an answer takes that passes, if that is counted.
+    """Return why an answer fails, or "", for each case; and its cost, if it passes and costs are counted. Raises ToolError.
 
-    isolation: compiles C that isn't your own
+    isolation: compiles C that isn't your own; is_counted: whether costs are counted
     """
     try:
         answer = read_answer(path, exercise.limits.size, is_own, isolation)
@@ -147,7 +150,7 @@ def graded(
 def graded_or_failure(
     program: pathlib.Path, exercise: Exercise, isolation: Isolation, path: pathlib.Path, is_counted: bool
 ) -> Graded | ToolError:
-    """As `graded`, once more where a tool fails; the failure where one fails again."""
+    """Return the result of `graded`, which is tried twice if a tool fails; after a second failure, the failure."""
     with contextlib.suppress(ToolError):
         return graded(program, exercise, isolation, path, is_counted=is_counted)
     try:
@@ -157,12 +160,15 @@ def graded_or_failure(
 
 
 def _cells(cost: AnswerCost | None) -> list[str]:
-    """The cost of an answer, as cells of a table; empty ones if it fails."""
+    """Return the cost of an answer as cells of a table; empty cells if there is no cost."""
     return [f"{cost['instructions']}", f"{cost['work']} %"] if cost else ["", ""]
 
 
 def _reasons(exercise: Exercise, outcomes: list[str]) -> list[str]:
-    """Why cases fail, each reason with their names, if these aren't all; of a hidden one no more than that."""
+    """Return the reasons why cases fail, each with the names of its cases, unless all cases have the same reason.
+
+    The reason of a hidden case is only that it fails.
+    """
     if len(set(outcomes)) == 1 and not all(case.is_hidden for case in exercise.cases):
         return outcomes[:1]
     cases: dict[str, list[str]] = {}
@@ -173,7 +179,7 @@ def _reasons(exercise: Exercise, outcomes: list[str]) -> list[str]:
 
 
 def _print_rows(exercise: Exercise, grades: Grades, more: Sequence[Sequence[str]], with_header: bool) -> None:
-    """Prints a row of CSV for each answer, with more cells at the end."""
+    """Print a row of CSV for each answer. more: further cells for the end of each row"""
     writer = csv.writer(sys.stdout, lineterminator="\n")
     if with_header:
         names = [case.name for case in exercise.cases]
@@ -185,7 +191,7 @@ def _print_rows(exercise: Exercise, grades: Grades, more: Sequence[Sequence[str]
 
 
 def _print_table(exercise: Exercise, grades: Grades, more: Sequence[Sequence[str]]) -> None:
-    """Prints the table, with more cells in its rows, and below it why cases fail."""
+    """Print the table, and below it why cases fail. more: further cells for the end of each row"""
     head = ["answer", *(case.name for case in exercise.cases), "passed"]
     rows = [[*head, *COUNTS[: len(more[0])]]]
     for (path, outcomes), cells in zip(grades, more):

@@ -1,4 +1,4 @@
-"""Checks of exercise.toml: the files that it names are in the exercise's folder, and its texts can be shown anywhere."""
+"""Checks of exercise.toml: the named files are in the exercise's folder, and the texts are safe to display."""
 
 import os
 import pathlib
@@ -9,7 +9,7 @@ from dataclasses import dataclass
 from .. import LabError
 from ..guest.guest import IMAGE_BYTES
 
-SOURCE_BYTES = 1 << 16  # of a source that students get; a class takes no longer one back
+SOURCE_BYTES = 1 << 16  # the largest source for students; a class doesn't accept longer ones from them
 FILES = {
     "reference": IMAGE_BYTES,
     "good": IMAGE_BYTES,
@@ -17,8 +17,8 @@ FILES = {
     "start_c": SOURCE_BYTES,
     "lesson": SOURCE_BYTES,
 }
-"""The keys of an exercise that name a file in its folder, and the maximum of the file's bytes."""
-MAX_CANDIDATES = 64  # lines that may be a key's, of which the parser is asked
+"""The keys of an exercise that name a file in its folder, each with the maximum size of the file in bytes."""
+MAX_CANDIDATES = 64  # lines that may have the key; the parser is called for each
 
 _CONTROLS = re.compile("[\0-\x1f\x7f-\x9f\u061c\u200e\u200f\u2028-\u202e\u2066-\u2069]")
 """Control characters, separators of lines, and Unicode's bidirectional controls, which reorder the text after them."""
@@ -26,7 +26,7 @@ _CONTROLS = re.compile("[\0-\x1f\x7f-\x9f\u061c\u200e\u200f\u2028-\u202e\u2066-\
 
 @dataclass(frozen=True)
 class KeyPlace:
-    """The place of a key of the top table in a TOML file, as messages name it: `exercise.toml:3: start`."""
+    """The place of a top-level key in a TOML file, as messages name it: `exercise.toml:3: start`."""
 
     path: pathlib.Path
     toml: str
@@ -37,9 +37,9 @@ class KeyPlace:
         return f"{self.path}:{line}: {self.key}" if line else f"{self.path}: {self.key}"
 
     def line(self) -> int:
-        """The line of the key, from 1; 0 if the file doesn't have the key, or if more lines look like it than are tried.
+        """The line of the key, from 1; 0 if the file doesn't have the key, or if more than MAX_CANDIDATES lines look like it.
 
-        The parser decides whether a line that looks like the key's is inside a text: then the lines before it are incomplete.
+        Such a line may be inside a multi-line text. Then the lines before it aren't a whole TOML document, which the parser detects.
         """
         lines = self.toml.split("\n")
         looks_like = re.compile(rf"""\s*["']?{re.escape(self.key)}["']?\s*=""")
@@ -48,9 +48,11 @@ class KeyPlace:
 
 
 def named_file(folder: pathlib.Path, name: str, limit: int) -> pathlib.Path:
-    """The path of a file in an exercise's folder, without links below the folder.
+    """Return the path of a file in an exercise's folder. No link below the folder is followed.
 
-    limit: the maximum of its bytes. Raises LabError if the file is elsewhere, is no regular file, or is larger; and OSError.
+    limit: the file's maximum size in bytes
+
+    Raises LabError if the file is elsewhere, isn't a regular file, or is too large; and OSError.
     """
     check_text(name)
     file, home = pathlib.Path(os.path.realpath(folder / name)), pathlib.Path(os.path.realpath(folder))
@@ -67,13 +69,13 @@ def named_file(folder: pathlib.Path, name: str, limit: int) -> pathlib.Path:
 
 
 def check_folder(folder: pathlib.Path, name: str) -> None:
-    """Raise LabError if a folder in an exercise's folder, which needn't exist, is a link to one elsewhere."""
+    """Raise LabError if a folder in an exercise's folder is a link to another place. The folder may be missing."""
     if not pathlib.Path(os.path.realpath(folder / name)).is_relative_to(os.path.realpath(folder)):
         raise LabError(f"{folder / name} is outside the exercise's folder: copy its files")
 
 
 def check_source(file: pathlib.Path) -> None:
-    """Raise LabError if a source for students is no text in UTF-8, or has characters that control what is shown. Raises OSError."""
+    """Raise LabError if a source for students isn't text in UTF-8, or has control characters. Raises OSError."""
     try:
         check_text(file.read_text("utf-8"), has_lines=True)
     except UnicodeDecodeError as error:
@@ -83,7 +85,7 @@ def check_source(file: pathlib.Path) -> None:
 
 
 def check_text(text: str, has_lines: bool = False) -> None:
-    """Raise LabError if a text has control or bidirectional characters. has_lines: newlines and tabs are allowed."""
+    """Raise LabError if a text has control or bidirectional characters. has_lines: whether newlines and tabs are allowed"""
     checked = text.replace("\n", "").replace("\t", "") if has_lines else text
     if found := _CONTROLS.search(checked):
         number = f"U+{ord(found[0]):04X}"
@@ -91,7 +93,7 @@ def check_text(text: str, has_lines: bool = False) -> None:
 
 
 def _is_toml(lines: list[str]) -> bool:
-    """Whether lines are a whole TOML document."""
+    """Return whether lines are a whole TOML document."""
     try:
         tomllib.loads("\n".join(lines))
     except tomllib.TOMLDecodeError:

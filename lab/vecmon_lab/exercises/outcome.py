@@ -1,4 +1,4 @@
-"""The outcome of an answer in a case: it passes, or it fails for a reason, or a tool failed and there is no outcome."""
+"""The outcome of an answer in a case: it passes, or fails for a reason. If a tool fails, there is no outcome."""
 
 from collections.abc import Iterator, Mapping
 from dataclasses import dataclass
@@ -10,7 +10,7 @@ from ..lessons.script import RefusedStatement
 from ..machine.process import Vecmon
 from ..machine.program import NoProgram
 from ..machine.session import OutOfStep, ProgramGone, ReplayDiffers
-from .answer import Answer, Attempt, attempt
+from .answer import ExerciseAnswer, Attempt, attempt
 from .exercise import ADDRESSES, Case, Exercise, Results
 
 
@@ -18,7 +18,7 @@ from .exercise import ADDRESSES, Case, Exercise, Results
 class CaseOutcome:
     """The outcome of an answer in a case.
 
-    reason: why it fails, or ""; done: what it left, if it came to an end
+    reason: why the answer fails, or ""; done: its results, or None if it didn't end by itself
     is_refused: whether the machine refuses an instruction of its source
     """
 
@@ -27,10 +27,10 @@ class CaseOutcome:
     is_refused: bool = False
 
 
-def outcome(program: Vecmon, answer: Answer, exercise: Exercise, case: Case) -> CaseOutcome:
-    """Try an answer in a case.
+def outcome(program: Vecmon, answer: ExerciseAnswer, exercise: Exercise, case: Case) -> CaseOutcome:
+    """Run an answer in a case, and return the outcome.
 
-    Raises ToolError where the machine failed, which says nothing about the answer.
+    Raises ToolError if the machine failed, which doesn't depend on the answer.
     """
     try:
         done = attempt(program, answer, exercise, case)
@@ -47,9 +47,9 @@ def outcome(program: Vecmon, answer: Answer, exercise: Exercise, case: Case) -> 
 
 @dataclass(frozen=True)
 class WrongNumber:
-    """A number that an answer left, and that isn't the expected one. before: that the answer ran
+    """A wrong number in the results of an answer. expected, before, found: the expected number, the one before the run, and the result
 
-    where: the place in words; register: its name, as x10, or "" for memory; memory: the addresses of its bytes
+    where: a description of the place; register: its name, as x10, or "" for memory; memory: the addresses of the number's bytes
     """
 
     where: str
@@ -61,9 +61,9 @@ class WrongNumber:
 
 
 def difference(expected: Results, done: Attempt, given: Mapping[str, int]) -> str:
-    """The first place where something else is found than is expected, in words; or nothing.
+    """Return a text about the first place where the results differ from the expected ones, or "".
 
-    given: registers before; a value found may be near one of them
+    given: the registers before the run; the text says if a wrong number is near an address in one of them
     """
     for wrong in wrong_numbers(expected, done):
         left = wrong.found
@@ -77,7 +77,7 @@ def difference(expected: Results, done: Attempt, given: Mapping[str, int]) -> st
 
 
 def wrong_numbers(expected: Results, done: Attempt) -> Iterator[WrongNumber]:
-    """The numbers that an answer left, and that aren't those expected there, registers first."""
+    """Yield the numbers in the results that differ from the expected ones, registers first."""
     for name in expected.registers:
         values = (each.registers[name] for each in (expected, done.before, done.found))
         value, old, left = (each - (each >> 63 << 64) for each in values)
@@ -93,5 +93,5 @@ def wrong_numbers(expected: Results, done: Attempt) -> Iterator[WrongNumber]:
 
 
 def _shown(output: bytes | None) -> str:
-    """The beginning of an output."""
+    """Return the beginning of an output, in quotes."""
     return repr((output or b"").decode("utf-8", "replace"))[:60]

@@ -1,4 +1,4 @@
-"""Reports of grades for other programs: JUnit's XML, and the JSON that Gradescope's autograder takes."""
+"""Reports of grades for other programs: JUnit's XML, and the JSON of Gradescope's autograder."""
 
 import json
 import pathlib
@@ -8,18 +8,18 @@ import xml.etree.ElementTree as ElementTree
 from .exercise import Case, Exercise
 
 Grades = list[tuple[pathlib.Path, list[str]]]
-"""For each answer, the reason why it fails each case, or nothing."""
+"""The answers, each with the reason why it fails, or "", for each case."""
 
-_NO_XML = re.compile("[^\t\n\r -\ud7ff\ue000-\ufffd\U00010000-\U0010ffff]")  # characters that XML can't have
+_NO_XML = re.compile("[^\t\n\r -\ud7ff\ue000-\ufffd\U00010000-\U0010ffff]")  # a character that XML can't have
 
 
 def reason_shown(case: Case, reason: str) -> str:
-    """Why an answer fails in a case, as its author may know it: of a hidden case only that it fails."""
+    """Return the reason why an answer fails in a case, for its author: for a hidden case, only that it fails."""
     return "fails" if case.is_hidden and reason else reason
 
 
 def junit(exercise: Exercise, grades: Grades) -> str:
-    """A suite for each answer, with a test for each case."""
+    """Return JUnit's XML: a suite for each answer, with a test for each case."""
     top = ElementTree.Element("testsuites", name=_fit(exercise.title))
     for path, outcomes in grades:
         numbers = {"tests": f"{len(outcomes)}", "failures": f"{len(outcomes) - outcomes.count('')}", "errors": "0"}
@@ -34,7 +34,7 @@ def junit(exercise: Exercise, grades: Grades) -> str:
 
 
 def gradescope(exercise: Exercise, outcomes: list[str]) -> str:
-    """The input of Gradescope's autograder for one answer: a point for each case; hidden ones aren't shown."""
+    """Return the JSON for Gradescope's autograder about one answer, with a point for each case. Hidden cases aren't shown."""
     tests = [
         {
             "name": case.name,
@@ -50,5 +50,5 @@ def gradescope(exercise: Exercise, outcomes: list[str]) -> str:
 
 
 def _fit(text: str) -> str:
-    """A text without characters that XML can't have."""
+    """Return a text without characters that XML can't have."""
     return _NO_XML.sub("?", text)

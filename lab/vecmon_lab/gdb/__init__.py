@@ -1,1 +1,1 @@
-"""A machine with an image, for gdb's remote protocol."""
+"""A server of gdb's remote protocol for a machine with an image."""

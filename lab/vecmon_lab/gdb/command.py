@@ -1,11 +1,15 @@
 """The remote serial protocol of gdb over standard input and output: `target extended-remote | vecmon-lab gdb IMAGE`.
 
-gdb begins the command and speaks with it over a pipe, so that nothing listens. Packets and their answers are those of gdb's manual, "gdb
-Remote Serial Protocol": a stop is `S` and a signal's number, an exit `W` and the status, output `O` and its bytes, an error `E` and a
-number, which is that of the machine's refusal; an empty answer refuses a packet. `T05` reports a place that is
-watched, that there is nothing before the first instant, or that the next one is the program's end: there gdb can still go back.
+gdb starts the command, and exchanges packets with it over a pipe, so no port is opened. Packets and replies are those of gdb's manual,
+"gdb Remote Serial Protocol":
 
-In the extended mode (`!`) gdb can kill the program and run it again from its start: `vKill`, `vRun` and `R`.
+- `S` and a signal's number reports a stop, `W` and the status an exit, and `O` and its bytes output.
+- `E` and a number reports an error. The number is that of the machine's refusal.
+- An empty reply means that a packet isn't supported.
+- `T05` reports a watchpoint, the first state (there is nothing before it), or that the program ends at its next instruction. In the last
+case, gdb can still go back.
+
+In the extended mode (`!`) gdb can kill the program and run it again from its start, with `vKill`, `vRun` and `R`.
 """
 
 import argparse
@@ -45,23 +49,23 @@ from ..replay.timeline import Timeline
 from ..replay.watches import Watch
 from .packets import Link
 
-BEGUN = "S00"  # no signal: gdb would report a signal if the last machine was stopped by one
+BEGUN = "S00"  # signal 0: gdb would report another signal if the previous machine was stopped by it
 INTERRUPTED, ILLEGAL, TRAPPED, MISALIGNED, UNMAPPED = "S02", "S04", "S05", "S0a", "S0b"  # SIGINT, ILL, TRAP, BUS, SEGV
-FAULTS = {0: MISALIGNED, 1: UNMAPPED, 2: ILLEGAL, 5: UNMAPPED, 7: UNMAPPED}  # by cause
+FAULTS = {0: MISALIGNED, 1: UNMAPPED, 2: ILLEGAL, 5: UNMAPPED, 7: UNMAPPED}  # by cause of the fault
 REFUSED, NO_IMAGE, TOO_MANY, THERE_ALREADY = "E04", "E08", "E12", Refused("E13")
 FEATURES = "qXfer:features:read+;QStartNoAckMode+;ReverseStep+;ReverseContinue+;qXfer:exec-file:read+"
 FIRST_INSTANT, LAST_INSTANT = "T05replaylog:begin;", "T05replaylog:end;"
-WATCHES = {"2": "watch", "3": "rwatch", "4": "awatch"}  # by the number in a packet
-PACKET_BYTES = 512  # so that what gdb writes at once, in two digits a byte, isn't too much for `poke`
+WATCHES = {"2": "watch", "3": "rwatch", "4": "awatch"}  # the kind of a watchpoint by the type in a packet
+PACKET_BYTES = 512  # so small that the bytes of one packet, in two digits each, fit into one `poke`
 DESCRIPTION = pathlib.Path(__file__).with_name("registers.xml").read_text("ascii")
 SCRIPT = pathlib.Path(__file__).with_name("info_vector.py")
-PC, FIRST_CONTROL = 32, 33  # numbers of registers: x0 to x31, pc, the control registers, v0 to v31, vcsr
+PC, FIRST_CONTROL = 32, 33  # numbers of registers in packets: x0 to x31, pc, the control registers, v0 to v31, vcsr
 FIRST_VECTOR = FIRST_CONTROL + len(CONTROL)
 VCSR = FIRST_VECTOR + 32
 
 
 def add_arguments(parser: argparse.ArgumentParser) -> None:
-    """The words of `vecmon-lab gdb`."""
+    """Add the arguments of `vecmon-lab gdb` to its parser."""
     add_program(parser, f"the image that the machine loads, or {SOURCES}", assembles=True)
     help_text = f"wait for gdb or LLDB at this port of {HOST}; 0 chooses one, which is printed"
     parser.add_argument("--port", metavar="N", type=between(0, 65535), help=help_text)
@@ -70,7 +74,7 @@ def add_arguments(parser: argparse.ArgumentParser) -> None:
 
 
 def run(arguments: argparse.Namespace) -> int:
-    """Serve gdb until it disconnects. Raises LabError and OSError for a bad image, and OSError for a port that is taken."""
+    """Serve gdb until it disconnects. Raises LabError and OSError for a bad image, and OSError if the port is in use."""
     with ended_by_signals():
         if arguments.port is None:
             return _serve(arguments, Link())
@@ -79,7 +83,7 @@ def run(arguments: argparse.Namespace) -> int:
 
 
 def _serve(arguments: argparse.Namespace, link: Link) -> int:
-    """Serve gdb over a link."""
+    """Serve gdb over a connection."""
     image = arguments.image
     report, write = Reporter(Symbols.read(image).place), lambda data: link.send(f"O{data.hex()}")
     own, name = [image.name, *arguments.words], arguments.named
@@ -93,16 +97,16 @@ def _serve(arguments: argparse.Namespace, link: Link) -> int:
         target = Target(guest, link, image, restart)
         with contextlib.suppress(EOFError, BrokenPipeError, ConnectionError):
             while target.is_attached:
-                if (reply := target.answer(link.receive())) is not None:
+                if (reply := target.reply_to(link.receive())) is not None:
                     link.send(reply)
     return 0
 
 
 class Target:
-    """A guest, by gdb's packets. It is attached until gdb detaches."""
+    """A guest that gdb controls by packets. is_attached: whether gdb hasn't detached yet"""
 
     def __init__(self, guest: Guest, link: Link, image: pathlib.Path, restart: Callable[[Sequence[str]], None]) -> None:
-        """restart: loads the program on a new machine, with these arguments, or with the command's own if there are none."""
+        """restart: loads the program on a new machine, with these arguments, or with the command's own if there are none"""
         self.is_attached, self._image, self._restart = True, image, restart
         self._is_extended = False  # whether gdb can run the program again
         self._guest, self._link, self._timeline = guest, link, self._new_timeline(guest)
@@ -110,20 +114,23 @@ class Target:
         self._exit = ""  # the answer if gdb resumes a program that has exited
 
     def _new_timeline(self, guest: Guest) -> Timeline:
-        """A timeline whose progress gdb prints."""
+        """Return a timeline of a guest; gdb prints the progress of its work."""
         return Timeline(guest, lambda advance: self._tell(advance.sentence))
 
-    def answer(self, packet: str) -> str | None:
-        """The answer to a packet, or None if it has none; output comes before it. Raises EOFError if gdb ends the program."""
+    def reply_to(self, packet: str) -> str | None:
+        """Return the reply to a packet; None if it has no reply. Output is sent before the reply.
+
+        Raises EOFError if gdb kills the program.
+        """
         try:
             if packet[:1] in ("!", "v", "R", "D", "k"):
-                return self._answer_process(packet)
-            return self._answer(packet[:1], re.split("[,:=]", packet[1:]))
-        except ValueError:  # a field that should be a number isn't
+                return self._reply_on_process(packet)
+            return self._reply(packet[:1], re.split("[,:=]", packet[1:]))
+        except ValueError:  # a field that should be a number isn't one
             return REFUSED
 
-    def _answer_process(self, packet: str) -> str | None:
-        """The answer to a packet about the whole process; no text for an unsupported one."""
+    def _reply_on_process(self, packet: str) -> str | None:
+        """Return the reply to a packet about the whole process; None if it has no reply, and "" if it is unsupported."""
         name, *fields = packet.split(";")
         match name, fields:
             case "!", _:
@@ -132,7 +139,7 @@ class Target:
             case "vRun", [file, *words] if self._is_extended:
                 return self._run(*(os.fsdecode(bytes.fromhex(digits)) for digits in (file, *words)))
             case "vKill", _ if self._is_extended:
-                return "OK"  # the next `vRun` loads the program anew
+                return "OK"  # the next `vRun` loads the program again
             case _ if packet[0] == "R" and self._is_extended:
                 self._run("")
                 return None
@@ -144,7 +151,10 @@ class Target:
         return ""
 
     def _run(self, file: str, *words: str) -> str:
-        """Load the program anew, with these arguments, or its first ones; it stops before its first instruction."""
+        """Load the program again, and return its first stop, before its first instruction.
+
+        file: the program's path, or "" for the same one; words: its arguments, by default the command's own
+        """
         if pathlib.Path(file).name not in ("", self._image.name):
             self._tell(f"{file} isn't {self._image.name}, which this machine runs: start the command with it")
             return NO_IMAGE
@@ -156,12 +166,12 @@ class Target:
         self._timeline, self._last, self._exit = self._new_timeline(self._guest), BEGUN, ""
         return self._last
 
-    def _answer(self, letter: str, words: list[str]) -> str:
-        if letter in "bMP":  # it goes back, or what is written may keep it from exiting
+    def _reply(self, letter: str, words: list[str]) -> str:
+        if letter in "bMP":  # going back or writing may prevent the exit
             self._exit = ""
         match letter, words:
             case "q", _:
-                return self._answer_query(words)
+                return self._reply_to_query(words)
             case ("Q", ["StartNoAckMode"]) | ("H", _):
                 return "OK"
             case "?", _:
@@ -192,13 +202,13 @@ class Target:
         return ""
 
     def _read_memory(self, address: str, length: int) -> str:
-        """The bytes from an address up to the end of its line at most; gdb asks again for the rest."""
+        """Return the bytes from an address on, at most up to the end of its row; gdb then asks for the rest."""
         limit = LINE_BYTES - int(address, 16) % LINE_BYTES
         (answer,) = self._guest.ask(f"peek {address} {min(length, limit)}")
         return answer.data.hex() if isinstance(answer, Memory) else str(answer)
 
-    def _answer_query(self, words: list[str]) -> str:
-        """The reply to a `q` packet; no text for an unsupported one."""
+    def _reply_to_query(self, words: list[str]) -> str:
+        """Return the reply to a `q` packet; "" if it is unsupported."""
         match words:
             case ["Supported", *_]:
                 return f"PacketSize={PACKET_BYTES:x};{FEATURES}"
@@ -211,7 +221,10 @@ class Target:
         return ""
 
     def _stopped(self, stop: Stop | None, signal: str) -> str:
-        """A stop by its signal, or the last instant; without one the signal. gdb's console explains a final stop."""
+        """Return the reply that reports a stop, and print a message in gdb's console if the program ends or faults.
+
+        signal: the reply if `stop` is None
+        """
         self._last = self._trapped() if stop else signal
         if stop and stop.kind == "exit":
             self._tell(f"it exits here with status {stop.number}; continue ends it, reverse-continue goes back")
@@ -225,7 +238,10 @@ class Target:
         return self._last
 
     def _back(self, is_step: bool) -> str:
-        """Go back by an instruction, or to a stop; if that isn't possible, print why."""
+        """Go back by one instruction, or to a breakpoint or watchpoint. Return the reply that reports the stop.
+
+        At the first state, the reply says that there is nothing before it. The reason of an error is printed in gdb's console.
+        """
         try:
             if is_step:
                 is_there = self._timeline.back(1, self._link.is_interrupted)
@@ -239,12 +255,12 @@ class Target:
         return self._last
 
     def _trapped(self) -> str:
-        """A stop at an instruction, with the place that is watched where that is the reason."""
+        """Return the reply for a stop at an instruction, with the watchpoint if it is the reason."""
         hit = self._timeline.hit
         return f"T05{hit.kind}:{hit.address:x};" if hit else TRAPPED
 
     def _watch(self, is_new: bool, watch: Watch) -> str:
-        """Watches a place from now on, or doesn't any more."""
+        """Set a watchpoint, or remove it if `is_new` is false; return the reply."""
         watches = [each for each in self._timeline.watches if each != watch] + ([watch] if is_new else [])
         if watch.length < 1 or sum(-(-each.length // LINE_BYTES) for each in watches) > TOGETHER:
             return TOO_MANY
@@ -252,17 +268,17 @@ class Target:
         return "OK"
 
     def _tell(self, text: str) -> None:
-        """Puts out a line."""
+        """Print a line in gdb's console."""
         self._link.send(f"O{f'vecmon: {text}'.encode().hex()}0a")
 
     def _scalars(self) -> list[str]:
-        """The registers before the vector registers: x0 to x31, pc, and the control registers."""
+        """Return the values of all registers except the vector registers, in the order of their numbers, as packets have them."""
         registers, control = self._guest.query("regs", ScalarRegisters), self._guest.query("vcsr", ControlRegisters)
         values = (*registers.x, registers.pc, *vars(control).values())
         return [value.to_bytes(8, "little").hex() for value in values]
 
     def _register(self, number: int) -> str:
-        """The register of a number."""
+        """Return the value of the register with this number, as packets have it, or a refusal."""
         if number < FIRST_VECTOR:
             return self._scalars()[number]
         if number == VCSR:
@@ -272,7 +288,7 @@ class Target:
         return answer.data.hex() if isinstance(answer, VectorRegister) else REFUSED
 
     def _write_register(self, number: int, digits: str) -> str:
-        """Writes a register; the control registers can't be written from outside."""
+        """Set a register to a value in a packet, and return the reply. The control registers are refused."""
         if VCSR > number >= FIRST_VECTOR:
             return self._do(f"vset v{number - FIRST_VECTOR} {digits}")
         if number >= FIRST_CONTROL:
@@ -281,7 +297,7 @@ class Target:
         return self._do(f"setpc {value}" if number == PC else f"set x{number} {value}")
 
     def _monitor(self, line: str) -> str:
-        """The answer to gdb's `monitor LINE`, for a line of the user's that only looks, or sets the policy."""
+        """Return the output of gdb's `monitor LINE`. `vector`, read-only commands and `policy` are allowed."""
         if line.strip() == "vector":
             return "".join(f"{row}\n" for row in self._vector_rows())
         if not is_look(f"1 {line}") and words_of(f"1 {line}")[:1] != ["policy"]:
@@ -294,7 +310,10 @@ class Target:
         return "\n".join([*(explain_refusal(f"1 {line}", answer) if isinstance(answer, Refused) else rows), ""])
 
     def _vector_rows(self) -> Iterator[str]:
-        """The vector state in words, and the elements of each register group of the vector type, the first one first."""
+        """Yield a description of the vector state, and a row for each register group.
+
+        A row has the group's elements in hexadecimal, the first one first.
+        """
         control, policy = self._guest.query("vcsr", ControlRegisters), self._guest.session.policy[self._guest.user]
         yield control_row(control, policy)
         data, is_typed = b"".join(self._guest.vectors()), not control.vtype >> 63
@@ -305,12 +324,12 @@ class Target:
             yield f"v{register:<3} {' '.join(values[: control.vl] if is_typed else values)}".rstrip()
 
     def _do(self, command: str) -> str:
-        """The answer after a command."""
+        """Execute a command that changes the machine; return the reply."""
         (answer,) = self._guest.ask(command)
         return "OK" if isinstance(answer, Done) or answer == THERE_ALREADY else str(answer)
 
 
 def _part(text: str, offset: str, length: str) -> str:
-    """A part of what gdb reads piece by piece, and whether more of it is left."""
+    """Return a part of a text that gdb reads in parts. The first letter is `m` if more follows, `l` for the last part."""
     part = text[int(offset, 16) :]
     return ("m" if len(part) > int(length, 16) else "l") + part[: int(length, 16)]

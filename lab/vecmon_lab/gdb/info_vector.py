@@ -1,6 +1,6 @@
-"""A file that gdb itself reads, as its Python code: `info vector` prints register groups of a program on vecmon.
+"""Python code that gdb loads: `info vector` prints the register groups of a program on vecmon.
 
-`vecmon-lab gdb --script` prints its path, for gdb's `-x` and `source`.
+`vecmon-lab gdb --script` prints the path of this file, for gdb's `-x` and `source`.
 """
 
 import importlib
@@ -22,7 +22,7 @@ class InfoVector(gdb.Command):
         """Print what `monitor vector` prints."""
         try:
             print(gdb.execute("monitor vector", to_string=True), end="")
-        except gdb.error:  # the program isn't on vecmon
+        except gdb.error:  # the program doesn't run on vecmon
             gdb.execute("info registers vector")
 
 

@@ -1,1 +1,1 @@
-"""One user's program: an image that runs or is stepped, the changes by its instructions, and its symbols."""
+"""One user's program: run or step an image, report the changes by its instructions, and read its symbols."""

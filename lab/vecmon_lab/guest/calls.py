@@ -1,4 +1,4 @@
-"""The ECALLs in a program's code, and those among them that may be calls that the machine doesn't support."""
+"""The ECALLs in a program's code, and which of them may be calls that the machine doesn't support."""
 
 import re
 import struct
@@ -17,23 +17,23 @@ if TYPE_CHECKING:
 
 
 class Code:
-    """The ECALLs of a guest's program, by the words in its executable pages. A program that writes code may have others.
+    """The ECALLs in the executable pages of a guest's program. If the program writes code, it may have others.
 
     places: the addresses of all ECALLs
-    uncertain: those at which the instructions before don't show that the machine supports the call
+    uncertain: the addresses of ECALLs for which the preceding instructions don't show a supported call
     """
 
     def __init__(self) -> None:
         self.places: Sequence[int] = ()
         self.uncertain: Sequence[int] = ()
-        self._session: Session | None = None  # whose script was read
-        self._size = 0  # bytes of it that were read
-        self._lines = list[bytes]()  # that make the code
-        self._pages = set[int]()  # that programs may execute
-        self._found = dict[bytes, tuple[Sequence[int], Sequence[int]]]()  # by these lines
+        self._session: Session | None = None  # the session whose script was read
+        self._size = 0  # bytes of the script that were read
+        self._lines = list[bytes]()  # the lines that define the code
+        self._pages = set[int]()  # executable pages
+        self._found = dict[bytes, tuple[Sequence[int], Sequence[int]]]()  # the results of _search, by _lines
 
     def update(self, guest: "Guest") -> None:
-        """Reads what the script has had since the last time, and searches the code if lines have changed it."""
+        """Read the lines added to the script since the last call. If they change the code, search it again."""
         session, form = guest.session, rb"^%d (leave|load|map|poke|asm)\b *([^\n]*)"
         if session is not self._session:
             self._session, self._size, self._lines, self._pages = session, 0, [], set()
@@ -48,7 +48,7 @@ class Code:
         self.places, self.uncertain = self._found[key]
 
     def _follow(self, guest: "Guest", command: bytes, words: bytes) -> None:
-        """Takes up a line that may change the code."""
+        """Apply a line of the script that may change the code. words: the arguments of the command"""
         arguments = words.decode("ascii").split()
         if command in (b"leave", b"load"):
             self._lines, self._pages = [], set()
@@ -62,7 +62,10 @@ class Code:
 
 
 def unshown_calls(image: bytes, executed: Iterable[int]) -> list[int]:
-    """Those ECALLs, by their addresses, at which an image's code doesn't show that the machine supports the call."""
+    """Return the addresses of ECALLs for which an image's code doesn't show a supported call.
+
+    executed: the addresses to select from
+    """
     words = dict[int, int]()
     for address, rights, _, data in segments_of(image):
         if "x" in rights:
@@ -72,7 +75,10 @@ def unshown_calls(image: bytes, executed: Iterable[int]) -> list[int]:
 
 
 def shown_calls(words: Mapping[int, int]) -> dict[int, str]:
-    """The ECALLs among words whose call the code shows: a sentence by its address if it isn't supported, else ""."""
+    """Return the ECALLs whose call the code shows, by address.
+
+    Each has a sentence about an unsupported call, or "" for a supported one. words: the code's words by address
+    """
     sentences, targets = dict[int, str](), _targets(words)
     for place in (address for address, word in words.items() if word == ECALL):
         number, file = (constant_before(words, targets, place, register) for register in (A7, A0))
@@ -84,7 +90,7 @@ def shown_calls(words: Mapping[int, int]) -> dict[int, str]:
 
 
 def words_in(guest: "Guest", pages: Sequence[int]) -> dict[int, int]:
-    """The words of pages by their addresses, as far as the pages are mapped."""
+    """Return the words of pages by address. Pages that aren't mapped are left out."""
     words = dict[int, int]()
     for page in pages:
         words |= _words(page, guest.peek(page, PAGE_BYTES))
@@ -92,14 +98,14 @@ def words_in(guest: "Guest", pages: Sequence[int]) -> dict[int, int]:
 
 
 def _words(address: int, data: bytes) -> dict[int, int]:
-    """The words of bytes from an address on, by their addresses, which are divisible by 4."""
+    """Return the words in bytes, by address. An address is a multiple of 4. address: of the first byte"""
     first = -address % 4
     data = data[first : first + (len(data) - first) // 4 * 4]
     return {address + first + 4 * number: word for number, (word,) in enumerate(struct.iter_unpack("<I", data))}
 
 
 def _image_pages(guest: "Guest", name: str) -> Iterator[int]:
-    """The pages of an image that programs may execute; none where it can't be read."""
+    """Yield the pages of an image that are executable; none if the image can't be read."""
     try:
         for address, rights, length, _ in segments_of(guest.session.images[name].read_bytes()):
             if "x" in rights:
@@ -109,12 +115,12 @@ def _image_pages(guest: "Guest", name: str) -> Iterator[int]:
 
 
 def _pages(address: int, length: int) -> range:
-    """The pages that bytes lie in."""
+    """Return the numbers of the pages that a range of bytes overlaps."""
     return range(address // PAGE_BYTES * PAGE_BYTES, address + length, PAGE_BYTES)
 
 
 def _search(words: Mapping[int, int]) -> tuple[Sequence[int], Sequence[int]]:
-    """The addresses of all ECALLs among words, and those of the doubtful ones."""
+    """Return the addresses of all ECALLs among words, and of the uncertain ones."""
     places = sorted(address for address, word in words.items() if word == ECALL)
     targets = _targets(words) if places else set()
     uncertain = [place for place in places if not _is_shown(words, targets, place)]
@@ -122,12 +128,12 @@ def _search(words: Mapping[int, int]) -> tuple[Sequence[int], Sequence[int]]:
 
 
 def _is_shown(words: Mapping[int, int], targets: set[int], place: int) -> bool:
-    """Whether the instructions before an ECALL, one after another, give a7 and a0 values of a supported call."""
+    """Return whether the straight-line code before an ECALL sets a7 and a0 to values of a supported call."""
     number = constant_before(words, targets, place, A7)
     return number in EXITS or number == WRITE and is_supported(WRITE, constant_before(words, targets, place, A0) or 0)
 
 
 def _targets(words: Mapping[int, int]) -> set[int]:
-    """Where branches and `jal` among words may go."""
+    """Return the addresses to which branches and `jal` among words may jump."""
     targets = (jump_target(address, word) for address, word in words.items())
     return {target for target in targets if target is not None}

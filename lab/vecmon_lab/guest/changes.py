@@ -1,4 +1,4 @@
-"""The changes by an instruction: registers, elements of vector registers, control registers and memory."""
+"""The changes by one instruction: registers, elements of vector registers, control registers and memory."""
 
 import itertools
 from collections.abc import Iterator, Sequence
@@ -22,14 +22,14 @@ from ..machine.answers import (
 )
 from .guest import Guest
 
-WORDS_AT_ONCE = 16  # that a look shows
-NAMES = [*(f"x{number}" for number in range(32)), *CONTROL]  # of scalar and control registers
-CONTROLLING = (OP_V, SYSTEM, LOAD_FP, STORE_FP)  # opcodes of what may write control registers
+WORDS_AT_ONCE = 16  # words that one command shows
+NAMES = [*(f"x{number}" for number in range(32)), *CONTROL]  # the names of scalar and control registers
+CONTROLLING = (OP_V, SYSTEM, LOAD_FP, STORE_FP)  # opcodes of instructions that may write control registers
 
 
 @dataclass(frozen=True)
 class RegisterChange:
-    """A scalar register (`x10`) or a control register (`vl`, `vtype`, `vstart`, `vxrm`, `vxsat`)."""
+    """A changed scalar register (`x10`) or control register (`vl`, `vtype`, `vstart`, `vxrm`, `vxsat`)."""
 
     name: str
     before: int
@@ -43,11 +43,11 @@ class RegisterChange:
 
 @dataclass(frozen=True)
 class ElementsChange:
-    """Elements of the group that begins at a vector register, one after another.
+    """Consecutive elements that changed in a vector register group.
 
     register: the number of the group's first register
-    width: of an element, in bits; 1 in a mask, with all bits from the first changed one to the last
-    first: the number of the first element; before, after: values
+    width: of an element, in bits; 1 for a mask, whose bits are all listed from the first changed one to the last
+    first: the index of the first element; before, after: the elements' values
     """
 
     register: int
@@ -65,7 +65,7 @@ class ElementsChange:
 
 @dataclass(frozen=True)
 class MemoryChange:
-    """Bytes of memory that changed, one after another."""
+    """Consecutive bytes of memory that changed."""
 
     address: int
     before: bytes
@@ -82,7 +82,7 @@ Change = RegisterChange | ElementsChange | MemoryChange
 class Retired:
     """An instruction that was executed, or that stopped the program instead.
 
-    word, text: 0 and "" where nothing can be fetched
+    word, text: 0 and "" if no instruction can be fetched; stop: None if the instruction was executed
     """
 
     pc: int
@@ -94,32 +94,32 @@ class Retired:
 
 @dataclass
 class Registers:
-    """All registers: the scalar ones, the control registers, and the bytes of the vector ones."""
+    """All registers: the scalar registers, the control registers, and the bytes of the vector registers."""
 
     x: Sequence[int]
     control: ControlRegisters
     v: bytearray
 
     def copy(self) -> "Registers":
-        """The same registers, which later looks don't change."""
+        """Return a copy, which doesn't change when the machine is read again."""
         return Registers(self.x, self.control, bytearray(self.v))
 
     def values(self) -> list[int]:
-        """The scalar registers and the control registers, in the order of NAMES."""
+        """Return the values of the scalar and control registers, in the order of NAMES."""
         return [*self.x, *vars(self.control).values()]
 
     def groups(self, operand: Operand) -> Iterator[tuple[int, list[int]]]:
-        """The first register of each of an operand's groups, and the elements of the group."""
+        """Yield the first register of each group of an operand, and the elements of the group."""
         for register in range(operand.registers.start, min(operand.registers.stop, 32), operand.group):
             group = self.v[register * REGISTER_BYTES : (register + operand.group) * REGISTER_BYTES]
             yield register, elements_in(group, operand.eew)
 
 
 class Stepper:
-    """Steps a guest, and returns the changes of each instruction. After other changes of the guest, call `look`.
+    """Steps a guest, and returns the changes by each instruction. Call `look` if the guest was changed in another way.
 
-    registers: as they are now
-    last: the instruction that was stepped last, with the registers before it; None if anything else was done since
+    registers: the current registers
+    last: the last stepped instruction, with the registers before it; None if anything else was done since
     """
 
     def __init__(self, guest: Guest) -> None:
@@ -129,7 +129,7 @@ class Stepper:
         self.look()
 
     def look(self) -> list[Change]:
-        """Looks at all registers; those that changed since the last look, elements of each vector register by SEW."""
+        """Read all registers, and return those that changed since they were last read. Vector registers have elements of width SEW."""
         self._listing: dict[int, tuple[int, str]] = {}  # words and texts by address
         self.last = None
         before = self.registers.copy()
@@ -140,7 +140,7 @@ class Stepper:
         return self._changes_since(before, singles)
 
     def step(self) -> Retired:
-        """Execute one instruction. Output to file 1 is passed on, or kept for `Guest.output`."""
+        """Execute one instruction, and return it with its changes. Its output is passed on, or stored for `Guest.output`."""
         pc, before = self.guest.pc, self.registers.copy()
         word, text = self.fetch(pc)
         if word == ECALL:
@@ -165,7 +165,7 @@ class Stepper:
         return retired
 
     def fetch(self, pc: int) -> tuple[int, str]:
-        """The word at an address and its text; 0 and "" where nothing can be fetched."""
+        """Return the word at an address and its text, or 0 and "" if nothing can be fetched."""
         if pc not in self._listing:
             number = min(WORDS_AT_ONCE, (PAGE_BYTES - pc % PAGE_BYTES) // 4)
             (listing,) = self.guest.ask(f"dis {pc:x} {number}")
@@ -174,7 +174,7 @@ class Stepper:
         return self._listing.get(pc, (0, ""))
 
     def _apply(self, answers: Sequence[Answer]) -> None:
-        """Takes in what looks at registers show."""
+        """Update the registers from answers to commands that read them."""
         for answer in answers:
             match answer:
                 case ScalarRegisters():
@@ -186,7 +186,7 @@ class Stepper:
                     self.registers.v[at : at + REGISTER_BYTES] = answer.data
 
     def _changes_since(self, before: Registers, targets: Sequence[Operand]) -> list[Change]:
-        """The registers that aren't as they were, of vector registers those of some operands alone."""
+        """Return the changed registers. Of vector registers, only compare those of the operands `targets`."""
         pairs = zip(NAMES, before.values(), self.registers.values())
         changed = [RegisterChange(name, old, new) for name, old, new in pairs if old != new]
         elements = (_element_changes(target, before, self.registers) for target in targets)
@@ -194,7 +194,7 @@ class Stepper:
 
 
 def _looks(word: int, targets: Sequence[Operand]) -> list[str]:
-    """The looks at all registers that an instruction may write."""
+    """Return the commands that read all registers that an instruction may write."""
     looks = ["regs"] if may_write_scalar(word) else []
     looks += ["vcsr"] if word & 0x7F in CONTROLLING else []
     numbers = {number for target in targets for number in target.registers if number < 32}
@@ -202,21 +202,24 @@ def _looks(word: int, targets: Sequence[Operand]) -> list[str]:
 
 
 def _element_changes(target: Operand, before: Registers, after: Registers) -> Iterator[ElementsChange]:
-    """The elements that changed in each of a destination's groups."""
+    """Yield the elements that changed in each group of a destination."""
     for (register, old), (_, new) in zip(before.groups(target), after.groups(target)):
         for first, last in runs(old, new, target.eew == 1):
             yield ElementsChange(register, target.eew, first, old[first:last], new[first:last])
 
 
 def _memory_changes(span: Span, *answers: Answer) -> Iterator[MemoryChange]:
-    """The bytes of a span that changed, in runs, by what `peek` shows before and after; none where it isn't mapped."""
+    """Yield the bytes of a span that changed, in runs. answers: of `peek` before and after; nothing is yielded for unmapped bytes"""
     before, after = (answer.data if isinstance(answer, Memory) else b"" for answer in answers)
     for first, last in runs(before, after):
         yield MemoryChange(span[0] + first, before[first:last], after[first:last])
 
 
 def runs(before: Sequence[int], after: Sequence[int], is_joined: bool = False) -> Iterator[tuple[int, int]]:
-    """Where values that changed follow each other: the first, and the one behind the last. Joined, they are one run."""
+    """Yield the runs of changed values, each as the index of its first value and the index after its last.
+
+    is_joined: whether to yield one run, from the first changed value to the last
+    """
     changed = [place for place, pair in enumerate(zip(before, after)) if pair[0] != pair[1]]
     if is_joined and changed:
         changed = list(range(changed[0], changed[-1] + 1))
@@ -226,7 +229,7 @@ def runs(before: Sequence[int], after: Sequence[int], is_joined: bool = False) -
 
 
 def vtype_text(vtype: int) -> str:
-    """A vector type as assembler text has it, without spaces: `e32,m2,ta,ma`; or `vill`."""
+    """Return a vector type as assembler syntax without spaces: `e32,m2,ta,ma`, or `vill`."""
     if vtype >> 63:
         return "vill"
     view = ControlRegisters(vtype=vtype)

@@ -1,4 +1,4 @@
-"""The constants that code gives to scalar registers, as far as the instructions before a place show them."""
+"""The constants that preceding instructions put into scalar registers."""
 
 from collections.abc import Collection, Mapping
 
@@ -12,15 +12,18 @@ _WORD = (1 << 64) - 1
 
 
 def constant_before(words: Mapping[int, int], joins: Collection[int], place: int, register: int) -> int | None:
-    """The constant in a scalar register before the instruction at an address, from 0 on; None if it isn't shown.
+    """Return the constant in a scalar register before the instruction at an address; None if the code doesn't show it.
 
-    words: by their addresses; joins: the addresses to which other instructions may go, behind which nothing is known
+    The constant is from 0 to 2^64 - 1.
+
+    words: the code's words by address
+    joins: the addresses to which other instructions may jump, so that instructions before them show nothing
     """
     return _search(words, joins, place, register, place - 4 * BACK)
 
 
 def _search(words: Mapping[int, int], joins: Collection[int], place: int, register: int, first: int) -> int | None:
-    """The same, from the instructions at `first` and after it."""
+    """Return the constant as `constant_before` does. first: the first address to search"""
     if register == 0:
         return 0
     while place not in joins and place - 4 >= first:
@@ -34,7 +37,7 @@ def _search(words: Mapping[int, int], joins: Collection[int], place: int, regist
 
 
 def _result(words: Mapping[int, int], joins: Collection[int], place: int, first: int) -> int | None:
-    """The result of the instruction at an address; None unless it is an addition or a shift of constants."""
+    """Return the result of the instruction at an address; None unless it is an addition or a shift of constants."""
     word = words[place]
     opcode, funct3, immediate = word & 0x7F, word >> 12 & 7, (word >> 20) - (word >> 31 << 12)
     upper = (word >> 12 << 12) - (word >> 31 << 32)

@@ -1,4 +1,4 @@
-"""An entry of debug data: its name, the addresses of its code, and the entry that an attribute of it names."""
+"""Entries of debug data: their names, the addresses of their code, and the entries that their attributes refer to."""
 
 from collections.abc import Iterator, Sequence
 from typing import TYPE_CHECKING
@@ -12,12 +12,12 @@ NAME_LETTERS, MAX_ORIGINS = 100, 8
 
 
 def printable(name: str) -> str:
-    """A name of an image, with `?` in place of characters that aren't printable, which could control a terminal."""
+    """Return a name from an image, with `?` in place of characters that aren't printable, which could control a terminal."""
     return name if name.isprintable() else "".join(letter if letter.isprintable() else "?" for letter in name)
 
 
 def name_of(entry: "DIE") -> str:
-    """The name of a function or a variable, by where it was declared."""
+    """Return the name of a function or a variable. It may be at the entry's declaration."""
     for _ in range(MAX_ORIGINS):
         if "DW_AT_name" not in entry.attributes and "DW_AT_abstract_origin" in entry.attributes:
             entry = entry.get_DIE_from_attribute("DW_AT_abstract_origin")
@@ -26,7 +26,7 @@ def name_of(entry: "DIE") -> str:
 
 
 def ranges_of(debug: "DWARFInfo", unit: "CompileUnit", entry: "DIE") -> Iterator[tuple[int, int]]:
-    """The addresses of an entry, each from the first to the one behind the last."""
+    """Yield the address ranges of an entry: the first address of each range, and the address after its last."""
     attributes = entry.attributes
     if "DW_AT_ranges" in attributes:
         first = unit.get_top_DIE().attributes.get("DW_AT_low_pc")
@@ -43,7 +43,7 @@ def ranges_of(debug: "DWARFInfo", unit: "CompileUnit", entry: "DIE") -> Iterator
 
 
 def first_of(entry: "DIE", ranges: Sequence[tuple[int, int]]) -> int:
-    """Where the code of an entry with these ranges is entered (DWARF 5, section 2.18)."""
+    """Return the address where the code of an entry with these ranges is entered (DWARF 5, section 2.18)."""
     entry_pc, first = entry.attributes.get("DW_AT_entry_pc"), ranges[0][0]
     if entry_pc is None:
         return first
@@ -51,5 +51,5 @@ def first_of(entry: "DIE", ranges: Sequence[tuple[int, int]]) -> int:
 
 
 def entry_at(entry: "DIE", attribute: str) -> "DIE | None":
-    """The entry that an attribute names; None without that attribute."""
+    """Return the entry that an attribute refers to; None if there is no such attribute."""
     return entry.get_DIE_from_attribute(attribute) if attribute in entry.attributes else None

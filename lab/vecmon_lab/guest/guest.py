@@ -1,4 +1,4 @@
-"""One user's program in a session: it is brought in, runs or is stepped, and its output is taken."""
+"""One user's program in a session: load it, run or step it, and read its output."""
 
 import contextlib
 import os
@@ -32,29 +32,32 @@ from .image_start import image_start
 from .input import input_of
 from .runner import OUTPUT_BYTES, SAFE_STEPS, Report, Reporter, Runner
 
-IMAGE_BYTES, ARGUMENT_BYTES = 4_194_304, 8192  # of a file; of the stack's 16 KiB
-QUANTUM = 1000  # the ticks of the longest slices, as the program is alone
-MAX_STEPS, MAX_ROUNDS = 256, 1000  # of one line; and how many such lines are sent before their answers are looked at
+IMAGE_BYTES, ARGUMENT_BYTES = 4_194_304, 8192  # the largest file; the largest part of the stack's 16 KiB
+QUANTUM = 1000  # the ticks of the longest slices, since there is no other program
+MAX_STEPS, MAX_ROUNDS = 256, 1000  # steps of one line; lines that are sent before their answers are read
 PACES = ((MAX_STEPS, OUTPUT_BYTES - 1), (SAFE_STEPS, OUTPUT_BYTES))
-"""Steps at once, and with how many bytes of output all calls have found room behind them; the last ones always find it."""
+"""Pairs of a number of steps in one line, and the most bytes of output after which every call surely had room in the buffer.
+
+With the last pair, every call surely has room.
+"""
 
 VECTOR_LOOKS = [f"vreg v{number} 64" for number in range(32)]
 
-SET_UP_ADDRESS = STACK_END + 4  # of the instruction that sets up a case of an exercise: no listing has it
+SET_UP_ADDRESS = STACK_END + 4  # for the instruction that sets up a case of an exercise; no listing shows it
 
 AnswerType = TypeVar("AnswerType", bound=Answer)
 
 
 class Guest:
-    """A user's program, alone in its session, which is stopped between calls.
+    """A user's program in a session. Between calls of its methods, the program is stopped.
 
-    pc: its place, from the answers to `start`, `go` and `step`, or from `regs` of a `Stepper`
-    ticks: how many of them `go` has granted, in whole slices
-    start_commands: the commands that `start` gave behind `load`, without the policy
-    end: the address of the ebreak after the program's last instruction; 0 if it has none or is unknown
-    write: is given what the program writes
-    runner: what `go` does
-    on_pause: is called in a run after each part, whose output was taken, while the program is stopped
+    pc: its program counter, from the answers to `start`, `go` and `step`, or from `regs` of a `Stepper`
+    ticks: the ticks that `go` has granted, in whole slices
+    start_commands: the commands that `start` sent after `load`, without the policy
+    end: the address of the ebreak after the program's last instruction; 0 if there is none or it is unknown
+    write: is called with the program's output
+    runner: executes `go`
+    on_pause: is called during a run, after each time that the output was read, while the program is stopped
     """
 
     def __init__(
@@ -64,9 +67,10 @@ class Guest:
         write: Callable[[bytes], object] | None = None,
         report: Report | None = None,
     ) -> None:
-        """A user of a session. `write` is given what the program writes, as it comes; else `output` answers it.
+        """Create the guest for a user of a session.
 
-        report: is given calls that aren't supported; without it they are printed on standard error, each once
+        write: is called with the program's output as it arrives; None to collect the output for `output`
+        report: is called for unsupported calls; None to print each of them once on standard error
         """
         self.session, self.user = session, user
         self.pc = self.ticks = self.end = 0
@@ -77,7 +81,7 @@ class Guest:
         self.on_pause: Callable[[], object] = lambda: None
 
     def ask(self, *commands: str) -> list[Answer]:
-        """The answer to each command. Some dozens go to the machine together."""
+        """Return the answer to each command. Several commands are sent to the machine together."""
         answers = list[Answer]()
         for at in range(0, len(commands), TOGETHER):
             lines = [f"{self.user} {command}" for command in commands[at : at + TOGETHER]]
@@ -85,36 +89,40 @@ class Guest:
         return answers
 
     def query(self, command: str, kind: type[AnswerType]) -> AnswerType:
-        """The answer to a command, which is of this kind. Raises LabError where it is another one."""
+        """Return the answer to a command. Raises LabError if it isn't of this kind."""
         (answer,) = self.ask(command)
         if not isinstance(answer, kind):
             raise LabError(f"the machine answers {answer}")
         return answer
 
     def peek(self, address: int, length: int) -> bytes:
-        """The bytes from an address on, which are all in pages that are mapped."""
+        """Return the bytes from an address on. All must be in mapped pages."""
         return b"".join(answer.data for answer in self.ask(*peeks(address, length)) if isinstance(answer, Memory))
 
     def vectors(self) -> list[bytes]:
-        """The bytes of each vector register."""
+        """Return the bytes of each vector register."""
         answers = self.ask(*VECTOR_LOOKS)
         return [answer.data for answer in answers if isinstance(answer, VectorRegister)]
 
     def words(self, addresses: Iterable[int]) -> list[Word]:
-        """The words at addresses where pages are mapped, with their texts."""
+        """Return the words at addresses in mapped pages, with their texts."""
         answers = self.ask(*(f"dis {run[0]:x} {len(run)}" for run in runs_of(addresses)))
         return [word for answer in answers if isinstance(answer, Listing) for word in answer.words]
 
     def start(
         self, image: str, policy: str = "keep", arguments: Sequence[str] = (), data: Mapping[int, bytes] | None = None
     ) -> None:
-        """The user enters, and an image is loaded; arguments, the first of them its name, are laid on the stack.
+        """Enter the user, load an image, and write the program's arguments to the stack.
 
-        Without arguments nothing is written there. data: bytes that are laid in memory, by their address. Raises
-        LabError where the image is refused, or they have no room.
+        Raises LabError if the image is refused, or if the arguments or the data don't fit.
+
+        arguments: the first is the program's name; if there are none, the stack isn't written
+        data: bytes to write to memory, by address
         """
         block = argument_block(arguments)
-        _, loaded, _ = self.ask("enter", f"load {image}", f"policy {policy}")  # who is there already has E06
+        _, loaded, _ = self.ask(
+            "enter", f"load {image}", f"policy {policy}"
+        )  # a user who has entered gets E06, which is ignored
         if not isinstance(loaded, Loaded):
             raise LabError(image_refusal(image, str(loaded)))
         self.pc = loaded.pc
@@ -127,16 +135,18 @@ class Guest:
                 raise LabError(f"the machine refuses to write from {command.split()[1]} on ({answer})")
 
     def go(self, ticks: int | None = None, is_interrupted: Callable[[], bool] = lambda: False) -> Stop | None:
-        """Run the program to a stop; None after this number of ticks, rounded up to slices, or an interruption.
+        """Run the program, and return its stop; None after `ticks`, rounded up to slices, or after an interruption.
 
-        `is_interrupted` is asked between some slices. No call finds too little room for its output.
+        Every call has room for its output. is_interrupted: is called between some slices
         """
         return self.runner.go(None if ticks is None else -(-ticks // self.session.quantum), is_interrupted)
 
     def execute(self, number: int, looks: Sequence[str] = ()) -> tuple[Stop | None, list[Answer]]:
-        """Executes instructions, 256 at most, and looks; the stop that ended them, and the answers to the looks.
+        """Execute at most 256 instructions. Return the stop that ended them, or None, and the answers to `looks`.
 
-        No call finds too little room for its output: where one may have, they are executed again in smaller parts.
+        Every call has room for its output: if one may have had too little, the instructions are executed again in smaller parts.
+
+        looks: commands that only read, which are sent after the instructions
         """
         size, pc, stop, at_once = self.session.size, self.pc, None, 1
         if not self.runner.has_uncertain():
@@ -156,14 +166,14 @@ class Guest:
         return stop, self.ask(*looks)
 
     def go_back(self, size: int, pc: int) -> None:
-        """Go back to where the script had this many bytes, and the program counter this value: in a new session."""
+        """Go back to the time when the script had `size` bytes, in a new session. pc: the program counter at that time"""
         session = self.session.rewound(self.session.script[:size])
         session.on_lines = self.session.on_lines
         self.session.close()
         self.session, self.pc = session, pc
 
     def step(self) -> Stop | None:
-        """Carries out one instruction; the stop, if it stops instead. The output buffer is emptied before."""
+        """Execute one instruction. Return the stop if the instruction stops the program, or else None. Read the output before."""
         self.empty_buffer()
         if self.runner.has_uncertain():
             self.runner.look(self.pc)
@@ -172,7 +182,7 @@ class Guest:
     def step_between(
         self, before: Sequence[str], after: Sequence[str], number: int = 1
     ) -> tuple[Stop | None, list[Answer]]:
-        """As `step`, with looks before and after it that go to the machine together; and the answers to all looks.
+        """Execute instructions as `step` does, between commands that only read, all sent together. Also return the commands' answers.
 
         The stop may be `outfull`, at an ecall. number: of instructions, 1 to 256
         """
@@ -184,9 +194,11 @@ class Guest:
         return reply if isinstance(reply, Stop) else None, answers
 
     def pass_over(self, instructions: int, at_once: int = MAX_STEPS, limit: int = OUTPUT_BYTES) -> bool:
-        """Execute a number of instructions, which don't stop the program, in groups, and empty the buffer after each.
+        """Execute a number of instructions, which don't stop the program, in groups. Read the output after each group.
 
-        False if the program wrote more than this number of bytes: it stays there then.
+        Return False, and don't go on, if a group wrote more than `limit` bytes.
+
+        at_once: the instructions in a group
         """
         while instructions:
             part = min(instructions, MAX_ROUNDS * at_once)
@@ -199,34 +211,34 @@ class Guest:
         return True
 
     def empty_buffer(self) -> None:
-        """Takes what the program has written out of the machine's buffer."""
+        """Read the output from the machine's buffer, which is empty then."""
         self.emit_output(self.query("out", Output).data)
 
     def output(self) -> bytes:
-        """The output of the program since the last call; empty if `write` gets it, now at the latest."""
+        """Return the program's output since the last call; empty if `write` receives it, which has happened on return."""
         self.empty_buffer()
         kept = b"".join(self._kept)
         self._kept.clear()
         return kept
 
     def word_at(self, address: int) -> tuple[int, str]:
-        """The word at an address and its text; 0 and "" where nothing is mapped."""
+        """Return the word at an address and its text; 0 and "" if no page is mapped there."""
         (reply,) = self.ask(f"dis {address:x} 1")
         return (reply.words[0].word, reply.words[0].text) if isinstance(reply, Listing) else (0, "")
 
     def has_ended(self, stop: Stop) -> bool:
-        """Whether a stop is at an ebreak of the lab, to which a source returns, or after its last instruction."""
+        """Return whether a stop is at the lab's ebreak, to which a source returns, or at the ebreak after its last instruction."""
         return stop.kind == "ebreak" and stop.pc in (RETURN, self.end)
 
     def explain(self, stop: Stop) -> str:
-        """A stop in sentences, by the instruction at its place."""
+        """Return sentences that explain a stop, by the instruction there."""
         word, text = self.word_at(stop.pc)
         return describe_stop(stop, word, self.query("vcsr", ControlRegisters), text, self.end)
 
     def describe(self, stop: Stop | None, place: str = "") -> str:
-        """A stop in a line: its address, and the place by a symbol; the instruction there; and why, in sentences.
+        """Return a line about a stop: its address, the place relative to a symbol, the instruction, and the cause.
 
-        Without a stop the ticks ran out where the program is.
+        stop: None if the ticks ran out; place: as `main+0x8`, or ""
         """
         if stop is None:
             return f"the ticks ran out at {self.pc:x} {place}".rstrip()
@@ -236,7 +248,7 @@ class Guest:
         return ": ".join(filter(None, [f"{stop.pc:x} {place}".rstrip(), text, self.explain(stop)]))
 
     def emit_output(self, data: bytes) -> None:
-        """Hands on what the program has written, if anything, or keeps it."""
+        """Pass output of the program, if there is any, to `write`."""
         if data:
             self.write(data)
 
@@ -253,9 +265,11 @@ def started(
     report: Report | None = None,
     name: object = None,
 ) -> Iterator[Guest]:
-    """The guest that an image is loaded for, on a machine of its own, until the context ends. file: its input.
+    """Load an image into a new machine, and yield its guest. The machine ends with the context.
 
-    name: what messages call the image, by default its path. Raises LabError and OSError where the image can't be read or is refused, or there is no program.
+    file: the program's input; name: the image's name in messages, by default its path
+
+    Raises LabError and OSError if the image can't be read or is refused, or if there is no vecmon.
     """
     check_image(path)
     guest = Guest(Session(find_program(), {"image": path}, quantum=quantum), write=write, report=report)
@@ -265,11 +279,11 @@ def started(
             guest.start("image", policy, arguments, given)
         yield guest
     finally:
-        guest.session.close()  # which is another one, where it went back
+        guest.session.close()  # another session, if the guest went back
 
 
 def check_image(path: pathlib.Path) -> None:
-    """Raises LabError and OSError where an image can't be read, is too large, an assembler source, or compiled for another machine."""
+    """Raise LabError or OSError if an image can't be read, is too large, is an assembler source, or is for another machine."""
     with path.open("rb") as opened:
         if len(opened.read(IMAGE_BYTES + 1)) > IMAGE_BYTES:
             raise LabError(f"{path} has more than {IMAGE_BYTES:,} bytes")
@@ -283,7 +297,7 @@ def check_image(path: pathlib.Path) -> None:
 
 
 def runs_of(addresses: Iterable[int]) -> list[list[int]]:
-    """The addresses of words in runs of at most 16 consecutive words."""
+    """Return addresses of words in runs of at most 16 consecutive words."""
     runs: list[list[int]] = []
     for address in sorted(addresses):
         if not runs or len(runs[-1]) == 16 or address != runs[-1][-1] + 4:
@@ -293,32 +307,33 @@ def runs_of(addresses: Iterable[int]) -> list[list[int]]:
 
 
 def stepping(instructions: int, at_once: int = MAX_STEPS) -> Iterator[str]:
-    """The commands that execute a number of instructions in groups, and fetch the output after each group.
+    """Yield commands that execute a number of instructions in groups, and read the output after each group.
 
-    It is taken behind the same ones each time, so that calls that write find the same room in a replay.
+    Groups are always the same, so that in a replay the calls have the same room in the buffer. at_once: the instructions in a group
     """
     for done in range(0, instructions, at_once):
         yield from (f"step {min(at_once, instructions - done)}", "out")
 
 
 def pokes(address: int, data: bytes) -> Iterator[str]:
-    """The commands that write bytes from an address on."""
+    """Yield the commands that write bytes from an address on."""
     for at in range(0, len(data), LINE_BYTES):
         yield f"poke {address + at:x} {data[at : at + LINE_BYTES].hex()}"
 
 
 def peeks(address: int, length: int) -> Iterator[str]:
-    """The looks at bytes from an address on."""
+    """Yield the commands that read bytes from an address on."""
     for at in range(address, address + length, LINE_BYTES):
         yield f"peek {at:x} {min(LINE_BYTES, address + length - at)}"
 
 
 def argument_block(arguments: Sequence[str]) -> bytes:
-    """The stack at the start of a program, by the RISC-V ABI: the number of arguments, their addresses, 0; no variables
-    of an environment, 0; no auxiliary entries, 0 and 0; and the arguments, each ended by a zero byte.
+    """Return the stack at the start of a program, in the layout of the RISC-V ABI.
 
-    It ends where the stack does, and begins where `load` leaves the stack pointer, or below. Raises LabError for more
-    than 8,192 bytes.
+    It has the number of arguments, their addresses, and 0; 0 for no environment variables; 0 and 0 for no auxiliary entries;
+    and the arguments, each followed by a zero byte. It ends where the stack ends, and starts at the stack pointer of `load` or below.
+
+    Raises LabError if it would have more than 8,192 bytes.
     """
     texts = [os.fsencode(argument) + b"\0" for argument in arguments]
     words = 5 + len(texts)

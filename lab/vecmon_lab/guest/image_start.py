@@ -1,4 +1,4 @@
-"""The start of an image that the lab assembled: where it returns to, and where its instructions end."""
+"""The state in which an image of the lab's assembler starts: its return address, and the end of its instructions."""
 
 import pathlib
 import struct
@@ -9,18 +9,21 @@ from ..machine.start_state import RETURN
 from .symbols import Symbols
 
 END_SYMBOL = "etext"
-"""The address after the last instruction, as linkers call it. The lab's images have an ebreak there."""
+"""The linkers' name for the address after the last instruction. The lab's images have an ebreak there."""
 
 
 class ImageStart(NamedTuple):
-    """commands: those after `load`, without the user's digit; end: the address after the last instruction, 0 if it is unknown"""
+    """The start of an image.
+
+    commands: those to send after `load`, without the user's digit; end: the address after the last instruction, 0 if unknown
+    """
 
     commands: tuple[str, ...] = ()
     end: int = 0
 
 
 def image_start(path: pathlib.Path) -> ImageStart:
-    """The start of an image. Those that others made, and those that can't be read, have none."""
+    """Return the start of an image. It is empty if the image can't be read, or if the lab didn't assemble it."""
     try:
         pages = {address: rights for address, rights, _, _ in segments_of(path.read_bytes())}
     except (OSError, struct.error):  # the machine refuses it as well

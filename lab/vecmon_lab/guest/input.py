@@ -1,4 +1,4 @@
-"""A file as the input of a program, which finds it in its memory: the machine has no call that reads."""
+"""A file as the input of a program, which reads it from its memory, since the machine has no call that reads."""
 
 import pathlib
 
@@ -6,13 +6,13 @@ from .. import LabError
 from .symbols import Symbols
 
 SIZE_BYTES = 8
-MEMORY_BYTES = 1 << 20  # that a user has at most
+MEMORY_BYTES = 1 << 20  # the most memory that a user can have
 
 
 def input_of(image: pathlib.Path, file: pathlib.Path) -> dict[int, bytes]:
-    """The bytes of a file by the address of the symbol `input`, and their number by that of `input_size`, 8 bytes.
+    """Return the contents of memory, by address: the file at the symbol `input`, and its size in 8 bytes at `input_size`.
 
-    Raises LabError where one of the symbols is missing or has no room for them, and OSError.
+    Raises LabError if a symbol is missing or has too little room, and OSError.
     """
     symbols = Symbols.read(image)
     place, size_place = map(symbols.addresses.get, ("input", "input_size"))

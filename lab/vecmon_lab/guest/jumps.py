@@ -1,6 +1,7 @@
-"""Where a part of a function is entered, by the branches and jumps of its code (Unprivileged ISA 20191213, sections 2.3 and 2.5).
+"""Where a part of a function is entered, by its branches and jumps (Unprivileged ISA 20191213, sections 2.3 and 2.5).
 
-A compiler that turns a loop has its first instruction behind the last one, so an inlined copy isn't always entered at its lowest address.
+A compiler may rotate a loop, so that its first instruction comes after its last one. So an inlined copy isn't always entered at
+its lowest address.
 """
 
 from collections.abc import Iterator, Sequence
@@ -10,7 +11,7 @@ if TYPE_CHECKING:
     from elftools.elf.elffile import ELFFile
 
 Ranges = Sequence[tuple[int, int]]
-"""Addresses, each range from the first one to the one behind the last."""
+"""Address ranges: the first address of each range, and the address after its last."""
 
 _CODE = 4  # SHF_EXECINSTR: the section has instructions
 _ADDRESSES = (1 << 64) - 1
@@ -19,7 +20,7 @@ _LINKS = (1, 5)  # registers with return addresses
 
 
 class Code:
-    """The instructions of an ELF file, in words of 32 bits."""
+    """The 32-bit instructions of an ELF file."""
 
     def __init__(self, elf: "ELFFile") -> None:
         sections = [
@@ -28,17 +29,19 @@ class Code:
         self._sections = [(each["sh_addr"], each.data()) for each in sections]
 
     def word(self, address: int) -> int:
-        """The word at an address; 0, which is no instruction, if there is none."""
+        """Return the word at an address; if there is none, 0, which isn't an instruction."""
         for start, data in self._sections:
             if start <= address < start + len(data):
                 return int.from_bytes(data[address - start : address - start + 4], "little")
         return 0
 
     def entries(self, part: Ranges, whole: Ranges) -> list[int]:
-        """Where a part of a function with these ranges is entered first, in rising order; none if only by a register's jump.
+        """Return the addresses where a part of a function is entered first, in rising order; none if only a jump by register enters it.
 
-        That is where paths from the function's first instruction come into the part. They don't go through it, so what
-        follows a gap in it is no entry.
+        They are where paths from the function's first instruction reach the part. A path ends there, so an address
+        where it would reach the part again, after a gap, isn't an entry.
+
+        part, whole: the ranges of the part and of the function
         """
         waiting, seen, found = [whole[0][0]], set[int](), set[int]()
         while waiting:
@@ -52,22 +55,22 @@ class Code:
 
 
 def _is_in(ranges: Ranges, address: int) -> bool:
-    """Whether an address is in one of the ranges."""
+    """Return whether an address is in one of the ranges."""
     return any(first <= address < end for first, end in ranges)
 
 
 def is_call(word: int) -> bool:
-    """Whether an instruction is a jump that saves a return address."""
+    """Return whether an instruction is a jump that saves a return address."""
     return word & 0x7F in (_JUMP, _JUMP_TO_REGISTER) and word >> 7 & 31 in _LINKS
 
 
 def may_jump(word: int) -> bool:
-    """Whether another instruction than the next one in memory may follow: after a branch, a jump, a call or `ebreak`."""
+    """Return whether an instruction is a branch, a jump, a call or `ebreak`, after which another than the next word may execute."""
     return word & 0x7F in (_BRANCH, _JUMP, _JUMP_TO_REGISTER, _SYSTEM)
 
 
 def is_return(word: int) -> bool:
-    """Whether an instruction is a jump to a return address."""
+    """Return whether an instruction is a jump to a return address."""
     return word & 0x7F == _JUMP_TO_REGISTER and word >> 7 & 31 == 0 and word >> 15 & 31 in _LINKS
 
 
@@ -84,7 +87,7 @@ def jump_target(address: int, word: int) -> int | None:
 
 
 def _targets(address: int, word: int) -> Iterator[int]:
-    """The addresses of the instructions that may follow one in its function; behind a call, the next one."""
+    """Yield the addresses of the instructions in the function that may follow one. A call is followed by the next instruction."""
     opcode, rd, target = word & 0x7F, word >> 7 & 31, jump_target(address, word)
     if target is not None:
         yield target

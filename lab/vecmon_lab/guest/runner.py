@@ -1,10 +1,10 @@
-"""Runs a guest's program so that each of its calls finds room for its output, and reports calls that aren't supported.
+"""Run a guest's program so that each of its calls has room for its output, and report unsupported calls.
 
-The machine's output buffer holds 1,024 bytes, and a call that finds less room than it needs writes less. A run takes the
-output after a few slices, and after more as long as the program writes little. A full buffer means that a call may have
-written too little: then the run goes back to where the output was taken last, and from there on it stops before each ECALL
-and takes the output there. Where that fails, since breakpoints are missing or the program writes its own code, it takes
-the output after every seven instructions.
+The machine's output buffer holds 1,024 bytes, and a call that finds less room than it needs writes less. A run reads the
+output after a few slices, and less often if the program writes little. If the buffer is full, a call may have written too
+little. Then the run goes back to where the output was last read, stops before each following ECALL, and reads the output
+there. If that isn't possible, because breakpoints are missing or the program writes its own code, it reads the output after
+every seven instructions.
 """
 
 import sys
@@ -19,34 +19,35 @@ from .calls import Code
 if TYPE_CHECKING:
     from .guest import Guest
 
-OUTPUT_BYTES, WRITE_BYTES = 1024, 256  # that the buffer holds; and that a call writes at most
-MAX_BREAKPOINTS = 16  # that a user may have
-MAX_LOOKS = 1000  # at the registers of doubtful calls
-MAX_SLICES, MAX_TICKS = 1000, 1_000_000  # of one line; and between two looks at the output
-LITTLE_BYTES, MUCH_BYTES = 256, 512  # of output: up to the one the next look comes later, above the other one earlier
+OUTPUT_BYTES, WRITE_BYTES = 1024, 256  # the size of the buffer; the most bytes that a call writes
+MAX_BREAKPOINTS = 16  # a user's limit
+MAX_LOOKS = 1000  # times that the registers are read at uncertain calls
+MAX_SLICES, MAX_TICKS = 1000, 1_000_000  # slices of one line; ticks between two reads of the output
+LITTLE_BYTES, MUCH_BYTES = 256, 512  # of output: up to LITTLE, the next read is later; above MUCH, earlier
 CALLS_OF_A_SLICE = 256  # stops at calls that count as a slice, as OUTPUT_BYTES of output do
 
 SAFE_STEPS = 7
-"""Instructions whose calls always find room in an empty buffer: a call that writes more than a byte leaves another value
-than 1, the file, in a0, so that an instruction lies between it and the next one, and four write 1,024 bytes at most."""
+"""A number of instructions whose calls always have room in an empty buffer. A call that writes more than a byte leaves a value
+other than 1, the file, in a0. So another instruction is between it and the next call, and four calls write at most 1,024 bytes.
+"""
 
 Report = Callable[[int, str], object]
-"""What is given the address of a call that isn't supported, and a sentence about it."""
+"""A function that is called with the address of an unsupported call, and a sentence about the call."""
 
 
 def unreported(pc: int, sentence: str) -> None:
-    """Prints nothing: for a run that is repeated."""
+    """Ignore an unsupported call, in a run that is repeated."""
 
 
 class Reporter:
     """Prints each sentence about a program once, on standard error."""
 
     def __init__(self, place: Callable[[int], str] = lambda address: "") -> None:
-        """place: an address by a symbol, or "" where there is none"""
+        """place: returns the place of an address relative to a symbol, or "" if there is none"""
         self._place, self._printed = place, set[str]()
 
     def __call__(self, pc: int, sentence: str) -> None:
-        """Prints a sentence about the instruction at an address, unless it was printed before."""
+        """Print a sentence about the instruction at an address, unless it was printed before."""
         if sentence not in self._printed:
             self._printed.add(sentence)
             where = f"{pc:x} {self._place(pc)}".rstrip()
@@ -56,9 +57,9 @@ class Reporter:
 class Runner:
     """Runs a guest's program in slices.
 
-    report: is given calls that aren't supported
-    looks_left: at registers of doubtful calls
-    has_exact_ticks: whether no slice has ended before a call, so that exactly the ticks of `go` were used up
+    report: is called for unsupported calls
+    looks_left: how many more times the registers are read at uncertain calls
+    has_exact_ticks: whether exactly the ticks of `go` were used; False after a slice that ended before a call
     """
 
     def __init__(self, guest: "Guest", report: Report) -> None:
@@ -67,15 +68,14 @@ class Runner:
         self.has_exact_ticks = True
         self.looks_left = MAX_LOOKS
         self._stops_at_calls = self._is_stepping = False
-        self._places: Sequence[int] = ()  # of ECALLs with breakpoints that aren't the user's
-        self._breaks: Sequence[int] = ()  # the user's
+        self._places: Sequence[int] = ()  # ECALLs with breakpoints that aren't the user's
+        self._breaks: Sequence[int] = ()  # the user's breakpoints
         self._calls = self._bytes = 0  # stops at calls, and bytes of output, since the last slice was counted
 
     def go(self, slices: int | None, is_interrupted: Callable[[], bool]) -> Stop | None:
-        """Run the program to a stop; None after this number of slices, or an interruption.
+        """Run the program to a stop, and return it; None after this number of slices, or after an interruption.
 
-        Of a slice that ends before a call no ticks are counted; CALLS_OF_A_SLICE of them, or OUTPUT_BYTES of output, count
-        as one slice.
+        A slice that ends before a call counts no ticks. CALLS_OF_A_SLICE such slices, or OUTPUT_BYTES of output, count as one slice.
         """
         guest = self._guest
         self._breaks, at_once, stop = guest.query("breaks", Addresses).addresses, 1, None
@@ -106,9 +106,9 @@ class Runner:
         return stop
 
     def pass_slices(self, number: int) -> tuple[Stop | None, bool]:
-        """Run a number of slices, 1,000 at most, which don't stop before calls; the stop, and whether they were run.
+        """Run a number of slices, at most 1,000, which don't stop before calls. Return the stop, and whether they were run.
 
-        They weren't if a call may have found too little room for its output: then the program is where it was.
+        They aren't run if a call may have had too little room for its output: then the program is where it was before.
         """
         guest = self._guest
         self._breaks, self._places = guest.query("breaks", Addresses).addresses, ()
@@ -121,7 +121,7 @@ class Runner:
         return stop, True
 
     def look(self, pc: int, x: Sequence[int] | None = None) -> None:
-        """Reports the call at an address, which is executed next, if it isn't supported. x: the registers, if known."""
+        """Report the call at an address, which is the next instruction, if it is unsupported. x: the registers, if known"""
         if self.looks_left and (x or pc in self._code.uncertain):
             self.looks_left -= 1
             sentence = unsupported_call(x or self._guest.query("regs", ScalarRegisters).x)
@@ -131,19 +131,19 @@ class Runner:
                 self._choose_places()
 
     def has_uncertain(self) -> bool:
-        """Whether the program has an ECALL that may be a call that isn't supported."""
+        """Return whether the program has an ECALL that may be an unsupported call."""
         self._code.update(self._guest)
         return self.looks_left > 0 and bool(self._code.uncertain)
 
     def _choose_places(self) -> None:
-        """Sets breakpoints at all ECALLs, where the output is taken there, else at the doubtful ones."""
+        """Set breakpoints at all ECALLs if the output is read there, or else at the uncertain ones."""
         places = self._code.places if self._stops_at_calls else self._code.uncertain if self.looks_left else ()
         free, own = MAX_BREAKPOINTS - len(self._breaks), [place for place in places if place not in self._breaks]
         self._is_stepping = self._is_stepping or self._stops_at_calls and len(own) > free
         self._set_places(() if self._is_stepping else own[:free])
 
     def _set_places(self, places: Sequence[int]) -> None:
-        """Sets the breakpoints that aren't the user's anew."""
+        """Set the breakpoints that aren't the user's, in place of earlier ones."""
         removed, added = set(self._places).difference(places), set(places).difference(self._places)
         commands = [
             *(f"unbreak {place:x}" for place in sorted(removed)),
@@ -153,7 +153,7 @@ class Runner:
         self._places = places
 
     def _run_on(self, slices: int) -> tuple[Stop | None, int, bytes]:
-        """Grants slices; the stop that ended them, how many they were, and the output."""
+        """Grant slices. Return the stop that ended them, their number, and the output."""
         guest, used = self._guest, 0
         guest.ask("go")
         while used < slices:
@@ -166,7 +166,7 @@ class Runner:
         return stop, used, guest.query("out", Output).data
 
     def _grant(self, number: int) -> tuple[int, Stop | None]:
-        """Grants slices; how many they were, and the stop that ended them."""
+        """Grant slices. Return their number, and the stop that ended them."""
         granted = read(self._guest.session.do(f"* slices {number}"))
         assert isinstance(granted, Granted)
         if not granted.stops:
@@ -176,7 +176,7 @@ class Runner:
         return granted.slices, stop
 
     def _halt(self) -> Stop | None:
-        """Stops the running program. Where its next slice would stop it at a breakpoint, that is granted first."""
+        """Stop the running program. If its next slice would stop at a breakpoint, grant that slice first."""
         breaks = {*self._breaks, *self._places}
         while breaks and self._guest.query("state", Position).pc in breaks:
             if stop := self._grant(1)[1]:
@@ -185,7 +185,7 @@ class Runner:
         return None
 
     def _step_on(self) -> tuple[Stop | None, int, bytes]:
-        """Executes SAFE_STEPS instructions and takes their output, several times; as `_run_on`."""
+        """Execute SAFE_STEPS instructions and read their output, several times. Return the same values as `_run_on`."""
         times = 1 if self._breaks else TOGETHER // 2
         answers = self._guest.ask(*[f"step {SAFE_STEPS}", "out"] * times)
         output = b"".join(answer.data for answer in answers if isinstance(answer, Output))
@@ -196,7 +196,7 @@ class Runner:
         return stop, self._count_call(len(output)), output
 
     def _count_call(self, size: int) -> int:
-        """Count a stop at a call with this number of bytes of output; return the slices, 0 or 1, that it uses up."""
+        """Count a stop at a call. Return the number of slices, 0 or 1, that it uses up. size: the call's output in bytes"""
         self.has_exact_ticks = False
         self._calls, self._bytes = self._calls + 1, self._bytes + size
         if self._calls < CALLS_OF_A_SLICE and self._bytes < OUTPUT_BYTES:
@@ -205,7 +205,7 @@ class Runner:
         return 1
 
     def _go_back(self, size: int, pc: int) -> None:
-        """Go back to where the script had this number of bytes, and fetch the output more often from there on."""
+        """Go back to when the script had `size` bytes, and read the output more often from there on. pc: the program counter then"""
         self._guest.go_back(size, pc)
         self._stops_at_calls, self._is_stepping = True, self._stops_at_calls
         self._choose_places()

@@ -1,7 +1,7 @@
-"""Source lines of an image's instructions, and where functions are inlined, by debug data (DWARF 4 and 5, sections 3.3 and 6.2).
+"""Source lines of an image's instructions, and places of inlined functions, by debug data (DWARF 4 and 5, sections 3.3 and 6.2).
 
-An optimizing compiler moves the instructions of a line apart and inlines functions, so a line has several addresses. A function that isn't
-`static` also keeps a copy of its own, which nothing may call.
+An optimizing compiler separates the instructions of a line and inlines functions, so a line may have several addresses. A
+function that isn't `static` also has its own code, which may never be called.
 """
 
 import bisect
@@ -26,7 +26,7 @@ _FUNCTION, _INLINED = "DW_TAG_subprogram", "DW_TAG_inlined_subroutine"
 class SourceRow(NamedTuple):
     """A row of a line table.
 
-    line: the file and the line, as `sum.c:12`; "" for none, and at the end of a sequence
+    line: the file and the line, as `sum.c:12`; "" if there is no line, or at the end of a sequence
     is_statement: whether the compiler recommends the address for a breakpoint
     """
 
@@ -36,12 +36,12 @@ class SourceRow(NamedTuple):
 
 
 class Copy(NamedTuple):
-    """A range of a function's code, or of a copy that is inlined in another one.
+    """An address range of a function's code, or of an inlined copy of a function.
 
-    depth: the number of entries around it; first, end: its first address and the one behind the last
+    depth: the number of entries around it; first, end: its first address, and the address after its last
     number: the same for all ranges of a copy; outer: the number of the copy around it, or -1
-    declared, called: where the function is declared, and where an inlined copy is called, as `sum.c:12`; else ""
-    entries: where its code is entered, in rising order
+    declared, called: where the function is declared, and where an inlined copy is called, as `sum.c:12`; or else ""
+    entries: the addresses where its code is entered, in rising order
     """
 
     depth: int
@@ -56,7 +56,10 @@ class Copy(NamedTuple):
 
 
 class _Waiting(NamedTuple):
-    """An entry of debug data, with the number of the copy around it and the ranges of the function that it is in."""
+    """An entry of debug data that isn't read yet.
+
+    outer: the number of the copy around it; whole: the ranges of its function
+    """
 
     entry: "DIE"
     depth: int = 0
@@ -65,30 +68,30 @@ class _Waiting(NamedTuple):
 
 
 class SourceLines:
-    """The source lines of an image, by an ELF file that is read when they are asked for; none without a file."""
+    """The source lines of an image. Its ELF file is read when they are first used; without a file there are none."""
 
     def __init__(self, path: pathlib.Path | None = None) -> None:
         self._path = path
 
     def at(self, address: int) -> str:
-        """The line of an instruction, as `sum.c:12`; "" if the file has none."""
+        """Return the source line of an instruction, as `sum.c:12`; "" if the file has none."""
         rows = self._ordered
         at = bisect.bisect_right(rows, address, key=lambda row: row.address) - 1
         return rows[at].line if at >= 0 else ""
 
     @property
     def warning(self) -> str:
-        """Why the line tables can't be read, in a line; "" if nothing is wrong."""
+        """Why the line tables can't be read, in one line; "" if they can be read."""
         return self._table[1]
 
     @functools.cached_property
     def stops(self) -> Mapping[str, Sequence[int]]:
-        """The addresses of a line's breakpoints, by line as `sum.c:12`, in rising order."""
+        """The addresses of each line's breakpoints, in rising order. A line is `sum.c:12`."""
         return line_addresses(self._table[0], self._copies)
 
     @functools.cached_property
     def functions(self) -> Mapping[str, Mapping[str, Sequence[int]]]:
-        """Where functions and their inlined copies are entered, by name and then by declaration as `sum.c:10`."""
+        """The addresses where functions and their inlined copies are entered, by name and then by declaration, as `sum.c:10`."""
         found = dict[str, dict[str, set[int]]]()
         for copy in self._copies:
             found.setdefault(copy.name, {}).setdefault(copy.declared, set()).update(copy.entries)
@@ -96,11 +99,11 @@ class SourceLines:
 
     @functools.cached_property
     def files(self) -> Mapping[str, pathlib.PurePath]:
-        """The paths of source files by their names, as the compiler was given them."""
+        """The paths of source files, as given to the compiler, by the files' names."""
         return dict(self._read(source_files)[0])
 
     def copies_at(self, address: int) -> list[Copy]:
-        """The function that has an instruction, and the inlined copies around it there, from the innermost one outwards."""
+        """Return the inlined copies around an instruction and its function, the innermost first."""
         return sorted((copy for copy in self._copies if copy.first <= address < copy.end), reverse=True)
 
     @functools.cached_property
@@ -116,7 +119,7 @@ class SourceLines:
         return self._read(copies_in)[0]
 
     def _read(self, read: "Callable[[ELFFile], Iterator[Item]]") -> tuple[list[Item], str]:
-        """The items of debug data, and why it can't be read, in a line."""
+        """Return the items that `read` finds in the debug data, and why it can't be read, in one line, or ""."""
         if self._path is None:
             return [], ""
         with self._path.open("rb") as file:
@@ -132,7 +135,7 @@ class SourceLines:
 
 
 def source_rows(elf: "ELFFile") -> Iterator[SourceRow]:
-    """The rows of the line tables, in the order of each table."""
+    """Yield the rows of the line tables, in each table's order."""
     for debug, unit in units_of(elf):
         program = debug.line_program_for_CU(unit)
         names = _file_names(debug, unit)
@@ -143,20 +146,20 @@ def source_rows(elf: "ELFFile") -> Iterator[SourceRow]:
 
 
 def source_files(elf: "ELFFile") -> Iterator[tuple[str, pathlib.PurePath]]:
-    """The names of source files, each with its path."""
+    """Yield the names of source files, each with its path."""
     for debug, unit in units_of(elf):
         yield from _file_paths(debug, unit)
 
 
 def copies_in(elf: "ELFFile") -> Iterator[Copy]:
-    """The ranges of all functions and of their inlined copies."""
+    """Yield the ranges of all functions and of their inlined copies."""
     code = Code(elf)
     for debug, unit in units_of(elf):
         yield from _copies_of(debug, unit, code)
 
 
 def _copies_of(debug: "DWARFInfo", unit: "CompileUnit", code: Code) -> Iterator[Copy]:
-    """The ranges of a unit's functions and of their inlined copies."""
+    """Yield the ranges of a unit's functions and of their inlined copies."""
     names, waiting = _file_names(debug, unit), [_Waiting(unit.get_top_DIE())]
     while waiting:
         entry, depth, outer, whole = waiting.pop()
@@ -172,7 +175,7 @@ def _copies_of(debug: "DWARFInfo", unit: "CompileUnit", code: Code) -> Iterator[
 
 
 def innermost(addresses: Iterable[int], copies: Iterable[Copy]) -> dict[int, Copy]:
-    """The copy that each address is in; of several the innermost one."""
+    """Return the innermost copy that contains each address."""
     ordered, found = sorted(set(addresses)), dict[int, Copy]()
     for copy in sorted(copies):
         inside = slice(bisect.bisect_left(ordered, copy.first), bisect.bisect_left(ordered, copy.end))
@@ -181,11 +184,11 @@ def innermost(addresses: Iterable[int], copies: Iterable[Copy]) -> dict[int, Cop
 
 
 def line_addresses(rows: Iterable[SourceRow], copies: Collection[Copy]) -> dict[str, list[int]]:
-    """The addresses of each line's breakpoints, in rising order.
+    """Return the addresses of each line's breakpoints, in rising order.
 
-    They are the first recommended address in each run of the line's instructions; if a copy of a function has none of the
-    line, the first address of each run there. What is inlined belongs to the line that calls it, too; of a run that begins
-    with it they are where that is entered. Rows without a line interrupt no run.
+    They are the first recommended address in each run of the line's instructions. If a copy of a function has no recommended
+    address for the line, they are the first address of each run there. Inlined code also belongs to the line that calls it;
+    if a run begins with inlined code, the breakpoints are where that code is entered. Rows without a line don't end a run.
     """
     stops = dict[str, set[int]]()
     for (line, _), runs in _runs([row for row in rows if row.line], copies).items():
@@ -195,7 +198,7 @@ def line_addresses(rows: Iterable[SourceRow], copies: Collection[Copy]) -> dict[
 
 
 def _runs(rows: Sequence[SourceRow], copies: Collection[Copy]) -> dict[tuple[str, int], list[list[int]]]:
-    """The runs of each line in each copy, by the copy's number: the first address of a run, and the recommended ones."""
+    """Return the runs of each line in each copy, by line and copy number: a run's first address, and its recommended ones."""
     copy_at, by_number = innermost((row.address for row in rows), copies), {copy.number: copy for copy in copies}
     runs, before = dict[tuple[str, int], list[list[int]]](), list[tuple[str, int]]()
     for row in rows:
@@ -213,9 +216,9 @@ def _runs(rows: Sequence[SourceRow], copies: Collection[Copy]) -> dict[tuple[str
 def _lines_at(
     row: SourceRow, copy: Copy | None, by_number: Mapping[int, Copy]
 ) -> dict[tuple[str, int], tuple[int, ...]]:
-    """The line of a row and those that call the copies around it, each with the number of the copy that it is in.
+    """Return the line of a row, and the lines that call the copies around it, each with the number of the copy that contains it.
 
-    By these, where the copy that the line calls is entered.
+    The values are the addresses where the copy that the line calls is entered; none for the row's own line.
     """
     lines: dict[tuple[str, int], tuple[int, ...]] = {(row.line, copy.number if copy else -1): ()}
     while copy and copy.called:
@@ -225,7 +228,7 @@ def _lines_at(
 
 
 def units_of(elf: "ELFFile") -> "Iterator[tuple[DWARFInfo, CompileUnit]]":
-    """The compilation units of a file. pyelftools 0.29 lacks a form that clang's DWARF 5 has in each line table."""
+    """Yield the compilation units of a file. Add a form that pyelftools 0.29 lacks, and that clang's DWARF 5 line tables have."""
     from elftools.construct import Array, ULInt8
 
     if elf.has_dwarf_info():
@@ -236,7 +239,7 @@ def units_of(elf: "ELFFile") -> "Iterator[tuple[DWARFInfo, CompileUnit]]":
 
 
 def _file_names(debug: "DWARFInfo", unit: "CompileUnit") -> dict[int, str]:
-    """The names of a unit's files without folders, by their numbers, which begin at 1 before DWARF 5, at 0 from it on."""
+    """Return the names of a unit's files without folders, by number. Numbers start at 1 before DWARF 5, and at 0 since."""
     program = debug.line_program_for_CU(unit)
     if program is None:
         return {}
@@ -245,7 +248,7 @@ def _file_names(debug: "DWARFInfo", unit: "CompileUnit") -> dict[int, str]:
 
 
 def _file_paths(debug: "DWARFInfo", unit: "CompileUnit") -> Iterator[tuple[str, pathlib.PurePath]]:
-    """The names of a unit's files without folders, each with its path. Folder 0 is that of the compilation."""
+    """Yield the names of a unit's files without folders, each with its path. Folder 0 is the compilation's folder."""
     program, folder = debug.line_program_for_CU(unit), unit.get_top_DIE().attributes.get("DW_AT_comp_dir")
     if program is None:
         return
@@ -258,16 +261,16 @@ def _file_paths(debug: "DWARFInfo", unit: "CompileUnit") -> Iterator[tuple[str, 
 
 
 def _text(data: bytes) -> str:
-    """A name in debug data."""
+    """Return a name in debug data as text."""
     return data.decode("utf-8", "replace")
 
 
 def _name_in(entry: Any) -> str:
-    """The name of an entry of a line table's files, without its folder."""
+    """Return the name of an entry in a line table's list of files, without its folder."""
     return printable(pathlib.PurePath(_text(entry.name)).name)
 
 
 def _place(entry: "DIE", kind: str, names: Mapping[int, str]) -> str:
-    """The file and the line of an entry's declaration, `decl`, or call, `call`, as `sum.c:12`; "" if it isn't there."""
+    """Return the line of an entry's declaration (`decl`) or call (`call`), as `sum.c:12`; "" if the entry has none."""
     file, line = (entry.attributes.get(f"DW_AT_{kind}_{name}") for name in ("file", "line"))
     return f"{names.get(file.value, '')}:{line.value}" if file and line else ""

@@ -16,17 +16,17 @@ if TYPE_CHECKING:
 ALLOCATED = 2  # SHF_ALLOC: the section is a part of the memory
 NAMING = ("STT_NOTYPE", "STT_OBJECT", "STT_FUNC")
 BINDINGS = ("STB_LOCAL", "STB_WEAK", "STB_GLOBAL")
-MAPPING = ("$", ".L")  # symbols that assemblers make for themselves begin so
+MAPPING = ("$", ".L")  # the start of symbols that assemblers add
 
 
 @dataclass(frozen=True)
 class Symbols:
-    """The symbols of a file by name, and their places; empty where the file has no symbol table.
+    """The symbols of a file by name. Empty if the file has no symbol table.
 
-    addresses: of each name
-    sizes: of each name, 0 if the file doesn't have it
-    places_of: all addresses of each name, which several files may have
-    path: the file, whose source lines are read when one is asked for
+    addresses: the address of each name
+    sizes: the size of each name in bytes, 0 if the file doesn't have it
+    places_of: all addresses of each name, since several source files may define it
+    path: the file; its source lines are read when they are first used
     """
 
     addresses: Mapping[str, int] = field(default_factory=dict)
@@ -37,9 +37,9 @@ class Symbols:
 
     @classmethod
     def read(cls, path: pathlib.Path) -> "Symbols":
-        """The symbols of a file; none where it is no ELF file or a damaged one. Raises OSError if it can't be read."""
+        """Return the symbols of a file; none if it isn't a valid ELF file. Raises OSError if it can't be read."""
         with path.open("rb") as file:
-            from elftools.elf.elffile import ELFFile  # which a console without an image doesn't need
+            from elftools.elf.elffile import ELFFile  # not needed by a console without an image
 
             try:
                 found = sorted(_symbols(ELFFile(file)))
@@ -47,7 +47,7 @@ class Symbols:
                 return cls()
         ranked = sorted(found, key=lambda symbol: symbol[1])
         addresses = {name: address for address, _, _, name, _ in ranked}
-        # of several symbols at an address the last one names it
+        # if an address has several symbols, the last one names it
         places = {address: (address, end, name) for address, _, end, name, _ in found if address < end}
         places_of = dict[str, set[int]]()
         for address, _, _, name, _ in found:
@@ -56,8 +56,11 @@ class Symbols:
 
     @classmethod
     def of_labels(cls, labels: Mapping[str, Sequence[str]]) -> "Symbols":
-        """The labels of a source, by their addresses in hexadecimal digits, up to the end of the last one's page."""
-        from ..instructions.accesses import PAGE_BYTES  # which an image doesn't need, and which reads tables
+        """Return the labels of a source as symbols. The last one reaches to the end of its page.
+
+        labels: names by address, in hexadecimal digits
+        """
+        from ..instructions.accesses import PAGE_BYTES  # not needed for an image; its import reads tables
 
         places = sorted((int(digits, 16), names) for digits, names in labels.items())
         end = (max((address for address, _ in places), default=0) | PAGE_BYTES - 1) + 1
@@ -65,7 +68,7 @@ class Symbols:
         return cls(addresses, None, {}, {}, [(address, end, names[-1]) for address, names in places])
 
     def place(self, address: int) -> str:
-        """An address by the last symbol at or before it in its section, as `main+0x8`; "" where there is none."""
+        """Return an address relative to the last symbol at or before it in its section, as `main+0x8`; "" if there is none."""
         at = bisect.bisect_right(self._places, address, key=lambda place: place[0]) - 1
         if at < 0 or address >= self._places[at][1]:
             return ""
@@ -73,7 +76,7 @@ class Symbols:
         return name if address == start else f"{name}+{address - start:#x}"
 
     def room(self, name: str) -> int:
-        """The number of bytes of a symbol, from the file, or else up to the next one or its section's end."""
+        """Return the number of bytes of a symbol: its size in the file, or else up to the next symbol or its section's end."""
         address = self.addresses[name]
         at = bisect.bisect_left(self._places, address, key=lambda place: place[0])
         if self.sizes.get(name) or not self._places[at : at + 1] or self._places[at][0] != address:
@@ -81,12 +84,12 @@ class Symbols:
         return min([self._places[at][1], *(place for place, _, _ in self._places[at + 1 : at + 2])]) - address
 
     def line(self, address: int) -> str:
-        """The source line of an instruction, as `sum.c:12`; "" if the file doesn't have it."""
+        """Return the source line of an instruction, as `sum.c:12`; "" if the file has none."""
         return self.source.at(address)
 
     @property
     def warning(self) -> str:
-        """Why source lines can't be read though the file has some, in a line; "" where nothing is wrong."""
+        """Why the file's source lines can't be read, in one line; "" if they can be read, or if there are none."""
         return self.source.warning
 
     @functools.cached_property
@@ -96,7 +99,7 @@ class Symbols:
 
 
 def _symbols(elf: "ELFFile") -> Iterator[tuple[int, int, int, str, int]]:
-    """The address of each symbol, its rank, the end of its section or 0 outside of it, its name and its size."""
+    """Yield the address of each symbol, its rank, the end of its section or 0 if it has none, its name and its size."""
     allocated = [(at, each) for at, each in enumerate(elf.iter_sections()) if each["sh_flags"] & ALLOCATED]
     bounds = {at: (each["sh_addr"], each["sh_addr"] + each["sh_size"]) for at, each in allocated}
     for section in elf.iter_sections():

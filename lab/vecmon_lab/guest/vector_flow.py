@@ -1,7 +1,7 @@
-"""The vector type and length before each instruction of a program, by all ways to it, without running it.
+"""The vector type and length before each instruction of a program, on all paths to it. The program isn't run.
 
-Nothing wrong is claimed of a program that calls and returns by registers that `jal` and `jalr` link, and that doesn't write its own code.
-A value from a register, from a caller or by too many ways is unknown.
+The results are right if calls and returns use the registers that `jal` and `jalr` link, and if the program doesn't write its own
+code. A value from a register or a caller is unknown, and so is a value that differs between too many paths.
 """
 
 from collections.abc import Collection, Mapping
@@ -15,8 +15,8 @@ from ..machine.answers import VILL, ControlRegisters
 from .constants import constant_before
 from .jumps import jump_target
 
-_MAX_OWNERS = 16  # functions that one instruction is in; more are taken as a jump to any label
-MAX_TYPES = 4  # that are distinguished at a place
+_MAX_OWNERS = 16  # functions that share an instruction; more are treated as a jump to any label
+MAX_TYPES = 4  # types that are distinguished at a place
 JALR, JAL, BRANCH = 0x67, 0x6F, 0x63  # opcodes
 _OP_VSET = 7  # funct3
 _EBREAK = 0x00100073  # the word
@@ -25,9 +25,9 @@ _RETURN_ADDRESS = 1  # x1
 
 @dataclass(frozen=True)
 class VectorState:
-    """What is known of vtype and vl at a place.
+    """The known values of vtype and vl at a place.
 
-    types: the values that vtype may have, VILL among them; None if it may have any
+    types: the values that vtype may have, including VILL; None if it may have any
     vl: None if it is unknown
     """
 
@@ -36,11 +36,11 @@ class VectorState:
 
     @property
     def vtype(self) -> int | None:
-        """The only value that vtype may have; None if there are several."""
+        """The only value that vtype may have; None if there are several, or if it may have any."""
         return next(iter(self.types)) if self.types and len(self.types) == 1 else None
 
     def joined(self, other: "VectorState") -> "VectorState":
-        """What is known where both may hold."""
+        """Return what is known if either state may be the actual one."""
         types = None if self.types is None or other.types is None else self.types | other.types
         if types is not None and len(types) > MAX_TYPES:
             types = None
@@ -53,7 +53,7 @@ START = VectorState(frozenset([VILL]), 0)
 
 
 def is_supported(vtype: int) -> bool:
-    """Whether a vset instruction that asks for this type sets it, and not vill."""
+    """Return whether a vset instruction that requests this type sets it, instead of vill."""
     return vtype < 256 and vtype & 0x3F in SUPPORTED
 
 
@@ -61,11 +61,11 @@ def is_supported(vtype: int) -> bool:
 class Code:
     """The instructions of a program.
 
-    words: by address; None for an instruction whose word isn't known, as of one that the machine refuses
-    entries: where it starts, with the state there
-    labels: the addresses that others may jump to by a register
+    words: by address; None for an instruction whose word isn't known, for example because the machine refuses it
+    entries: the addresses where the program may start, with the state there
+    labels: the addresses to which a jump by register may go
     gaps: addresses before which the source has an instruction that isn't among the words
-    is_whole: whether nothing is executed outside of the words
+    is_whole: whether all instructions that may be executed are among the words
     """
 
     words: Mapping[int, int | None]
@@ -76,17 +76,17 @@ class Code:
 
 
 def is_vset(word: int) -> bool:
-    """Whether a word is vsetvli, vsetivli or vsetvl."""
+    """Return whether a word is vsetvli, vsetivli or vsetvl."""
     return word & 0x7F == OP_V and word >> 12 & 7 == _OP_VSET
 
 
 def requested_type(word: int) -> int | None:
-    """The type that vsetvli or vsetivli asks for; None for vsetvl, which has it in a register."""
+    """Return the type that vsetvli or vsetivli requests; None for vsetvl, which has it in a register."""
     return None if word >> 30 == 2 else word >> 20 & (0x3FF if word >> 30 == 3 else 0x7FF)
 
 
 def type_after(word: int, vtype: int | None) -> int | None:
-    """The vector type after an instruction, by its word; None if that doesn't show it. vtype: before it"""
+    """Return the vector type after an instruction; None if its word doesn't show it. vtype: the type before, None if unknown"""
     if not is_vset(word):
         return vtype
     requested = requested_type(word)
@@ -96,7 +96,7 @@ def type_after(word: int, vtype: int | None) -> int | None:
 class Flow:
     """The states of a program.
 
-    states: the state before each instruction that is reached, by its address; there is no other claim about it
+    states: the state before each instruction that may be reached, by address
     """
 
     def __init__(self, code: Code) -> None:
@@ -120,17 +120,17 @@ class Flow:
             self._follow(address)
 
     def after(self, address: int) -> VectorState:
-        """The state after an instruction that is reached, if the next one follows it."""
+        """Return the state after a reached instruction, if the instruction after it in memory is the next one."""
         state, word = self.states[address], self._code.words.get(address)
         return UNKNOWN if word is None else self._changed(address, word, state)
 
     def requested(self, address: int, word: int) -> int | None:
-        """The type that a vset instruction asks for; None if it is unknown."""
+        """Return the type that a vset instruction requests; None if it is unknown."""
         requested = requested_type(word)
         return constant_before(self._known, self._joins, address, word >> 20 & 31) if requested is None else requested
 
     def _reach(self, address: int, state: VectorState, owners: frozenset[int]) -> None:
-        """Take up that a state may hold before the instruction at an address, in these functions."""
+        """Record that a state may hold before the instruction at an address. owners: the functions that contain it"""
         if address not in self._code.words:
             if not self._code.is_whole:
                 self._lose(owners)
@@ -140,7 +140,7 @@ class Flow:
         before = self.states.get(address)
         joined = state if before is None else before.joined(state)
         own = self._owners.get(address, frozenset())
-        if self._is_lost:  # all functions return with an unknown state, whichever an instruction is in
+        if self._is_lost:  # all functions return with an unknown state, so owners don't matter
             owners = own
         if joined != before or not owners <= own:
             self.states[address], self._owners[address] = joined, own | owners
@@ -149,7 +149,7 @@ class Flow:
                 self._lose(self._owners[address])
 
     def _lose(self, owners: frozenset[int]) -> None:
-        """Take up that a jump may go to any label, or back to any call."""
+        """Record that a jump may go to any label, or back to any call."""
         was_lost, self._is_lost = self._is_lost, True
         for owner in owners:
             self._return(owner, UNKNOWN)
@@ -162,7 +162,7 @@ class Flow:
             self._return(function, UNKNOWN)
 
     def _return(self, function: int, state: VectorState) -> None:
-        """Take up that a function may return with a state."""
+        """Record that a function may return with a state."""
         before = self._returned.get(function)
         self._returned[function] = state if before is None else before.joined(state)
         if self._returned[function] != before:
@@ -170,11 +170,11 @@ class Flow:
                 self._reach(address, self._returned[function], caller)
 
     def _callers(self, function: int) -> list[tuple[int, frozenset[int]]]:
-        """The addresses after the calls of a function, and the functions that these are in."""
+        """Return the addresses after the calls of a function, each with the functions that contain the call."""
         return [(address, self._owners[address - 4]) for address in self._calls.get(function, ())]
 
     def _call(self, function: int, address: int) -> None:
-        """Take up that the instruction before an address calls a function."""
+        """Record that the instruction before an address calls a function."""
         self._calls.setdefault(function, set()).add(address)
         if self._is_lost:
             self._return(function, UNKNOWN)
@@ -182,7 +182,7 @@ class Flow:
             self._reach(address, self._returned[function], self._owners[address - 4])
 
     def _follow(self, address: int) -> None:
-        """Take up where an instruction goes on, and with which state."""
+        """Record the instructions that may follow the one at an address, and their state."""
         state, owners, word = self.states[address], self._owners[address], self._code.words[address]
         if word is None:
             self._reach(address + 4, UNKNOWN, owners)
@@ -198,7 +198,7 @@ class Flow:
             self._reach(address + 4, self._changed(address, word, state), owners)
 
     def _jump(self, address: int, word: int, target: int, state: VectorState, owners: frozenset[int]) -> None:
-        """A jump to a known address, which is a call if it links a register and doesn't go to the next instruction."""
+        """Follow a jump to a known address. It is a call if it links a register and its target isn't the next instruction."""
         if word >> 7 & 31 == 0 or target == address + 4:
             self._reach(target, state, owners)
             return
@@ -206,7 +206,7 @@ class Flow:
         self._reach(target, state, frozenset([target]))
 
     def _follow_register(self, address: int, word: int, state: VectorState, owners: frozenset[int]) -> None:
-        """A jump to an address in a register: a known one, a return, or any other."""
+        """Follow a jump to an address in a register: a known address, a return, or any other."""
         register, link, offset = word >> 15 & 31, word >> 7 & 31, (word >> 20) - (word >> 31 << 12)
         base = constant_before(self._known, self._joins, address, register)
         if base is not None:
@@ -220,13 +220,13 @@ class Flow:
             self._lose(frozenset() if link else owners)
 
     def _ends(self, address: int, word: int) -> bool:
-        """Whether nothing is executed after an instruction: an ebreak, a call that exits, or a word that is no instruction."""
+        """Return whether nothing is executed after an instruction: an ebreak, a call that exits, or an invalid word."""
         if word == ECALL:
             return constant_before(self._known, self._joins, address, A7) in EXITS
         return word == _EBREAK or row_of(word) is None
 
     def _changed(self, address: int, word: int, state: VectorState) -> VectorState:
-        """The state after an instruction that is no jump."""
+        """Return the state after an instruction that isn't a jump."""
         if not is_vset(word) or row_of(word) is None:
             return VectorState(state.types, None) if is_fault_only_first(word) else state
         requested = self.requested(address, word)
@@ -246,7 +246,7 @@ class Flow:
         return self._with_same_length(state, requested)
 
     def _with_same_length(self, state: VectorState, requested: int) -> VectorState:
-        """The state after a vset that keeps vl, by the types before it: vill if VLMAX would be another one."""
+        """Return the state after a vset that keeps vl: vill if VLMAX would differ from that of the types before."""
         if state.types is None:
             return UNKNOWN
         limit = ControlRegisters(vtype=requested).vlmax
@@ -261,7 +261,7 @@ class Flow:
 
 
 def flow_of_listing(words: Mapping[int, int]) -> Flow:
-    """The flow of a listing. It may start, with any state, at the first instruction and where no other instruction leads."""
+    """Return the flow of a listing. It may start, in any state, at the first instruction, and where no other instruction leads."""
     reached = {jump_target(address, word) for address, word in words.items()}
     reached |= {address + 4 for address, word in words.items() if not _leaves(word)}
     starts = [address for address in words if address not in reached] + [*words][:1]
@@ -269,5 +269,5 @@ def flow_of_listing(words: Mapping[int, int]) -> Flow:
 
 
 def _leaves(word: int) -> bool:
-    """Whether an instruction jumps, and links no register for the way back."""
+    """Return whether an instruction jumps without linking a register."""
     return word & 0x7F in (JAL, JALR) and word >> 7 & 31 == 0

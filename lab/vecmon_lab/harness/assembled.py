@@ -1,4 +1,4 @@
-"""Images of assembler sources: `run`, `profile`, `compare` and `gdb` load one in place of its source."""
+"""Images of assembler sources. The commands `run`, `profile`, `compare` and `gdb` assemble a source and load its image."""
 
 import atexit
 import pathlib
@@ -22,10 +22,12 @@ from .line_table import debug_sections
 
 
 def assembled_image(path: pathlib.Path) -> pathlib.Path:
-    """The image of your own assembler source, by the lab's assembler, which is there until the command ends.
+    """Assemble your own source with the lab's assembler; return the path of the image, which exists until the command ends.
 
-    It has the source's name without `.s`, its labels as symbols, the lines of its instructions, and the page that it returns
-    to. The source's `#>` lines are for lessons. Raises LabError where the source has mistakes, and OSError.
+    The image has the source's name without `.s`, the labels as symbols, the line of each instruction, and the page that the program
+    returns to. The source's `#>` lines are ignored: they are for pages and lessons.
+
+    Raises LabError if the source has mistakes, and OSError.
     """
     text = read_own_source(path)
     script = read_assembled(text, f"{path}", files_beside(path))
@@ -49,7 +51,7 @@ def assembled_image(path: pathlib.Path) -> pathlib.Path:
 
 
 def report_inputs(path: pathlib.Path, text: str) -> None:
-    """Print a line on standard error if a source asks for inputs, which only pages and lessons give it."""
+    """Print a line on standard error if a source has `#>` lines with inputs, which only pages and lessons use."""
     numbers = lines_with_inputs(text)
     if numbers:
         lines = f"line{'s' * (len(numbers) > 1)} {listed([f'{number}' for number in numbers])}"
@@ -59,7 +61,10 @@ def report_inputs(path: pathlib.Path, text: str) -> None:
 
 
 def _segment(guest: Guest, digits: str, pages: str, permissions: str) -> Segment:
-    """The pages that a line of the monitor mapped, with all of their bytes, or none if all are 0."""
+    """Return a segment with the bytes of pages, from the arguments of the `map` that mapped them.
+
+    Pages without instructions whose bytes are all 0 become a segment without data.
+    """
     address, size = int(digits, 16), int(pages) * PAGE_BYTES
     data, is_text = guest.peek(address, size), "x" in permissions
     data = data if is_text or any(data) else b""

@@ -1,4 +1,4 @@
-"""ELF files for RISC-V: executables at fixed addresses, with their symbols, and perhaps sections and debug data."""
+"""ELF files for RISC-V: executables at fixed addresses, with symbols, and optionally with sections and debug data."""
 
 import struct
 from collections.abc import Mapping, Sequence
@@ -11,14 +11,17 @@ READ, WRITE, EXECUTE = 4, 2, 1  # flags of a segment
 _PROGBITS, _SYMTAB, _STRTAB, _NOBITS = 1, 2, 3, 8  # kinds of sections
 _WRITABLE, _ALLOCATED, _INSTRUCTIONS = 1, 2, 4  # flags of a section
 _ABSOLUTE, _GLOBAL = 0xFFF1, 16  # SHN_ABS; st_info of STB_GLOBAL and STT_NOTYPE
-_SYMBOL_BYTES, _ABSOLUTE_BYTES = 24, 8  # of an entry of the table; and of what an absolute symbol names
+_SYMBOL_BYTES, _ABSOLUTE_BYTES = 24, 8  # size of an entry of the symbol table, and of the object of an absolute symbol
 
 
 @dataclass(frozen=True)
 class Segment:
-    """Bytes at an address, a multiple of 4,096, zeros behind them up to a size, and what a program may do there.
+    """Bytes at an address, followed by zeros up to a size.
 
-    section: the name of the section that has all of them; "" for none
+    address: a multiple of 4,096
+    size: the number of bytes with the zeros
+    flags: the program's permissions there, a sum of READ, WRITE and EXECUTE
+    section: the name of the section that has these bytes; "" for none
     """
 
     address: int
@@ -29,7 +32,7 @@ class Segment:
 
 
 class _Section(NamedTuple):
-    """A section header; its data is the part of the file from an offset on."""
+    """A section header. The data of the section is `size` bytes of the file from `offset` on."""
 
     name: str
     kind: int
@@ -46,11 +49,13 @@ class _Section(NamedTuple):
 def elf(
     entry: int, segments: Sequence[Segment], symbols: Mapping[str, int], debug: Mapping[str, bytes] | None = None
 ) -> bytes:
-    """The file of an executable that begins at an address.
+    """Return the file of an executable that starts at the address `entry`.
 
-    Symbols are of the section that has their address, or absolute with 8 bytes, as simulators ask of tohost. debug: the
-    bytes of further sections, by their names. A segment that can't be written has all of its bytes in the file: a loader
-    may write zeros after them.
+    symbols: addresses by name. A symbol belongs to the section that has its address. Otherwise it is absolute, with a size of 8 bytes, as
+    simulators require for tohost.
+    debug: the bytes of further sections, by name
+
+    The file has all bytes of a segment that isn't writable: a loader may write its zeros only into writable segments.
     """
     headers, body, sections = b"", b"", list[_Section]()
     for part in segments:
@@ -71,14 +76,14 @@ def elf(
 
 
 def _section_of(segment: Segment, offset: int) -> _Section:
-    """The section of a named segment, whose data is at an offset of the file."""
+    """Return the header of a segment's section. offset: of the segment's data in the file"""
     flags = _ALLOCATED | (_WRITABLE if segment.flags & WRITE else 0) | (_INSTRUCTIONS if segment.flags & EXECUTE else 0)
     kind = _PROGBITS if segment.data else _NOBITS
     return _Section(segment.section, kind, flags, segment.address, offset, segment.size, alignment=PAGE_BYTES)
 
 
 def _tables(symbols: Mapping[str, int], sections: Sequence[_Section], at: int) -> tuple[bytes, bytes, int]:
-    """The tables of symbols and names at an offset of the file, the headers of all sections behind them, and their offset."""
+    """Return the tables of symbols and names, the headers of all sections, and their offset. at: the offset of the tables in the file"""
     names, table = b"\0", bytes(_SYMBOL_BYTES)
     for name, address in symbols.items():
         owners = (number for number, it in enumerate(sections, 1) if it.flags and 0 <= address - it.address < it.size)

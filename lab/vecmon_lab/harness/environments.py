@@ -1,7 +1,7 @@
-"""The environments of golden programs, and the code around what they try: assembled once, by the machine.
+"""The environments in which golden programs run, and the code around the instructions that they test, assembled by the machine.
 
-A program has a page for an instruction, two pages of memory, the code and its data, and a list behind them: of cases, or
-the words it executes. `Environment` has the addresses; all of these move with its base.
+A program has a page for the tested instruction, two pages of memory, the code and its data, and after them a list: of cases, or of the
+words that the program executes. `Environment` has the addresses. Adding its base moves the pages of the instruction and of memory.
 """
 
 import functools
@@ -36,11 +36,12 @@ LIST = 0x40000
 
 @dataclass(frozen=True)
 class Environment:
-    """Where golden programs run.
+    """An environment in which golden programs run.
 
-    files: its sources, and code: where the program begins
-    ends: the numbers that report how a case ended; other ends can't be tested there
-    base: what is added to the addresses of the instruction and of memory
+    files: the names of its sources
+    code: the address where the program starts
+    ends: the numbers that report how a case ended, by the name of the end; cases with another end can't be tested there
+    base: the number added to the addresses of the instruction and of memory
     """
 
     files: tuple[str, ...]
@@ -61,7 +62,7 @@ ENVIRONMENTS = {
 
 @dataclass(frozen=True)
 class Harness:
-    """The code around cases or a program, assembled: its source, its labels and its segments."""
+    """The assembled code around cases or a program: its source, the addresses of its labels, and its segments."""
 
     environment: Environment
     source: str
@@ -69,7 +70,7 @@ class Harness:
     segments: Sequence[Segment] = ()
 
     def image(self, data: bytes, memory: bytes = b"") -> bytes:
-        """The ELF file with a list, and with the pages of the instruction and of memory."""
+        """Return an ELF file with this code. data: the bytes of the list; memory: the first bytes of the two pages of memory"""
         base, names = self.environment.base, ("_start", "begin_signature", "end_signature", "tohost", "fromhost")
         size = -(-len(data) // PAGE_BYTES) * PAGE_BYTES
         pages = [Segment(base + CODE, b"", PAGE_BYTES, READ | WRITE | EXECUTE)]
@@ -81,7 +82,12 @@ class Harness:
 
 @functools.cache
 def harness(environment: Environment, name: str, signature_words: int) -> Harness:
-    """The code around cases or around a program in an environment, with a signature of this number of 64-bit words."""
+    """Return the code around cases or a program in an environment.
+
+    name: of the source, such as `cases`; signature_words: the number of 64-bit words of the signature
+
+    Raises LabError if the machine refuses it.
+    """
     base, code = environment.base, environment.code
     numbers = {"CODE": base + CODE, "PC": base + PC, "MEMORY": base + MEMORY, "READ_ONLY": base + MEMORY + PAGE_BYTES}
     numbers |= {"BLOCK_BYTES": BLOCK_BYTES, "MEMORY_BYTES": MEMORY_BYTES, "MEMORY_WORDS": MEMORY_BYTES // 8}
@@ -100,14 +106,14 @@ def harness(environment: Environment, name: str, signature_words: int) -> Harnes
 
 
 def _segment(guest: Guest, digits: str, pages: str, permissions: str) -> Segment:
-    """The pages that a line of the monitor mapped, as they are now."""
+    """Return a segment with the present bytes of pages, from the arguments of the `map` that mapped them."""
     address, size = int(digits, 16), int(pages) * PAGE_BYTES
     flags = READ | (EXECUTE if "x" in permissions else WRITE)
     return Segment(address, guest.peek(address, size).rstrip(b"\0"), size, flags)
 
 
 def _source(name: str) -> str:
-    """A source of this folder; of cases with an entry for each pair of registers that may be spare."""
+    """Return a source of this folder. `cases` has an entry for each pair of registers that a case may leave unused."""
     text = pathlib.Path(__file__).with_name(f"{name}.s").read_text("ascii")
     if name != "cases":
         return text
@@ -117,10 +123,10 @@ def _source(name: str) -> str:
 
 
 def _expanded(text: str) -> Iterator[str]:
-    """The lines of a source, without the two forms that these sources have in addition to those of all assemblers.
+    """Yield the lines of a source after expansion of two forms that assemblers don't have.
 
-    `for NAME.. in VALUE.., ..: TEXT; ..` gives the texts with each value; `save xT, xS` and `load xT, xS` are for
-    all scalar registers but these two, at their places in the block at xT.
+    `for NAME.. in VALUE.., ..: TEXT; ..` is replaced by the texts, once for each list of values of the names. `save xT, xS` and `load xT,
+    xS` are replaced by stores or loads of all scalar registers except these two, at their places in the block at the address in xT.
     """
     for line in text.splitlines():
         label, body = line[:24], "" if line.startswith("#") else line[24:]
@@ -141,12 +147,15 @@ def _expanded(text: str) -> Iterator[str]:
 
 
 def digest(data: bytes, before: int = 0) -> int:
-    """The digest of words of 64 bits, as the code makes it: each is added to 31 times what was before."""
+    """Return the digest of 64-bit words, as the code of golden programs calculates it.
+
+    For each word, the digest is multiplied by 31, and the word is added. before: the digest of the words before
+    """
     for (word,) in struct.iter_unpack("<Q", data):
         before = (before * 31 + word) % (1 << 64)
     return before
 
 
 def signature_text(words: Sequence[int]) -> str:
-    """A signature as programs and simulators put it out: 32 bits a line, those of lower addresses first."""
+    """Return a signature as programs and simulators print it: a row for each 32 bits, the lowest address first."""
     return "".join(f"{word % (1 << 32):08x}\n{word >> 32:08x}\n" for word in words)

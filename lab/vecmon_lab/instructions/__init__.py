@@ -1,1 +1,1 @@
-"""The instruction set: decoded words, their accesses, and why a word is illegal."""
+"""The instruction set: decoded instructions, their memory accesses, and the reasons why a word is illegal."""

@@ -1,4 +1,4 @@
-"""The vector instruction that a word is, and where a store writes, by the registers before it."""
+"""The vector instruction that a word encodes, and the memory that it accesses, computed from the registers before it."""
 
 import functools
 import itertools
@@ -14,18 +14,18 @@ UNIT_STRIDE, STRIDED = 0, 2  # mop; 1 and 3 are indexed
 WHOLE_REGISTERS, MASK, FAULT_ONLY_FIRST = 0b01000, 0b01011, 0b10000  # lumop and sumop
 REGISTER_BYTES, ROW_BYTES, LINE_BYTES, PAGE_BYTES = 32, 16, 256, 4096  # a line shows or writes LINE_BYTES of memory
 REGISTER_BITS = 8 * REGISTER_BYTES
-MULTIPLY_ADDS = ("vmacc", "vnmsac", "vmadd", "vnmsub", "vwmacc")  # whose destination is an operand as well
-ACCUMULATES = (*MULTIPLY_ADDS, "vslideup", "vcompress")  # which read their destination
-FIRST_ELEMENT = ("vred", "vwred", "vmv.s.x")  # which write element 0 alone
-_GATHERS = ("vrgather", "vslide")  # which read their source up to VLMAX
+MULTIPLY_ADDS = ("vmacc", "vnmsac", "vmadd", "vnmsub", "vwmacc")  # the destination is also a source
+ACCUMULATES = (*MULTIPLY_ADDS, "vslideup", "vcompress")  # these read their destination
+FIRST_ELEMENT = ("vred", "vwred", "vmv.s.x")  # these write only element 0
+_GATHERS = ("vrgather", "vslide")  # these read their source up to VLMAX
 
 Span = tuple[int, int]
-"""An address, and how many bytes."""
+"""An address, and a number of bytes."""
 
 
 @functools.lru_cache(maxsize=4096)
 def vector_instruction(word: int, vtype: int) -> VectorInstruction | None:
-    """The vector instruction that a word is under a vector type; None where it is another one, or none."""
+    """Return the vector instruction that a word encodes under a vector type; None for scalar and invalid words."""
     view = ControlRegisters(vtype=vtype)
     try:
         return decode(word, view.sew, view.lmul)
@@ -34,10 +34,11 @@ def vector_instruction(word: int, vtype: int) -> VectorInstruction | None:
 
 
 def stored_spans(word: int, x: Sequence[int], control: ControlRegisters, v: bytes) -> list[Span]:
-    """The spans that hold what a store writes, each of 256 bytes or less in one page; none of any other instruction.
+    """Return spans that contain the bytes that a store writes; none for other instructions.
 
-    x, control, v: the scalar and control registers, and the bytes of all vector registers, before it.
-    Elements that are masked off count, and those after one that faults.
+    Each span has at most 256 bytes, in one page. Masked-off elements are included, and elements after one that faults.
+
+    x, control, v: the scalar registers, the control registers and the bytes of all vector registers, before the store
     """
     if word & 0x7F == STORE:
         return _joined([scalar_span(word, x)])
@@ -46,9 +47,9 @@ def stored_spans(word: int, x: Sequence[int], control: ControlRegisters, v: byte
 
 
 def base_address(word: int, x: Sequence[int]) -> int | None:
-    """The address at which a load or store starts, without its stride and indices; None for any other instruction.
+    """Return the address at which a load or store starts, without its stride and indices; None for other instructions.
 
-    x: the scalar registers before it
+    x: the scalar registers before the instruction
     """
     row = row_of(word)
     if row is None or row.opcode not in ACCESSES:
@@ -57,9 +58,11 @@ def base_address(word: int, x: Sequence[int]) -> int | None:
 
 
 def active_spans(word: int, x: Sequence[int], control: ControlRegisters, v: bytes) -> Iterator[tuple[int, Span]]:
-    """The active elements of a load or store, each with the span that it accesses; of a scalar one element 0.
+    """Yield the index of each active element of a load or store, with the span that it accesses. A scalar access has element 0.
 
-    x, control, v: the registers before it. Elements after one that faults count, and those that a fault-only-first load leaves out.
+    Elements after one that faults are included, and elements that a fault-only-first load omits.
+
+    x, control, v: the registers before the instruction, as for `stored_spans`
     """
     if word & 0x7F in (LOAD, STORE):
         yield 0, scalar_span(word, x)
@@ -71,20 +74,20 @@ def active_spans(word: int, x: Sequence[int], control: ControlRegisters, v: byte
 
 
 def is_fault_only_first(word: int) -> bool:
-    """Whether it is a load that becomes shorter if an element after the first can't be read (section 7.7)."""
+    """Return whether a word is a load that reduces vl if an element after the first can't be read (section 7.7)."""
     return word & 0x7F == LOAD_FP and word >> 26 & 3 == UNIT_STRIDE and word >> 20 & 31 == FAULT_ONLY_FIRST
 
 
 def scalar_span(word: int, x: Sequence[int]) -> Span:
-    """The span that a scalar load or store accesses, by the scalar registers before it."""
+    """Return the span that a scalar load or store accesses. x: the scalar registers before it"""
     offset = (word >> 25 << 5 | word >> (7 if word & 0x7F == STORE else 20) & 31) ^ 0x800
     return (x[word >> 15 & 31] + offset - 0x800) % (1 << 64), 1 << (word >> 12 & 3)
 
 
 def body_of(word: int, instruction: VectorInstruction, control: ControlRegisters) -> range:
-    """The elements of an instruction's body, from vstart on. Of a mask that is loaded or stored they are its bytes.
+    """Return the indices of an instruction's body elements, from vstart on. For a mask load or store, they are indices of bytes.
 
-    vmv.x.s reads element 0 whatever vl and vstart are; vmv.s.x writes it where vstart is less than vl (section 16.1).
+    vmv.x.s reads element 0 for all values of vl and vstart; vmv.s.x writes it if vstart is less than vl (section 16.1).
     """
     if instruction.name == "vmv.x.s":
         return range(1)
@@ -100,7 +103,7 @@ def body_of(word: int, instruction: VectorInstruction, control: ControlRegisters
 
 
 def active_of(instruction: VectorInstruction, body: range, v: bytes) -> list[int]:
-    """The elements of a body that the mask selects, by the bytes of v0, which come first."""
+    """Return the indices of the body elements that the mask selects. v: the bytes of the vector registers, starting with v0"""
     if not instruction.leaves_out:
         return [*body]
     return [element for element in body if v[element // 8] >> element % 8 & 1]
@@ -109,7 +112,10 @@ def active_of(instruction: VectorInstruction, body: range, v: bytes) -> list[int
 def vector_spans(
     word: int, x: Sequence[int], control: ControlRegisters, v: bytes, instruction: VectorInstruction
 ) -> list[Span]:
-    """The spans of the elements of a vector load or store, or of its segments, in their order from vstart on."""
+    """Return the span of each element of a vector load or store, or of each segment, from vstart on.
+
+    x, control, v: the registers before the instruction, as for `stored_spans`
+    """
     base, stride, kind = x[word >> 15 & 31], x[word >> 20 & 31], word >> 26 & 3
     data, *indices = instruction.operands
     length = max(1, data.eew // 8) * (1 if data.is_whole else (word >> 29) + 1)
@@ -123,7 +129,7 @@ def vector_spans(
 
 
 def _joined(spans: Iterable[Span]) -> list[Span]:
-    """Spans that hold these, one in each block of 256 bytes, which lies in one page."""
+    """Return spans that contain the given spans, one in each block of 256 bytes that they touch."""
     ends = ((address // ROW_BYTES, (address + length - 1) // ROW_BYTES) for address, length in spans)
     rows = {row for first, last in ends for row in range(first, last + 1)}
     groups = [list(each) for _, each in itertools.groupby(sorted(rows), lambda row: row * ROW_BYTES // LINE_BYTES)]
@@ -131,13 +137,16 @@ def _joined(spans: Iterable[Span]) -> list[Span]:
 
 
 def bits_of(operand: Operand, vl: int) -> Iterator[int]:
-    """How many of the lowest bits of each of its registers the elements of an operand take, up to vl."""
+    """Yield, for each register of an operand, the number of its lowest bits that elements below vl occupy."""
     for at in range(len(operand.registers)):
         yield min(REGISTER_BITS, max(0, vl * operand.eew - REGISTER_BITS * (at % operand.group)))
 
 
 def needed(name: str, place: str, operand: Operand, vl: int) -> Iterator[int]:
-    """How many of the lowest bits of each register of a source an instruction reads."""
+    """Yield, for each register of a source operand, the number of its lowest bits that an instruction reads.
+
+    name: of the instruction; place: the operand's field
+    """
     if operand.eew > 1 and (operand.is_whole or place == "vs2" and name.startswith(_GATHERS)):
         return iter([REGISTER_BITS] * len(operand.registers))
     return bits_of(operand, -(-vl // 8) * 8 if name == "vsm.v" else vl)

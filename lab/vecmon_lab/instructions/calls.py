@@ -1,11 +1,11 @@
-"""Calls of the system: which numbers the machine supports, and a sentence for each call that it doesn't support."""
+"""System calls: which numbers the machine supports, and a sentence for each unsupported call."""
 
 import functools
 from collections.abc import Mapping, Sequence
 
 from ..tables.table import read_table
 
-ECALL = 0x73  # the word
+ECALL = 0x73  # its encoding
 A0, A7 = 10, 17  # scalar registers: the first argument, which is the file of a write; and the number of the call
 WRITE, EXITS, STANDARD_OUTPUT = 64, (93, 94), 1
 FILES = {0: " (standard input)", 2: " (standard error)"}
@@ -13,14 +13,16 @@ SUPPORTED = "64 (write), 93 and 94 (exit) are"
 
 
 def is_supported(number: int, file: int) -> bool:
-    """Whether the machine supports a call with this number in a7 and, as the file of a write, this value in a0."""
+    """Return whether the machine supports a call. number: in a7; file: in a0, which only matters for a write"""
     return number in EXITS or (number, file) == (WRITE, STANDARD_OUTPUT)
 
 
 def unsupported_call(x: Sequence[int]) -> str:
-    """Why an ECALL with these 32 scalar registers isn't supported, in a sentence without its end; "" if it is supported.
+    """Return why an ECALL isn't supported, as a sentence without a full stop; "" if it is supported.
 
-    Numbers of RARS (in a7) and Venus (in a0, with 0 in a7) have a sentence with what to write here in place of them.
+    For a call number of RARS (in a7) or Venus (in a0, with 0 in a7), the sentence says what to use here instead.
+
+    x: the 32 scalar registers
     """
     number, file = x[A7], x[A0]
     if is_supported(number, file):
@@ -40,7 +42,7 @@ def unsupported_call(x: Sequence[int]) -> str:
 
 @functools.cache
 def _systems() -> Mapping[str, Mapping[int, Sequence[str]]]:
-    """The calls of each system by number: their effect, and the text for this system."""
+    """Return the calls of each system by number: the name or the effect; for RARS and Venus also the text to write here instead."""
     systems: dict[str, dict[int, Sequence[str]]] = {"Linux": {}, "RARS": {}, "Venus": {}}
     for system, number, *cells in read_table("calls"):
         systems[system][int(number)] = cells
@@ -48,5 +50,5 @@ def _systems() -> Mapping[str, Mapping[int, Sequence[str]]]:
 
 
 def _signed(value: int) -> int:
-    """A register's 64 bits as a signed number."""
+    """Return a register's 64 bits as a signed number."""
     return value - (value >> 63 << 64)

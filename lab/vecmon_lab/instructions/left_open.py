@@ -1,4 +1,7 @@
-"""What the RISC-V standards leave open, by the table left_open.txt: of a difference that was found, and of an instruction beforehand."""
+"""Results that the RISC-V standards leave open, from the table left_open.txt.
+
+They explain a difference that was found, and predict if an instruction may have other results on another device.
+"""
 
 import functools
 import re
@@ -13,7 +16,7 @@ from .reasons import illegal_reasons
 from .reserved import registers_of_two_widths
 from .words import STORE, STORE_FP, SUPPORTED, VECTOR_ACCESSES, Trait
 
-_BITS = {0x008: 8, 0x009: 1, 0x00A: 2, 0x00F: 3}  # of vstart, vxsat, vxrm and vcsr, which a write may set
+_BITS = {0x008: 8, 0x009: 1, 0x00A: 2, 0x00F: 3}  # the number of writable bits in vstart, vxsat, vxrm and vcsr
 _ILLEGAL, _MISALIGNED_TARGET, _ACCESS_FAULTS = 2, 0, (5, 7)  # causes
 _POLICIES = 0xC0  # the bits vta and vma
 _X0_X0 = re.compile(r"vsetvli? x0, x0,")
@@ -21,10 +24,10 @@ _X0_X0 = re.compile(r"vsetvli? x0, x0,")
 
 @dataclass(frozen=True)
 class Executed:
-    """An instruction with the state before it, and the fault that it ended with.
+    """An instruction with the state before it, and the fault that it caused, if any.
 
     text: the canonical text; x, control, v: the registers before it
-    cause: of a fault, else None; element: that a vector access faulted at
+    cause: of the fault; None without a fault; element: the index of the element that faulted, for a vector access
     """
 
     word: int
@@ -37,7 +40,10 @@ class Executed:
 
 
 class OpenResult(NamedTuple):
-    """A row of the table: the kind of difference, a pattern for the beginning of an instruction's text, and the sentence."""
+    """A row of the table.
+
+    kind: of difference; pattern: matches the start of an instruction's text; sentence: explains the difference
+    """
 
     kind: str
     pattern: str
@@ -45,7 +51,7 @@ class OpenResult(NamedTuple):
 
 
 def left_open(text: str, kinds: Collection[str]) -> OpenResult | None:
-    """The first row for an instruction's text and one of these kinds of difference; None without such a row."""
+    """Return the first row that matches an instruction's text and one of these kinds of difference; None if there is none."""
     return next((row for row in _rows() if row.kind in kinds and re.match(row.pattern, text)), None)
 
 
@@ -55,21 +61,21 @@ def _rows() -> list[OpenResult]:
 
 
 def open_result(step: Executed) -> str | None:
-    """The reason why a right device may end an instruction in another way; None if the standard fixes all of it.
+    """Return why a conforming device may execute an instruction with another result; None if the standard defines the result.
 
-    Agnostic elements don't count: their policy is known of a device.
+    Agnostic elements aren't considered, since a device's policy is known.
     """
     found = left_open(step.text, {*_open_kinds(step)})
     return found.sentence if found else None
 
 
 def _open_kinds(step: Executed) -> Iterator[str]:
-    """The kinds of difference that the standard allows."""
+    """Yield the kinds of difference that the standard allows for an instruction."""
     instruction = vector_instruction(step.word, step.control.vtype)
     if step.cause == _ILLEGAL:
         yield from ["operands"] if _has_reserved_operands(step) else []
         yield from ["trap"] if step.text.startswith("vmv") and step.control.vtype >> 63 else []
-        return  # with vstart or vill, which each device refuses
+        return  # illegal because of vstart or vill, on each device
     yield from ["reserved"] if instruction and registers_of_two_widths(instruction) else []
     yield from ["vstart"] if step.control.vstart else []
     yield from ["vtype"] if _asks_for_optional_type(step) else []
@@ -82,7 +88,7 @@ def _open_kinds(step: Executed) -> Iterator[str]:
 
 
 def _open_access_kinds(step: Executed) -> Iterator[str]:
-    """The same of a load or store."""
+    """Yield the kinds of difference that the standard allows only for loads and stores."""
     spans = dict(active_spans(step.word, step.x, step.control, step.v))
     instruction = vector_instruction(step.word, step.control.vtype) if step.word & 0x7F in VECTOR_ACCESSES else None
     for address, length in spans.values():
@@ -99,7 +105,7 @@ def _open_access_kinds(step: Executed) -> Iterator[str]:
 
 
 def _has_reserved_operands(step: Executed) -> bool:
-    """Whether an illegal vector instruction has operands that the standard reserves, and isn't illegal by vill or vstart alone."""
+    """Return whether an illegal vector instruction has reserved operands, so that it isn't illegal only because of vill or vstart."""
     instruction = vector_instruction(step.word, step.control.vtype)
     if instruction is None or (step.control.vtype >> 63 and Trait.UNTYPED not in instruction.traits):
         return False
@@ -107,7 +113,7 @@ def _has_reserved_operands(step: Executed) -> bool:
 
 
 def _new_type(step: Executed) -> int | None:
-    """The vector type that a vset instruction asks for; None of any other instruction."""
+    """Return the vector type that a vset instruction requests; None for other instructions."""
     name = step.text.split()[0]
     if name == "vsetvl":
         return step.x[step.word >> 20 & 31]
@@ -115,13 +121,16 @@ def _new_type(step: Executed) -> int | None:
 
 
 def _asks_for_optional_type(step: Executed) -> bool:
-    """Whether a vset asks for a fractional LMUL with an element width above LMUL x ELEN, which a device may support (V 1.0, 3.4.2)."""
+    """Return whether a vset requests a fractional LMUL with an element width above LMUL x ELEN.
+
+    A device may support such a type (V 1.0, section 3.4.2).
+    """
     vtype = _new_type(step)
     return vtype is not None and vtype >> 8 == 0 and vtype >> 3 & 7 < 4 and 5 <= vtype & 7 < 5 + (vtype >> 3 & 7)
 
 
 def _has_open_length(step: Executed) -> bool:
-    """Whether vl after a vset, or a fault-only-first load, is a device's choice."""
+    """Return whether a device may choose vl after a vset or a fault-only-first load."""
     vtype = _new_type(step)
     if vtype is None:
         return "ff.v" in step.text and step.control.vl > 1
@@ -136,7 +145,7 @@ def _has_open_length(step: Executed) -> bool:
 
 
 def _sets_other_bits(step: Executed) -> bool:
-    """Whether an instruction writes more bits to a control register than those that it has."""
+    """Return whether an instruction writes bits to a control register that the register doesn't have."""
     if not step.text.startswith("csrr"):
         return False
     source = step.word >> 15 & 31

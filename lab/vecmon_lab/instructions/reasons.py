@@ -1,6 +1,6 @@
-"""Stops in words: the meaning of a stop line, and why an instruction is illegal.
+"""Descriptions of stops, and the reasons why an instruction is illegal.
 
-An instruction is illegal where the RISC-V "V" manual, version 1.0, reserves it, by the choices in docs/DECISIONS.md.
+An instruction is illegal if the RISC-V "V" manual, version 1.0, reserves it, with the choices in docs/DECISIONS.md.
 """
 
 from collections.abc import Iterator, Sequence
@@ -16,7 +16,7 @@ ELEN = 64
 
 
 def illegal_reasons(word: int, view: ControlRegisters) -> list[str]:
-    """Why a word is illegal in this state, a sentence each, the most specific first; empty if it is legal."""
+    """Return sentences that say why a word is illegal in a state, the most specific one first; none if it is legal."""
     try:
         instruction = decode(word, view.sew, view.lmul)
     except NoInstruction as problem:
@@ -51,7 +51,7 @@ def _operand_reasons(instruction: VectorInstruction, view: ControlRegisters) -> 
 
 
 def _size_reasons(operand: Operand, view: ControlRegisters) -> Iterator[str]:
-    """Widths and multipliers out of their range."""
+    """Yield reasons for element widths and multipliers out of range."""
     would, part = f"The {operand.noun} would have", Fraction(operand.eew, view.sew)
     if operand.eew > ELEN:
         yield f"{would} elements of {operand.eew} bits ({part} x SEW {view.sew}), and ELEN is {ELEN}."
@@ -65,7 +65,7 @@ def _size_reasons(operand: Operand, view: ControlRegisters) -> Iterator[str]:
 
 
 def _place_reasons(operands: Sequence[Operand], view: ControlRegisters) -> Iterator[str]:
-    """Groups that begin at a register where none may, by what says so; and those that end past the last register."""
+    """Yield reasons for register groups that start at an invalid register, or that extend beyond the last register."""
     misplaced: dict[tuple[str, int], dict[str, None]] = {}
     for operand in operands:
         multiplier = f"The {operand.noun} has {_emul(operand, view)}"
@@ -117,17 +117,17 @@ def _emul(operand: Operand, view: ControlRegisters) -> str:
 
 
 _SENTENCES = dict(read_table("stops"))
-_MEMORY_BYTES = 1 << 20  # that a user has at most, so that no stack can reach further down
+_MEMORY_BYTES = 1 << 20  # a user's limit, so no stack can extend further down
 
 
 def describe_stop(
     where: ProgramState, word: int | None = None, view: ControlRegisters | None = None, text: str = "", end: int = 0
 ) -> str:
-    """A stop, or an answer to `step`, `go`, `stop` or `state`, in sentences.
+    """Return sentences that describe a stop, or an answer to `step`, `go`, `stop` or `state`.
 
     word, text: the word at the program counter, and its canonical text
     view: the vector state at the stop
-    end: the address of the ebreak after the program's last instruction; 0 if it has none or is unknown
+    end: the address of the ebreak after the program's last instruction; 0 if there is none or it is unknown
     """
     if where.what == "ebreak" and where.pc in (RETURN, end):
         return _SENTENCES["returned" if where.pc == RETURN else "end"]
@@ -143,5 +143,5 @@ def describe_stop(
 
 
 def has_elements(where: ProgramState, word: int | None) -> bool:
-    """Whether it is a fault of a vector access, which the word is."""
+    """Return whether a stop is a fault of a vector load or store. word: the word at the stop, or None"""
     return where.cause in (5, 7) and word is not None and word & 0x7F in VECTOR_ACCESSES

@@ -1,4 +1,4 @@
-"""Encodings that the standard reserves and the machine executes: a register that one instruction reads with two widths."""
+"""Encodings that the standard reserves but the machine executes: an instruction reads a register with two element widths."""
 
 from collections import Counter
 
@@ -7,10 +7,10 @@ from .words import VectorInstruction
 
 
 def registers_of_two_widths(instruction: VectorInstruction) -> list[int]:
-    """The numbers of the vector registers that an instruction reads with more than one element width, in rising order.
+    """Return the numbers of the vector registers that an instruction reads with several element widths, in rising order.
 
-    V 1.0, section 5.2 reserves such an encoding. The destination of a multiply-add is a source as well, and a mask, v0
-    among them, has elements of 1 bit.
+    V 1.0, section 5.2 reserves such an encoding. The destination of a multiply-add is also a source. Masks, including v0, have
+    elements of 1 bit.
     """
     reads_destination = instruction.name.startswith(MULTIPLY_ADDS)
     sources = [each for each in instruction.operands if each.noun != "destination" or reads_destination]

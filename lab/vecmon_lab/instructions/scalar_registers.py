@@ -14,7 +14,7 @@ _CALLS = {93: (17, 10), 64: (17, 10, 11, 12)}  # registers that an exit and a wr
 
 
 def scalars_read(word: int, call: int = 0) -> Iterator[int]:
-    """The numbers of the scalar registers that an instruction reads, except the one that it stores; x0 may be among them.
+    """Yield the numbers of the scalar registers that an instruction reads, except the one whose value it stores. x0 may be included.
 
     call: the value of x17
     """
@@ -34,7 +34,7 @@ def scalars_read(word: int, call: int = 0) -> Iterator[int]:
 
 
 def may_write_scalar(word: int) -> bool:
-    """Return whether an instruction has a scalar result; `ecall` has."""
+    """Return whether an instruction may write a scalar register. An `ecall` may."""
     funct3 = word >> 12 & 7
     is_vset = word & 0x7F == OP_V and funct3 == _OP_VSET
     to_scalar = word & 0x7F == OP_V and funct3 == _OP_MVV and word >> 26 == _TO_SCALAR
@@ -42,7 +42,7 @@ def may_write_scalar(word: int) -> bool:
 
 
 def scalar_written(word: int) -> int:
-    """Return the number of the scalar register that an instruction may write; 0 for none."""
+    """Return the number of the scalar register that an instruction may write; 0 if there is none."""
     if word == ECALL:
         return A0
     return word >> 7 & 31 if may_write_scalar(word) else 0

@@ -1,4 +1,4 @@
-"""The table of instructions: the names that the assembler knows, as docs/INSTRUCTIONS.md lists them too."""
+"""The table of instructions: the names that the assembler accepts. docs/INSTRUCTIONS.md also lists them."""
 
 import functools
 import re
@@ -9,7 +9,7 @@ from ..tables.table import read_table
 
 @dataclass(frozen=True)
 class Row:
-    """An instruction: its name, its operands as the page has them, and its 32 bits, where `-` is a bit of an operand."""
+    """An instruction: its name, its operands as on the page, and its 32 bits, where `-` is a bit of an operand."""
 
     name: str
     operands: str
@@ -17,41 +17,41 @@ class Row:
 
     @property
     def opcode(self) -> int:
-        """Bits 6 to 0."""
+        """Bits 6 to 0 of the encoding."""
         return int(self.bits[-7:], 2)
 
     def fields(self) -> list[str]:
-        """The operands' names: of registers rd, rs1, rs2, vd, vs1 and vs2, and of numbers imm, csr and others."""
+        """The operands' names: rd, rs1, rs2, vd, vs1 and vs2 for registers; imm, csr and others for numbers."""
         return re.findall(r"\b(?!v0\b)[a-z]+[0-9]?\b", self.operands.replace("v0.t", ""))
 
     def word(self, operands: int) -> int:
-        """The word with the bits of this number where the row has those of operands."""
+        """Return the encoding with the row's fixed bits, and with the bits of `operands` in the operand fields."""
         operand_bits = int(self.bits.replace("1", "0").replace("-", "1"), 2)
         return int(self.bits.replace("-", "0"), 2) | operands & operand_bits
 
 
 REGISTERS = dict(read_table("registers"))
-"""The numbers of scalar registers, as x10, by their names in the ABI."""
+"""The scalar registers, as x10, by their ABI names."""
 
 ABI_NAMES = {number: name for name, number in reversed(REGISTERS.items())}  # x8 is s0, which comes first
 
 
 @functools.cache
 def instruction_table() -> dict[str, Row]:
-    """The rows by name, in the page's order, but for `.word`."""
+    """Return the rows by name, in the page's order, without `.word`."""
     rows = read_table("instructions")
     return {name: Row(name, operands.removeprefix("-"), bits.replace(" ", "")) for name, operands, bits in rows}
 
 
 @functools.lru_cache(maxsize=4096)
 def row_of(word: int) -> Row | None:
-    """The row of the instruction that a word is; None if no row has its bits, as of a word that is none."""
+    """Return the row of the instruction that a word encodes; None if there is no such row."""
     return next((row for mask, bits, row in _by_opcode().get(word & 0x7F, ()) if word & mask == bits), None)
 
 
 @functools.cache
 def _by_opcode() -> dict[int, list[tuple[int, int, Row]]]:
-    """Of each opcode its rows, each with the mask of its fixed bits and their values."""
+    """Return the rows by opcode, each with the mask of its fixed bits, and with the values of these bits."""
     rows: dict[int, list[tuple[int, int, Row]]] = {}
     for row in instruction_table().values():
         fixed = int(row.bits.replace("0", "1").replace("-", "0"), 2)

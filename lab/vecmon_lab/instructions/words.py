@@ -1,4 +1,4 @@
-"""Which instruction a word is, and its vector register operands; or why it is none. Fields have the manuals' names."""
+"""Decode a word: its vector instruction with its register operands, or the reason why it is invalid. Fields have the manuals' names."""
 
 import enum
 import re
@@ -10,19 +10,19 @@ from ..machine.image import MARCH
 from ..tables.table import read_table
 
 LOAD, LOAD_FP, STORE, STORE_FP, OP_V, SYSTEM = 0x03, 0x07, 0x23, 0x27, 0x57, 0x73  # opcodes
-VECTOR_ACCESSES = (LOAD_FP, STORE_FP)  # of vector loads and stores
+VECTOR_ACCESSES = (LOAD_FP, STORE_FP)  # opcodes of vector loads and stores
 CONTROL_REGISTERS = (0x008, 0x009, 0x00A, 0x00F, 0xC20, 0xC21, 0xC22)  # vstart, vxsat, vxrm, vcsr, vl, vtype, vlenb
 SUPPORTED = [sew << 3 | lmul for sew in range(4) for lmul in (0, 1, 2, 3, 5, 6, 7) if lmul < 4 or sew <= lmul - 5]
 """The 22 supported vector types by SEW and LMUL, without the policies in bits 6 and 7."""
 
-CARRIES = ("vmerge", "vadc", "vsbc", "vmadc", "vmsbc")  # where vm is 0, v0 is an operand and no mask
+CARRIES = ("vmerge", "vadc", "vsbc", "vmadc", "vmsbc")  # if vm is 0, v0 is an operand and not a mask
 
 Trait = enum.Enum("Trait", "APART ANYWHERE V0_TOO UNTYPED FROM_ZERO BELOW_64")
-"""The requirements of an instruction besides the widths of its operands; the table of shapes defines each one."""
+"""Requirements of an instruction in addition to the widths of its operands. The table of shapes defines each one."""
 
 
 class NoInstruction(ValueError):
-    """The word is no instruction of the machine, whatever its state is. The text says why, in a sentence."""
+    """A word isn't an instruction of the machine in any state. The text is a sentence that says why."""
 
 
 @dataclass(frozen=True)
@@ -32,16 +32,16 @@ class Operand:
     noun: str  # destination, data (of a store), source or index
     eew: int  # the width of its elements in bits, 1 for a mask
     emul: Fraction  # how many registers a group has, a fraction of one below 1
-    is_whole: bool  # whether these are whole registers, under each vector type
-    group: int  # the registers that a group takes
-    registers: range  # those of a group, or of the groups of a segment's fields, one after another
-    part: Fraction | None = None  # of SEW, that the width is; None where the instruction itself says the width
+    is_whole: bool  # whether it has whole registers, under each vector type
+    group: int  # the number of registers in a group
+    registers: range  # the registers of the group, or of the consecutive groups for a segment's fields
+    part: Fraction | None = None  # the width divided by SEW; None if the instruction encodes the width
     place: str = ""  # the field that names its first register: vd, vs2 or vs1
 
 
 @dataclass(frozen=True)
 class VectorInstruction:
-    """A vector instruction: its name or kind, its requirements, whether v0 is its mask, and its operands, vd first."""
+    """A vector instruction: its name or kind, its requirements, whether v0 is its mask, and its operands, with vd first."""
 
     name: str
     traits: frozenset[Trait]
@@ -50,7 +50,7 @@ class VectorInstruction:
 
     @property
     def leaves_out(self) -> bool:
-        """Whether elements whose bit in v0 is 0 are masked off."""
+        """Whether elements are masked off if their bit in v0 is 0."""
         return self.is_masked and self.name not in CARRIES
 
 
@@ -63,19 +63,21 @@ _SHAPES = {name: cells for name, *cells in read_table("shapes")}
 _FORMS = {0: ("OPI", "V"), 3: ("OPI", "I"), 4: ("OPI", "X"), 2: ("OPM", "V"), 6: ("OPM", "X")}  # by funct3
 _FORM_NAMES = {"V": "a vector register", "X": "a scalar register", "I": "an immediate"}
 _PARTS = {"SEW": Fraction(1), "2*SEW": Fraction(2)} | {f"SEW/{part}": Fraction(1, part) for part in (2, 4, 8)}
-_WIDTHS = {0b000: 8, 0b101: 16, 0b110: 32, 0b111: 64}  # of an access, by funct3
+_WIDTHS = {0b000: 8, 0b101: 16, 0b110: 32, 0b111: 64}  # the width of an access in bits, by funct3
 
 
 def listed(names: Iterable[str]) -> str:
-    """Names in a row, as "vl, vtype and vlenb"."""
+    """Return names as a list in a sentence: "vl, vtype and vlenb"."""
     *before, last = names
     return f"{', '.join(before)} and {last}" if before else last
 
 
 def decode(word: int, sew: int = 8, lmul: Fraction = Fraction(1)) -> VectorInstruction | None:
-    """The vector instruction that a word is under a vector type; None for a scalar one and a vset, which need none.
+    """Return the vector instruction that a word encodes under a vector type.
 
-    Raises NoInstruction where the word is none, with the reason.
+    Return None for a scalar instruction or a vset, which don't depend on the type. Raises NoInstruction for an invalid word.
+
+    sew: in bits
     """
     fit = _FIRST_FIT.fullmatch(f"{word & 0xFFFFFFFF:032b}")
     assert fit is not None and fit.lastindex is not None
@@ -94,7 +96,7 @@ def decode(word: int, sew: int = 8, lmul: Fraction = Fraction(1)) -> VectorInstr
 
 
 def _operation(fields: Mapping[str, int]) -> tuple[str, list[str]]:
-    """The name of the operation of OP-V, and the cells of its shape. Raises NoInstruction."""
+    """Return the name of an OP-V operation, and the cells of its shape. Raises NoInstruction."""
     (half, form), funct6 = _FORMS[fields["funct3"]], f"{fields['funct6']:06b}"
     there = [row[2:] for row in _OPERATIONS if row[:2] == [half, funct6]]
     of_form = [(name, shape, condition) for forms, name, shape, condition in there if form in forms]
@@ -114,7 +116,10 @@ def _operation(fields: Mapping[str, int]) -> tuple[str, list[str]]:
 
 
 def _operand(noun: str, place: str, cell: list[str], fields: Mapping[str, int], sew: int, lmul: Fraction) -> Operand:
-    """The operand at a place, by a cell in the table of shapes."""
+    """Return the operand in a field.
+
+    noun: its role; place: the field; cell: the operand's cell in the table of shapes; fields: the word's fields; sew, lmul: the type
+    """
     width, *others = cell
     part = _PARTS.get(width)
     eew = int(part * sew) if part else _WIDTHS[fields["funct3"]] if width == "EEW" else int(width)

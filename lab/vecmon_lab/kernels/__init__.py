@@ -1,1 +1,1 @@
-"""A program's functions, called from Python."""
+"""Call a program's functions from Python."""

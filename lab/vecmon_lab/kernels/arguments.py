@@ -1,4 +1,4 @@
-"""The arguments and the result of a call in registers, by their C types and the integer calling convention of the RISC-V psABI."""
+"""The arguments and the result of a call, by their C types and the RISC-V psABI's integer calling convention."""
 
 import ctypes
 import numbers
@@ -16,9 +16,9 @@ if TYPE_CHECKING:
     from _typeshed import ReadableBuffer
 
 Argument: TypeAlias = "int | ReadableBuffer | Placed"
-"""A whole number, also one of ctypes or numpy; or an array, whose address is passed."""
+"""An integer, which may be one of ctypes or numpy; or an array, whose address is passed."""
 
-MAX_ARGUMENTS, FIRST_ARGUMENT = 8, 10  # in registers, x10 first
+MAX_ARGUMENTS, FIRST_ARGUMENT = 8, 10  # the most arguments, all in registers; the first one is in x10
 
 _SIGNED = (ctypes.c_byte, ctypes.c_short, ctypes.c_int, ctypes.c_long, ctypes.c_longlong)
 _UNSIGNED = (ctypes.c_ubyte, ctypes.c_ushort, ctypes.c_uint, ctypes.c_ulong, ctypes.c_ulonglong)
@@ -26,9 +26,9 @@ _UNSIGNED = (ctypes.c_ubyte, ctypes.c_ushort, ctypes.c_uint, ctypes.c_ulong, cty
 
 @dataclass(frozen=True)
 class Call:
-    """What a call begins with, and its result.
+    """A call: the state that it starts in, and the type of its result.
 
-    layout: of the arrays; lines: the commands that place them and set the registers
+    layout: of the arrays; lines: commands that place the arrays and set the registers
     result: the type of the result; None for void
     """
 
@@ -38,9 +38,9 @@ class Call:
 
 
 def call_of(symbol: str, arguments: Sequence[Argument], signature: Signature | None) -> Call:
-    """The registers and the memory of a call. Raises LabError for arguments that don't fit the function.
+    """Return the registers and the memory of a call. Raises LabError for arguments that don't fit the function.
 
-    signature: of the function, or None if its types aren't known
+    signature: of the function; None if its types aren't known
     """
     result, parameters = _checked(symbol, len(arguments), signature)
     read = [_read(number, argument) for number, argument in enumerate(arguments, 1)]
@@ -56,7 +56,7 @@ def call_of(symbol: str, arguments: Sequence[Argument], signature: Signature | N
 
 
 def result_of(register: int, kind: Integer | None) -> int:
-    """The value of a result of a type, by the 64 bits of a0; 0 for void."""
+    """Return the value of a result, from the 64 bits of a0. kind: its type; None for void, whose value is 0"""
     if kind is None:
         return 0
     value = register % (1 << kind.bits)
@@ -64,7 +64,7 @@ def result_of(register: int, kind: Integer | None) -> int:
 
 
 def _checked(symbol: str, count: int, signature: Signature | None) -> tuple[Integer | None, Sequence[Declared | None]]:
-    """The type of a function's result, and the parameter of each argument, None if it isn't known.
+    """Return the type of a function's result, and the parameter of each argument, or None if it isn't known.
 
     Raises LabError if the function can't be called with this number of arguments.
     """
@@ -79,7 +79,7 @@ def _checked(symbol: str, count: int, signature: Signature | None) -> tuple[Inte
 
 
 def _check_callable(symbol: str, count: int, signature: Signature) -> None:
-    """Raises LabError if a function doesn't take this number of arguments, or its types have no integer registers."""
+    """Raise LabError if a function takes another number of arguments, or if its types aren't passed in integer registers."""
     parameters, result = signature.parameters, signature.result
     if count < len(parameters) or count > len(parameters) and not signature.is_variadic:
         listed = ", ".join(each.declaration for each in parameters) or "void"
@@ -102,13 +102,13 @@ def _check_callable(symbol: str, count: int, signature: Signature) -> None:
 
 
 def _read(number: int, argument: Argument) -> tuple[int, Integer | None] | Placed:
-    """The value of an argument that is a number, and its type if it has one; or an array.
+    """Return the value of an argument, and its type or None if it has no type; return an array as it is placed.
 
-    number: of the argument. Raises LabError for a number that is no integer.
+    number: of the argument. Raises LabError for a number that isn't an integer.
     """
     if typed := _of_ctypes(argument):
         return typed
-    numpy = sys.modules.get("numpy")  # which the lab does without, unless the caller has imported it
+    numpy = sys.modules.get("numpy")  # the lab doesn't need it; it is used only if the caller has imported it
     if numpy and isinstance(argument, numpy.integer):
         return int(argument), integer_of(8 * argument.itemsize, argument.dtype.kind == "i")
     if numpy and isinstance(argument, numpy.bool_):
@@ -126,7 +126,7 @@ def _read(number: int, argument: Argument) -> tuple[int, Integer | None] | Place
 
 
 def _has_buffer(argument: object) -> bool:
-    """Whether an object has Python's buffer protocol."""
+    """Return whether an object has Python's buffer protocol."""
     try:
         memoryview(argument)  # type: ignore[arg-type]
     except TypeError:
@@ -137,7 +137,7 @@ def _has_buffer(argument: object) -> bool:
 
 
 def _of_ctypes(argument: Argument) -> tuple[int, Integer] | None:
-    """The value and the type of an integer of ctypes; None for another object."""
+    """Return the value and the type of a ctypes integer; None for other objects."""
     if isinstance(argument, _SIGNED):
         return argument.value, integer_of(8 * ctypes.sizeof(argument), True)
     if isinstance(argument, _UNSIGNED):
@@ -152,7 +152,7 @@ def _of_ctypes(argument: Argument) -> tuple[int, Integer] | None:
 
 
 def _address(number: int, layout: Layout, parameter: Declared | None) -> int:
-    """The register of an argument that is an array. Raises LabError if the parameter has no room for an address."""
+    """Return the address to pass for an array argument. Raises LabError if the parameter is too small for an address."""
     kind = parameter.integer if parameter else None
     if parameter and kind and kind.bits < WORD.bits:
         raise LabError(f"argument {number} is an array, and {parameter.declaration} is no pointer")
@@ -160,10 +160,11 @@ def _address(number: int, layout: Layout, parameter: Declared | None) -> int:
 
 
 def _register(number: int, value: int, kind: Integer | None, parameter: Declared | None) -> int:
-    """The 64 bits of the register of an argument. Raises LabError for a value that doesn't fit into its type.
+    """Return the 64 bits of the register that passes an argument. Raises LabError for a value that doesn't fit into its type.
 
-    Types of up to 32 bits are extended to 32 bits by their own sign, and then to 64 bits by bit 31, also unsigned ones.
-    kind: of the argument itself, if it has one; parameter: of the function, if it is known, which decides
+    Types of up to 32 bits are extended to 32 bits by their own signedness, and then sign-extended from bit 31 to 64 bits.
+
+    kind: the type of the argument itself, or None; parameter: of the function, or None; its type is used if it is known
     """
     kind = (parameter.integer if parameter else kind) or WORD
     if not kind.smallest <= value <= kind.largest:

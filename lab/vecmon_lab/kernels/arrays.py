@@ -1,4 +1,4 @@
-"""The arrays of a call in the machine's memory: their pages, those that share memory, and their contents after the call."""
+"""The arrays of a call in the machine's memory: their pages, arrays that share memory, and their contents after the call."""
 
 import array
 import ctypes
@@ -15,24 +15,24 @@ if TYPE_CHECKING:
     from _typeshed import ReadableBuffer
 
 Array: TypeAlias = "ReadableBuffer"
-"""An object with the buffer protocol: bytes, bytearray, memoryview, and arrays of array, ctypes and numpy."""
+"""An object with the buffer protocol: bytes, bytearray, memoryview, or an array of array, ctypes or numpy."""
 
 ARRAYS = 0x1_0000_0000
 """The address of the first page of arrays."""
 
 MAX_PAGES = 256
-"""Of a user of the machine."""
+"""The most pages that a user of the machine can have."""
 
 PERMISSIONS = ("r", "w", "rw")
-"""Of a program, for an array."""
+"""The permissions that a program can have for an array."""
 
 
 @dataclass(frozen=True)
 class Placed:
-    """An array, and its place in its pages; the pages before and after them aren't mapped.
+    """An array, and its place in its pages. The pages before and after them aren't mapped.
 
-    offset: from the start of its first page, 0 to 4,095; without it the array ends where its last page does
-    permissions: of the program there: `r`, `w` or `rw`
+    offset: from the start of the first page, 0 to 4,095; None to end the array at the end of its last page
+    permissions: that the program has: `r`, `w` or `rw`
     """
 
     data: Array
@@ -45,7 +45,7 @@ class _Given:
     """An argument that is an array.
 
     number: of the argument, from 1
-    host: the addresses of its bytes in this process; empty if a copy can't share memory: they are read-only or not contiguous
+    host: the addresses of its bytes in this process; empty if they are read-only or not contiguous, since a copy can't share memory
     """
 
     number: int
@@ -56,7 +56,7 @@ class _Given:
 
 @dataclass(frozen=True)
 class PlacedArray:
-    """An array of a call: the object that was given, and the address and the number of its bytes in the machine."""
+    """An array of a call: the caller's object, its address in the machine, and its size in bytes."""
 
     given: Array
     address: int
@@ -64,9 +64,9 @@ class PlacedArray:
 
 
 class Layout:
-    """The arrays of a call in the machine's memory. Arrays that share memory in this process share it in the machine too.
+    """The arrays of a call in the machine's memory. Arrays that share memory in this process also share it in the machine.
 
-    arrays: by the number of the argument
+    arrays: by the number of their argument
     lines: the commands that map the pages and write the arrays
     """
 
@@ -84,7 +84,7 @@ class Layout:
         self.arrays = dict(sorted(self.arrays.items()))
 
     def _place(self, group: Sequence[_Given], page: int) -> int:
-        """Place arrays that share memory from a page on. Returns the number of pages, at least one."""
+        """Place arrays that share memory, starting at a page. Return the number of pages, at least one."""
         start, placed = group[0].host.start, group[0].placed
         data = bytearray(max(each.host.start - start + len(each.data) for each in group))
         offset = placed.offset
@@ -98,17 +98,17 @@ class Layout:
         return pages
 
     def looks(self) -> list[str]:
-        """The commands that show the arrays' memory."""
+        """Return the commands that read the arrays' memory."""
         return [look for each in self.arrays.values() for look in peeks(each.address, each.size)]
 
     def contents(self, parts: Iterator[bytes]) -> list[bytes]:
-        """The bytes of each array, from the replies to `looks`."""
+        """Return the bytes of each array, from the replies to `looks`."""
         return [b"".join(next(parts) for _ in peeks(each.address, each.size)) for each in self.arrays.values()]
 
 
 def like(given: Array, data: bytes) -> Any:
-    """Bytes as an object of the type that was given. Raises TypeError and ValueError if there can be none."""
-    numpy = sys.modules.get("numpy")  # which the lab does without, unless the caller has imported it
+    """Return bytes as an object of the same type as `given`. Raises TypeError and ValueError if that is impossible."""
+    numpy = sys.modules.get("numpy")  # the lab doesn't need it; it is used only if the caller has imported it
     if numpy and isinstance(given, numpy.ndarray):
         return numpy.frombuffer(bytearray(data), given.dtype).reshape(given.shape).view(type(given))
     if isinstance(given, bytes | bytearray):
@@ -118,12 +118,12 @@ def like(given: Array, data: bytes) -> Any:
     if isinstance(given, ctypes.Array | ctypes.Structure | ctypes.Union):
         return type(given).from_buffer_copy(data)
     view = memoryview(given)
-    form = view.format.removeprefix("<")  # as ctypes has it
+    form = view.format.removeprefix("<")  # ctypes adds it
     return memoryview(bytearray(data)).cast(form, view.shape or (1,)) if data else view
 
 
 def _given(number: int, placed: Placed) -> _Given:
-    """An array that is an argument. Raises LabError if its bytes can't be read or returned, or its place is none."""
+    """Return an array argument. Raises LabError if its bytes can't be read or returned, or if its place is invalid."""
     offset = placed.offset
     with mistakes_in(f"argument {number}", TypeError, ValueError, LabError):
         data = memoryview(placed.data).tobytes()
@@ -136,7 +136,7 @@ def _given(number: int, placed: Placed) -> _Given:
 
 
 def _host_addresses(given: Array, size: int) -> range:
-    """The addresses of an array's bytes in this process; empty if they are read-only or not contiguous."""
+    """Return the addresses of an array's bytes in this process; empty if they are read-only or not contiguous."""
     view = memoryview(given)
     if view.readonly or not view.c_contiguous:
         return range(0)
@@ -145,7 +145,10 @@ def _host_addresses(given: Array, size: int) -> range:
 
 
 def _groups(given: Sequence[_Given]) -> list[list[_Given]]:
-    """The arrays of each memory, in the order of their first arguments. Raises LabError for those that can't share theirs."""
+    """Return groups of arrays that share memory, in the order of their first arguments.
+
+    Raises LabError for arrays that can't share their memory in the machine.
+    """
     groups, end = list[list[_Given]](), 0
     for each in sorted(given, key=lambda each: each.host.start):
         if each.host and each.host.start < end:
@@ -159,7 +162,7 @@ def _groups(given: Sequence[_Given]) -> list[list[_Given]]:
 
 
 def _check_places(one: _Given, other: _Given) -> None:
-    """Raises LabError if arrays that share memory are given different places."""
+    """Raise LabError if arrays that share memory are given different places."""
     offset, permissions = one.placed.offset, one.placed.permissions
     is_moved = offset is not None and one.host.start != other.host.start
     if is_moved or (offset, permissions) != (other.placed.offset, other.placed.permissions):
@@ -167,7 +170,7 @@ def _check_places(one: _Given, other: _Given) -> None:
 
 
 def _check_copies(given: Sequence[_Given]) -> None:
-    """Raises LabError if an array that isn't contiguous, which is passed as a copy, is given twice."""
+    """Raise LabError if an array that isn't contiguous is given twice, since it is passed as a copy."""
     seen = dict[int, _Given]()
     for each in given:
         view = memoryview(each.placed.data)
@@ -178,5 +181,5 @@ def _check_copies(given: Sequence[_Given]) -> None:
 
 
 def _numbers(one: _Given, other: _Given) -> str:
-    """The numbers of two arguments, in rising order."""
+    """Return the numbers of two arguments, in rising order."""
     return "arguments {} and {}".format(*sorted((one.number, other.number)))

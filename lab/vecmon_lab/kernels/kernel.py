@@ -1,4 +1,4 @@
-"""A program's functions called from Python, as tests of vector kernels do: arrays go into memory, and are read back."""
+"""Call a program's functions from Python, for tests of vector kernels. Arrays are copied into memory, and read back."""
 
 import contextlib
 import html
@@ -19,14 +19,14 @@ from ..assembler.commands import explain_refusal
 from ..compilers.compiling import compile_c, read_own_source
 from ..compilers.compiler import C_SOURCE, CHOICES, IMAGE, PREPROCESSED_SUFFIX, choice_for, find_compiler
 from ..compilers.signatures import Signatures
-from ..exercises.answer import Answer, read_answer
+from ..exercises.answer import ExerciseAnswer, read_answer
 from ..guest.changes import Stepper
 from ..guest.guest import MAX_STEPS, QUANTUM, Guest
 from ..guest.notebook import registers_html
 from ..guest.runner import Reporter
 from ..guest.symbols import Symbols
 from ..instructions.accesses import PAGE_BYTES
-from ..machine.answers import Answer as Reply
+from ..machine.answers import Answer
 from ..machine.answers import Memory, Refused, ScalarRegisters, Stop
 from ..machine.program import find_program
 from ..machine.session import Session
@@ -42,8 +42,8 @@ from .arrays import Layout, Placed, like
 
 __all__ = ["CallStopped", "Kernel", "Placed", "PoliciesDiffer", "Result"]
 
-RENEWED_BYTES = 2_000_000  # of a session's script, behind which another session takes its place
-MAX_STEP_TICKS = 256  # of an instruction: a load or store of 256 elements takes them
+RENEWED_BYTES = 2_000_000  # the size of a session's script at which a new session replaces it
+MAX_STEP_TICKS = 256  # the most ticks of an instruction: a load or store of 256 elements
 EXACT_TICKS = 1_000_000  # limits up to this number are exact; greater ones are rounded up to slices of QUANTUM
 
 _MAIN = "\nint main(void) { return 0; }\n"
@@ -53,11 +53,11 @@ _MAIN = "\nint main(void) { return 0; }\n"
 class Result:
     """The results of a call.
 
-    value: the result, as its C type has it; if that isn't known, a0, from 0 to 2^64 - 1; 0 for void
-    arrays: those of the call, in their order, each of the type that it was given in
-    output: of the call
-    counts: of its instructions and their elements, where they were counted
-    bits: of the type of the result; 64 if that isn't known
+    value: the result, in its C type; if the type isn't known, a0, from 0 to 2^64 - 1; 0 for void
+    arrays: the arrays of the call, in their order, each with the type of the argument
+    output: the bytes that the call wrote
+    counts: of instructions and their elements; None if they weren't counted
+    bits: the width of the result's type; 64 if the type isn't known
     """
 
     value: int
@@ -68,13 +68,16 @@ class Result:
 
     @property
     def signed(self) -> int:
-        """The bits of the value as a signed number: -1 for 0xffffffff of 32 bits."""
+        """The value as a signed number: -1 for 0xffffffff of 32 bits."""
         half = 1 << self.bits - 1
         return (self.value + half) % (2 * half) - half
 
 
 class CallStopped(LabError):
-    """A call that didn't return: it faulted, ended the program, stopped elsewhere, or its ticks ran out (no stop)."""
+    """A call didn't return: it faulted, ended the program, stopped elsewhere, or used up its ticks.
+
+    stop: None if the ticks were used up
+    """
 
     def __init__(self, text: str, stop: Stop | None) -> None:
         super().__init__(text)
@@ -82,7 +85,7 @@ class CallStopped(LabError):
 
 
 class PoliciesDiffer(LabError):
-    """A call that leaves something else where agnostic elements become ones than where they are kept."""
+    """A call has other results if agnostic elements become ones than if they are kept."""
 
 
 _Left = tuple[int, list[bytes], bytes]
@@ -92,8 +95,8 @@ _Left = tuple[int, list[bytes], bytes]
 class Kernel(contextlib.AbstractContextManager["Kernel"]):
     """The functions of a program: an image, or a source in assembler (.s, .S) or C (.c).
 
-    Each call has a machine on which the program was brought in anew: its variables are as it has them. `close`, or the
-    end of a `with`, ends the machine's process.
+    Each call has a machine with the program newly loaded, so its variables have their initial values. `close`, or the end of a
+    `with` statement, ends the machine's process.
     """
 
     def __init__(
@@ -103,9 +106,10 @@ class Kernel(contextlib.AbstractContextManager["Kernel"]):
         compiler: str | None = None,
         any_vlen: bool = False,
     ) -> None:
-        """options, compiler: as `vecmon-lab lesson` has them, for C without options O2; `stock` assembles by clang. Raises LabError.
+        """Load a program. Raises LabError.
 
-        any_vlen: whether an image for longer vector registers is taken
+        options, compiler: as for `vecmon-lab lesson`; the default for C is O2; `stock` assembles with clang
+        any_vlen: whether to accept an image for longer vector registers
         """
         self._path = pathlib.Path(path)
         choice = choice_for(self._path, options)
@@ -121,13 +125,13 @@ class Kernel(contextlib.AbstractContextManager["Kernel"]):
             self._begin.append(f"set x3 {self._symbols.addresses['__global_pointer$']:x}")
         self._report = Reporter(self._symbols.place)
         self._guest = self._opened()
-        self._is_stopped = True  # and not left by an interrupt where it may run
+        self._is_stopped = True  # False after an interrupt, when the program may run
 
     def __exit__(self, *error: object) -> None:
         self.close()
 
     def _repr_html_(self) -> str:
-        """The symbols, and the registers as the last call left them, as a notebook shows them."""
+        """Return HTML with the symbols, and with the registers after the last call, for a notebook."""
         rows = [(name, f"{address:x}") for name, address in self._symbols.addresses.items()]
         registers = ""
         if self._is_stopped:
@@ -136,7 +140,7 @@ class Kernel(contextlib.AbstractContextManager["Kernel"]):
         return f"<b>{html.escape(self._path.name)}</b>{html_table([('symbol', 'address'), *rows], 2)}{registers}"
 
     def close(self) -> None:
-        """Ends the process."""
+        """End the machine's process."""
         self._guest.session.close()
 
     def call(
@@ -147,13 +151,16 @@ class Kernel(contextlib.AbstractContextManager["Kernel"]):
         ticks: int = 1_000_000,
         counted: bool = False,
     ) -> Result:
-        """Call a function with whole numbers and the addresses of arrays, eight at most, in a0 to a7.
+        """Call a function with integers and arrays' addresses, at most eight, in a0 to a7.
 
-        Debug data has the C types of the arguments and of the result. Without it an argument is a number of 64 bits, unless
-        it is an integer of ctypes, as `ctypes.c_uint32(7)`. An array that isn't `Placed` ends where a page does; arrays that
-        share memory share it in the call too. policy: of agnostic elements, `keep` or `ones`; `both` calls twice.
-        ticks: the most that the call may take, above 1,000,000 rounded up to a multiple of 1,000; a call that writes more
-        than 1,024 bytes may take more. counted: whether instructions are counted; of `both`, those under `keep`.
+        The C types of the arguments and of the result come from debug data. Without debug data, an argument is a 64-bit number, unless
+        it is a ctypes integer such as `ctypes.c_uint32(7)`. An array that isn't `Placed` ends at the end of a page. Arrays that share
+        memory also share it in the call.
+
+        policy: of agnostic elements, `keep` or `ones`; `both` calls the function twice, and compares the results
+        ticks: the most that the call may take; above 1,000,000, rounded up to a multiple of 1,000. A call that writes more than 1,024
+        bytes may take more.
+        counted: whether instructions are counted; with the policy `both`, those under `keep`
 
         Raises CallStopped, PoliciesDiffer, and LabError for arguments that don't fit the function.
         """
@@ -169,9 +176,11 @@ class Kernel(contextlib.AbstractContextManager["Kernel"]):
         return Result(value, arrays, output, counts, call.result.bits if call.result else 64)
 
     def steps(self, symbol: str, *arguments: Argument, policy: str = "keep", most: int = 100_000) -> Iterator[Step]:
-        """The instructions of a call, which is as `call` has it, one after another, up to its return or its stop.
+        """Yield the instructions of a call with the same arguments as for `call`, up to its return or its stop. Raises LabError.
 
-        Each is executed when it is asked for; `step.why("v8", 5)` says why an element has its value then. Raises LabError.
+        Each instruction is executed when the iterator is advanced. Then `step.why("v8", 5)` says why an element has its value.
+
+        most: the greatest number of instructions
         """
         call = self._call(symbol, arguments)
         self._renew()
@@ -187,19 +196,19 @@ class Kernel(contextlib.AbstractContextManager["Kernel"]):
                 return
 
     def _copied(self) -> pathlib.Path:
-        """A copy of the image, so that calls don't change if the file does. It is there until this object is gone."""
+        """A copy of the image, so that calls don't depend on later changes of the file. It exists as long as this object."""
         folder = tempfile.mkdtemp()
         weakref.finalize(self, shutil.rmtree, folder, ignore_errors=True)
         return pathlib.Path(shutil.copyfile(self._path, pathlib.Path(folder, self._path.name)))
 
     def _opened(self, quantum: int = QUANTUM) -> Guest:
-        """A guest on a machine of its own with slices of this number of ticks, who has entered."""
+        """Return a guest on a new machine, whose user has entered. quantum: ticks of a slice"""
         guest = Guest(Session(find_program(), self._images, quantum=quantum), report=self._report)
         guest.ask("enter")
         return guest
 
     def _call(self, symbol: str, arguments: Sequence[Argument]) -> Call:
-        """A call of a function. Raises LabError if there is none of this name, or it doesn't take these arguments."""
+        """Return a call of a function. Raises LabError if there is no such function, or it doesn't take these arguments."""
         if symbol not in self._symbols.addresses:
             lacking = (
                 f"no symbol {symbol}"
@@ -212,9 +221,9 @@ class Kernel(contextlib.AbstractContextManager["Kernel"]):
         return call_of(symbol, arguments, signature)
 
     def _renew(self, quantum: int | None = None) -> None:
-        """Start another session if the script of this one is long, its program may run, or its slices have other ticks.
+        """Start another session if the script of this one is long, if its program may run, or if its slices have other ticks.
 
-        quantum: ticks of a slice; None for any number
+        quantum: ticks of a slice; None to accept any number
         """
         session = self._guest.session
         if session.size > RENEWED_BYTES or not self._is_stopped or quantum not in (None, session.quantum):
@@ -222,7 +231,7 @@ class Kernel(contextlib.AbstractContextManager["Kernel"]):
             self._guest = self._opened(quantum or session.quantum)
 
     def _begin_call(self, symbol: str, policy: str, lines: Sequence[str]) -> Sequence[str]:
-        """Brings the program in, and sets what a call begins with; the commands. Raises LabError where one is refused."""
+        """Load the program, set the state for a call, and return the commands. Raises LabError if one is refused. lines: of the call"""
         before = [*self._begin, f"policy {policy}", *lines, f"setpc {self._symbols.addresses[symbol]:x}"]
         for command, answer in zip(before, self._guest.ask(*before)):
             if isinstance(answer, Refused):
@@ -230,7 +239,7 @@ class Kernel(contextlib.AbstractContextManager["Kernel"]):
         return before
 
     def _left(self, symbol: str, policy: str, call: Call, ticks: int, counted: bool) -> tuple[_Left, Counts | None]:
-        """The results of a call under a policy, and its counts."""
+        """Return the results of a call under a policy, and its counts, or None if `counted` is false."""
         self._renew(_quantum(ticks))
         guest, self._is_stopped = self._guest, False
         before = self._begin_call(symbol, policy, call.lines)
@@ -246,10 +255,10 @@ class Kernel(contextlib.AbstractContextManager["Kernel"]):
         contents = call.layout.contents(each.data for each in found if isinstance(each, Memory))
         return (result_of(registers.x[FIRST_ARGUMENT], call.result), contents, output), counts
 
-    def _execute(self, ticks: int, before: Sequence[str], looks: Sequence[str]) -> tuple[Stop | None, list[Reply]]:
-        """Execute a call to a stop, or until its ticks run out; the stop, and the answers to the looks.
+    def _execute(self, ticks: int, before: Sequence[str], looks: Sequence[str]) -> tuple[Stop | None, list[Answer]]:
+        """Execute a call to a stop, or until its ticks run out. Return the stop, or None, and the answers to the looks.
 
-        before: the commands that begin the call
+        before: the commands that start the call; looks: commands that read the state after it
         """
         guest = self._guest
         if ticks >= MAX_STEPS * MAX_STEP_TICKS:  # most calls are short, and this takes one exchange with the machine
@@ -261,7 +270,7 @@ class Kernel(contextlib.AbstractContextManager["Kernel"]):
         return guest.go(ticks), guest.ask(*looks)
 
     def _stopped(self, what: str, stop: Stop | None, layout: Layout) -> CallStopped:
-        """Why a call didn't return; for a fault in or near an array also the place in it."""
+        """Return the error for a call that didn't return. For a fault in or near an array, it names the place in the array."""
         text = f"{what}: " + self._guest.describe(stop, self._symbols.place(stop.pc if stop else self._guest.pc))
         for number, array in enumerate(layout.arrays.values(), 1):
             end = array.address + array.size
@@ -273,7 +282,7 @@ class Kernel(contextlib.AbstractContextManager["Kernel"]):
 
 @contextlib.contextmanager
 def _failures_of(path: str | os.PathLike[str]) -> Iterator[None]:
-    """Of an error of a file in its context, the text begins with the file's path, unless its lines name places in the file."""
+    """Put the path of a file before the text of an error in this context, unless the error's lines name places in the file."""
     try:
         yield
     except SourceMistakes:
@@ -285,18 +294,18 @@ def _failures_of(path: str | os.PathLike[str]) -> Iterator[None]:
 
 
 def _quantum(ticks: int) -> int:
-    """The ticks of a slice for a limit: the greatest divisor of it that a slice may have, if the limit is exact."""
+    """Return the ticks of a slice for a limit: if the limit is exact, its greatest divisor that is valid for a slice."""
     return QUANTUM if ticks > EXACT_TICKS else next(each for each in range(QUANTUM, 0, -1) if ticks % each == 0)
 
 
-def _read(path: pathlib.Path, choice: int | None, compiler: str | None) -> tuple[Answer, Symbols, Signatures]:
-    """The program in a file, its symbols and its functions' types. Raises LabError and OSError.
+def _read(path: pathlib.Path, choice: int | None, compiler: str | None) -> tuple[ExerciseAnswer, Symbols, Signatures]:
+    """Return the program in a file, its symbols and its functions' types. Raises LabError and OSError.
 
     choice: the number of a compiler's options; None for an image, and for a source of the lab's assembler
     """
     if choice is not None:
         return _compiled(path, choice, compiler)
-    answer = read_answer(path.resolve(), any_vlen=True)  # which the caller checks
+    answer = read_answer(path.resolve(), any_vlen=True)  # the caller checks it
     if answer.source:
         return answer, Symbols.of_labels(answer.source.labels), Signatures(b"")
     if answer.commands is not None:
@@ -304,8 +313,8 @@ def _read(path: pathlib.Path, choice: int | None, compiler: str | None) -> tuple
     return answer, Symbols.read(path), Signatures(path.read_bytes())
 
 
-def _compiled(path: pathlib.Path, choice: int, compiler: str | None) -> tuple[Answer, Symbols, Signatures]:
-    """As `_read`, of a source that a compiler takes."""
+def _compiled(path: pathlib.Path, choice: int, compiler: str | None) -> tuple[ExerciseAnswer, Symbols, Signatures]:
+    """Return the same as `_read`, for a source that a compiler takes."""
     text = read_own_source(path)
     if CHOICES[choice].source == C_SOURCE and not re.search(r"\bmain\s*\(", text):
         text += _MAIN
@@ -317,14 +326,14 @@ def _compiled(path: pathlib.Path, choice: int, compiler: str | None) -> tuple[An
         program = thread.submit(compile_c, *words).result()
         program.check(path.name)
         return (
-            Answer(path, [*program.lines, *STACK]),
+            ExerciseAnswer(path, [*program.lines, *STACK]),
             Symbols.of_labels(program.names()),
             Signatures((saved / IMAGE).read_bytes()),
         )
 
 
 def _differences(kept: _Left, ones: _Left) -> Iterator[str]:
-    """The differences between the results under `ones` and under `keep`."""
+    """Yield the differences between the results under `ones` and under `keep`."""
     template = "{} under keep, {} under ones"
     if kept[0] != ones[0]:
         yield f"the result is {template.format(f'{kept[0]:#x}', f'{ones[0]:#x}')}"

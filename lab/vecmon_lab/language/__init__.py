@@ -1,1 +1,1 @@
-"""The language server: what an editor shows of an assembler source, without running it."""
+"""The language server: help for an assembler source in an editor, without running it."""

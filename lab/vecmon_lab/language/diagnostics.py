@@ -61,7 +61,7 @@ def findings(analysis: Analysis) -> list[Finding]:
 
 
 def _mistakes(analysis: Analysis, severity: Severity) -> Iterator[Finding]:
-    """The mistakes or the warnings of the assembler. What other extensions or lessons have is a hint: the source may be for these."""
+    """The mistakes or the warnings of the assembler. A name of another extension or of lessons gets a hint: the source may be for these."""
     program = analysis.program
     errors = program.mistakes if severity == "error" else program.warnings
     for error, mistake in zip(errors, mistakes_json(errors, "\n".join(analysis.lines), severity=severity)):
@@ -86,7 +86,7 @@ def _illegal(analysis: Analysis) -> Iterator[Finding]:
     """The instructions that trap, at their names; of a macro that is called several times each message once."""
     seen = set[tuple[int, int, str]]()
     for illegal in analysis.illegal:
-        line, column = illegal.statement.places[0]
+        line, column = illegal.statement.place(0)
         message = illegal_message(illegal)
         if (line, column, message) not in seen and 0 < line <= len(analysis.lines):
             seen.add((line, column, message))
@@ -104,12 +104,14 @@ def _illegal(analysis: Analysis) -> Iterator[Finding]:
 def _without_type(analysis: Analysis) -> Iterator[Finding]:
     """The instructions that should set a vector type, and set vill on all ways."""
     for statement in analysis.program.statements:
-        word, is_reached = analysis.words.get(statement.address, 0), statement.address in analysis.flow.states
+        word = analysis.words.get(statement.address, 0)
+        if not is_vset(word) or statement.within or analysis.state(statement) is None:
+            continue
         row = row_of(word)
-        if row is None or not is_vset(word) or not is_reached or statement.within:
+        if row is None:
             continue
         if analysis.flow.after(statement.address).vtype == VILL:
-            line, column = statement.places[0]
+            line, column = statement.place(0)
             diagnostic: Diagnostic = {
                 "range": range_of(analysis.lines, line, column, len(row.name)),
                 "severity": WARNING,
@@ -144,7 +146,7 @@ def listed_types(types: Iterable[int]) -> str:
 
 
 def _cures(analysis: Analysis, illegal: Illegal, line: int) -> Iterator[Fix]:
-    """Of an instruction before which no type is set, an instruction that sets one."""
+    """Yield a fix for an instruction before which no type is set: an instruction that sets one."""
     if illegal.types != frozenset([VILL]) or illegal.statement.within:
         return
     text = analysis.lines[line - 1]

@@ -1,4 +1,4 @@
-"""The text for the word under the pointer: what it means, and what it is here."""
+"""The text for the word under the pointer: its meaning in general, and in this source."""
 
 from collections.abc import Iterator
 
@@ -95,7 +95,7 @@ def _here(analysis: Analysis, token: Token) -> Iterator[str]:
     if token.text.lower() not in SOURCE_NAMES:
         return
     for statement in analysis.by_line.get(token.line, []):
-        if statement.places[0] == (token.line, token.column):
+        if statement.place(0) == (token.line, token.column):
             yield from _instruction_here(analysis, statement)
 
 

@@ -88,7 +88,7 @@ def changed(lines: Sequence[str], change: Change) -> list[str]:
 
 
 def _place(lines: Sequence[str], where: Position) -> tuple[int, int]:
-    """The number of a line from 0 on and an index in it; the end of the text for a place behind it."""
+    """Return the number of a line, from 0 on, and an index in it; for a place after the text, the text's end."""
     if where["line"] >= len(lines):
         return len(lines) - 1, len(lines[-1])
     number = max(where["line"], 0)

@@ -1,1 +1,1 @@
-"""Lessons: a script or a source as frames, on one page."""
+"""Lessons: pages that show a script or a source in steps, frame by frame."""

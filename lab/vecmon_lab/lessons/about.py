@@ -1,4 +1,4 @@
-"""The content of a lesson's first frame: its subject, and the initial contents of memory."""
+"""The content of a lesson's first frame: the subjects of the lesson, and the initial contents of memory."""
 
 import json
 import re
@@ -25,7 +25,10 @@ class About(TypedDict):
 
 
 def about(frames: Sequence[Frame], script: Script) -> About:
-    """The content of the first frame: the first sentence of each of the first comments after it, and the data of the source."""
+    """Return the content of the first frame.
+
+    It has the first sentences of the first comments after it, and descriptions of the source's data.
+    """
     notes = dict.fromkeys(frame.note for frame in frames[1:] if frame.note and frame.note != frames[0].note)
     memory = [f"`{variable.declaration}`" for variable in script.variables if not variable.function]
     if script.program:
@@ -34,12 +37,12 @@ def about(frames: Sequence[Frame], script: Script) -> About:
 
 
 def _first_sentence(note: str) -> str:
-    """The text up to the first full stop, question mark or exclamation mark before a space."""
+    """Return a text up to its first full stop, question mark or exclamation mark that a space follows."""
     return re.split(r"(?<=[.!?]) ", note, maxsplit=1)[0]
 
 
 def _data(program: Program) -> list[str]:
-    """The numbers and texts of the source's directives, with their labels."""
+    """Return descriptions of the numbers and texts that the source's directives define, each with its label."""
     contents, names = dict[int, int](), program.names()
     for _, start, digits in (line.split() for line in program.lines if line.startswith("poke ")):
         contents |= {int(start, 16) + place: byte for place, byte in enumerate(bytes.fromhex(digits))}
@@ -53,7 +56,7 @@ def _data(program: Program) -> list[str]:
 
 
 def _described(run: DataRun, content: bytes) -> str:
-    """The numbers or the text of a run in words: how many there are, and the first ones."""
+    """Return a description of the numbers or the text of a run: the first ones, and how many there are. content: the run's bytes"""
     if run.type == "text":
         text = content.rstrip(b"\0").decode("ascii", "replace")
         return page_text("lesson.data.text", text=json.dumps(text[:MAX_LETTERS]) + " …" * (len(text) > MAX_LETTERS))
@@ -70,5 +73,5 @@ def _described(run: DataRun, content: bytes) -> str:
 
 
 def _number(number: int) -> str:
-    """A number with a minus sign as pages show it."""
+    """Return a number, with the minus sign that pages show."""
     return f"{number}".replace("-", "−")

@@ -1,4 +1,4 @@
-"""The frames of a lesson: the answers to each line of a script, and each user's state after it."""
+"""The frames of a lesson: the answers to the lines of a script, and each user's state after them."""
 
 import html
 import pathlib
@@ -8,11 +8,13 @@ from dataclasses import dataclass, field, replace
 
 from .. import LabError
 from ..assembler.commands import log_entries
-from ..compilers.compiled import variable_rows
+from ..assembler.source import LineType
+from ..compilers.compiled import CompiledProgram, variable_rows
 from ..guest.guest import Guest
 from ..guest.notebook import registers_html
 from ..instructions.accesses import REGISTER_BYTES
-from ..machine.answers import Answer, Position, Refused, answers_by_user, read
+from ..language.line_types import line_types
+from ..machine.answers import Answer, Position, Refused, Word, answers_by_user, read
 from ..machine.lines import DIGITS, BadLine, is_look, words_of
 from ..machine.process import Vecmon
 from ..machine.session import Session
@@ -20,7 +22,7 @@ from ..page.state import ABSENT, VisibleRows, WatchSet, State, add_executed, loo
 from .script import Script, Step, refused_statement
 from .used_registers import UseCounter, UsedRegisters
 
-MAX_NAMED = 40  # rows of memory that variables of a source in C have for certain
+MAX_NAMED = 40  # rows of memory with variables of a C source that are always shown
 
 
 @dataclass(frozen=True)
@@ -28,11 +30,12 @@ class Frame:
     """The content of one view of a lesson.
 
     user: the digit of the user whose state is shown
-    line: the command, and the number of further lines
-    note: the author's sentence
-    log: lines behind `>`, their answers behind `<` or `*` (`log_entries`), and why a line wasn't sent behind `!`
-    states: the state of each user after it, by the user's digit
+    line: the command; more: the number of further lines
+    note: the author's comment
+    log: lines after `>`, their answers after `<` or `*` (`log_entries`), and after `!` the reason why a line wasn't sent
+    states: the state of each user after the lines, by the user's digit
     used: the registers that the whole lesson uses, by the user's digit
+    types: the vector types at the lines of the lesson's assembler source
     """
 
     user: str
@@ -42,9 +45,10 @@ class Frame:
     log: list[str]
     states: dict[str, State]
     used: Mapping[str, UsedRegisters] = field(default_factory=dict)
+    types: Sequence[LineType] = ()
 
     def _repr_html_(self) -> str:
-        """The note, the line, its answers, and the user's registers, as a notebook shows them."""
+        """Return the note, the line, its answers, and the user's registers as a notebook shows them."""
         state, registers = self.states.get(self.user, ABSENT), ""
         if "x" in state:
             held = registers_of(state)
@@ -57,7 +61,7 @@ class Frame:
 def make_frames(
     script: Script, program: Vecmon, images: Mapping[str, pathlib.Path] = {}, quantum: int | None = None
 ) -> list[Frame]:
-    """The frames of a script. Raises LabError where it has no line, or the program can't run or refuses a source."""
+    """Return the frames of a script. Raises LabError if it has no lines, or if the program can't run or refuses a source."""
     if not script.steps:
         raise LabError("a lesson has a line at least, and this one has none")
     with Session(program, images, quantum=quantum) as whole, Session(program, images, quantum=quantum) as single:
@@ -68,8 +72,11 @@ def make_frames(
 
 
 class _Maker:
-    """Two machines execute the script: one its very lines, whose answers the lesson shows; the other one a single
-    instruction at a time where a line steps several; the frames have its states."""
+    """Executes the script on two machines.
+
+    The first executes the lines as they are, and the lesson shows its answers. The second steps one instruction at a time if a line steps
+    several, and the frames have its states.
+    """
 
     def __init__(self, script: Script, whole: Session, single: Session) -> None:
         self._script, self._whole, self._single = script, whole, single
@@ -77,9 +84,10 @@ class _Maker:
         self._uses: dict[str, UseCounter] = {}
         self._states: dict[str, State] = {}
         self._frames: list[Frame] = []
+        self._words: dict[int, int] = {}  # words of the source's instructions, by address
 
     def add(self, step: Step) -> None:
-        """Carries out a step, and adds its frame, or a frame for each instruction of a line that steps several."""
+        """Execute a step, and add its frame, or if its first line steps several instructions, a frame for each of them."""
         log, answers, states = list[str](), list[tuple[str, Answer]](), self._states.copy()
         for line in step.lines:
             self._execute(line, log, answers)
@@ -98,7 +106,7 @@ class _Maker:
         self._add_frame(step, user, log, step.note)
 
     def _execute(self, line: str, log: list[str], answers: list[tuple[str, Answer]]) -> None:
-        """Add a line and its answer to the log, and the parts of the answer to their users."""
+        """Execute a line on the first machine. Add the line and its answer to the log, and the parts of the answer with their users."""
         log.append(f">{line}")
         try:
             parts = self._whole.do(line)
@@ -108,6 +116,8 @@ class _Maker:
         answer = read(parts)
         if line in self._script.statements and isinstance(answer, Refused):
             raise refused_statement(self._script, line, answer)
+        if line in self._script.statements and isinstance(answer, Word):
+            self._words[self._script.statements[line].address] = answer.word
         if line[0] in DIGITS:
             watch_set, uses = self._watch_sets.setdefault(line[0], WatchSet()), self._uses.setdefault(
                 line[0], UseCounter()
@@ -120,7 +130,11 @@ class _Maker:
         answers += answers_by_user(parts)
 
     def _step_singly(self, step: Step, number: int, log: list[str], answers: Sequence[tuple[str, Answer]]) -> None:
-        """Repeat the line's steps: up to its number, a stop, or a breakpoint after its first instruction."""
+        """Repeat the line's instructions on the second machine, and add a frame for each.
+
+        It ends after `number` instructions, at a stop, or at a breakpoint after the first instruction. Raises LabError if the machines
+        differ then.
+        """
         line, user = step.lines[0], step.lines[0][0]
         for place in range(1, number + 1):
             state, part = self._states[user], answers_by_user(self._single.do(f"{user} step 1"))
@@ -129,7 +143,8 @@ class _Maker:
             ends = not isinstance(part[0][1], Position) or place == number or f"{part[0][1].pc:x}" in state["breaks"]
             self._look([line], [*part, *answers] if ends else part, executed)
             own_log = ([] if place > 1 else log[:1]) + (log[1:] if ends else [])
-            address = int(self._states[user].get("instruction", "0"), 16)  # whose sentence the source may have
+            # The source may have a comment for this instruction.
+            address = int(self._states[user].get("instruction", "0"), 16)
             note = step.note if place == 1 and step.note else self._script.notes.get(address, "")
             shown = line if number == 1 else f"{line}: instruction {place}"
             self._add_frame(Step([shown]), user, own_log, note)
@@ -139,7 +154,10 @@ class _Maker:
             raise LabError(f"{line!r} leaves something else than its instructions one by one")
 
     def _look(self, lines: Sequence[str], answers: Sequence[tuple[str, Answer]], executed: str = "") -> None:
-        """Looks at those users whom lines, or an instruction, may have changed: an operator's line may, all of them."""
+        """Update the states of users whom lines may have changed: the users of these lines, or all users after an operator's line.
+
+        executed: the line of the listing with the instruction that was executed, if the lines executed only one
+        """
         users = {line[:1] for line in lines if not is_look(line)}
         for user, watch_set in self._watch_sets.items():
             if user in users or "*" in users:
@@ -150,7 +168,7 @@ class _Maker:
                 self._states[user] = state
 
     def _count_run(self, before: Mapping[str, State]) -> None:
-        """Adds the registers of the instructions that executed since these states."""
+        """Count the registers of the instructions that were executed since the states `before`."""
         for user, state in self._states.items():
             if state is not before.get(user) and "instruction" in state:
                 self._uses[user].run(before.get(user, ABSENT), state)
@@ -160,9 +178,9 @@ class _Maker:
         self._frames.append(Frame(user, line, more, note, log, dict(self._states)))
 
     def finish(self) -> list[Frame]:
-        """The frames, with only the most relevant rows of memory, and with the registers in use."""
+        """Return the frames, with only the most relevant rows of memory, and with the registers that the lesson uses."""
         for user, watch_set in self._watch_sets.items():
-            if self._script.variables:  # and not what else the image has
+            if self._script.variables:  # other data of the image isn't shown
                 watch_set.named = set(variable_rows(self._script.variables)[:MAX_NAMED])
             choice = VisibleRows()
             for frame in self._frames:
@@ -172,11 +190,19 @@ class _Maker:
                 if user in frame.states:
                     frame.states[user] = with_rows(frame.states[user], rows)
         used = {user: uses.registers() for user, uses in self._uses.items()}
-        return [replace(frame, used=used) for frame in self._frames]
+        types = self._types()
+        return [replace(frame, used=used, types=types) for frame in self._frames]
+
+    def _types(self) -> Sequence[LineType]:
+        """Return the vector types at the lines of an assembler source; none for other lessons."""
+        program, text = self._script.program, self._script.text
+        if program is None or isinstance(program, CompiledProgram):
+            return ()
+        return line_types(program, self._words, text)
 
 
 def _steps(step: Step, answers: Sequence[tuple[str, Answer]]) -> int:
-    """How many instructions the first line of a step steps at most; 0 if it is another line, or refused."""
+    """Return the largest number of instructions that a step's first line steps; 0 if it isn't a `step`, or was refused."""
     match [words_of(line) for line in step.lines[:1]]:
         case [["step", number]] if answers and not isinstance(answers[0][1], Refused):
             return int(number)

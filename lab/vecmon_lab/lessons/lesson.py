@@ -1,4 +1,4 @@
-"""Makes a lesson: one page, without a server, that steps back and forth through a script, or a source in assembler or C."""
+"""Make a lesson: one page, without a server, that steps forward and back through a script, or a source in assembler or C."""
 
 import argparse
 import pathlib
@@ -17,7 +17,7 @@ from .script import print_warnings, read_assembled, read_compiled, read_script
 
 
 def add_arguments(parser: argparse.ArgumentParser) -> None:
-    """The words of `vecmon-lab lesson`."""
+    """Add the arguments of `vecmon-lab lesson` to its parser."""
     help_text = "a script, or a source in assembler (.s, .S) or C (.c)"
     parser.add_argument("script", metavar="SCRIPT", type=pathlib.Path, help=help_text)
     parser.add_argument(
@@ -39,7 +39,7 @@ def add_arguments(parser: argparse.ArgumentParser) -> None:
 
 
 def run(arguments: argparse.Namespace) -> int:
-    """Writes the page. Raises LabError and OSError for bad input."""
+    """Write the page. Raises LabError and OSError for bad input."""
     path, images = arguments.script, images_of(arguments.images, arguments.any_vlen)
     check_output(arguments.output, path, *images.values())
     page = _listings(arguments) if arguments.against else _lesson(arguments, images)
@@ -51,7 +51,7 @@ def run(arguments: argparse.Namespace) -> int:
 
 
 def _lesson(arguments: argparse.Namespace, images: Mapping[str, pathlib.Path]) -> str:
-    """The page of a lesson. Raises LabError for a source with mistakes, or where there is no compiler for it."""
+    """Return the page of a lesson. Raises LabError if the source has mistakes, or no compiler for it is found."""
     path: pathlib.Path = arguments.script
     text = path.read_text("utf-8", "replace")
     if "\0" in text:
@@ -73,7 +73,7 @@ def _lesson(arguments: argparse.Namespace, images: Mapping[str, pathlib.Path]) -
 
 
 def _listings(arguments: argparse.Namespace) -> str:
-    """The page of two listings side by side. Raises LabError as `_lesson` does."""
+    """Return the page with two listings side by side. Raises LabError as `_lesson` does."""
     path: pathlib.Path = arguments.script
     text, machine, listings = path.read_text("utf-8", "replace"), find_program(), list[CompiledListing]()
     if path.suffix != C_SUFFIX:

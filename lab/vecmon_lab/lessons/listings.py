@@ -1,5 +1,7 @@
-"""The code that compilers generate for a C source: under each line its instructions, their counts, and with how
-many elements; listings side by side, as one page."""
+"""The code that compilers generate for a C source, on one page with listings side by side.
+
+Each line of the source is followed by its instructions, with the number of times that each was executed, and its numbers of elements.
+"""
 
 import json
 import os
@@ -28,9 +30,10 @@ MAX_TICKS, MAX_WORDS = 50_000, 4000
 class CompiledListing:
     """The code of one compiler for a source.
 
-    name: of the compiler with its options; summary: the counts, in sentences
-    rows: of each instruction its address, the line of the source that it is of, the function that was inlined there,
-    its text, its count, and its elements: active, masked off, in the tail
+    name: of the compiler, with its options
+    summary: sentences about the counts
+    rows: for each instruction its address, the number of its line in the source, the name of the function that was inlined there ("" for
+        none), its text, the number of times that it was executed, and its numbers of active, masked-off and tail elements
     """
 
     name: str
@@ -39,9 +42,11 @@ class CompiledListing:
 
 
 def listing_of(program: CompiledProgram, name: str, machine: pathlib.Path) -> CompiledListing:
-    """The listing of a program, which runs on a machine of its own to its end, or until MAX_TICKS have run out.
+    """Run a program on a new machine to its end, or for MAX_TICKS ticks; return its listing.
 
-    Raises LabError where the machine refuses it.
+    name: of the compiler; machine: the path of vecmon
+
+    Raises LabError if the machine refuses the program.
     """
     lines = {address: (line, inlined) for address, line, inlined in program.rows}
     of_source = [(range(first, end, 4), lines[first]) for first, end in pairwise(lines) if lines[first][0]]
@@ -61,7 +66,7 @@ def listing_of(program: CompiledProgram, name: str, machine: pathlib.Path) -> Co
 
 
 def listings_page(title: str, text: str, listings: Sequence[CompiledListing]) -> str:
-    """The page of some listings of a source that has this text, in HTML."""
+    """Return the page with listings of a source, in HTML. text: the source"""
     heads = [[element("h2", it.name), *(element("p", line) for line in it.summary)] for it in listings]
     head = element("tr", *(element("th", *contents, scope="col") for contents in heads))
     rows = [element("thead", head), element("tbody", *_source_lines(text.split("\n"), listings))]
@@ -69,7 +74,7 @@ def listings_page(title: str, text: str, listings: Sequence[CompiledListing]) ->
 
 
 def _source_lines(lines: Sequence[str], listings: Sequence[CompiledListing]) -> Iterator[Html]:
-    """A row for each line of the source, and one below it with its instructions in each listing, if there are any."""
+    """Yield a row for each line of the source. If a listing has instructions of this line, yield another row with them."""
     for number, text in enumerate(lines, 1):
         tables = [_instructions_of(listing, number) for listing in listings]
         head = element("span", f"{number}", class_="number")
@@ -80,7 +85,7 @@ def _source_lines(lines: Sequence[str], listings: Sequence[CompiledListing]) -> 
 
 
 def _instructions_of(listing: CompiledListing, line: int) -> Html:
-    """The table of the instructions of a line, with a gap where others are between; empty without any."""
+    """Return a table with the instructions of a line, with a gap where instructions of other lines are; empty if it has none."""
     made, end = list[Html](), 0
     for place, _, inlined, text, times, *elements in (row for row in listing.rows if row[1] == line):
         address = int(f"{place}", 16)

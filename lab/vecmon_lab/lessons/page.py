@@ -1,8 +1,9 @@
-"""A lesson as one page: its frames as differences."""
+"""A lesson as one page. The states of its frames are stored as differences."""
 
 from collections.abc import Mapping, Sequence
 from typing import NotRequired, TypedDict
 
+from ..assembler.source import LineType
 from ..compilers.compiled import CompiledProgram
 from ..page.build.html_elements import Html, element, joined, prose
 from ..page.build.pages import merge_patch, page_with_data
@@ -32,11 +33,13 @@ class LessonData(SourceNames):
     text: of the source, as it was written
     name: the name of a series with that of the lesson, by which the browser stores that it was read
     used: the registers that the lesson uses, by user
+    types: the vector types at the lines of an assembler source
     """
 
     frames: list[FrameData]
     used: NotRequired[Mapping[str, UsedRegisters]]
     text: NotRequired[str]
+    types: NotRequired[Sequence[LineType]]
     name: NotRequired[str]
 
 
@@ -47,9 +50,11 @@ def lesson_page(
     series: Series | None = None,
     is_introduced: bool = True,
 ) -> str:
-    """The page, in HTML; of a source also with what its script says of it.
+    """Return the page of a lesson, in HTML.
 
-    is_introduced: whether the first frame shows what the lesson is about, as far as the script says so
+    script: the lesson's script; for the lesson of a source, its names, data and variables are shown
+    series: the place of the lesson in a series; None if it has none
+    is_introduced: whether the first frame shows the lesson's subjects and initial memory, as far as the script has them
     """
     before: list[Mapping[str, object]] = [{}, *(frame.states for frame in frames)]
     data: LessonData = {
@@ -63,6 +68,8 @@ def lesson_page(
         data["used"] = frames[-1].used
     if script.text:
         data["text"] = script.text
+        if frames and frames[-1].types:
+            data["types"] = frames[-1].types
     if script.program and not isinstance(script.program, CompiledProgram):
         data["line_numbers"] = script.program.line_numbers()
         if aliases := script.program.aliases():
@@ -81,7 +88,7 @@ def lesson_page(
 
 
 def _items(texts: Sequence[str]) -> Html:
-    """Items of a list."""
+    """Return items of a list, from texts with backquotes around code."""
     return joined([element("li", prose(text)) for text in texts])
 
 

@@ -1,4 +1,4 @@
-"""The file of a lesson: the lines for the monitor, and the author's sentences, which begin with `#`."""
+"""The file of a lesson: lines for the monitor, and the author's comments, which start with `#`."""
 
 import sys
 from collections.abc import Callable, Iterator, Sequence
@@ -16,16 +16,17 @@ from ..guest.guest import Guest
 from ..machine.answers import Refused
 from ..machine.lines import is_look, words_of
 
-MAX_LISTED = 20  # mistakes of a source
+MAX_LISTED = 20  # largest number of mistakes that are listed
 RUN_LINES = ["1 step 256", "1 out"]
 """The lines of a source's lesson after its set-up, if that executes nothing."""
 
 
 @dataclass(frozen=True)
 class Step:
-    """Lines of one frame: one that does something, those like it that join it, and those behind it that only look.
+    """The lines of one frame: a line that changes something, similar lines that join it, and the read-only lines after it.
 
-    note: the author's sentence before them; the last one of a file may have no lines
+    lines: there may be none in the last step of a file
+    note: the author's comment before these lines
     """
 
     lines: list[str]
@@ -34,11 +35,16 @@ class Step:
 
 @dataclass(frozen=True)
 class Script:
-    """A lesson's steps.
+    """The steps of a lesson, and the data of its source, if it has one.
 
-    Of a source also: its program, its name, its text as it was written, its labels by address, its instructions by the line that writes them, and its
-    sentences by the address of the instruction behind them; of one in C what its lines say, by address, where the
-    instructions of its lines begin, and its variables.
+    source, text: the source's name, and its text
+    labels: the source's labels by address
+    statements: the source's instructions, by the line that writes them
+    notes: the source's comments, by the address of the instruction after them
+    said: lines of a compiled source by address
+    starts: the addresses where instructions of another line of a compiled source begin, with the line's number
+    variables: of a compiled source
+    program: the program of the source
     """
 
     title: str
@@ -55,7 +61,7 @@ class Script:
 
 
 def read_script(text: str) -> Script:
-    """The lesson of a script. Any line is accepted: its answer shows its fault."""
+    """Return the lesson of a script. Each line is accepted: the answer to a wrong line shows what is wrong."""
     title, waiting, steps = "", list[str](), list[Step]()
     for line in text.split("\n"):
         if line.startswith("##"):
@@ -71,7 +77,10 @@ def read_script(text: str) -> Script:
 
 
 def add_line(steps: list[Step], line: str, note: str = "") -> None:
-    """Adds a line as a step, or to the last step: if it only looks, or both write instructions of one user."""
+    """Add a line as a new step, or to the last step.
+
+    A line without a note joins the last step if it is read-only, or if both write an instruction of the same user.
+    """
     line_start = _line_start(line)
     if steps and not note and (is_look(line) or "asm" in line_start and line_start == _line_start(steps[-1].lines[-1])):
         steps[-1].lines.append(line)
@@ -82,11 +91,13 @@ def add_line(steps: list[Step], line: str, note: str = "") -> None:
 def read_assembled(
     text: str, name: str, files: FileReader | None = None, read: Callable[[str], Program] | None = None
 ) -> Script:
-    """The lesson of an assembler source, for user 1. Raises SourceMistakes, with a line for each of the first MAX_LISTED ones.
+    """Return the lesson of an assembler source, for user 1.
 
-    name: of its file; a source of the suffix .S has no line for the preprocessor
-    files: reads what it includes; without it that is refused
-    read: assembles the source, instead of `read_source`
+    name: of its file; if it ends in .S, the source mustn't have lines for the preprocessor
+    files: reads the files that the source includes; if None, includes are refused
+    read: assembles the source in place of `read_source`
+
+    Raises SourceMistakes, with a line for each of the first MAX_LISTED mistakes.
     """
     try:
         if name.endswith(".S"):
@@ -100,7 +111,7 @@ def read_assembled(
 
 
 def _listed(mistakes: Sequence[SourceError], name: str) -> Iterator[str]:
-    """A line for each of the first mistakes of a source, and one for the others."""
+    """Yield a line for each of the first MAX_LISTED mistakes of a source, and one with the number of the others."""
     yield from (mistake.diagnostic(name) for mistake in mistakes[:MAX_LISTED])
     if len(mistakes) > MAX_LISTED:
         yield f"{name}: and {len(mistakes) - MAX_LISTED:,} more"
@@ -113,9 +124,9 @@ def print_warnings(script: Script) -> None:
 
 
 def read_compiled(text: str, name: str, program: CompiledProgram, is_c: bool) -> Script:
-    """The lesson of a source, for user 1, as a compiler made it. Raises LabError where it has mistakes.
+    """Return the lesson of a compiled source, for user 1. Raises LabError if the source has mistakes.
 
-    In C lines that begin with `//` are as those of an assembler source that begin with `#`.
+    is_c: whether the source is in C. Then the author's lines start with `//`, and not with `#` as in an assembler source.
     """
     program.check(name)
     lines = [line.strip() for line in text.split("\n")]
@@ -126,7 +137,7 @@ def read_compiled(text: str, name: str, program: CompiledProgram, is_c: bool) ->
 
 
 def _script_of(program: Program, lines: list[str], name: str) -> Script:
-    """The lesson of a source's program, by its lines."""
+    """Return the lesson of a source's program. lines: of the source, with comments that start with `#`; name: of the source"""
     title = next((_sentence([line]) for line in lines if line.startswith("##")), "")
     introduction, notes = _source_notes(lines, program)
     steps = [Step(["1 enter", *(f"1 {line}" for line in program.load_lines())], introduction)]
@@ -153,7 +164,7 @@ class RefusedStatement(LabError):
 
 
 def refused_statement(script: Script, line: str, answer: Refused) -> RefusedStatement:
-    """What is wrong with an instruction of the source, by the machine's answer to the line that writes it."""
+    """Return an error with the mistake in an instruction of the source. line: the line that writes it; answer: the machine's refusal"""
     statement = script.statements[line]
     if answer.code == "E15":
         return RefusedStatement(refusal(statement, int(answer.detail)).diagnostic(script.source))
@@ -161,7 +172,10 @@ def refused_statement(script: Script, line: str, answer: Refused) -> RefusedStat
 
 
 def send(guest: Guest, commands: Sequence[str], source: Script | None = None) -> None:
-    """Sends commands, of a source where one is named. Raises LabError if one is refused, of the source RefusedStatement."""
+    """Send commands as a guest. Raises LabError if one is refused.
+
+    source: the lesson whose source the commands belong to. If one of its instructions is refused, raises RefusedStatement.
+    """
     for command, answer in zip(commands, guest.ask(*commands)):
         if isinstance(answer, Refused):
             if source and f"1 {command}" in source.statements:
@@ -170,17 +184,17 @@ def send(guest: Guest, commands: Sequence[str], source: Script | None = None) ->
 
 
 def _sentence(lines: list[str]) -> str:
-    """The text after the `#` of lines, joined."""
+    """Return the joined texts after the `#` of lines."""
     return " ".join(filter(None, (line.lstrip("#").strip() for line in lines)))
 
 
 def _line_start(line: str) -> str:
-    """A line's user and command."""
+    """Return a line's prefix and command, without arguments."""
     return " ".join([line[:1], *words_of(line)[:1]])
 
 
 def _source_notes(lines: list[str], program: Program) -> tuple[str, dict[int, str]]:
-    """The sentence before all else, and those before an instruction by its address."""
+    """Return the comment before everything else in a source, and the comments before instructions, by their addresses."""
     addresses = program.addresses()
     introduction, notes, waiting = "", dict[int, str](), list[str]()
     started = False
@@ -197,9 +211,9 @@ def _source_notes(lines: list[str], program: Program) -> tuple[str, dict[int, st
 
 
 def _set_up_lines(line: str, program: Program) -> list[str]:
-    """The lines of a line of the set-up, which has no user's digit; a label in it is replaced by its address.
+    """Return the monitor lines for a line of the set-up, which has no prefix. A label in it is replaced by its address.
 
-    `break` and the name of a function stops in its inlined copies, too.
+    `break` with the name of a function sets breakpoints in its inlined copies as well.
     """
     entries = program.entries if isinstance(program, CompiledProgram) else {}
     if line.split()[:1] == ["break"] and (addresses := entries.get(line.removeprefix("break").strip())):

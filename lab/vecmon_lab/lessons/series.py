@@ -1,4 +1,4 @@
-"""A series of lessons: pages with links to one another, and what their index shows of each."""
+"""A series of lessons: pages with links to one another, and the data of each lesson for the series' index."""
 
 import pathlib
 from collections.abc import Mapping
@@ -17,9 +17,13 @@ Entry = TypedDict("Entry", {"name": str, "title": str, "sentence": str, "strip":
 def make_series(
     series: str, program: pathlib.Path, scripts: Mapping[str, tuple[Script, str]]
 ) -> tuple[list[tuple[str, str, str]], list[Entry]]:
-    """The pages of lessons, each a name, a title and its HTML, and the entries of their index.
+    """Return the pages of lessons (a name, a title and the HTML of each), and the entries of their index.
 
-    series: `tour` or `course`; scripts: by name, in their order, each a script and its sentence. Raises LabError as `make_frames` does.
+    series: `tour` or `course`
+    program: the path of vecmon
+    scripts: by name, in the order of the lessons: a script, and the sentence about it in the index
+
+    Raises LabError as `make_frames` does.
     """
     lessons = [SeriesLesson(name=name, title=script.title) for name, (script, _) in scripts.items()]
     pages, entries = list[tuple[str, str, str]](), list[Entry]()

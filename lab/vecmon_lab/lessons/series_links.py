@@ -1,4 +1,4 @@
-"""Links between the lessons of a series in HTML, with marks at those that were read."""
+"""Links between the lessons of a series in HTML, with marks on the lessons that were read."""
 
 from collections.abc import Sequence
 from typing import TypedDict
@@ -27,27 +27,27 @@ class Series(TypedDict):
 
 
 def lesson_link(lesson: SeriesLesson, content: str, **attributes: object) -> Html:
-    """A link to the page of a lesson in the same folder."""
+    """Return a link to the page of a lesson in the same folder. content: the link's text; attributes: of the element"""
     return element("a", content, href=f"{lesson['name']}.html", **attributes)
 
 
 def read_mark(series: str, lesson: SeriesLesson, text: str) -> Html:
-    """A text on a lesson that was read, which `progress.js` removes from others."""
+    """Return a text that marks a lesson as read. `progress.js` removes it if the lesson wasn't read."""
     return element("span", text, class_="read", data_lesson=f"{series}/{lesson['name']}")
 
 
 def place_of(series: Series) -> str:
-    """The number of the lesson in its series."""
+    """Return a text with the number of the lesson in its series, and the number of all lessons."""
     return page_text("lesson.series-place", number=series["place"] + 1, all=len(series["lessons"]))
 
 
 def marks_of(series: Series) -> Html:
-    """A link for each lesson of a series, in their order."""
+    """Return a link for each lesson of a series, in their order."""
     return joined([_mark(series, number) for number in range(len(series["lessons"]))])
 
 
 def neighbours_of(series: Series) -> Html:
-    """Links to the lessons before and after one."""
+    """Return links to the lessons before and after this one."""
     texts = {-1: page_text("lesson.previous"), 1: page_text("lesson.following")}
     lessons, places = series["lessons"], {series["place"] + step: text for step, text in texts.items()}
     there = [(lessons[place], text) for place, text in places.items() if 0 <= place < len(lessons)]
@@ -55,7 +55,7 @@ def neighbours_of(series: Series) -> Html:
 
 
 def _mark(series: Series, place: int) -> Html:
-    """The link of a series to one of its lessons."""
+    """Return the link to one lesson of a series. place: the lesson's index"""
     lesson, is_this = series["lessons"][place], place == series["place"]
     text = page_text("lesson.mark", number=place + 1, title=lesson["title"])
     content = element("span", text, read_mark(series["name"], lesson, page_text("lesson.mark-read")), class_="unseen")

@@ -1,4 +1,4 @@
-"""The picture of a lesson in an index: a register's elements after the instruction that shows most, or the program's words."""
+"""The picture of a lesson in an index: some elements of a register after an instruction, or words of the program."""
 
 from collections.abc import Iterator, Sequence
 from itertools import pairwise
@@ -18,7 +18,11 @@ Strip = TypedDict("Strip", {"name": str, "text": str, "cells": list[tuple[str, s
 
 
 def strip_of(frames: Sequence[Frame]) -> Strip:
-    """The elements of a register that an instruction wrote: most forms, then most different ones, then the last."""
+    """Return the picture of a lesson: the elements of a register after an instruction wrote it.
+
+    The register has as many different kinds of elements as possible (active, masked off and so on), then as many different values, and then
+    is the last one. If no frame changes a register, the picture has words of the program.
+    """
     strips = [strip for old, new in pairwise(frames) for strip in _written(old, new)]
     if strips:
         return max(reversed(strips), key=_rank)
@@ -28,7 +32,7 @@ def strip_of(frames: Sequence[Frame]) -> Strip:
 
 
 def strip_picture(strip: Strip) -> Html:
-    """The strip as a picture of its cells, with a name for screen readers, and its description."""
+    """Return a picture with its cells, a name for screen readers, and a description."""
     cells = [element("span", digits, class_=kind) for digits, kind in strip["cells"]]
     names = [f"{digits} {page_text(f'outcome.{kind}')}" if kind else digits for digits, kind in strip["cells"]]
     label = f"{strip['name']}: {', '.join(names)}"
@@ -40,13 +44,13 @@ def strip_picture(strip: Strip) -> Html:
 
 
 def _rank(strip: Strip) -> tuple[bool, int, int]:
-    """Whether the instruction is known that wrote the register; the numbers of forms and of different elements."""
+    """Return the rank of a picture: whether the instruction that wrote the register is known, and its numbers of kinds and values."""
     elements, forms = zip(*strip["cells"])
     return strip["text"] != "", len({*forms}), len({*elements})
 
 
 def _written(old: Frame, new: Frame) -> Iterator[Strip]:
-    """The strip of each user whose vector registers differ between two frames."""
+    """Yield the picture of each user whose vector registers differ between two successive frames."""
     for user, state in new.states.items():
         before = old.states.get(user, ABSENT)
         if "v" in before and "v" in state:
@@ -59,14 +63,15 @@ def _written(old: Frame, new: Frame) -> Iterator[Strip]:
 
 
 def _changes(data: str, before: str) -> int:
-    """The number of bytes that differ, each two digits."""
+    """Return the number of bytes that differ. data, before: bytes, in two hexadecimal digits each"""
     return sum(data[at : at + 2] != before[at : at + 2] for at in range(0, len(data), 2))
 
 
 def _strip(state: State, number: int) -> Strip:
-    """The first elements of a register, as wide as the instruction writes them; as the vector type says if no instruction takes it.
+    """Return the picture of the first elements of a register. number: of the register
 
-    Elements of a mask are bits.
+    The elements have the width with which the instruction uses them. If no instruction uses the register, the vector type gives their
+    width. The elements of a mask are bits.
     """
     vtype, address = int(state["vtype"], 16), state.get("instruction", "")
     is_set = vtype >> 63 == 0
@@ -82,12 +87,12 @@ def _strip(state: State, number: int) -> Strip:
 
 
 def _signed(element: int, width: int) -> int:
-    """The number of an element, as the pages show it first; a bit of a mask is 0 or 1."""
+    """Return the signed value of an element, as pages show it first. A bit of a mask is 0 or 1."""
     return element - (1 << width) if width > 1 and element >> (width - 1) else element
 
 
 def _kind(state: State, element: int, is_masked: bool) -> str:
-    """The form of an element, by vl, vstart and v0."""
+    """Return the kind of an element, such as `active` or `tail`, from vl, vstart and v0. element: its index"""
     if element >= state["vl"]:
         return "tail"
     if element < state["vstart"]:

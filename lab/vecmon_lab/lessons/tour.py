@@ -1,4 +1,4 @@
-"""Makes write the fourteen lessons of the tour (docs/TOUR.md), and a page with links to them."""
+"""Write the fourteen lessons of the tour (docs/TOUR.md), and a page with links to them."""
 
 import argparse
 import json
@@ -20,18 +20,18 @@ from .series_links import lesson_link, read_mark
 from .strip import strip_picture
 
 TOURS = pathlib.Path(__file__).with_name("tours")
-START = {"enter", "map", "asm"}  # commands at the start of a script that are one frame, which shows the program
+START = {"enter", "map", "asm"}  # commands at the start of a script that share one frame, which shows the program
 
 
 def add_arguments(parser: argparse.ArgumentParser) -> None:
-    """The words of `vecmon-lab tour`."""
+    """Add the arguments of `vecmon-lab tour` to its parser."""
     parser.add_argument(
         "folder", metavar="DIR", type=pathlib.Path, help="the folder of the pages, created if necessary"
     )
 
 
 def run(arguments: argparse.Namespace) -> int:
-    """Writes the pages, and prints their paths in the order of the tour. Raises LabError and OSError for bad input."""
+    """Write the pages, and print their paths in the order of the tour. Raises LabError and OSError for bad input."""
     program, folder, scripts, title = find_program(), arguments.folder, tours(), page_text("tour.index")
     folder.mkdir(parents=True, exist_ok=True)
     sentences = {name: sentence for name, _, sentence in read_table("tours")}
@@ -41,26 +41,27 @@ def run(arguments: argparse.Namespace) -> int:
 
 
 def tours() -> dict[str, Script]:
-    """The tours by the names of their scripts, in their order."""
+    """Return the lessons of the tour in their order, by the names of their scripts."""
     return {name: _script(name, title) for name, title, _ in read_table("tours")}
 
 
 def tour_page(title: str, entries: Sequence[Entry]) -> str:
-    """The index of the lessons, each with a link, its sentence and its picture."""
+    """Return the index of the lessons. Each has a link, its sentence and its picture."""
     return filled_page("tour", title, lessons=joined([_item(entry) for entry in entries]))
 
 
 def _item(entry: Entry) -> Html:
-    """A lesson in the index."""
+    """Return the item of a lesson in the index."""
     mark = read_mark("tour", entry, page_text("tour.read"))
     sentence = element("p", prose(entry["sentence"]))
     return element("li", lesson_link(entry, entry["title"]), " ", mark, sentence, strip_picture(entry["strip"]))
 
 
 def _script(name: str, title: str) -> Script:
-    """A tour's script, or the lesson of its source. A script's sentences are in a file, each after the number of lines that it is about.
+    """Return the lesson of a script or a source of the tour.
 
-    In a kernel, which comes compiled, those are one frame.
+    The comments on a script are in a file with the suffix .steps. Each of its lines has a number of script lines, and the comment on them.
+    In the lesson of a compiled kernel, these lines are one frame.
     """
     source = TOURS / f"{name}.s"
     if source.exists():
@@ -83,7 +84,7 @@ def _script(name: str, title: str) -> Script:
 
 
 def _add_line(steps: list[Step], line: str, note: str) -> None:
-    """Adds a line as `add_line` does, but the first frame has all of START and no line that only looks."""
+    """Add a line as `add_line` does, but the first frame has all commands of START, and no read-only line."""
     commands = {words_of(each)[0] for each in [*steps[0].lines, line]} if len(steps) == 1 else set()
     if commands and not note and commands <= START:
         steps[0].lines.append(line)

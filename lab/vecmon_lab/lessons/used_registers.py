@@ -1,4 +1,4 @@
-"""The registers that a lesson uses, which its page shows before the others."""
+"""The registers that a lesson uses. Its page shows them before other registers."""
 
 from collections.abc import Mapping
 from typing import TypedDict
@@ -20,17 +20,20 @@ class UsedRegisters(TypedDict):
 
 
 class UseCounter:
-    """Collects the registers of one user: those that executed instructions read or write, and those that the user's lines name.
+    """Collects the registers that one user uses: those that executed instructions read or write, and those that the user's lines name.
 
     The lines that fill all registers before a case of an exercise don't count.
     """
 
     def __init__(self) -> None:
         self._x, self._v = set[int](), set[int]()
-        self._named = set[str]()  # by lines since the machine began, as `x5`
+        self._named = set[str]()  # names such as `x5`, from lines since the user's machine started
 
     def follow(self, line: str) -> None:
-        """Add the register that an accepted line names. The instruction that sets up a case forgets those of the same machine before it."""
+        """Take up the registers that an accepted line names.
+
+        The line that writes the set-up instruction of an exercise's case drops the registers named since the user's machine started.
+        """
         match words_of(line):
             case ["leave"] | ["load", _]:
                 self._keep_named()
@@ -40,7 +43,10 @@ class UseCounter:
                 self._named.add(name)
 
     def execute(self, line: str, before: State) -> None:
-        """Add the registers of an instruction. line: of the listing, "" for none; before: the state before it, which has registers"""
+        """Add the registers of an executed instruction.
+
+        line: its line in the listing, or "" if it isn't listed; before: the state before it, which has registers
+        """
         word = int(line[:8], 16) if line else 0
         if row_of(word) is None:
             return
@@ -50,7 +56,10 @@ class UseCounter:
         self._v.update(map(int, read["v"]), [0] if vector and vector.is_masked else [])
 
     def run(self, before: State, after: State) -> None:
-        """Add the registers of instructions that executed between two looks: those of the whole listing, and those that have changed."""
+        """Add the registers of instructions that were executed between two states.
+
+        All instructions of the listing count, and all registers that have changed.
+        """
         for state in (before, after):
             for line in after["code"].values() if "x" in state else ():
                 self.execute(line, state)
@@ -69,5 +78,5 @@ class UseCounter:
 
 
 def _changed(before: Mapping[str, str], after: Mapping[str, str]) -> set[int]:
-    """The numbers of registers whose values differ from those before."""
+    """Return the numbers of registers whose values differ from those before."""
     return {int(number) for number, value in after.items() if before.get(number, value) != value}

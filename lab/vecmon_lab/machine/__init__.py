@@ -1,1 +1,1 @@
-"""The program vecmon: where it is, a session of it, and its lines."""
+"""The program vecmon: its path, sessions with it, the lines that it executes, and their answers."""

@@ -1,8 +1,8 @@
 """The monitor's answers, as in docs/COMMANDS.md: where an answer ends, and its meaning.
 
-No other module knows a column. A user's answer is one line, but for an accepted `regs` (9 lines) and an accepted
-`dis ADDR N` (N lines). An operator's answer is the stop lines of the slices that it granted, and then a line that
-begins with `*`.
+No other module parses the text of an answer. The answer to a user's line is one line, except for an accepted `regs` (9 lines) and an
+accepted `dis ADDR N` (N lines). The answer to an operator's line has the stop lines of the slices that it granted, and then a line that
+starts with `*`.
 """
 
 import functools
@@ -25,7 +25,7 @@ _WORDS = {"STOP": _STOP, "V16": "[0-9a-f]{16}", "WORD": "[0-9a-f]{8}", "HEX": "(
 
 
 def _pattern(form: str, role: str = "[1-8*]") -> re.Pattern[str]:
-    """The pattern of a line of a form, with its prefix."""
+    """Return the pattern of a line of an answer in this form, after its prefix. role: the pattern of the prefix's character"""
     for word, expression in _WORDS.items():
         form = form.replace(word, expression)
     return re.compile(f"{role} (?:{form})")
@@ -34,17 +34,22 @@ def _pattern(form: str, role: str = "[1-8*]") -> re.Pattern[str]:
 _NO_OUTPUT = "out 0"
 _STOP_LINE = _pattern("STOP", "[1-8]")
 _LINES = {command: _pattern(form) for command, form in read_table("answers")}
-VILL = 1 << 63  # vtype where no type is set
-_COUNTS = {"regs": 9, "* slices": 0, "* run": 0}  # of lines, if it isn't one; 0 if stops come before it
+VILL = 1 << 63  # vtype while no vector type is set
+# Number of lines of an answer, if not 1; 0 if stop lines may precede the last line.
+_COUNTS = {"regs": 9, "* slices": 0, "* run": 0}
 
 
 class OutOfStep(LabError):
-    """The program's output can't be the answer to the line that was sent."""
+    """The program's output isn't an answer to the line that was sent."""
 
 
 @dataclass(frozen=True)
 class Refused:
-    """A line that was refused: E01 to E16; of E09 also what is wrong with the image, and of E15 the column."""
+    """A line that was refused.
+
+    code: `E01` to `E16`
+    detail: for E09 the fault of the image, for E15 the column; "" for other codes
+    """
 
     code: str
     detail: str = ""
@@ -62,7 +67,7 @@ class Done:
 
 @dataclass(frozen=True)
 class Loaded:
-    """An image that was loaded: its entry, and how many pages the user has."""
+    """An image that was loaded: the address of its entry, and the number of the user's pages."""
 
     pc: int
     pages: int
@@ -70,7 +75,7 @@ class Loaded:
 
 @dataclass(frozen=True)
 class Memory:
-    """Bytes from an address on."""
+    """Consecutive bytes of memory. address: of the first byte"""
 
     address: int
     data: bytes
@@ -78,7 +83,7 @@ class Memory:
 
 @dataclass(frozen=True)
 class ScalarRegisters:
-    """The program counter, and x0 to x31."""
+    """The program counter, and the values of x0 to x31."""
 
     pc: int
     x: Sequence[int]
@@ -86,7 +91,7 @@ class ScalarRegisters:
 
 @dataclass(frozen=True)
 class VectorRegister:
-    """The 32 bytes of a vector register, which are shown as elements of this width in bits."""
+    """The 32 bytes of a vector register. width: the number of bits of the elements in which the answer shows them"""
 
     number: int
     width: int
@@ -95,7 +100,7 @@ class VectorRegister:
 
 @dataclass(frozen=True)
 class ControlRegisters:
-    """The vector control registers, in the order of the line. Legality reads vtype and vstart alone."""
+    """The vector control registers, in the order of the answer. The legality of an instruction depends only on vtype and vstart."""
 
     vl: int = 0
     vtype: int = VILL
@@ -105,20 +110,20 @@ class ControlRegisters:
 
     @property
     def sew(self) -> int:
-        """The element width in bits."""
+        """The selected element width (SEW) in bits."""
         return 8 << (self.vtype >> 3 & 7)
 
     @property
     def lmul(self) -> Fraction:
-        """The group multiplier, 1/8 to 8."""
+        """The group multiplier (LMUL), from 1/8 to 8."""
         return Fraction(2) ** (((self.vtype & 7) + 4) % 8 - 4)
 
     @property
     def vlmax(self) -> int:
-        """How many elements a group has; 0 where the type is vill."""
+        """VLMAX: the number of elements of a register group; 0 if vill is set."""
         if self.vtype >> 63:
             return 0
-        shift = ((self.vtype & 7) + 4) % 8 - 4  # of LMUL, as in lmul
+        shift = ((self.vtype & 7) + 4) % 8 - 4  # log2 of LMUL
         return (256 << shift) // self.sew if shift >= 0 else 256 // self.sew >> -shift
 
 
@@ -127,7 +132,7 @@ CONTROL = tuple(vars(ControlRegisters()))
 
 @dataclass(frozen=True)
 class Word:
-    """A program's word at an address; its canonical text, which `dis` shows, and `asm` doesn't."""
+    """An instruction of a program. text: its canonical text, which `dis` shows; "" in an answer to `asm`"""
 
     address: int
     word: int
@@ -136,14 +141,14 @@ class Word:
 
 @dataclass(frozen=True)
 class Listing:
-    """Words one behind another."""
+    """Consecutive instructions."""
 
     words: Sequence[Word]
 
 
 @dataclass(frozen=True)
 class Addresses:
-    """What `breaks` or `trace` shows."""
+    """The addresses that `breaks` or `trace` shows. name: this command"""
 
     name: str
     addresses: Sequence[int]
@@ -151,9 +156,10 @@ class Addresses:
 
 @dataclass(frozen=True)
 class ProgramState:
-    """Where a program is, and why.
+    """Where a program is, and for which reason.
 
-    number: how often it has stepped, or the status of an exit
+    kind: how the answer starts, such as `exit` or `state running`
+    number: for `stepped` the number of steps, for `exit` the exit status
     cause, value: of a fault
     """
 
@@ -165,7 +171,7 @@ class ProgramState:
 
     @property
     def what(self) -> str:
-        """The kind, of a fault with its cause."""
+        """The kind, and for a fault also its cause."""
         return f"fault cause={self.cause}" if self.kind == "fault" else self.kind
 
     def __str__(self) -> str:
@@ -175,28 +181,31 @@ class ProgramState:
 
 
 class Position(ProgramState):
-    """It has `stepped` so often, is `running` or `stopped` now, or is shown: `state running` or `state stopped`."""
+    """The position of a program that hasn't stopped by itself.
+
+    kind: `stepped` after that number of steps, `running`, `stopped`, or in an answer to `state`: `state running` or `state stopped`
+    """
 
     @property
     def run(self) -> Run:
-        """`running` or `stopped`."""
+        """Whether the program runs: `running` or `stopped`."""
         return "running" if self.kind.endswith("running") else "stopped"
 
 
 class Stop(ProgramState):
-    """It has stopped by itself: an `exit`, a `fault`, a `break`, an `ebreak`, or a full output buffer, `outfull`."""
+    """A stop of a program by itself. kind: `exit`, `fault`, `break`, `ebreak`, or `outfull` for a full output buffer"""
 
 
 @dataclass(frozen=True)
 class Output:
-    """The output of the program."""
+    """The output of a program since the last `out`."""
 
     data: bytes
 
 
 @dataclass(frozen=True)
 class Granted:
-    """How many slices were granted, and the stops of these slices, each with its user's digit."""
+    """The number of slices that a line granted, and the stops in these slices, each with its user's digit."""
 
     slices: int
     stops: Sequence[tuple[str, Stop]] = ()
@@ -211,7 +220,10 @@ class Users:
 
 @dataclass(frozen=True)
 class Switches:
-    """How the vector unit was switched, by name: saves, restores, inits, and whose state it holds, or 0: owner."""
+    """The counts of the vector unit, by name: `saves`, `restores` and `inits`.
+
+    The entry `owner` is the user whose state the vector unit holds, or 0.
+    """
 
     counts: dict[str, int]
 
@@ -222,11 +234,12 @@ Answer = (
 
 
 def _value(word: str) -> int:
-    """The digits behind a name, as a number."""
+    """Return the hexadecimal number after `NAME=`."""
     return int(word.partition("=")[2], 16)
 
 
-_READERS: dict[str, Callable[..., Answer]] = {  # by the first word of an answer, of its words
+# By the start of an answer; each is called with the parts of the line, which spaces separate.
+_READERS: dict[str, Callable[..., Answer]] = {
     **dict.fromkeys(("entered", "left", "ok"), Done),
     "loaded": lambda _, pc, pages: Loaded(_value(pc), int(pages.partition("=")[2])),
     "peek": lambda _, address, digits: Memory(int(address, 16), bytes.fromhex(digits)),
@@ -244,7 +257,7 @@ _READERS: dict[str, Callable[..., Answer]] = {  # by the first word of an answer
 
 
 def read(answer: Sequence[str]) -> Answer:
-    """The meaning of a whole answer, with the digits of its lines. Raises ValueError for other lines."""
+    """Parse a whole answer, a list of lines with their prefixes. Raises ValueError if it has no known form."""
     *before, last = answer
     first, *others = words = last[2:].split(" ")
     if first in _READERS:
@@ -272,20 +285,21 @@ def read(answer: Sequence[str]) -> Answer:
 
 @functools.lru_cache(maxsize=4096)
 def _vector_register(line: str) -> VectorRegister:
-    """The vector register that a line shows. Most registers are read again as they were."""
+    """Return the vector register that a line without its prefix shows. Most lines are repeated, so results are cached."""
     name, *elements = line.split(" ")
-    data = bytes.fromhex("".join(reversed(elements)))[::-1]  # elements, and bytes of each, from the last to the first
+    # The line has the last element first, and the last byte of each element first.
+    data = bytes.fromhex("".join(reversed(elements)))[::-1]
     return VectorRegister(int(name[1:]), 256 // len(elements), data)
 
 
 def answers_by_user(answer: Sequence[str]) -> list[tuple[str, Answer]]:
-    """A whole answer, by users: those whose programs stopped, and the one who gets the answer."""
+    """Split a whole answer by users: the stops of users whose programs stopped, and then the answer for the sender of the line."""
     parsed = read(answer)
     return [*(parsed.stops if isinstance(parsed, Granted) else ()), (answer[-1][0], parsed)]
 
 
 def elements_in(data: bytes, width: int) -> list[int]:
-    """The elements of registers, of this width in bits."""
+    """Return the elements of registers, as unsigned numbers. data: the registers' bytes; width: the bits of an element, 1 for a mask"""
     if width == 1:
         return [byte >> bit & 1 for byte in data for bit in range(8)]
     size = width // 8
@@ -293,7 +307,7 @@ def elements_in(data: bytes, width: int) -> list[int]:
 
 
 def is_refusal(answer: Sequence[str]) -> bool:
-    """Whether the answer says that the line was refused."""
+    """Whether an answer is a refusal."""
     return _REFUSAL.fullmatch(answer[0]) is not None
 
 
@@ -303,19 +317,19 @@ def first_word(line: str) -> str:
 
 
 def is_empty_output(line: str) -> bool:
-    """Whether a line of an answer says that the program has no output."""
+    """Whether a line of an answer shows empty output."""
     return line[2:] == _NO_OUTPUT
 
 
 def is_stop(line: str) -> bool:
-    """Whether a line of an answer says that a program has stopped by itself."""
+    """Whether a line of an answer shows that a program has stopped by itself."""
     return _STOP_LINE.fullmatch(line) is not None
 
 
 def is_whole(line: str, answer: Sequence[str]) -> bool:
-    """Whether these lines, one at least, are all of the answer to `line`.
+    """Whether `answer`, one line or more, is the whole answer to `line`.
 
-    To be called with each line that comes; raises OutOfStep where the latest one can't be a part of the answer.
+    Call it after each line that is received. Raises OutOfStep if the last one can't be a part of the answer.
     """
     latest, count = answer[-1], _shape(line)[1]
     if latest[2:3] == "E" and latest[:2] == line[:2] and is_refusal(answer):
@@ -329,14 +343,17 @@ def is_whole(line: str, answer: Sequence[str]) -> bool:
 
 @functools.lru_cache(maxsize=4096)
 def _fits(line: str, latest: str) -> bool:
-    """Whether a line can be a part of the answer to an accepted line."""
+    """Whether `latest` can be a line of the answer to an accepted line."""
     form = _shape(line)[0]
     return latest[:2] == line[:2] and form is not None and form.fullmatch(latest) is not None
 
 
 @functools.lru_cache(maxsize=1024)
 def _shape(line: str) -> tuple[re.Pattern[str] | None, int]:
-    """The pattern of the answer to an accepted line, and its number of lines; 0 if stops come before."""
+    """Return the pattern of the last line of the answer to an accepted line (None for an unknown command), and the number of its lines.
+
+    The number is 0 if any number of stop lines may precede the last line.
+    """
     words, command = words_of(line), command_of(line)
     if command == "dis" and len(words) == 3 and words[2].isdecimal():
         return _LINES[command], max(1, int(words[2]))

@@ -1,6 +1,6 @@
-"""The lines of the monitor: which ones may be sent, and which ones only look.
+"""The lines of the monitor: which lines may be sent, and which are read-only.
 
-A line is `1 ` to `8 ` (a user) or `* ` (the operator) and a command.
+A line is a prefix, `1 ` to `8 ` for a user or `* ` for the operator, and a command.
 """
 
 import functools
@@ -8,7 +8,7 @@ import re
 
 from .. import LabError
 
-DIGITS = "12345678"  # of the users
+DIGITS = "12345678"  # one for each user
 LOOKS = {f"{digit} {word}" for digit in DIGITS for word in "regs vcsr vreg dis peek state breaks trace".split()}
 LOOKS |= {"* list", "* stats"}
 
@@ -18,11 +18,11 @@ _LINE = re.compile("[1-8*] [ -~]{0,1022}")
 
 
 class BadLine(LabError, ValueError):
-    """A line that isn't sent: it has no user, an odd character or too many, or it doesn't look where it should."""
+    """A line that isn't sent: its prefix, a character or its length is wrong, or it isn't read-only where it has to be."""
 
 
 def check_line(line: str) -> None:
-    """Raises BadLine unless the line is `1 ` to `8 ` or `* ` and at most 1,022 printable ASCII characters."""
+    """Raise BadLine unless a line has the prefix `1 ` to `8 ` or `* `, and then at most 1,022 printable ASCII characters."""
     if isinstance(line, str) and _is_line(line):
         return
     if isinstance(line, str) and not _USER.match(line):
@@ -31,7 +31,7 @@ def check_line(line: str) -> None:
 
 
 def check_text(text: str, start: int = 0) -> None:
-    """Raises BadLine unless a text is 1,022 printable ASCII characters at most from `start` on, behind the user."""
+    """Raise BadLine unless a text has at most 1,022 characters from index `start` on, all of them printable ASCII."""
     if not isinstance(text, str):
         raise BadLine("a line is a text")
     if invalid := _ODD.search(text, start):
@@ -42,21 +42,21 @@ def check_text(text: str, start: int = 0) -> None:
 
 @functools.lru_cache(maxsize=4096)
 def _is_line(line: str) -> bool:
-    """Whether a line has the form that `check_line` wants: most lines are sent again and again."""
+    """Whether a line has the form that `check_line` requires. Most lines are sent many times, so results are cached."""
     return _LINE.fullmatch(line) is not None
 
 
 def words_of(line: str) -> list[str]:
-    """The command and its arguments."""
+    """Return the command of a line and its arguments, without the prefix."""
     return line[2:].split()
 
 
 def command_of(line: str) -> str:
-    """Return the name of a line's command, as `peek`; one of the operator's has its prefix, as `* run`."""
+    """Return the name of a line's command, such as `peek`; a command of the operator has its prefix, such as `* run`."""
     return ("* " if line[:1] == "*" else "") + "".join(words_of(line)[:1])
 
 
 @functools.lru_cache(maxsize=4096)
 def is_look(line: str) -> bool:
-    """Whether the line only looks: it changes nothing, whatever is answered."""
+    """Whether a line is read-only: it changes nothing, whatever its answer is."""
     return f"{line[:1]} {''.join(words_of(line)[:1])}" in LOOKS

@@ -1,4 +1,4 @@
-"""One `vecmon` process behind its pipes. Blocking, and for one thread at a time."""
+"""One `vecmon` process, connected by pipes. Calls block; use it in one thread at a time."""
 
 import contextlib
 import os
@@ -23,18 +23,18 @@ def _blocked_interrupts() -> Iterator[None]:
 
 
 class PipedProcess:
-    """A process of the program: a line goes in, its whole answer comes out.
+    """A process of the program, which receives lines and returns their whole answers.
 
-    fed: how many bytes went in
-    number: the system's number of the process
+    fed: the number of bytes that the process has received
+    number: the process id
     """
 
     def __init__(self, command: Sequence[str], patience: float) -> None:
         self.fed = 0
         self._patience = patience
         self._unread = b""
-        self._lines = deque[str]()  # whole ones that were received before they are read
-        try:  # in a session of its own, so that Ctrl-C in a terminal doesn't end it, nor while it starts
+        self._lines = deque[str]()  # complete lines that were received, and aren't read yet
+        try:  # in a new session of the system, so that Ctrl-C in a terminal never ends the process, not even while it starts
             with _blocked_interrupts():
                 self._child = Popen(command, stdin=PIPE, stdout=PIPE, stderr=PIPE, bufsize=0, start_new_session=True)
         except OSError as error:
@@ -48,7 +48,10 @@ class PipedProcess:
         self._readable.register(self._source, select.POLLIN)
 
     def ask(self, lines: Sequence[str]) -> list[list[str]]:
-        """The answers to lines that go in together. Raises ProgramGone and OutOfStep; then it is of no use any more."""
+        """Send lines together; return the answer to each, as a list of lines.
+
+        Raises ProgramGone and OutOfStep; after that the process can't be used.
+        """
         if self._rest() or self._receive(0):
             raise OutOfStep(f"before {lines[0][:60]!r} was sent there came {self._rest()[:60]!r}")
         data = "".join(f"{line}\n" for line in lines).encode("ascii")
@@ -60,11 +63,12 @@ class PipedProcess:
         return answers
 
     def stream(self, script: bytes) -> Iterator[bytes]:
-        """Feeds lines that do, as the process takes them, and gives their answers as they come, in whole lines.
+        """Send the lines of a script as the process takes them; yield blocks of whole lines of their answers as they come.
 
-        Nobody looks how the answers are made. Raises ProgramGone.
+        Read-only lines mustn't be among them. The form of the answers isn't checked. Raises ProgramGone.
         """
-        left = memoryview(script + b"* list\n")  # whose answer is the last one: no line that does is answered so
+        # A read-only line marks the end of the answers: no line of a script has an answer like it.
+        left = memoryview(script + b"* list\n")
         self.fed += len(left)
         os.set_blocking(self._feed, False)
         ends = select.poll()
@@ -88,21 +92,21 @@ class PipedProcess:
         os.set_blocking(self._feed, True)
 
     def _put(self, data: memoryview) -> int:
-        """Writes what the process takes now; how many bytes. Raises ProgramGone."""
+        """Write as many bytes as the process takes now; return their number. Raises ProgramGone."""
         try:
             return os.write(self._feed, data)
         except OSError as error:
             raise ProgramGone(self._end()) from error
 
     def _answer(self, line: str) -> list[str]:
-        """The lines of the next answer."""
+        """Return the lines of the next answer. line: the line that it answers"""
         answer = [self._line()]
         while not is_whole(line, answer):
             answer.append(self._line())
         return answer
 
     def _line(self) -> str:
-        """The next line that the process has said, without its newline."""
+        """Return the next line that the process has printed, without its newline."""
         while not self._lines:
             if not self._receive(self._patience):
                 raise ProgramGone(f"the program says nothing for {self._patience:g} s")
@@ -111,11 +115,11 @@ class PipedProcess:
         return self._lines.popleft()
 
     def _rest(self) -> bytes:
-        """What the process has said, and isn't read."""
+        """Return the bytes that were received, and aren't read yet."""
         return "".join(f"{line}\n" for line in self._lines).encode("latin-1") + self._unread
 
     def _receive(self, seconds: float) -> bool:
-        """Waits at most so long for what the process says, and takes it; whether it said anything."""
+        """Wait at most a number of seconds for output, and receive it; return whether there was any. Raises ProgramGone."""
         if not self._readable.poll(seconds * 1000):
             return False
         data = os.read(self._source, BLOCK_BYTES)
@@ -125,7 +129,7 @@ class PipedProcess:
         return True
 
     def _end(self) -> str:
-        """How the process ended, with what it said of that."""
+        """End the process; return a message with its exit status or signal, and the first line of its standard error."""
         self._child.kill()
         status = self._child.wait()
         how = f"with status {status}" if status >= 0 else f"by {signal.Signals(-status).name}"
@@ -135,11 +139,11 @@ class PipedProcess:
         return f"the program ended {how}"
 
     def kill(self) -> None:
-        """Ends the process, whatever it does, also from another thread."""
+        """End the process at once, whatever it does. Another thread may call this."""
         self._child.kill()
 
     def close(self) -> None:
-        """Ends the process, and its pipes."""
+        """End the process, and close its pipes."""
         self.kill()
-        with self._child:  # which closes the pipes, and waits
+        with self._child:  # closes the pipes, and waits for the process
             pass

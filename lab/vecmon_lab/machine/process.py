@@ -1,4 +1,4 @@
-"""A process of the program as a session uses it, and what starts one: a file behind pipes, or a program that isn't a file."""
+"""The process of the program that a session uses, and how it is started: from a file, or by a `Starter`."""
 
 import pathlib
 from collections.abc import Iterator, Mapping, Sequence
@@ -6,41 +6,44 @@ from typing import Protocol
 
 from .. import LabError
 
-BLOCK_BYTES = 65536  # that are written, or read, at once
+BLOCK_BYTES = 65536  # number of bytes written or read at once
 
 
 class ProgramGone(LabError):
-    """The program can't be started, has ended, or says nothing."""
+    """The program can't be started, has ended, or printed nothing in time."""
 
 
 class Process(Protocol):
-    """A process of the program: a line goes in, its whole answer comes out.
+    """A process of the program, which receives lines and returns their whole answers.
 
-    fed: how many bytes went in
-    number: the system's number of the process
+    fed: the number of bytes that the process has received
+    number: the process id
     """
 
     fed: int
     number: int
 
     def ask(self, lines: Sequence[str]) -> list[list[str]]:
-        """The answers to lines that go in together. Raises ProgramGone and OutOfStep; then the process is of no use."""
+        """Send lines together; return the answer to each, as a list of lines.
+
+        Raises ProgramGone and OutOfStep; after that the process can't be used.
+        """
 
     def stream(self, script: bytes) -> Iterator[bytes]:
-        """Feeds lines that do, and gives their answers as they come, in whole lines. Raises ProgramGone."""
+        """Send the lines of a script; yield blocks of whole lines of their answers as they come. Raises ProgramGone."""
 
     def kill(self) -> None:
-        """Ends the process, whatever it does, also from another thread."""
+        """End the process at once, whatever it does. Another thread may call this."""
 
     def close(self) -> None:
-        """Ends the process, and releases its pipes."""
+        """End the process, and close its pipes."""
 
 
 class Starter(Protocol):
-    """A program that isn't a file, as WebAssembly in a page."""
+    """A program that isn't a file, such as WebAssembly in a page."""
 
     def start(self, arguments: Sequence[str], images: Mapping[str, pathlib.Path]) -> Process:
-        """Starts a process with the program's arguments, which name the images. Raises ProgramGone."""
+        """Start a process. arguments: of the program; images: paths by the names in the arguments. Raises ProgramGone."""
 
 
 Vecmon = pathlib.Path | Starter
@@ -48,12 +51,14 @@ Vecmon = pathlib.Path | Starter
 
 
 def start(program: Vecmon, command: Sequence[str], images: Mapping[str, pathlib.Path], patience: float) -> Process:
-    """Starts a process by a command, whose first word is the program. Raises ProgramGone.
+    """Start a process of a program. Raises ProgramGone.
 
-    patience: how many seconds a file's process may say nothing
+    command: the program's path and its arguments; a `Starter` gets only the arguments
+    images: paths by the names in the arguments
+    patience: the seconds without output after which a process of a file counts as ended
     """
     if not isinstance(program, pathlib.Path):
         return program.start(command[1:], images)
-    from .pipe import PipedProcess  # which needs subprocesses
+    from .pipe import PipedProcess  # imports subprocess, which a page doesn't have
 
     return PipedProcess(command, patience)

@@ -1,4 +1,4 @@
-"""Where the programs vecmon and vecmon-record and their images are."""
+"""The paths of the programs vecmon and vecmon-record, and functions for their images."""
 
 import hashlib
 import os
@@ -15,7 +15,7 @@ from .target import report_target
 
 _CRATES = TOP / "crates"
 BUILT, BUILT_RECORDER = _CRATES / "vecmon" / "out" / "vecmon", _CRATES / "vecmon_record" / "out" / "vecmon_record"
-# Built by tools/run: a folder for each state of the sources; `current` names one.
+# tools/run builds into a folder for each state of the sources; the file `current` has the last one's name.
 UNPROVED = _CRATES.parent / "build" / "unproved"
 RECORDER = "vecmon-record"
 PROCESSORS = {"x86_64": "amd64", "aarch64": "arm64", "riscv64": "riscv64"}
@@ -29,14 +29,16 @@ NO_NODE = 69
 
 
 class NoProgram(LabError):
-    """There is no program vecmon, or no vecmon-record; the text says how to build one."""
+    """The program vecmon or vecmon-record isn't found; the text says how to build it."""
 
 
 def find_program() -> pathlib.Path:
-    """Return the path of vecmon: `$VECMON`, else that in a Python package, else the first of crates/vecmon/out,
-    build/unproved, programs and PATH.
+    """Return the path of vecmon.
 
-    Raises NoProgram."""
+    It is `$VECMON`, or else the first that exists of: the one in a Python package, crates/vecmon/out, build/unproved, programs, and PATH.
+
+    Raises NoProgram.
+    """
     named = os.environ.get("VECMON")
     found = shutil.which(named) if named else _first_built(BUILT, "vecmon")
     if found is None:
@@ -46,9 +48,12 @@ def find_program() -> pathlib.Path:
 
 
 def find_recorder() -> pathlib.Path:
-    """Return the path of vecmon-record: `$VECMON_RECORD`, else the one next to `$VECMON`, else as in `find_program`.
+    """Return the path of vecmon-record.
 
-    Raises NoProgram."""
+    It is `$VECMON_RECORD`, or else the one next to `$VECMON`, or else the first that exists, as in `find_program`.
+
+    Raises NoProgram.
+    """
     named = os.environ.get("VECMON_RECORD")
     if not named and os.environ.get("VECMON"):
         named = str(find_program().with_name(RECORDER))
@@ -66,19 +71,22 @@ def find_recorder() -> pathlib.Path:
 
 
 def _advice(name: str) -> str:
-    """Return how to get a program that isn't found."""
+    """Return advice on how to get a program that isn't found."""
     return HOW_TO_BUILD["packaged" if IS_PYTHON_PACKAGE else name]
 
 
 def _first_built(built: pathlib.Path, name: str) -> str | None:
-    """Return the program in a Python package, else one that rt built, that tools/run built, of the sources' release, or on PATH."""
+    """Return the path of a program: the first of several places that has it; None if it is nowhere.
+
+    The places are the Python package, `built`, the folder of tools/run, that of the sources' release, and PATH.
+    """
     places = (PROGRAMS / name, built, _unproved(name), _released(name), name)
     return next((found for found in (shutil.which(str(place)) for place in places) if found), None)
 
 
 def _is_building() -> bool:
-    """Return whether tools/run is building programs now: it has a lock until the last of them is there."""
-    import fcntl  # which no browser has
+    """Return whether tools/run is building programs now. It holds a lock until all of them are built."""
+    import fcntl  # unavailable in a browser
 
     try:
         with (UNPROVED / "lock").open("rb") as lock:
@@ -86,25 +94,25 @@ def _is_building() -> bool:
     except BlockingIOError:
         return True
     except OSError:
-        pass  # no tools/run was here
+        pass  # tools/run has built nothing here
     return False
 
 
 def _unproved(name: str) -> pathlib.Path:
-    """Return where tools/run puts a program of the sources that it last saw. There may be no file."""
+    """Return the path of a program that tools/run has built from the sources' last state. The file may not exist."""
     current = UNPROVED / "current"
     return UNPROVED / (current.read_text("ascii").strip() if current.is_file() else "none") / name
 
 
 def _released(name: str) -> pathlib.Path:
-    """Return where the source archive of a release has a program for this processor. There may be no file."""
+    """Return the path of a program for this processor in the source archive of a release. The file may not exist."""
     import platform  # which the synchronous core does without
 
     return RELEASED / PROCESSORS.get(platform.machine(), "none") / name
 
 
 def check_is_vecmon(program: pathlib.Path) -> None:
-    """Raises NoProgram where a program that answers otherwise than it should isn't vecmon, by how its help begins."""
+    """Raise NoProgram if a program isn't vecmon: its help begins with another text. Call this after an unexpected answer."""
     import subprocess  # which the synchronous core does without
 
     try:
@@ -118,9 +126,11 @@ def check_is_vecmon(program: pathlib.Path) -> None:
 
 
 def images_of(words: list[str], any_vlen: bool = False) -> dict[str, pathlib.Path]:
-    """The images by name, about whose instruction sets warnings are printed.
+    """Return the paths of images by name, and print warnings about their instruction sets.
 
-    any_vlen: whether images for longer vector registers are taken. Raises LabError for a word that names no image.
+    words: arguments of the form NAME=PATH; any_vlen: whether to accept images for longer vector registers
+
+    Raises LabError for an argument of another form, a missing file, and an image that `report_target` refuses.
     """
     images = {}
     for word in words:
@@ -135,12 +145,12 @@ def images_of(words: list[str], any_vlen: bool = False) -> dict[str, pathlib.Pat
 
 
 def image_refusal(name: str, code: str) -> str:
-    """What is said of an image that the machine refuses."""
+    """Return the message for an image that the machine refuses. name: of the image; code: of its fault, the detail of E09"""
     return f"the machine refuses {name} ({code}): {dict(read_table('image_faults')).get(code)}"
 
 
 def segments_of(image: bytes) -> Iterator[tuple[int, str, int, bytes]]:
-    """The loaded parts of an image, by its program headers: address, permissions, size, and the first bytes."""
+    """Yield each loaded segment of an image, from its program headers: address, permissions, size, and its bytes in the file."""
     (table,), (size, count) = struct.unpack_from("<Q", image, 32), struct.unpack_from("<HH", image, 54)
     for at in range(table, table + size * count, size):
         kind, flags, offset, address, _, in_file, length = struct.unpack_from("<IIQQQQQ", image, at)
@@ -149,5 +159,5 @@ def segments_of(image: bytes) -> Iterator[tuple[int, str, int, bytes]]:
 
 
 def digest_of(path: pathlib.Path) -> str:
-    """The SHA-256 of a file, in hexadecimal digits."""
+    """Return the SHA-256 of a file, in hexadecimal digits."""
     return hashlib.sha256(path.read_bytes()).hexdigest()

@@ -1,4 +1,4 @@
-"""New processes, which execute a script again, and must answer it as the process before them did."""
+"""Start new processes, which execute a script again, and check that the answers are the same as before."""
 
 from collections import deque
 from collections.abc import Callable, Iterator
@@ -17,12 +17,15 @@ DIFFERS = "a new process answers the script otherwise than the one before"
 
 
 class ReplayDiffers(LabError):
-    """A new process answered the script otherwise than the one before."""
+    """A new process answered the script differently from the one before."""
 
 
 @dataclass
 class Copy:
-    """A process, and how many lines and bytes of the script it has executed."""
+    """A process that executes a session's script again.
+
+    number, size: the number of lines and of bytes of the script that it has executed
+    """
 
     process: Process
     number: int
@@ -30,15 +33,15 @@ class Copy:
 
 
 class Replayer:
-    """Makes processes that have executed a script. `has_ended` is set when the session ends."""
+    """Makes processes that have executed a script. has_ended: whether the session has ended"""
 
     def __init__(self, script: Script, start: Callable[[], Process], check: Callable[[], object]) -> None:
-        """start: starts a process; check: raises where the program mustn't be used"""
+        """start: starts a process; check: raises an error if the program mustn't be used"""
         self._script, self._start, self._check = script, start, check
         self.has_ended = False
 
     def copy(self) -> Copy:
-        """Return a new process that has executed the checkpoint's lines, if there is one, in place of the first lines."""
+        """Return a new process that has executed the lines of the checkpoint in place of the first lines, if there is a checkpoint."""
         process, (checkpoint, covered) = self._start(), self._script.base
         try:
             if read(process.ask(["* list"])[0]) != NEW_MACHINE:
@@ -51,7 +54,7 @@ class Replayer:
         return Copy(process, checkpoint.number, covered)
 
     def bring_up(self, copy: Copy, tell: Progress = lambda percent: None) -> None:
-        """Executes the lines that the script has since. An error ends the process."""
+        """Execute the rest of the script. An error ends the process. tell: is called with the executed percentage"""
         script = bytes(self._script.text[copy.size :])
         try:
             for lines, answers in self.piped(copy.process, script, tell):
@@ -66,9 +69,11 @@ class Replayer:
         copy.size += len(script)
 
     def piped(self, process: Process, script: bytes, tell: Progress = lambda percent: None) -> Iterator[Block]:
-        """Lines that a session recorded, and their answers, in blocks as they come; reports progress in percent.
+        """Execute lines; yield blocks of lines with their answers as they come.
 
-        Raises ProgramGone, and OutOfStep where there are more answers than lines, or fewer.
+        script: the lines of a session's script; tell: is called with the executed percentage
+
+        Raises ProgramGone, and OutOfStep if there are more answers than lines, or fewer.
         """
         lines, number, stops = script.decode("ascii").split("\n")[:-1], 0, ""
         left = iter(lines)
@@ -79,7 +84,7 @@ class Replayer:
             tell(min(99, 100 * number // len(lines)))
             answers = list[str]()
             for part in block.decode("latin-1").split("\n")[:-1]:
-                if line[:1] == "*" != part[:1]:  # stops precede an operator's answer
+                if line[:1] == "*" != part[:1]:  # stop lines precede the answer to an operator's line
                     stops += f"{part}\n"
                     continue
                 if not line:

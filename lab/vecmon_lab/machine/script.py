@@ -16,7 +16,7 @@ Block = tuple[Sequence[str], Sequence[str]]
 
 @dataclass(frozen=True)
 class Checkpoint:
-    """Lines that replace the first `number` lines of a script: they leave a new machine in the same state."""
+    """Lines that replace the first `number` lines of a script: they bring a new machine into the same state."""
 
     number: int
     lines: bytes
@@ -24,12 +24,12 @@ class Checkpoint:
 
 @dataclass(frozen=True)
 class ScriptStart:
-    """The first lines of a script, with what a session knows of them, so that a new process needn't execute them.
+    """The first lines of a script, with the data that a session needs if a new process doesn't execute them.
 
-    number, size: of the lines, and of their bytes
-    sent, answers: digests of the lines and of their answers
-    policy: of agnostic elements, of each user who is there after them
-    lines: makes the lines that replace them; None if there are none that leave the machine as they do
+    number, size: the number of lines, and of their bytes
+    sent, answers: the digests of the lines and of their answers
+    policy: the policy for agnostic elements of each user who is present after these lines
+    lines: makes lines that replace the first lines; returns None if no lines bring a machine into the same state
     """
 
     number: int
@@ -41,11 +41,15 @@ class ScriptStart:
 
 
 class Script:
-    """Lines, each with its newline, digests of them and of their answers, and a mark of each answer.
+    """The lines of a session, with digests of the lines and of their answers.
 
-    `sent` and `answers` are the digests, and `marks` has the CRC-32 of each answer, by which a replay is compared. `base` has the last
-    checkpoint, and how many bytes of the script it replaces. `policy` has the policy for agnostic elements of each user who is there. `total` is how many
-    seconds the lines have taken, and `spent` those that a new process would take.
+    text: the lines, each with its newline
+    sent, answers: the digests of the lines and of the answers
+    marks: the CRC-32 of each answer, with which the answers of a replay are compared
+    base: the last checkpoint, and the number of bytes of the script that it replaces
+    policy: the policy for agnostic elements of each present user
+    total: the seconds that all lines have taken
+    spent: the seconds that the lines since the checkpoint have taken, so that a replay takes about as long
     """
 
     def __init__(self) -> None:
@@ -57,7 +61,10 @@ class Script:
         self.sent, self.answers = hashlib.sha256(), hashlib.sha256()
 
     def shorten(self, checkpoint: Checkpoint, spent: float) -> None:
-        """Adds a checkpoint, of the script as it was when `spent` seconds were spent: a new process starts with it."""
+        """Replace the first part of the script by a checkpoint, so that a new process executes the checkpoint instead.
+
+        spent: the seconds that this part took
+        """
         before, covered = self.base
         removed = max(0, checkpoint.number - before.lines.count(b"\n"))
         for _ in range(removed):
@@ -66,26 +73,29 @@ class Script:
         self.spent -= spent
 
     def start(self, lines: Callable[[], bytes | None]) -> ScriptStart:
-        """Return the whole script as the start of a longer one. lines: makes the lines that replace it."""
+        """Return the whole script as the start of a longer one. lines: makes the lines that replace it, as in `ScriptStart`"""
         return ScriptStart(
             len(self.marks), len(self.text), self.sent.copy(), self.answers.copy(), dict(self.policy), lines
         )
 
     def begin(self, start: ScriptStart, lines: bytes, whole: "Script") -> None:
-        """Take over the start of another script, which these lines replace in a new process."""
+        """Start with the first lines of another script.
+
+        start: these lines; lines: replace them in a new process; whole: the other script
+        """
         self.text, self.marks = whole.text[: start.size], whole.marks[: start.number]
         self.sent, self.answers = start.sent.copy(), start.answers.copy()
         self.policy.update(start.policy)
         self.base = Checkpoint(start.number, lines), start.size
 
     def record(self, lines: Sequence[str], answers: Sequence[str]) -> None:
-        """Adds lines and their answers."""
+        """Add lines and their answers."""
         self.add_replayed(lines, answers)
-        # by now each line there has its mark, also for a spare's thread
+        # The text is extended last, so that another thread's spare process finds a mark for each line.
         self.text += "\n".join([*lines, ""]).encode("ascii")
 
     def add_replayed(self, lines: Sequence[str], answers: Sequence[str]) -> None:
-        """Adds lines and answers to the digests, and the marks, and follows the policies that their lines set."""
+        """Add replayed lines and their answers to the digests, the marks and the policies, but not to the text."""
         self.sent.update("\n".join([*lines, ""]).encode("latin-1"))
         self.answers.update("\n".join([*answers, ""]).encode("latin-1"))
         self.marks.extend(marks(answers))
@@ -94,7 +104,7 @@ class Script:
                 self._follow_policy(line, answer)
 
     def spend(self, started: float) -> None:
-        """Counts the time since then, by `time.monotonic`."""
+        """Add the time since `started`, a result of `time.monotonic`, to `spent` and `total`."""
         seconds = time.monotonic() - started
         self.spent, self.total = self.spent + seconds, self.total + seconds
 

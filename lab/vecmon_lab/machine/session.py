@@ -1,6 +1,6 @@
-"""One `vecmon` process behind its pipes, and the session that outlives it.
+"""A session: a machine that continues in a new `vecmon` process if its process ends.
 
-Blocking, and for one thread at a time: an event loop calls a session from a thread.
+Calls block; use a session in one thread at a time. An event loop calls it from another thread.
 """
 
 import contextlib
@@ -14,9 +14,10 @@ from functools import partial
 from .. import LabError
 from .answers import OutOfStep
 from .lines import BadLine, check_line, is_look
-from .process import Process, ProgramGone, Vecmon, start
+from .live_process import LiveProcess
+from .process import ProgramGone, Vecmon, start
 from .program import check_is_vecmon
-from .replay import DIFFERS, Copy, Progress, Replayer, ReplayDiffers
+from .replay import DIFFERS, Progress, Replayer, ReplayDiffers
 from .script import Block, Checkpoint, Script, ScriptStart
 
 __all__ = [
@@ -31,33 +32,38 @@ __all__ = [
     "recorded_lines",
 ]
 
-SCRIPT_BYTES = 15_000_000  # a process takes 16,777,216 bytes at most, and lines that look need room as well
-WEIGHTY_BYTES, WEIGHTY_SECONDS = 1_000_000, 1.0  # of lines that a new process replays
-TOGETHER = 40  # lines that go to the program at once: each has to fit into its pipe
+SCRIPT_BYTES = 15_000_000  # a process takes at most 16,777,216 bytes, and read-only lines need room as well
+WEIGHTY_BYTES, WEIGHTY_SECONDS = 1_000_000, 1.0  # size and time of a replay from which a checkpoint is worth making
+TOGETHER = 40  # number of lines that are sent at once: all of them have to fit into the pipe
 Observer = Callable[[int, Sequence[str], Sequence[str]], object]
-_OTHER_LINE = re.compile(rb"^(?![1-8*] [ -~]{0,1022}\n)", re.MULTILINE)  # than a session records, or the end
+# Matches the first line that no session records, or the end.
+_OTHER_LINE = re.compile(rb"^(?![1-8*] [ -~]{0,1022}\n)", re.MULTILINE)
 
 
 class ScriptFull(LabError):
-    """The script has no room for a line that does."""
+    """The script has no room for another line."""
 
 
 def recorded_lines(script: bytes) -> bytes:
-    """The lines at the beginning of a script that a session records, up to one that is torn or damaged."""
+    """Return the first lines of a script, up to one that a session wouldn't record, such as an incomplete or damaged line."""
     other = _OTHER_LINE.search(script)
     return script[: other.start()] if other else script
 
 
 class Session(contextlib.AbstractContextManager["Session"]):
-    """A machine for eight users, and the script that makes it anew.
+    """A machine for eight users, and the script that brings a new machine into the same state.
 
-    Its process is replaced where it ended, hangs, or has no room for more lines; then the new one executes the
-    script again, or a checkpoint's lines and the lines since. `policy` has the policy for agnostic elements, `keep` or
-    `ones`, of each user who is there: no command shows it. `quantum` is the ticks of a slice. `command` starts the program
-    with the `images`, and `losses` says why processes that were asked gave no answer, and were replaced. `recorded` has the
-    script. `progress` is called while a new process carries it out, with how much of it that has done in percent: 0 first,
-    and 100 at the end. `starts` has starts of the script, the shortest first, which `rewound` needn't execute. `on_lines` is
-    given lines and their answers once they are recorded, with the number of bytes that the script had before them.
+    The process is replaced if it ends, hangs, or has no room for more lines. The new one executes the script again, or a
+    checkpoint's lines and the lines since then.
+
+    quantum: the ticks of a slice
+    images: paths by name
+    command: the program and its arguments
+    recorded: the script
+    policy: the policy of each present user for agnostic elements, `keep` or `ones`, which no command shows
+    progress: is called while a new process executes the script, with the executed percentage, from 0 to 100
+    starts: first parts of the script, the shortest first, that `rewound` doesn't need to execute
+    on_lines: is called with the number of bytes of the script before some recorded lines, these lines, and their answers
     """
 
     def __init__(
@@ -71,33 +77,32 @@ class Session(contextlib.AbstractContextManager["Session"]):
         check: Callable[[], object] = lambda: None,
         lock: Callable[[], contextlib.AbstractContextManager[object]] = contextlib.nullcontext,
     ) -> None:
-        """Starts the program with these images by name.
+        """Start the program. images: paths by name
 
-        A process hangs that says nothing for `patience` seconds. The script has room for `script_bytes`. `check` is
-        called once a process has started, and raises where that mustn't be used. `lock` makes a lock that a thread can
-        take again, where another thread calls `follow`. Raises as `do` does.
+        patience: the seconds without output after which a process counts as hung
+        script_bytes: the largest size of the script
+        check: is called after a process has started; raises an error if the program mustn't be used
+        lock: makes a lock that its holder can take again; needed if another thread calls `follow`
+
+        Raises as `do` does.
         """
         self.quantum = 100 if quantum is None else quantum
         options = [] if quantum is None else ["--quantum", str(quantum)]
         words = [f"{name}={path}" for name, path in images.items()]
         self.images = images
-        self.command = [str(program), *options, "--", "/dev/stdin", *words]  # images are taken after a script alone
+        self.command = [str(program), *options, "--", "/dev/stdin", *words]  # vecmon takes images only after a script
         opening = partial(Session, program, images, quantum=quantum, patience=patience)
         self._opening = partial(opening, script_bytes=script_bytes, check=check, lock=lock)
         self._script_bytes = script_bytes
         self.recorded = Script()
         self.policy = self.recorded.policy
-        self._replayer = Replayer(self.recorded, partial(start, program, self.command, images, patience), check)
-        self._spare: Copy | None = None
-        self._spare_turn = lock()
-        self.losses: list[str] = []
+        replayer = Replayer(self.recorded, partial(start, program, self.command, images, patience), check)
+        self._live = LiveProcess(replayer, script_bytes, lock(), lambda percent: self.progress(percent))
         self.starts: Sequence[ScriptStart] = ()
         self.on_lines: Observer = lambda size, lines, answers: None
         self.progress: Progress = lambda percent: None
-        self._percent = 100
-        self._process: Process | None = None
         try:
-            self._replay()
+            self._live.replace()
         except BaseException as error:
             self.close()
             if isinstance(error, ProgramGone | OutOfStep) and isinstance(program, pathlib.Path):
@@ -109,17 +114,17 @@ class Session(contextlib.AbstractContextManager["Session"]):
 
     @property
     def script(self) -> bytes:
-        """The lines that were done, each with its newline: a plain run of the program makes the machine from them."""
+        """The recorded lines, each with its newline. A plain run of the program with them leads to the same machine."""
         return bytes(self.recorded.text)
 
     @property
     def size(self) -> int:
-        """How many bytes the script has."""
+        """The number of bytes of the script."""
         return len(self.recorded.text)
 
     @property
     def lines(self) -> int:
-        """How many lines the script has."""
+        """The number of lines of the script."""
         return len(self.recorded.marks)
 
     @property
@@ -134,46 +139,51 @@ class Session(contextlib.AbstractContextManager["Session"]):
 
     @property
     def process(self) -> int | None:
-        """The system's number of the process, if there is one now."""
-        return self._process.number if self._process else None
+        """The process id; None if there is no process now."""
+        return self._live.number
+
+    @property
+    def losses(self) -> list[str]:
+        """The reason of each replacement of a process that gave no answer."""
+        return self._live.losses
 
     def do(self, line: str) -> list[str]:
-        """The answer to a line, which is recorded unless it only looks.
+        """Execute a line, and record it unless it is read-only. Return the lines of its answer.
 
-        Raises BadLine and ScriptFull for a line that isn't sent; ProgramGone, OutOfStep and ReplayDiffers where there
-        is no answer. Then the line isn't recorded, and the session is as before it.
+        Raises BadLine and ScriptFull for a line that isn't sent, and ProgramGone, OutOfStep and ReplayDiffers if there is no answer. After
+        an error the line isn't recorded, and the session is unchanged.
         """
         return self.do_all([line])[0]
 
     def do_all(self, lines: Sequence[str]) -> list[list[str]]:
-        """As `do`, for some dozens of lines that go to the program together: all of them are done, or none is."""
+        """As `do`, for a few dozen lines that are sent together: either all of them are executed, or none."""
         for line in lines:
             check_line(line)
         self.check_room(lines)
         return self._ask(lines)
 
     def check_room(self, lines: Sequence[str]) -> None:
-        """Raise ScriptFull if the script has no room for all of the lines."""
+        """Raise ScriptFull if the script has no room for these lines."""
         size = sum(len(line) + 1 for line in lines if not is_look(line))
         if size and self.size + size > self._script_bytes:
             raise ScriptFull(f"the script has {self._script_bytes:,} bytes at most, so only lines that look go on")
 
     def do_script(self, script: bytes) -> Iterator[tuple[str, list[str]]]:
-        """Does lines that a session recorded, in bulk: each line and its answer, as they come.
+        """Execute the lines of a script that a session recorded, in bulk. Yield each line and the lines of its answer.
 
-        The form of the answers' lines isn't checked: the digest covers them. Raises BadLine, ProgramGone and OutOfStep,
-        and then the session is of no use any more, as where it isn't gone through to its end.
+        The form of the answers isn't checked: the digest covers them. Raises BadLine, ProgramGone and OutOfStep. After an error, or if the
+        caller doesn't iterate to the end, the session can't be used.
         """
         for lines, answers in self.do_blocks(script):
             for line, answer in zip(lines, answers):
                 yield line, answer.split("\n")
 
     def do_blocks(self, script: bytes) -> Iterator[Block]:
-        """As `do_script`, in blocks as they come: for callers that do nothing with most lines."""
+        """As `do_script`, but yield blocks of lines with their answers, for callers that need few of them."""
         if len(recorded_lines(script)) < len(script):
             raise BadLine("a script has lines that no session records")
         started = time.monotonic()
-        for block in self._replayer.piped(self._process or self._replay(), script, self._tell):
+        for block in self._live.pipe(script):
             self.recorded.add_replayed(*block)
             yield block
         self.recorded.text += script
@@ -181,46 +191,36 @@ class Session(contextlib.AbstractContextManager["Session"]):
 
     @property
     def short_script(self) -> bytes:
-        """Lines that leave the machine as the script does: those of the last checkpoint, and the lines since."""
+        """Lines that bring a machine into the script's final state: those of the last checkpoint, and the lines since then."""
         checkpoint, covered = self.recorded.base
         return checkpoint.lines + self.recorded.text[covered:]
 
     @property
     def weight(self) -> float:
-        """The cost of a replay in a new process: from 1 on it is time for a checkpoint."""
+        """The cost of a replay in a new process, as a ratio: from 1 on, a checkpoint should be made."""
         return (self.size - self.recorded.base[1]) / WEIGHTY_BYTES + self.recorded.spent / WEIGHTY_SECONDS
 
     def follow(self) -> None:
-        """Brings a spare process to where the machine is, in a thread of its own: it takes the place of one that is gone.
+        """Let a spare process execute the script up to its end, perhaps in another thread. It replaces a process that has ended.
 
-        Raises as a replay does; then there is no spare.
+        Raises as a replay does; then there is no spare process.
         """
-        with self._spare_turn:
-            if self._spare and self._spare.process.fed > self._script_bytes:
-                self._spare.process.close()
-                self._spare = None
-            if not self._replayer.has_ended:
-                self._spare = self._spare or self._replayer.copy()
-                try:
-                    self._replayer.bring_up(self._spare)
-                except BaseException:
-                    self._spare = None
-                    raise
+        self._live.follow()
 
     def renewed(self) -> "Session":
-        """A session on the same machine whose script is `short_script`. Raises as a replay does."""
+        """Return a session on an equal machine whose script is `short_script`. Raises as a replay does."""
         recorded = self.recorded
         replacement, since = self.rewound(self.short_script), recorded.marks[recorded.base[0].number :]
         if replacement.recorded.marks[replacement.lines - len(since) :] != since:
             replacement.close()
             raise ReplayDiffers(DIFFERS)
-        replacement.losses = self.losses
+        replacement.losses.extend(self.losses)
         return replacement
 
     def rewound(self, script: bytes, check: Callable[[], object] = lambda: None) -> "Session":
-        """A session with the same images whose script is this one. Raises as `do_script` does.
+        """Return a session with the same images that has executed `script`. Raises as `do_script` does.
 
-        The longest of `starts` with which both scripts begin isn't executed. check: is called again and again meanwhile
+        Lines of the longest of `starts` that both scripts have in common aren't executed. check: is called repeatedly meanwhile
         """
         replacement = self._opening()
         try:
@@ -233,54 +233,44 @@ class Session(contextlib.AbstractContextManager["Session"]):
         return replacement
 
     def _skip_start(self, script: bytes, starts: Sequence[ScriptStart], other: Script) -> None:
-        """Begin with the longest start that a script has in common with another one, if its machine can be set up."""
+        """Set up the machine of the longest of `starts` that `script` has in common with another script, if lines can do that.
+
+        other: the other script, to which the starts belong
+        """
         for number, first in reversed([*enumerate(starts, 1)]):
             if first.size > len(script) or script[: first.size] != other.text[: first.size]:
                 continue
             lines = first.lines()
-            if lines is not None and self._process:
-                deque(self._replayer.piped(self._process, lines), 0)
+            if lines is not None and self._live.number is not None:
+                deque(self._live.pipe_set_up(lines), 0)
                 self.recorded.begin(first, lines, other)
                 self.starts = starts[:number]
                 return
 
     def looks(self, lines: Sequence[str]) -> list[str]:
-        """The answers, of one line each, to dozens of a user's lines that only look; as `do_all`, but the lines aren't checked."""
+        """Return the answers, of one line each, to dozens of a user's read-only lines. As `do_all`, but the lines aren't checked."""
         return [answer for (answer,) in self._ask(lines)]
 
     def look(self, line: str) -> list[str]:
-        """The answer to a line that only looks. Raises BadLine for any other one, and else as `do`."""
+        """Return the answer to a read-only line. Raises BadLine for any other line, and otherwise as `do`."""
         check_line(line)
         if not is_look(line):
             raise BadLine(f"{line[:40]!r} isn't a line that only looks")
         return self._ask([line])[0]
 
     def close(self) -> None:
-        """Ends the process. The session goes on with a new one where it is asked again."""
-        if self._process:
-            self._process.close()
-        self._process = None
-        if self._replayer.has_ended:
-            with self._spare_turn:
-                if self._spare:
-                    self._spare.process.close()
-                self._spare = None
+        """End the process. The session starts a new one when it gets another line."""
+        self._live.close()
 
     def end(self) -> None:
-        """Ends the process for good, also while another thread waits for it: that one gets ProgramGone."""
-        self._replayer.has_ended, spare = True, self._spare
-        for process in (self._process, spare.process if spare else None):
-            if process:
-                process.kill()
+        """End the process for good. Another thread that waits for an answer gets ProgramGone."""
+        self._live.end()
 
     def _ask(self, lines: Sequence[str]) -> list[list[str]]:
-        """The answers to lines, which are recorded unless they only look. No process outlives an error or interrupt."""
-        size = sum(map(len, lines))
-        if self._process and self._process.fed + size >= self._script_bytes + self._script_bytes // 10:
-            self.close()
+        """Send lines, record those that aren't read-only, and return the answers. After an error or interrupt, the process is ended."""
         started = time.monotonic()
         try:
-            answers = self._answers_to(lines)
+            answers = self._live.ask(lines)
             done = [(line, "\n".join(answer)) for line, answer in zip(lines, answers) if not is_look(line)]
             if done:
                 self._record(*zip(*done))
@@ -290,45 +280,8 @@ class Session(contextlib.AbstractContextManager["Session"]):
             raise
         return answers
 
-    def _answers_to(self, lines: Sequence[str]) -> list[list[str]]:
-        """The answers of the process, or of a new one if that is gone."""
-        if self._process:
-            try:
-                return self._process.ask(lines)
-            except ProgramGone as gone:
-                self.losses.append(str(gone))
-                self.close()
-        return self._replay().ask(lines)
-
-    def _replay(self) -> Process:
-        """A process that has executed the script, with the same answers as the one before: the spare, or a new one."""
-        with self._spare_turn:
-            spare, self._spare = self._spare, None
-            if spare:
-                with contextlib.suppress(ProgramGone):
-                    self._with_process(spare).ask(["* list"])  # whether it lives
-                    return spare.process
-                spare.process.close()
-            return self._with_process(self._replayer.copy())
-
-    def _with_process(self, copy: Copy) -> Process:
-        """A copy's process, which is the session's now, brought up. Raises as a replay does, and then it is closed."""
-        self._process = copy.process
-        try:
-            self._replayer.bring_up(copy, self._tell)
-        except BaseException:
-            self.close()
-            raise
-        return copy.process
-
-    def _tell(self, percent: int) -> None:
-        """Report the percentage of the script that is executed, if it has changed."""
-        if percent != self._percent:
-            self._percent = percent
-            self.progress(percent)
-
     def _record(self, lines: Sequence[str], answers: Sequence[str]) -> None:
-        """Adds lines to the script, and takes up their answers."""
+        """Add lines and their answers to the script, and call `on_lines`."""
         size = self.size
         self.recorded.record(lines, answers)
         self.on_lines(size, lines, answers)

@@ -1,7 +1,7 @@
-"""The start of a program that lines of the monitor bring in: its stack, where it returns to, and its global pointer.
+"""The state in which a program starts that monitor lines load: its stack, its return address, and its global pointer.
 
-The lab adds these lines to each source in assembler or C that it loads, so that a program starts in the same way
-everywhere. `enter`, `load` and scripts are without them.
+The lab adds these lines to each assembler or C source that it loads, so that programs start in the same way everywhere. The commands
+`enter` and `load`, and scripts, don't have them.
 """
 
 from collections.abc import Mapping
@@ -30,6 +30,6 @@ START_PAGES = STACK_BYTES // _PAGE_BYTES + 1
 
 
 def start_lines(labels: Mapping[str, int]) -> list[str]:
-    """The lines that set up the start of a program with these labels, in addition to those that bring it in."""
+    """Return the lines that set up this state, to follow the lines that load the program. labels: the addresses of the program's labels"""
     pointer = [f"set x3 {labels[GLOBAL_POINTER]:x}"] if GLOBAL_POINTER in labels else []
     return [*START, *pointer]

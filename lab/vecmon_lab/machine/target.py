@@ -1,4 +1,4 @@
-"""The instruction set that an image is compiled for, by its section .riscv.attributes (RISC-V ELF psABI, "Attributes")."""
+"""The instruction set that an image is compiled for, from its section .riscv.attributes (RISC-V ELF psABI, "Attributes")."""
 
 import os
 import pathlib
@@ -14,16 +14,17 @@ from .image import MARCH
 
 VLEN = 256  # bits of a vector register
 _MACHINE, _OBJECT_FILE = 243, 1  # EM_RISCV of e_machine, and ET_REL of e_type
-_FLAGS = {1: "compressed instructions", 6: "a floating-point ABI"}  # by the bits of e_flags that say so
-_MACHINES = {"EM_386": "x86", "EM_X86_64": "x86-64", "EM_ARM": "Arm", "EM_AARCH64": "AArch64"}  # by their usual names
-_FORMAT, _VENDOR = b"A", b"riscv"  # of the section, and of the attributes that the psABI defines
+_FLAGS = {1: "compressed instructions", 6: "a floating-point ABI"}  # the features that bits of e_flags require
+# The usual names of other machines.
+_MACHINES = {"EM_386": "x86", "EM_X86_64": "x86-64", "EM_ARM": "Arm", "EM_AARCH64": "AArch64"}
+_FORMAT, _VENDOR = b"A", b"riscv"  # the format of the section, and the vendor of the attributes that the psABI defines
 _SCOPE_FILE, _ARCH = 1, 5  # Tag_File, and Tag_RISCV_arch
 _SINGLE_LETTERS, _OTHER = re.compile(r"rv(?:32|64)((?:[a-z](?:\d+p\d+)?)+)"), re.compile(r"([a-z]\w*?)(?:\d+p\d+)?")
-_TITLES = {"v": "the floating point of V"}  # of which the machine has all else
+_TITLES = {"v": "the floating point of V"}  # names for warnings; the machine has the rest of V
 _LEAST_VLEN = re.compile(r"zvl(\d+)b")
 
 
-HEADER_BYTES = 64  # of an ELF file, and also of a section
+HEADER_BYTES = 64  # size of the header of an ELF file, and of a section header
 
 
 class _BadSectionHeaders(Exception):
@@ -31,7 +32,10 @@ class _BadSectionHeaders(Exception):
 
 
 def check_kind(image: pathlib.Path) -> None:
-    """Raise LabError for an ELF file that is no program for RISC-V: one for another machine, or one that isn't linked; and OSError."""
+    """Raise LabError for an ELF file that isn't a RISC-V program, because it is for another machine, or isn't linked.
+
+    Raises OSError if it can't be read.
+    """
     with image.open("rb") as file:
         header = file.read(20)
     if header[:4] != b"\x7fELF" or len(header) < 20:
@@ -45,15 +49,15 @@ def check_kind(image: pathlib.Path) -> None:
 
 
 def _machine_name(number: int) -> str:
-    """The name of a machine by e_machine; "" for 0 and for numbers that no machine has."""
-    from elftools.elf.enums import ENUM_E_MACHINE  # which an image for RISC-V doesn't need
+    """Return the name of a machine by its number in e_machine; "" for 0 and for unknown numbers."""
+    from elftools.elf.enums import ENUM_E_MACHINE  # not needed for an image for RISC-V
 
     names = [str(name) for name, value in ENUM_E_MACHINE.items() if value == number != 0]
     return next((_MACHINES.get(name) or name.removeprefix("EM_") for name in names), "")
 
 
 def check_flags(image: pathlib.Path) -> None:
-    """Raise LabError for an image compiled for features that the machine lacks, by its e_flags, and OSError."""
+    """Raise LabError if e_flags show that an image needs features that the machine lacks. Raises OSError if it can't be read."""
     with image.open("rb") as file:
         header = file.read(64)
     is_riscv = header[:6] == b"\x7fELF\2\1" and header[18:20] == _MACHINE.to_bytes(2, "little")
@@ -66,9 +70,11 @@ def check_flags(image: pathlib.Path) -> None:
 def report_target(image: pathlib.Path, any_vlen: bool = False, name: object = None) -> None:
     """Print warnings about an image's instruction set on standard error.
 
-    any_vlen: whether an image for longer vector registers is taken; name: what messages call the image, by default its path
+    any_vlen: whether to accept an image for longer vector registers
+    name: the image's name in messages, by default its path
 
-    Raises LabError if it is for longer vector registers, or its e_flags are for another machine, and OSError.
+    Raises LabError if the image is for longer vector registers, or its e_flags are for another machine. Raises OSError if it can't
+    be read.
     """
     with mistakes_in(name or image):
         check_flags(image)
@@ -77,11 +83,12 @@ def report_target(image: pathlib.Path, any_vlen: bool = False, name: object = No
 
 
 def target_warnings(image: pathlib.Path, any_vlen: bool = False, override: str = "") -> list[str]:
-    """Return what the machine lacks of an image's instruction set, a clause each; none for a file without the section.
+    """Return a clause for each feature that an image's instruction set has and the machine lacks; none for a file without the section.
 
-    any_vlen: whether an image for longer vector registers is taken; override: how the user sets that, if it can be set
+    any_vlen: whether to accept an image for longer vector registers
+    override: the option with which the user can accept it, for the message; "" if there is none
 
-    Raises LabError if the image is compiled for longer vector registers, unless any_vlen is set, and OSError.
+    Raises LabError if the image is for longer vector registers, unless any_vlen is set. Raises OSError if it can't be read.
     """
     try:
         arch = _arch_of(image)
@@ -103,9 +110,9 @@ def target_warnings(image: pathlib.Path, any_vlen: bool = False, override: str =
 
 
 def extensions_of(arch: str) -> list[str]:
-    """Return the names of the extensions in an arch string, as `rv64i2p1_m2p0_zve64x1p0`, without their versions.
+    """Return the names of the extensions in an arch string such as `rv64i2p1_m2p0_zve64x1p0`, without their versions.
 
-    Raises ValueError if the string isn't in this form.
+    Raises ValueError if the string has another form.
     """
     first, *others = arch.lower().split("_")
     letters, names = _SINGLE_LETTERS.fullmatch(first), [_OTHER.fullmatch(other) for other in others]
@@ -115,7 +122,7 @@ def extensions_of(arch: str) -> list[str]:
 
 
 def _lacking(names: Iterable[str]) -> Iterator[str]:
-    """The extensions that the machine lacks, without those that another one of them implies."""
+    """Yield the extensions that the machine lacks, except those that another missing extension implies."""
     kinds, implied = {}, {}
     for name, kind, *others in read_table("extensions"):
         kinds[name], implied[name] = kind, " ".join(others).split()
@@ -127,13 +134,13 @@ def _lacking(names: Iterable[str]) -> Iterator[str]:
 def _arch_of(image: pathlib.Path) -> str | None:
     """Return the arch string of an image; None if it has none.
 
-    Raises _BadSectionHeaders if the table can't be read, ValueError if the section is damaged, and OSError.
+    Raises _BadSectionHeaders if the table can't be read, ValueError if the section is damaged, and OSError if the file can't be read.
     """
-    from elftools.elf.elffile import ELFFile  # which an import of this module doesn't need
+    from elftools.elf.elffile import ELFFile  # imported only when an image is read
 
     with image.open("rb") as file:
         header = file.read(HEADER_BYTES)
-        if header[:6] != b"\x7fELF\2\1" or len(header) < HEADER_BYTES:  # `load` refuses it
+        if header[:6] != b"\x7fELF\2\1" or len(header) < HEADER_BYTES:  # `load` refuses such a file
             return None
         _check_section_headers(header, file.seek(0, os.SEEK_END))
         try:
@@ -152,16 +159,19 @@ def _arch_of(image: pathlib.Path) -> str | None:
 
 
 def _check_section_headers(header: bytes, size: int) -> None:
-    """Raise _BadSectionHeaders if an ELF file of this number of bytes has section headers of another size, or outside of it."""
+    """Raise _BadSectionHeaders if the section headers of an ELF file have an unusual size, or are outside the file.
+
+    header: the first bytes of the file; size: its number of bytes
+    """
     (table,), (entry_bytes, number) = struct.unpack_from("<Q", header, 40), struct.unpack_from("<2H", header, 58)
     if table and (
         entry_bytes != HEADER_BYTES or table + entry_bytes * max(number, 1) > size
-    ):  # 0: the number is in the first one
+    ):  # if the number is 0, the first section header has it
         raise _BadSectionHeaders
 
 
 def _subsections(content: bytes) -> Iterator[tuple[bytes, bytes]]:
-    """The subsections of a section of attributes: the vendor, and its content. Raises ValueError."""
+    """Yield the vendor and the content of each subsection of a section of attributes. Raises ValueError."""
     if content[:1] != _FORMAT:
         raise ValueError("another format")
     at = 1
@@ -175,7 +185,7 @@ def _subsections(content: bytes) -> Iterator[tuple[bytes, bytes]]:
 
 
 def _archs(value: bytes) -> Iterator[str]:
-    """The arch strings in the attributes of the file. Raises ValueError."""
+    """Yield the arch strings in the attributes of the whole file. Raises ValueError."""
     at = 0
     while at < len(value):
         scope, length = value[at], int.from_bytes(value[at + 1 : at + 5], "little")
@@ -187,7 +197,10 @@ def _archs(value: bytes) -> Iterator[str]:
 
 
 def _values_of(wanted: int, attributes: bytes) -> Iterator[str]:
-    """The texts of a tag, which is odd: even tags have a number (ULEB128), odd ones a text that ends with 0. Raises ValueError."""
+    """Yield the texts of the tag `wanted`, which is odd. Raises ValueError.
+
+    The value of an even tag is a number (ULEB128). The value of an odd tag is a text that ends with a zero byte.
+    """
     rest = attributes
     while rest:
         tag, rest = _number(rest)
@@ -202,7 +215,7 @@ def _values_of(wanted: int, attributes: bytes) -> Iterator[str]:
 
 
 def _number(data: bytes) -> tuple[int, bytes]:
-    """Return a number in ULEB128, and the bytes after it. Raises ValueError if it is cut off."""
+    """Return a number in ULEB128, and the bytes after it. Raises ValueError if it is incomplete."""
     number = 0
     for at, byte in enumerate(data):
         number |= (byte & 0x7F) << 7 * at

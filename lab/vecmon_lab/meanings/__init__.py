@@ -1,1 +1,1 @@
-"""The meaning of each instruction: records in words, formulas that are evaluated, and reasons for an element's value."""
+"""The meaning of each instruction: records with sentences, formulas that can be evaluated, and the reasons for an element's value."""

@@ -1,4 +1,4 @@
-"""The calculation of one element in parts: each number with its name, its bits and its sign, and how it is written as text.
+"""The calculation of one element, in parts: each number has a name, bits and a sign, and can be written as text.
 
 `why`, pages, lessons and notebooks print calculations from these parts, in one notation.
 """
@@ -12,11 +12,11 @@ from ..instructions.table import ABI_NAMES
 from .formula import sext
 
 NumberForm = Literal["signed", "unsigned", "hexadecimal"]
-"""How a reader wants numbers: it decides the sign of those whose sign doesn't change the result."""
+"""How a reader wants numbers. This decides the sign of numbers whose sign doesn't change the result."""
 
 
 class Sign(enum.Enum):
-    """How a formula takes the bits of a number. EITHER: the result has the same bits for signed and unsigned numbers."""
+    """How a formula interprets the bits of a number. EITHER: the result has the same bits for signed and unsigned numbers."""
 
     SIGNED = "signed"
     UNSIGNED = "unsigned"
@@ -27,8 +27,8 @@ class Sign(enum.Enum):
 class Notation:
     """How numbers and names are written.
 
-    form: of numbers; hexadecimal ones have 0x before their digits
-    has_abi_names: whether a scalar register is a0 in place of x10
+    form: of numbers; hexadecimal numbers have 0x before their digits
+    has_abi_names: whether a scalar register is written as a0 instead of x10
     minus: the sign before negative numbers
     """
 
@@ -42,7 +42,7 @@ class Notation:
         return f"{self.minus}{digits}" if value < 0 else digits
 
     def taken(self, bits: int, width: int, sign: Sign) -> int:
-        """Return the number that bits are. width: in bits; 0 if the number has no width, and is itself"""
+        """Return the number that bits represent. width: of the number in bits; 0 for a number without width, which is returned unchanged"""
         has_sign = sign == Sign.SIGNED or sign == Sign.EITHER and self.form == "signed"
         return sext(bits, width) if has_sign and width > 1 else bits
 
@@ -51,15 +51,15 @@ class Notation:
 class Term:
     """A number in a calculation, and its name.
 
-    name: `v4[5]`, `v0.mask[5]`, `memory[0x11004]`, `x11`, `sew`; of an immediate its digits
-    scalar: the number of a scalar register, whose name in the ABI may replace x11; None if it is something else
-    bits: the unsigned number in its bits; without a width the number itself, which may be negative
-    width: in bits: 1 of a bit of a mask; 0 of an immediate or a number of the machine
-    sign: how the formula takes the bits
-    function: written around the name: `signed`, `unsigned`, `sext`, `zext`; or ""
-    register, index: of an element of a vector register group: the group's first register, and the element; of the number of the element
-        itself only its index
-    step: the distance to the term in the calculation of the next element: 1, or 0 if it is the same one; None if that varies
+    name: `v4[5]`, `v0.mask[5]`, `memory[0x11004]`, `x11`, `sew`; for an immediate, its digits
+    scalar: the number of a scalar register, whose ABI name may replace x11; None for other terms
+    bits: the number's bits as an unsigned number; without a width, the number itself, which may be negative
+    width: in bits; 1 for a bit of a mask; 0 for an immediate or a number of the machine
+    sign: how the formula interprets the bits
+    function: the function around the name: `signed`, `unsigned`, `sext`, `zext`; or ""
+    register, index: for an element of a vector register group, the group's first register and the element's index. A term that
+    is an element's index has only `index`.
+    step: how many elements further the term is in the calculation of the next element: 1, or 0 for the same term; None if that varies
     """
 
     name: str
@@ -73,7 +73,7 @@ class Term:
     step: int | None = 0
 
     def value(self, notation: Notation) -> int:
-        """Return the number that the calculation takes."""
+        """Return the number that the formula uses."""
         return notation.taken(self.bits, self.width, self.sign)
 
     def named(self, notation: Notation) -> str:
@@ -91,7 +91,7 @@ Part = str | Term
 
 @dataclass(frozen=True)
 class Condition:
-    """A condition that has chosen between two formulas, and whether it holds."""
+    """A condition that selected one of two formulas, and whether it holds."""
 
     parts: tuple[Part, ...]
     holds: bool
@@ -106,10 +106,10 @@ class Condition:
 class Calculation:
     """Why an element of a vector register, or a scalar register, has its value: a formula with names and with numbers.
 
-    target: the element or register, with its bits and its width afterwards
+    target: the element or register, with its bits after the instruction, and its width
     parts: the right side
-    results: the exact value of the right side, with terms of sign EITHER taken as signed, and as unsigned
-    causes: conditions that have chosen this formula
+    results: the exact value of the right side, first with terms of sign EITHER as signed numbers, and then as unsigned ones
+    causes: the conditions that selected this formula
     """
 
     target: Term
@@ -126,7 +126,7 @@ class Calculation:
         return shown + (f", since {' and '.join(each.text(notation) for each in self.causes)}" if self.causes else "")
 
     def result_text(self, notation: Notation) -> str:
-        """Return the exact result, and the value in the target's bits if that is another one."""
+        """Return the exact result, followed by the value in the target's bits if they differ."""
         exact = self.results[notation.form != "signed"]
         bits, width = self.target.bits, self.target.width
         stored = notation.taken(bits, width, Sign.EITHER)
@@ -140,11 +140,11 @@ class Calculation:
 
 @dataclass(frozen=True)
 class Kept:
-    """Why an element or a register has the value that it had, or all ones.
+    """Why an element or a register kept its value, or became all ones.
 
-    target: the element or register, with its bits and its width afterwards
-    cause: in words
-    is_ones: whether it is agnostic, and the policy `ones` has set its bits
+    target: the element or register, with its bits after the instruction, and its width
+    cause: a text
+    is_ones: whether it is agnostic, and the policy `ones` set its bits
     """
 
     target: Term
@@ -171,7 +171,7 @@ def numbers_text(parts: tuple[Part, ...], notation: Notation) -> str:
 
 
 def _written(parts: tuple[Part, ...], texts: list[str]) -> Iterator[str]:
-    """The texts of parts, with parentheses around negative numbers next to other parts."""
+    """Yield the texts of parts, with parentheses around negative numbers next to other parts."""
     for part, text in zip(parts, texts):
         is_negative = isinstance(part, Term) and not text[0].isalnum()
         yield f"({text})" if is_negative and len(parts) > 1 else text

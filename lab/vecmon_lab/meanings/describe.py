@@ -13,16 +13,16 @@ from ..tables.table import read_table
 from .extensions import extensions
 from .record import FOLDER, Record, record_of, records, scalar_source
 
-_SHORT = ("a", "an", "the", "of", "to", "with", "in")  # words that a search leaves out
-_ENDING = re.compile(r"(?<=\w{4})(ing|ed|es|s|y|ies)$")  # which a search leaves out: `shifting` finds `Shifts`
+_SHORT = ("a", "an", "the", "of", "to", "with", "in")  # words that a search ignores
+_ENDING = re.compile(r"(?<=\w{4})(ing|ed|es|s|y|ies)$")  # an ending that a search ignores: `shifting` finds `Shifts`
 EXAMPLES = FOLDER.with_name("instruction_examples.txt")
 _CAUSES = {Trait.FROM_ZERO: "vstart isn't 0", Trait.BELOW_64: "SEW is 64"}  # why a word with a trait is illegal
-_LISTED = 12  # of what a search finds
+_LISTED = 12  # names in the result of a search, at most
 
 
 @functools.cache
 def expansions() -> dict[str, list[str]]:
-    """The expansion of each pseudo-instruction by its name: `mv rd, rs: addi rd, rs, 0`."""
+    """Return the expansion of each pseudo-instruction, by its name: `mv rd, rs: addi rd, rs, 0`."""
     found: dict[str, list[str]] = {}
     for form, *texts in read_table("pseudo"):
         if not texts[0].startswith("error"):
@@ -31,7 +31,7 @@ def expansions() -> dict[str, list[str]]:
 
 
 def sample(row: Row) -> VectorInstruction | None:
-    """A vector instruction of a row under e16, m1; None if it is another one."""
+    """Return a vector instruction of a row, decoded under e16, m1; None for a row of another kind."""
     if row.opcode not in (OP_V, *VECTOR_ACCESSES):
         return None
     return decode(row.word(0) | (1 << 25 if "[, v0.t]" in row.operands else 0), 16, Fraction(1))
@@ -39,12 +39,12 @@ def sample(row: Row) -> VectorInstruction | None:
 
 @functools.cache
 def examples() -> dict[str, tuple[str, str, str]]:
-    """The example of each family of vector instructions: the text, and what it reads and writes before and after it."""
+    """Return the example of each family of vector instructions: its text, what it reads and writes before, and the same after it."""
     return {name: (text, before, after) for name, text, before, after in read_table("instruction_examples")}
 
 
 def example_lines(record: Record) -> list[str]:
-    """The example of a family as lines; nothing if it has none."""
+    """Return the example of a family as lines; none if the family has no example."""
     if record.name not in examples():
         return []
     text, before, after = examples()[record.name]
@@ -52,7 +52,7 @@ def example_lines(record: Record) -> list[str]:
 
 
 def operand_cells(row: Row) -> Iterator[tuple[str, str, str]]:
-    """Each vector register operand: its place, EEW and EMUL."""
+    """Yield the place, EEW and EMUL of each vector register operand."""
     instruction = sample(row)
     for operand in instruction.operands if instruction else []:
         yield "vs3" if operand.noun == "data" else operand.place, _width(operand), _multiplier(operand)
@@ -63,7 +63,7 @@ def _width(operand: Operand) -> str:
 
 
 def _scaled(name: str, part: Fraction) -> str:
-    """A multiple or a part of what has a name."""
+    """Return the text of a multiple or a part of a named number."""
     return f"{part}*{name}" if part > 1 else name if part == 1 else f"{name}/{part.denominator}"
 
 
@@ -76,7 +76,7 @@ def _multiplier(operand: Operand) -> str:
 
 
 def illegal_causes(row: Row) -> Iterator[str]:
-    """The causes that make a vector instruction illegal, by its shape."""
+    """Yield the causes that make a vector instruction illegal, by its shape."""
     instruction = sample(row)
     if instruction is None:
         return
@@ -109,7 +109,7 @@ def _overlaps(instruction: VectorInstruction, target: Operand, sources: list[Ope
 
 
 def describe(name: str) -> list[str]:
-    """The description of an instruction, a pseudo-instruction or another name with a record; empty for others."""
+    """Return the description of an instruction, a pseudo-instruction or another name with a record; empty for other names."""
     if name in instruction_table():
         return list(_instruction_lines(name))
     record = records().get(name)
@@ -122,7 +122,7 @@ def describe(name: str) -> list[str]:
 
 
 def _absent(name: str) -> list[str]:
-    """Why there is no instruction of a name that other extensions have."""
+    """Return why the machine lacks a name of other extensions; empty for other names."""
     found = [it for it in records().values() if it.kind == "absent" and re.fullmatch(it.names, name)]
     return [f"{name}: {found[0].does}"] if found else []
 
@@ -145,13 +145,13 @@ def _instruction_lines(name: str) -> Iterator[str]:
 
 
 def scalar_note(row: Row, formula: str) -> str:
-    """A note behind a formula with vs1, in the forms with a scalar or an immediate in its place; else ""."""
+    """Return a note about vs1 in a formula, for a form with a scalar or an immediate in its place; "" if no note is needed."""
     other = scalar_source(row) if "vs1" in formula else ""
     return f", where vs1[i] is {other}" if other else ""
 
 
 def section_of(record: Record) -> str:
-    """The section of the manual, and the manual if it is another one than the Unprivileged ISA and the V extension."""
+    """Return the manual's section, with the manual unless it is the Unprivileged ISA or the V extension."""
     manual = extensions()[record.extension].manual if record.extension else ""
     return f"{record.section} of {manual}" if manual else record.section
 
@@ -169,7 +169,7 @@ def _more(record: Record) -> Iterator[str]:
 
 
 def encoding_fields(row: Row) -> list[tuple[str, int]]:
-    """The fields of a word from bit 31 on, each with its name, or its bits where they are fixed, and its number of bits."""
+    """Return the fields of an instruction from bit 31 down: the name, or the bits if they are fixed, and the number of bits."""
     names = [name for name in row.fields() if name not in ("offset", "imm", "uimm", "shamt", "csr", "vtypei")]
     places = {"vd": 7, "rd": 7, "vs1": 15, "rs1": 15, "vs2": 20, "rs2": 20}
     own = {places[name]: name for name in names if name in places}
@@ -178,7 +178,7 @@ def encoding_fields(row: Row) -> list[tuple[str, int]]:
     borders = (7, 12, 15, 20, 25, 26) if row.opcode in (OP_V, *VECTOR_ACCESSES) else (7, 12, 15, 20, 25)
 
     def field_of(bit: int) -> tuple[str, int]:
-        """The name of an operand's field, or the number of a field of fixed bits."""
+        """Return the name of an operand's field, or the number of a field of fixed bits."""
         return (_mark(row, own, bit), 0) if row.bits[31 - bit] == "-" else ("", bisect.bisect(borders, bit))
 
     fields = [(name, list(bits)) for (name, _), bits in itertools.groupby(range(31, -1, -1), field_of)]
@@ -186,7 +186,7 @@ def encoding_fields(row: Row) -> list[tuple[str, int]]:
 
 
 def _mark(row: Row, own: Mapping[int, str], bit: int) -> str:
-    """The name of the field that a bit of an operand belongs to. own: names of registers by the lowest bit of their field."""
+    """Return the name of the field that a bit of an operand belongs to. own: names of registers, by the lowest bit of their field"""
     if bit == 25 and "[, v0.t]" in row.operands:
         return "vm"
     low = next((low for low in (7, 15, 20) if low <= bit < low + 5), -1)
@@ -194,18 +194,18 @@ def _mark(row: Row, own: Mapping[int, str], bit: int) -> str:
 
 
 def encoding_text(row: Row) -> str:
-    """The 32 bits of an instruction in a line, bit 31 first: fixed bits, and the names of fields with their bits."""
+    """Return a line with the 32 bits of an instruction, bit 31 first: fixed bits, and the names and sizes of fields."""
     return " | ".join(f"{name}" if set(name) <= {"0", "1"} else f"{name}:{bits}" for name, bits in encoding_fields(row))
 
 
 def text_of(record: Record) -> str:
-    """All texts of a record, for a search."""
+    """Return all texts of a record in lower case, for a search."""
     texts = [record.name, *record.members, record.kind, record.does, record.elements, record.use, record.mistake]
     return " ".join(texts).lower()
 
 
 def found(words: str) -> list[Record]:
-    """The records that have all words, the closest first. Short words, as `with`, don't count."""
+    """Return the records that contain all words, the best match first. Short words such as `with` are ignored."""
     search_words = [_ENDING.sub("", word) for word in re.findall(r"[\w.]+", words.lower()) if word not in _SHORT]
     if not search_words:
         return []
@@ -214,7 +214,11 @@ def found(words: str) -> list[Record]:
 
 
 def _rank(record: Record, search_words: Sequence[str]) -> int:
-    """0 if a word of the name or the sentence begins with each, 1 if some are only inside, as `sign` is in `unsigned`; else 2."""
+    """Return the rank of a record in a search.
+
+    It is 0 if each search word starts a word of its name or sentence; 1 if some are inside a word, as `sign` in `unsigned`;
+    otherwise 2.
+    """
     sentence = f"{record.name} {record.does}".lower()
     if all(re.search(rf"\b{re.escape(word)}", sentence) for word in search_words):
         return 0
@@ -222,7 +226,7 @@ def _rank(record: Record, search_words: Sequence[str]) -> int:
 
 
 def search_lines(words: str) -> list[str]:
-    """The records that a search finds, a line each."""
+    """Return a line for each record that a search finds."""
     every = found(words)
     lines = [f"{it.name}: {it.does}" for it in every[:_LISTED]]
     return [*lines, f"and {len(every) - _LISTED} more: add a word"] if len(every) > _LISTED else lines

@@ -1,4 +1,4 @@
-"""Calculations from formulas: the parts of a formula for one element, with the instruction's own registers and their values."""
+"""Calculations from formulas: the parts of a formula for one element, with the instruction's registers and their values."""
 
 import ast
 import functools
@@ -10,28 +10,33 @@ from .calculation import Calculation, Condition, Part, Sign, Term
 from .executed import Execution, Numbers, Shared, execution_of
 from .formula import Assignment, Formula, Names, elements_in, evaluate, evaluate_each
 
-MAX_TERMS = 8  # of a list of elements that is shown whole
-_PLACE = re.compile(r"\b_(\d+)\b")  # of a term in the text of a formula: no name of the language starts so
+MAX_TERMS = 8  # elements in the longest list that is shown completely
+_PLACE = re.compile(
+    r"\b_(\d+)\b"
+)  # a term's placeholder in the text of a formula; no name of the language has this form
 _OPERANDS = re.compile(r"x\[(\w+)\]|\bv(?:d|s[123])\b|the immediate")  # in the sentence of a record
 _CONVERSIONS = ("signed", "sext", "zext")
-_COUNTERS = ("j", "f")  # numbers that are shown as digits wherever they are
+_COUNTERS = ("j", "f")  # numbers that are always shown as digits
 _IMMEDIATES = ("imm", "uimm", "shamt", "offset")
-_SUMS = ("sum", "bitand", "bitor", "bitxor")  # functions whose lowest bits depend on the lowest bits of numbers alone
+_SUMS = ("sum", "bitand", "bitor", "bitxor")  # functions whose lowest bits depend only on the lowest bits of numbers
 _NO_WIDTH = 65  # above the width of all terms
-_RING = (ast.Add, ast.Sub, ast.Mult, ast.BitAnd, ast.BitOr, ast.BitXor)  # operations of which that is true
+_RING = (ast.Add, ast.Sub, ast.Mult, ast.BitAnd, ast.BitOr, ast.BitXor)  # operations with the same property
 
 
 def calculation_of(execution: Execution, target: Term, assignment: Assignment) -> Calculation:
-    """Return the calculation of an assignment with the present values of its names. target: with its bits afterwards"""
+    """Return the calculation of an assignment, for the current values of its names.
+
+    target: the element or register, with its bits after the instruction
+    """
     return calculation_of_each(execution, target, assignment, [execution.element])[0]
 
 
 def calculation_of_each(
     execution: Execution, target: Term, assignment: Assignment, elements: Sequence[int]
 ) -> tuple[Calculation, list[tuple[int, int]]]:
-    """Return the calculation of the first of elements that have one form, and the exact results of all of them.
+    """Return the calculation for the first of several elements with the same form, and the exact results of all of them.
 
-    The first element is the present one. target: with its bits afterwards
+    The execution's current element must be the first one. target: the first element, with its bits after the instruction
     """
     reader = Reader(execution, assignment.value, target.width)
     node, causes = reader.chosen(assignment.value)
@@ -40,7 +45,7 @@ def calculation_of_each(
 
 
 def branches_of(node: ast.expr, names: Names, elements: Sequence[int]) -> Iterator[tuple[ast.expr, Sequence[int]]]:
-    """Return the branches of a choice that count for elements, each with its elements, one at least."""
+    """Yield the branches of a conditional expression that some elements select, each with these elements."""
     if not isinstance(node, ast.IfExp):
         yield node, elements
         return
@@ -79,7 +84,7 @@ def sentence_parts(execution: Execution) -> tuple[Part, ...]:
 
 
 class _FormulaWriter:
-    """Writes a formula with an instruction's operands, for all elements."""
+    """Writes a formula with an instruction's operands, in the form that holds for all elements."""
 
     def __init__(self, execution: Execution) -> None:
         self._execution, self._terms = execution, list[Term]()
@@ -110,13 +115,13 @@ class _FormulaWriter:
             case ast.Name(name) if name in (*_IMMEDIATES, "bytes", "nf"):
                 return ast.Name(_bracketed(f"{names[name]}"))
             case ast.Call(ast.Name(name), [ast.GeneratorExp() as loop]):
-                return ast.Name(f"{name}{ast.unparse(_changed(loop, self._shown))}")  # which has parentheses
+                return ast.Name(f"{name}{ast.unparse(_changed(loop, self._shown))}")  # with its parentheses
             case ast.BinOp(one, ast.Mult(), ast.Name("bytes")) if names["bytes"] == 1:
                 return self._shown(one)
         return _changed(node, self._shown)
 
     def _operand(self, node: ast.Subscript) -> ast.expr:
-        """An element, or the scalar in its place."""
+        """Return an element, or the scalar in its place."""
         if isinstance(node.value, ast.Name) and isinstance(shared := self._execution.names[node.value.id], Shared):
             return ast.Name(_bracketed(shared.name)) if shared.scalar is None else self._place(shared.scalar)
         return ast.Subscript(self._shown(node.value), self._shown(node.slice), ast.Load())
@@ -127,12 +132,12 @@ class _FormulaWriter:
 
 
 def _bracketed(digits: str) -> str:
-    """Digits, in parentheses if the number is negative."""
+    """Return digits, in parentheses if the number is negative."""
     return f"({digits})" if digits.startswith("-") else digits
 
 
 def _parts_of(text: str, terms: Sequence[Term]) -> tuple[Part, ...]:
-    """The parts of a text with the places of terms."""
+    """Return a text as parts. Its placeholders become terms."""
     texts = _PLACE.split(text)
     parts = [terms[int(part)] if place % 2 else part for place, part in enumerate(texts)]
     return tuple(part for part in parts if part != "")
@@ -141,19 +146,19 @@ def _parts_of(text: str, terms: Sequence[Term]) -> tuple[Part, ...]:
 class Reader:
     """Reads the parts of a formula with the values of an execution's names.
 
-    The sign of a term doesn't count if it can't change the lowest bits of the result: if it is as wide as the result or wider, and is
-    only added, multiplied and the like.
+    The sign of a term doesn't matter if it can't change the lowest bits of the result: if the term is at least as wide as the
+    result, and is only used in additions, multiplications and similar operations.
     """
 
     def __init__(self, execution: Execution, value: ast.expr, width: int) -> None:
-        """value: all of the formula; width: of its target in bits, 0 without one"""
+        """value: the whole formula; width: of its target in bits, 0 if it has no width"""
         self._execution, self._names = execution, execution.names.copy()
         word, vtype = execution.before.word, execution.before.control.vtype
         self._free = _free_terms(value, width if width > 1 else _NO_WIDTH, execution.formula, word, vtype)
         self._mixed = _mixed(value)
 
     def chosen(self, node: ast.expr) -> tuple[ast.expr, list[Condition]]:
-        """Return the branch of a choice that counts, and the conditions that select it."""
+        """Return the branch of a conditional expression that is selected, and the conditions that select it."""
         causes = list[Condition]()
         while isinstance(node, ast.IfExp):
             holds = bool(evaluate(node.test, self._names))
@@ -162,7 +167,10 @@ class Reader:
         return node, causes
 
     def results(self, node: ast.expr, elements: Sequence[int]) -> list[tuple[int, int]]:
-        """Return the exact values for elements, with terms whose sign doesn't count as signed numbers, and as unsigned ones."""
+        """Return the exact values for elements, as pairs.
+
+        In the first value, terms whose sign doesn't matter are signed numbers; in the second one they are unsigned.
+        """
         unsigned = evaluate_each(node, self._names, elements)
         if not self._free:
             return [(value, value) for value in unsigned]
@@ -174,7 +182,7 @@ class Reader:
         return _joined(self._filled(_slots_of(node, self._free, self._mixed)))
 
     def _filled(self, slots: "Slots") -> Iterator[Part]:
-        """The parts of an expression, by the present values of names."""
+        """Yield the parts of an expression, for the current values of names."""
         for slot in slots:
             if isinstance(slot, _Slot):
                 yield self._term(slot)
@@ -184,7 +192,7 @@ class Reader:
                 yield slot
 
     def _term(self, slot: "_Slot") -> Part:
-        """The term at a slot; a counter is text."""
+        """Return the term in a slot. A counter is text."""
         node, names = slot.node, self._names
         if isinstance(node, ast.Subscript):
             return self._element(slot, node)
@@ -199,17 +207,17 @@ class Reader:
         return f"{value}"
 
     def _element(self, slot: "_Slot", node: ast.Subscript) -> Term:
-        """The term that an element, a scalar register or memory is."""
+        """Return the term for an element, a scalar register or memory."""
         numbers, index = numbers_of(node, self._names), evaluate(node.slice, self._names)
         sign = Sign.UNSIGNED if numbers.width == 1 else slot.sign
         name, scalar, value = numbers.name_of(index), numbers.scalar_of(index), int(numbers[index])
         place, step = (None, 0) if numbers.register is None else (index, _step(node.slice))
-        has_digits = isinstance(numbers, Shared) and scalar is None  # which have their sign
+        has_digits = isinstance(numbers, Shared) and scalar is None  # an immediate's digits include its sign
         function = "" if has_digits else slot.function
         return Term(name, value, numbers.width, sign, scalar, function, numbers.register, place, step)
 
     def _list(self, slot: "_ListSlot") -> Iterator[Part]:
-        """The parts of a function of a list; of a sum its numbers."""
+        """Yield the parts of a function with a list among its arguments. For a sum, they are the numbers to add."""
         separator = " + " if slot.name == "sum" else ", "
         arguments = [part for each in slot.arguments for part in self._arguments(*each, separator)]
         if slot.name == "sum":
@@ -217,7 +225,10 @@ class Reader:
         return iter([f"{slot.name}(", *arguments[1:], ")"])
 
     def _arguments(self, slots: "Slots", loop: ast.comprehension | None, separator: str) -> Iterator[Part]:
-        """The parts of an argument, each after a separator; of a list those of each of its elements, without some of many."""
+        """Yield the parts of an argument, each after a separator.
+
+        For a list, they are the parts for each of its elements; of a long list, some are omitted. loop: the list, or None
+        """
         if loop is None:
             yield from (separator, *self._filled(slots))
             return
@@ -235,8 +246,8 @@ class Reader:
 class _Slot:
     """The place of a term in an expression.
 
-    node: an element, a scalar register or memory, or the name of a number
-    sign, function: as those of the term
+    node: an element, a scalar register, memory, or the name of a number
+    sign, function: the term's
     """
 
     node: ast.expr
@@ -246,33 +257,33 @@ class _Slot:
 
 @dataclass(frozen=True)
 class _ListSlot:
-    """The place of a function that has a list among its arguments. arguments: each with the list that it goes through, or None"""
+    """The place of a function with a list among its arguments. arguments: each with the list that it iterates over, or None"""
 
     name: str
     arguments: tuple[tuple["Slots", ast.comprehension | None], ...]
 
 
 Slots = tuple[str | _Slot | _ListSlot, ...]
-"""An expression as text, and the places of its terms, which have no values yet."""
+"""An expression as text, with slots for its terms, which have no values yet."""
 
 
 @functools.lru_cache(maxsize=4096)
 def _slots_of(node: ast.expr, free: frozenset[int], mixed: frozenset[int]) -> Slots:
-    """The slots of an expression. free, mixed: the identities of terms: of `_free_terms` and `_mixed`"""
+    """Return the slots of an expression. free, mixed: the `id`s of the terms from `_free_terms` and `_mixed`"""
     writer = _SlotWriter(free, mixed)
     texts = _PLACE.split(ast.unparse(writer.shown(node)))
     return tuple(writer.slots[int(text)] if place % 2 else text for place, text in enumerate(texts) if text)
 
 
 class _SlotWriter:
-    """Puts slots in place of the terms of an expression."""
+    """Replaces the terms of an expression with slots."""
 
     def __init__(self, free: frozenset[int], mixed: frozenset[int]) -> None:
         self.slots = list[_Slot | _ListSlot]()
         self._free, self._mixed = free, mixed
 
     def shown(self, node: ast.expr) -> ast.expr:
-        """Return an expression with the places of slots."""
+        """Return an expression with placeholders for slots."""
         match node:
             case ast.Call(ast.Name(name), [ast.Subscript() as term]) if name in _CONVERSIONS:
                 return self._place(_Slot(term, Sign.UNSIGNED if name == "zext" else Sign.SIGNED, name))
@@ -286,7 +297,7 @@ class _SlotWriter:
         return _changed(node, self.shown)
 
     def _argument(self, node: ast.expr) -> tuple[Slots, ast.comprehension | None]:
-        """An argument of a function; of a list its element, and the list."""
+        """Return the slots of a function's argument; for a list, those of its element, and the list."""
         element, loop = (node.elt, node.generators[0]) if isinstance(node, ast.GeneratorExp) else (node, None)
         return _slots_of(element, self._free, self._mixed), loop
 
@@ -296,7 +307,7 @@ class _SlotWriter:
 
 
 def _joined(parts: Iterable[Part]) -> tuple[Part, ...]:
-    """Parts with texts next to each other as one."""
+    """Return parts with adjacent texts joined."""
     joined = list[Part]()
     for part in parts:
         if isinstance(part, str) and joined and isinstance(joined[-1], str):
@@ -308,13 +319,16 @@ def _joined(parts: Iterable[Part]) -> tuple[Part, ...]:
 
 @functools.lru_cache(maxsize=4096)
 def _free_terms(value: ast.expr, width: int, formula: Formula, word: int, vtype: int) -> frozenset[int]:
-    """The identities of the terms whose sign doesn't count: the widths of numbers depend on a word and the vector type only."""
+    """Return the `id`s of the terms whose sign doesn't matter.
+
+    They depend only on the word and the vector type, which determine the widths of numbers.
+    """
     return frozenset(id(node) for node in _free(value, width, execution_of(word, vtype, formula).names))
 
 
 @functools.lru_cache(maxsize=1024)
 def _with_signs(node: ast.expr, free: frozenset[int]) -> ast.expr:
-    """An expression in which terms whose sign doesn't count are signed. free: their identities"""
+    """Return an expression in which terms whose sign doesn't matter are signed. free: the `id`s of these terms"""
     if id(node) in free:
         return ast.Call(ast.Name("sext", ast.Load()), [node], [])
     return _changed(node, lambda each: _with_signs(each, free))
@@ -322,7 +336,7 @@ def _with_signs(node: ast.expr, free: frozenset[int]) -> ast.expr:
 
 @functools.lru_cache(maxsize=1024)
 def _step(index: ast.expr) -> int | None:
-    """How far the index of an operand's element goes for the next element of the result; None if that varies."""
+    """Return by how much an operand's index increases for the result's next element; None if that varies."""
     parts = list(ast.walk(index))
     if not any(isinstance(part, ast.Name) and part.id == "i" for part in parts):
         return 0
@@ -330,7 +344,7 @@ def _step(index: ast.expr) -> int | None:
 
 
 def numbers_of(node: ast.Subscript, names: Names) -> Numbers:
-    """Return what has an index in a formula: a register group, its mask, memory or the scalar registers."""
+    """Return the object that an expression indexes: a register group, its mask, memory or the scalar registers."""
     is_mask = isinstance(node.value, ast.Attribute)
     base = node.value.value if isinstance(node.value, ast.Attribute) else node.value
     assert isinstance(base, ast.Name)
@@ -341,7 +355,7 @@ def numbers_of(node: ast.Subscript, names: Names) -> Numbers:
 
 
 def _changed(node: ast.expr, change: Callable[[ast.expr], ast.expr]) -> ast.expr:
-    """A copy of an expression with its parts changed; functions and what has an index stay."""
+    """Return a copy of an expression with its parts changed. Names of functions and indexed objects stay the same."""
 
     def value(each: object) -> object:
         if isinstance(each, ast.comprehension):
@@ -359,7 +373,7 @@ def _changed(node: ast.expr, change: Callable[[ast.expr], ast.expr]) -> ast.expr
 
 
 def _free(node: ast.expr, width: int, names: Names) -> Iterator[ast.expr]:
-    """The terms whose sign doesn't change the lowest `width` bits of an expression."""
+    """Yield the terms whose sign doesn't change the lowest `width` bits of an expression."""
     match node:
         case ast.Subscript() if numbers_of(node, names).width >= width:
             yield node
@@ -377,7 +391,7 @@ def _free(node: ast.expr, width: int, names: Names) -> Iterator[ast.expr]:
 
 
 def _compared(node: ast.expr, names: Names) -> Iterator[ast.expr]:
-    """The terms of a comparison for equality, if they have one width."""
+    """Yield the terms of a comparison for equality, if both have the same width."""
     match node:
         case ast.Compare(ast.Subscript() as one, [ast.Eq() | ast.NotEq()], [ast.Subscript() as other]):
             if numbers_of(one, names).width == numbers_of(other, names).width > 1:
@@ -386,7 +400,7 @@ def _compared(node: ast.expr, names: Names) -> Iterator[ast.expr]:
 
 @functools.lru_cache(maxsize=1024)
 def _mixed(value: ast.expr) -> frozenset[int]:
-    """The identities of the unsigned terms that are multiplied with signed ones."""
+    """Return the `id`s of the unsigned terms that are multiplied with signed ones."""
     found = set[int]()
     for node in ast.walk(value):
         match node:

@@ -1,4 +1,4 @@
-"""An instruction executed by its formula: which elements it changes, and to what."""
+"""Execute an instruction by its formula, to find which elements it changes, and their new values."""
 
 import ast
 import enum
@@ -24,15 +24,18 @@ from .record import Record, record_of
 
 WORD = (1 << 64) - 1
 ElementOutcome = enum.Enum("ElementOutcome", "RESULT KEPT MASKED TAIL BEFORE_START NO_ELEMENTS AFTER_FAULT SHORTENED")
-"""Why an element of a destination has its value: the formula; or it kept its value, unless policy ones sets what is agnostic."""
+"""Why an element of a destination has its value.
+
+RESULT is the formula's value. With the others the element keeps its value, unless it is agnostic and the policy is `ones`.
+"""
 
 # The bit of vtype that makes elements with this outcome agnostic.
 _AGNOSTIC = {ElementOutcome.MASKED: 0x80, ElementOutcome.TAIL: 0x40}
 REGISTERS = 32
-_FORMS = {8: "B", 16: "H", 32: "I", 64: "Q"}  # of `struct`, by the width in bits
+_FORMS = {8: "B", 16: "H", 32: "I", 64: "Q"}  # codes of the module struct, by the width in bits
 _SIGNED_FORMS = {8: "b", 16: "h", 32: "i", 64: "q"}
 _SCALAR_BITS = bits_type(64)
-_CONTROL_FIELDS = {  # of control registers that can be written, by number: the lowest bit and the largest value
+_CONTROL_FIELDS = {  # fields of writable control registers, by number: the lowest bit and the largest value
     0x008: {"vstart": (0, 0xFF)},
     0x009: {"vxsat": (0, 1)},
     0x00A: {"vxrm": (0, 3)},
@@ -42,19 +45,19 @@ _CONTROL_FIELDS = {  # of control registers that can be written, by number: the 
 
 @dataclass(eq=False)
 class NoAccess(Exception):
-    """An access that memory doesn't permit."""
+    """Memory doesn't permit an access."""
 
     address: int
 
 
 @dataclass(frozen=True)
 class Before:
-    """A state, and the word that is executed in it.
+    """A word to execute, and the state before it.
 
     v: the bytes of all vector registers
     has_ones: whether agnostic elements become ones
-    read: returns bytes of memory by address and number, and None if any of them can't be read
-    can_write: says the same of a store
+    read: returns the bytes of memory at an address, by address and count; None if any of them can't be read
+    can_write: returns whether bytes of memory can be written, by address and count
     """
 
     pc: int
@@ -71,8 +74,8 @@ class Before:
 class After:
     """The state after an instruction.
 
-    x: written scalar registers by number; memory: stored bytes by address
-    fault: the address that an access or a jump can't have; then pc is that of the instruction
+    x: the written scalar registers, by number; memory: the stored bytes, by address
+    fault: the invalid address of an access or a jump, or None; after a fault, pc is the address of the instruction
     """
 
     pc: int
@@ -84,11 +87,11 @@ class After:
 
 
 class Numbers:
-    """Numbers by their index: a register group, or the scalar registers.
+    """Numbers by index: a register group, the scalar registers, or memory.
 
     name: `v4`, `x`, `memory`
     width: of each number in bits
-    register: the number of the group's first vector register; None of other numbers
+    register: the number of the group's first vector register; None for other numbers
     """
 
     def __init__(self, name: str, width: int, at: Callable[[int], Bits], register: int | None = None) -> None:
@@ -96,27 +99,27 @@ class Numbers:
 
     @property
     def mask(self) -> "Numbers | None":
-        """A vector register's bits by their index; None of other numbers."""
+        """The bits of a vector register, by their index; None for other numbers."""
         return None
 
     def __getitem__(self, number: int) -> Bits:
         return self._at(number)
 
     def each(self, indices: Sequence[int], is_signed: bool) -> Sequence[int]:
-        """Return the numbers at indices, as signed or unsigned ones."""
+        """Return the numbers at indices, as signed or unsigned numbers."""
         return [sext(self[index]) if is_signed else self[index] for index in indices]
 
     def name_of(self, index: int) -> str:
-        """The name of a number: `v4[5]`, `x10`, `memory[0x11004]`."""
+        """Return the name of the number at an index: `v4[5]`, `x10`, `memory[0x11004]`."""
         return f"x{index}" if self.name == "x" else f"{self.name}[{index}]"
 
     def scalar_of(self, index: int) -> int | None:
-        """The number of the scalar register that is read; None if it is something else."""
+        """Return the number of the scalar register that an index names; None for other numbers."""
         return index if self.name == "x" else None
 
 
 class Elements(Numbers):
-    """The elements of a vector register group, and of registers after it."""
+    """The elements of a vector register group, and of the registers after it."""
 
     def __init__(self, v: bytes, register: int, width: int, count: int = 1) -> None:
         """register: the number of the first register; width: of an element in bits; count: of the group's registers"""
@@ -129,7 +132,7 @@ class Elements(Numbers):
         return self._bits(values[number]) if 0 <= number < len(values) else self._at(number)
 
     def each(self, indices: Sequence[int], is_signed: bool) -> Sequence[int]:
-        """Return the elements with these numbers, as signed or unsigned ones."""
+        """Return the elements at indices, as signed or unsigned numbers."""
         if indices and not 0 <= min(indices) <= max(indices) < len(self._values):
             return super().each(indices, is_signed)
         values = self._unpacked(_SIGNED_FORMS) if is_signed else self._values
@@ -137,7 +140,7 @@ class Elements(Numbers):
 
     @functools.cached_property
     def _values(self) -> tuple[int, ...]:
-        """The elements of the group; none of a width that no vector type has, as reserved words have it."""
+        """The elements of the group; none for a width that no vector type has, as in reserved encodings."""
         return self._unpacked(_FORMS)
 
     def _unpacked(self, forms: Mapping[int, str]) -> tuple[int, ...]:
@@ -146,40 +149,40 @@ class Elements(Numbers):
 
     @property
     def mask(self) -> Numbers:
-        """The bits of the first register by their index."""
+        """The bits of the first register, by their index."""
         return Numbers(f"{self.name}.mask", 1, functools.partial(element_of, self._v, self._first, 1), self._first)
 
 
 class Memory(Numbers):
-    """Memory by its address."""
+    """Memory, by address."""
 
     def name_of(self, index: int) -> str:
-        """The name of memory at an address."""
+        """Return the name of memory at an address."""
         return f"memory[{index & WORD:#x}]"
 
 
 class Shared(Numbers):
-    """A scalar register, or an immediate, that all elements share. scalar: the number of the register; None for an immediate"""
+    """A scalar register or an immediate that all elements share. scalar: the number of the register; None for an immediate"""
 
     def __init__(self, name: str, value: Bits, scalar: int | None) -> None:
         super().__init__(name, value.width, lambda _: value)
         self.scalar, self._value = scalar, value
 
     def each(self, indices: Sequence[int], is_signed: bool) -> Sequence[int]:
-        """Return the number for each of these elements, as a signed or unsigned one."""
+        """Return the shared number once for each index, as a signed or unsigned number."""
         return [sext(self._value) if is_signed else self._value] * len(indices)
 
     def name_of(self, index: int) -> str:
-        """The name of the register, or the digits of the immediate."""
+        """Return the name of the register, or the digits of the immediate."""
         return self.name
 
     def scalar_of(self, index: int) -> int | None:
-        """The number of the register."""
+        """Return the number of the register; None for an immediate."""
         return self.scalar
 
 
 def element_of(v: bytes | bytearray, register: int, width: int, number: int) -> Bits:
-    """An unsigned element of a register group; a bit of a mask under the width 1. Raises LabError."""
+    """Return an element of a register group as an unsigned number; with width 1, a bit of a mask. Raises LabError."""
     at = register * REGISTER_BITS + number * width
     if number < 0 or at + width > 8 * len(v):
         raise LabError(f"there is no element {number}")
@@ -198,20 +201,23 @@ def _memory(before: Before, width: int) -> Numbers:
 
 
 class Execution:
-    """An instruction in a state: its record and formula, its elements, and what names in the formula mean.
+    """An instruction in a state: its record and formula, its elements, and the values of names in the formula.
 
-    target: the assignment that says what the instruction writes
-    is_single: whether it writes one element, whose register is the destination; the other elements are the tail
-    body, active: the elements from vstart on, and those of them that the mask doesn't turn off
-    operand: the vector register group at vd: the destination, or what a store writes; None if there is none
-    fields: how many fields a segment has; 1 if there is no segment
+    target: the assignment to the place that the instruction writes
+    is_single: whether it writes only one element of the destination register; the other elements are the tail
+    body, active: the indices of elements from vstart on, and of those among them that aren't masked off
+    operand: the vector register group in the field vd: the destination, or the data of a store; None if there is none
+    fields: the number of fields in a segment; 1 if there are no segments
     width: of an element that is written, loaded or stored, in bits
-    scalar: the number of the scalar register in place of vs1; None if the form has another operand there
-    is_fault_only_first: whether it is a load that becomes shorter if an element after the first can't be read
+    scalar: the number of the scalar register in place of vs1; None for another operand there
+    is_fault_only_first: whether it is a load that reduces vl if an element after the first can't be read
     """
 
     def __init__(self, before: Before, formula: Formula | None = None) -> None:
-        """formula: another one than that of the record. Raises LabError where the word is no instruction with a formula."""
+        """Raises LabError if the word isn't an instruction with a formula.
+
+        formula: to use in place of the record's; None for the record's
+        """
         self.before = before
         row = row_of(before.word)
         if row is None:
@@ -240,15 +246,15 @@ class Execution:
         self.names = self._names()
 
     def place(self, assignment: Assignment) -> int:
-        """The index or the address that an assignment writes, with the present values of its names."""
+        """Return the index or the address that an assignment writes, for the current values of its names."""
         return evaluate(assignment.place, self.names)
 
     def value(self, assignment: Assignment) -> int:
-        """The value of an assignment with the present values of its names."""
+        """Return the value of an assignment, for the current values of its names."""
         return evaluate(assignment.value, self.names)
 
     def at(self, element: int, number: int = 0) -> None:
-        """Lets names mean those of an element, and of the field of this number."""
+        """Set the current element, and the current field of a segment, for the values of names."""
         self.names["i"], self.names["f"] = element, number
         if self.operand and self.fields > 1:
             register = self.operand.registers.start + number * self.operand.group
@@ -256,17 +262,17 @@ class Execution:
 
     @property
     def element(self) -> int:
-        """The element at present; 0 of an instruction without elements."""
+        """The current element; 0 for an instruction without elements."""
         number = self.names.get("i", 0)
         assert isinstance(number, int)
         return number
 
     def is_kept(self) -> bool:
-        """Whether the record says that the element at present isn't written."""
+        """Return whether the record says that the current element isn't written."""
         return self.record.kept is not None and bool(evaluate(self.record.kept, self.names))
 
     def outcome(self, element: int) -> ElementOutcome:
-        """Return the outcome of an element of the destination, apart from a fault or a shortened length."""
+        """Return the outcome of an element of the destination. Faults and a reduced vl aren't considered."""
         control, body = self.before.control, self.body
         if self.is_single:
             body = range(control.vl > control.vstart)
@@ -322,7 +328,7 @@ class Execution:
         return names | {"nf": self.fields, "f": 0, "active": self.active}
 
     def _clipped(self, has_sign: bool, value: int) -> int:
-        """The nearest number of the destination's width."""
+        """Return the nearest number that the destination's width can represent."""
         minimum = -(1 << self.width - 1) if has_sign else 0
         maximum = minimum + (1 << self.width) - 1
         self.is_saturated = self.is_saturated or not minimum <= value <= maximum
@@ -330,16 +336,19 @@ class Execution:
 
 
 def execution_of(word: int, vtype: int, formula: Formula | None = None) -> Execution:
-    """Return an instruction in a state whose registers are 0: for what a word and the vector type decide.
+    """Return an instruction in a state with all registers 0, for properties that depend only on the word and the vector type.
 
-    formula: another one than that of the record. Raises LabError as `Execution`.
+    formula: to use in place of the record's. Raises LabError as `Execution`.
     """
     v, control = bytes(REGISTERS * REGISTER_BYTES), ControlRegisters(vtype=vtype)
     return Execution(Before(0, word, [0] * 32, control, v, False), formula)
 
 
 def execute(before: Before, formula: Formula | None = None) -> After:
-    """The results of an instruction by its formula, or by another one. Raises LabError if it has none."""
+    """Return the state after an instruction, by its formula. Raises LabError if it has none.
+
+    formula: to use in place of the record's
+    """
     execution = Execution(before, formula)
     after = After(before.pc + 4 & WORD, before.control, bytearray(before.v))
     try:
@@ -357,7 +366,7 @@ def execute(before: Before, formula: Formula | None = None) -> After:
 
 
 def _execute_once(execution: Execution, after: After) -> None:
-    """Executes the assignments of what isn't done by element. Raises NoAccess."""
+    """Execute the assignments that aren't for each element. Raises NoAccess."""
     before = execution.before
     for assignment in execution.formula.assignments:
         value = execution.value(assignment) & WORD
@@ -379,7 +388,7 @@ def _execute_once(execution: Execution, after: After) -> None:
 
 
 def _execute_elements(execution: Execution, after: After, operand: Operand) -> None:
-    """Executes an instruction by element, from vstart on. Raises NoAccess."""
+    """Execute an instruction element by element, from vstart on. Raises NoAccess."""
     for element in execution.active if not execution.is_single else range(1):
         if execution.outcome(element) != ElementOutcome.RESULT:
             continue
@@ -396,7 +405,7 @@ def _execute_elements(execution: Execution, after: After, operand: Operand) -> N
 
 
 def _execute_element(execution: Execution, after: After, operand: Operand, element: int) -> None:
-    """Writes an element, or those of all fields of a segment. Raises NoAccess before any of them is written."""
+    """Write an element, or the elements of all fields of a segment. Raises NoAccess before any of them is written."""
     values = list[tuple[int, int]]()
     for number in range(execution.fields):
         execution.at(element, number)
@@ -410,7 +419,7 @@ def _execute_element(execution: Execution, after: After, operand: Operand, eleme
 
 
 def _write(execution: Execution, after: After, operand: Operand, number: int, place: int, value: int) -> None:
-    """Writes an element of the field of this number, or a bit of a mask, which any value but 0 sets."""
+    """Write an element of a field, or a bit of a mask, which is set unless the value is 0."""
     width = 1 if execution.target.kind == "mask" else execution.width
     at = (operand.registers.start + number * operand.group) * REGISTER_BITS + place * width
     part, ones = slice(at // 8, (at + width + 7) // 8), (1 << width) - 1
@@ -428,7 +437,7 @@ def agnostic(execution: Execution, outcome: ElementOutcome) -> bool:
 
 
 def _set_ones(execution: Execution, after: After, operand: Operand, stop: int, has_tail: bool) -> None:
-    """Sets agnostic elements to ones: masked-off ones before an element, and the tail."""
+    """Set agnostic elements to ones: masked-off elements below `stop`, and the tail if `has_tail`."""
     if not any(agnostic(execution, outcome) for outcome in _AGNOSTIC):
         return
     for element in range(operand.group * REGISTER_BITS // operand.eew):
@@ -439,7 +448,7 @@ def _set_ones(execution: Execution, after: After, operand: Operand, stop: int, h
 
 
 def _stored(execution: Execution, address: int, value: int, width: int) -> dict[int, int]:
-    """The bytes of a store by address. Raises NoAccess."""
+    """Return the bytes of a store, by address. Raises NoAccess."""
     address &= WORD
     if not execution.before.can_write(address, width // 8):
         raise NoAccess(address)
@@ -447,7 +456,7 @@ def _stored(execution: Execution, address: int, value: int, width: int) -> dict[
 
 
 def immediate_of(word: int) -> int:
-    """The immediate of a scalar instruction, by its opcode."""
+    """Return the immediate of a scalar instruction, by its opcode."""
     opcode, funct3 = word & 0x7F, word >> 12 & 7
     if opcode == STORE:
         return sext(word >> 25 << 5 | word >> 7 & 31, 12)
@@ -465,27 +474,27 @@ def immediate_of(word: int) -> int:
 
 @functools.lru_cache(maxsize=4096)
 def _names_of_word(word: int) -> Names:
-    """The names whose values a word has by itself, and the functions of formulas."""
+    """Return the names whose values depend only on a word, and the functions of formulas."""
     immediate = immediate_of(word)
     fields = {"rd": word >> 7 & 31, "rs1": word >> 15 & 31, "rs2": word >> 20 & 31}
     return scope(fields | {name: immediate for name in ("imm", "uimm", "shamt", "offset")})
 
 
 def _control_value(control: ControlRegisters, number: int) -> int:
-    """The value of a control register by its number."""
+    """Return the value of a control register. number: of the register, such as 0xC20 for vl"""
     read_only = {0xC20: control.vl, 0xC21: control.vtype, 0xC22: REGISTER_BYTES}
     fields = _CONTROL_FIELDS.get(number, {})
     return read_only.get(number, sum(getattr(control, name) << low for name, (low, _) in fields.items()))
 
 
 def _with_control_value(control: ControlRegisters, number: int, value: int) -> ControlRegisters:
-    """The control registers after one is written; those that can only be read are as they were."""
+    """Return the control registers after a write to one. Read-only ones are unchanged."""
     fields = _CONTROL_FIELDS.get(number, {})
     return replace(control, **{name: value >> low & limit for name, (low, limit) in fields.items()})
 
 
 def _requested(before: Before) -> dict[str, object]:
-    """The request of a vset instruction."""
+    """Return the values of the names that describe the request of a vset instruction."""
     word, x, control = before.word, before.x, before.control
     rd, rs1, has_immediate = word >> 7 & 31, word >> 15 & 31, word >> 30 == 3
     requested = word >> 20 & 0x3FF if has_immediate else word >> 20 & 0x7FF if not word >> 31 else x[word >> 20 & 31]

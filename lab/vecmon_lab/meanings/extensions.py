@@ -13,9 +13,9 @@ from .record import record_of
 class Extension:
     """An extension of RISC-V.
 
-    arch: its name in `-march` and after `.option arch`; empty if each image is compiled for it
-    lacked_by: the tools of Debian 12 that don't know it, `as` or `qemu`
-    manual: the manual of the sections in its records; empty for the Unprivileged ISA and the V extension
+    arch: its name in `-march` and after `.option arch`; empty if all images are compiled for it
+    lacked_by: the tools of Debian 12 that don't support it: `as`, `qemu`
+    manual: the manual that its records' sections refer to; empty for the Unprivileged ISA and the V extension
     """
 
     name: str
@@ -26,7 +26,7 @@ class Extension:
 
 @functools.cache
 def extensions() -> Mapping[str, Extension]:
-    """All extensions by name, in the order of the list of instructions."""
+    """Return all extensions by name, in the order of the list of instructions."""
     found = dict[str, Extension]()
     for name, *cells in read_table("instruction_extensions"):
         arch, lacked_by, manual = ("" if cell == "-" else cell for cell in cells)
@@ -47,9 +47,9 @@ def names_lacked_by(tool: str) -> frozenset[str]:
 
 @functools.cache
 def added_archs(tool: str = "") -> tuple[str, ...]:
-    """Return the names for `-march` of the extensions that the machine has in addition to those of each image.
+    """Return the `-march` names of the extensions that the machine has in addition to those of each image.
 
-    tool: `as` or `qemu`, without the extensions that it lacks; empty for a tool that knows all
+    tool: `as` or `qemu`, to omit the extensions that the tool lacks; empty to include all
     """
     used = {extension_of(name).name for name in instruction_table()}
     return tuple(it.arch for it in extensions().values() if it.name in used and it.arch and tool not in it.lacked_by)

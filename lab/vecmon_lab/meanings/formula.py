@@ -1,8 +1,9 @@
 """The language of formulas: `vd[i] = signed(vs2[i]) >> vs1[i] % sew`, a restricted part of Python's grammar.
 
-A formula is one assignment or several, apart by `;`. All of them read the state before the instruction. Its target is an element
-(`vd[i]`, `vd[0]`), a bit of a mask (`vd.mask[i]`), a scalar register (`x[rd]`), memory (`memory[ADDRESS]`, or `memory16[ADDRESS]`
-with its own width), `pc`, `vl`, `vtype` or `csr`. Numbers have no limit; the target takes as many of the lowest bits as it has.
+A formula consists of one or more assignments, separated by `;`. All of them read the state before the instruction. A target is an
+element (`vd[i]`, `vd[0]`), a bit of a mask (`vd.mask[i]`), a scalar register (`x[rd]`), memory (`memory[ADDRESS]`, or
+`memory16[ADDRESS]` with its own width), `pc`, `vl`, `vtype` or `csr`. Numbers have no limit; the target gets the lowest bits
+that fit into it.
 """
 
 import ast
@@ -17,10 +18,10 @@ from typing import Any, Protocol, cast
 from .. import LabError
 
 OPERANDS = ("vd", "vs1", "vs2", "vs3", "v0")
-"""Register groups: `vs2[i]` is an unsigned element, `vs2.mask[i]` a bit. In the forms .vx and .vi `vs1[i]` is the scalar."""
+"""Register groups: `vs2[i]` is an unsigned element, `vs2.mask[i]` a bit. In the forms .vx and .vi, `vs1[i]` is the scalar."""
 
 MEMORIES = {"memory": 0, "memory8": 8, "memory16": 16, "memory32": 32, "memory64": 64}
-"""Names of memory with the width of an access in bits; 0 for that of an element."""
+"""Names of memory, each with the width of an access in bits; 0 for the width of an element."""
 
 NUMBERS: Mapping[str, str] = {
     "i": "the number of the element",
@@ -48,7 +49,7 @@ NUMBERS: Mapping[str, str] = {
     "limit": "vlmax under that type",
     "vill": "the vector type that no instruction accepts",
 }
-"""Names of numbers, and of `active`, which is a list of them."""
+"""Names of numbers, with their meanings, and of `active`, which is a list of numbers."""
 
 _NODES = (
     *(ast.Expression, ast.BinOp, ast.UnaryOp, ast.BoolOp, ast.Compare, ast.IfExp, ast.Call, ast.Name, ast.Load),
@@ -59,14 +60,14 @@ _NODES = (
 
 
 class Bits(int):
-    """An unsigned number that a register or memory holds, with its width in bits: a number of `bits_type(width)`."""
+    """An unsigned number in a register or memory. `width` is its width in bits. Its class is `bits_type(width)`."""
 
     width: int
 
 
 @functools.cache
 def bits_type(bits: int) -> type[Bits]:
-    """Return the type of numbers with a width in bits."""
+    """Return the class of numbers with a width in bits."""
 
     class Sized(Bits):
         """Numbers of one width."""
@@ -77,18 +78,18 @@ def bits_type(bits: int) -> type[Bits]:
 
 
 def zext(value: int, bits: int = 0) -> int:
-    """The lowest bits as an unsigned number: all bits of what is read from a register."""
+    """Return the lowest bits of a number as an unsigned number. bits: their number; 0 for all bits of the register or memory"""
     return value & (1 << (bits or getattr(value, "width", 64))) - 1
 
 
 def sext(value: int, bits: int = 0) -> int:
-    """The lowest bits as a signed number."""
+    """Return the lowest bits of a number as a signed number. bits: their number; 0 for all bits of the register or memory"""
     sign = 1 << (bits or getattr(value, "width", 64)) - 1
     return (value & 2 * sign - 1 ^ sign) - sign
 
 
 def rounded(value: int, bits: int, mode: int) -> int:
-    """value / 2**bits by a rounding mode of vxrm (section 3.8)."""
+    """Return value / 2**bits, rounded as vxrm's rounding mode says (section 3.8). mode: vxrm"""
     if not bits:
         return int(value)
     lost, odd = value & (1 << bits) - 1, value >> bits & 1
@@ -98,23 +99,23 @@ def rounded(value: int, bits: int, mode: int) -> int:
 
 
 def quotient(value: int, divisor: int) -> int:
-    """value / divisor, rounded towards 0."""
+    """Return value / divisor, rounded towards 0."""
     size = abs(value) // abs(divisor)
     return size if (value < 0) == (divisor < 0) else -size
 
 
 def remainder(value: int, divisor: int) -> int:
-    """The remainder of `quotient`, with the sign of the value."""
+    """Return the remainder of `quotient`, which has the sign of the value."""
     return value - quotient(value, divisor) * divisor
 
 
 def nth(number: int, values: Iterable[int]) -> int:
-    """The number at a place of a list."""
+    """Return the number at an index of a list."""
     return list(values)[number]
 
 
 def _of_all(operation: Callable[..., Any]) -> Callable[..., int]:
-    """A function of numbers, and of those of lists among them."""
+    """Return a function that applies an operation to numbers, and to the numbers of lists among its arguments."""
     return lambda *values: int(
         operation([each for value in values for each in ([value] if isinstance(value, int) else value)])
     )
@@ -130,12 +131,12 @@ FUNCTIONS: Mapping[str, Callable[..., int]] = {
     },
 }
 CLIPS = ("clip", "clipu")
-"""The nearest number that the target, signed or unsigned, holds; where that is another one, vxsat becomes 1."""
+"""Functions for the nearest number that the target, signed or unsigned, can represent. If it differs, vxsat becomes 1."""
 
-_EACH = "_numbers"  # the name of the numbers of `evaluate_each`: no name of the language starts so
+_EACH = "_numbers"  # the name of the numbers in `evaluate_each`; no name of the language starts with `_`
 _CALLABLE, _INDEXED = (*FUNCTIONS, *CLIPS, "range"), (*OPERANDS, *MEMORIES, "x")
 _NUMBER_TARGETS = ("pc", "vl", "vtype", "csr")
-_TARGETS = {"vd": ("element", 0), "vd.mask": ("mask", 1), "x": ("x", 64)}  # kind and width, by what has an index
+_TARGETS = {"vd": ("element", 0), "vd.mask": ("mask", 1), "x": ("x", 64)}  # kind and width, by the indexed name
 _TARGETS |= {name: ("memory", width) for name, width in MEMORIES.items()}
 
 
@@ -144,9 +145,9 @@ class Assignment:
     """A target and its value.
 
     kind: `element`, `mask`, `x`, `memory`, `pc`, `vl`, `vtype` or `csr`
-    width: of memory, in bits; 0 for that of an element
-    place: the index of the target; its name where it has none, and is one number
-    target: what the formula has before the sign of assignment
+    width: of an access to memory, in bits; 0 for the width of an element
+    place: the index of the target; the target's name if it has no index
+    target: the formula's expression before the `=`
     """
 
     kind: str
@@ -168,7 +169,7 @@ _LANGUAGE: Mapping[str, object] = {"__builtins__": {}, "range": range, **FUNCTIO
 
 
 class Formula:
-    """A formula. Its text is checked when it is read: a LabError says what it can't have."""
+    """A formula. Its text is checked when it is created: a LabError says which part isn't in the language."""
 
     def __init__(self, text: str) -> None:
         self.text = text
@@ -177,7 +178,7 @@ class Formula:
 
 @functools.lru_cache(maxsize=1024)
 def read_formula(text: str) -> Formula:
-    """The formula of a text, read once. Raises LabError."""
+    """Return the formula of a text; results are cached. Raises LabError."""
     return Formula(text)
 
 
@@ -187,19 +188,22 @@ def scope(names: Mapping[str, object]) -> Names:
 
 
 def evaluate(node: ast.expr, names: Names) -> int:
-    """The number that a part of a formula is, by the values of names."""
+    """Return the value of a part of a formula. names: the values of its names"""
     return int(eval(_code(node), names))
 
 
 class Indexed(Protocol):
-    """Numbers by their index in a formula, such as the elements of a register group."""
+    """Numbers that a formula can index, such as the elements of a register group."""
 
     def each(self, indices: Sequence[int], is_signed: bool) -> Sequence[int]:
-        """Return the numbers at indices, as signed or unsigned ones."""
+        """Return the numbers at indices, as signed or unsigned numbers."""
 
 
 def evaluate_each(node: ast.expr, names: Names, numbers: Sequence[int], name: str = "i") -> list[int]:
-    """The numbers that a part of a formula is for each number of a name: of elements, or of those in a list."""
+    """Return the value of a part of a formula, once for each value of one of its names.
+
+    numbers: the values of this name, such as the indices of elements
+    """
     code, columns = _code_of_each(node, name)
     values = {**names, _EACH: numbers, "zip": zip}
     for column in columns:
@@ -209,7 +213,7 @@ def evaluate_each(node: ast.expr, names: Names, numbers: Sequence[int], name: st
 
 
 def condition(text: str) -> ast.expr:
-    """A condition as an expression. Raises LabError."""
+    """Parse a condition. Raises LabError."""
     return _checked(text, text)
 
 
@@ -221,7 +225,7 @@ def _code(node: ast.expr) -> CodeType:
 
 @dataclass(frozen=True)
 class _Column:
-    """An operand's numbers, signed or unsigned, at the indices that a list has: the name of that list, and of the operand."""
+    """An operand's numbers, signed or unsigned, at each index of a list. operand, indices: the names of the operand and of the list"""
 
     operand: str
     indices: str
@@ -229,13 +233,13 @@ class _Column:
 
     @property
     def name(self) -> str:
-        """The name of one of them in the list's loop."""
+        """The name of one number of the column, in a loop over the list."""
         return f"_{'s' if self.is_signed else 'u'}{self.operand}{self.indices}"
 
 
 @functools.lru_cache(maxsize=4096)
 def _code_of_each(node: ast.expr, name: str) -> tuple[CodeType, Sequence[_Column]]:
-    """The code of a list: of what a part of a formula is for each of the numbers; and the columns that it goes through."""
+    """Return the code that evaluates a part of a formula for each number, as a list, and the columns that the code reads."""
     columns = _Columns(name, _EACH)
     element = columns.visit(copy.deepcopy(node))
     code = _code(ast.ListComp(element, [columns.loop()]))
@@ -243,18 +247,18 @@ def _code_of_each(node: ast.expr, name: str) -> tuple[CodeType, Sequence[_Column
 
 
 class _Columns(ast.NodeTransformer):
-    """Puts columns in place of operands whose index goes through a list.
+    """Replaces operands, whose index iterates over a list, with columns.
 
-    found: the columns of this list; inner: those of lists in it
+    found: the columns of this list; inner: those of lists inside it
     """
 
     def __init__(self, index: str, indices: str) -> None:
-        """index: the name of a number of the list; indices: the name of the list"""
+        """index: the name of a number in the list; indices: the name of the list"""
         self.found, self.inner = dict[_Column, None](), dict[_Column, None]()
         self._index, self._indices = index, indices
 
     def loop(self) -> ast.comprehension:
-        """Return the loop through the list and the columns."""
+        """Return the loop over the list and the columns."""
         names = [self._index, *(column.name for column in self.found)]
         lists = [self._indices, *(f"{_EACH}{column.name}" for column in self.found)]
         targets = ast.Tuple([ast.Name(each, ast.Store()) for each in names], ast.Store())
@@ -262,7 +266,7 @@ class _Columns(ast.NodeTransformer):
         return ast.comprehension(targets, zipped, [], 0)
 
     def visit_GeneratorExp(self, node: ast.GeneratorExp) -> ast.expr:
-        """Return a list that has a name, and no condition, with columns of its own."""
+        """Return a generator with columns of its own, if its list has a name and no condition."""
         match node:
             case ast.GeneratorExp(element, [ast.comprehension(ast.Name(index), ast.Name(indices), [])]):
                 own = _Columns(index, indices)
@@ -305,7 +309,7 @@ def _assignment(text: str, whole: str) -> Assignment:
 
 
 def _checked(text: str, whole: str) -> ast.expr:
-    """The expression of a text whose parts all belong to the language. Raises LabError."""
+    """Parse an expression. Raises LabError unless all its parts belong to the language. whole: the formula, for the message"""
     try:
         tree = ast.parse(text.strip(), mode="eval")
     except SyntaxError as error:
@@ -317,7 +321,7 @@ def _checked(text: str, whole: str) -> ast.expr:
 
 
 def _is_known(node: ast.AST) -> bool:
-    """Whether the names and the numbers of a node are those of the language."""
+    """Return whether the names and the numbers of a node belong to the language."""
     match node:
         case ast.Name(name):
             return name in (*_INDEXED, *NUMBERS, *_CALLABLE)
@@ -335,7 +339,7 @@ def _is_known(node: ast.AST) -> bool:
 
 
 def elements_in(node: ast.comprehension, names: Names) -> list[int]:
-    """The numbers that a list of elements goes through, by the values of names."""
+    """Return the numbers that a list's loop iterates over. names: the values of names"""
     numbers = [*eval(_code(node.iter), names)]
     for condition in node.ifs:
         holds = evaluate_each(condition, names, numbers, "j")

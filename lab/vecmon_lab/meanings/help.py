@@ -5,7 +5,7 @@ from .describe import describe, search_lines
 
 
 def help_lines(name: str) -> list[str]:
-    """The description of a name, of a command and an instruction both; or the names whose texts have the words."""
+    """Return the description of a name, which may be a command and an instruction; or the names whose texts contain the words."""
     if not name:
         return [
             *help_on(""),

@@ -1,4 +1,4 @@
-"""An executed vector instruction as data: its operands by role, how each element took part, and the calculations of its elements."""
+"""An executed vector instruction as data: the roles of its operands, the outcomes of its elements, and their calculations."""
 
 import ast
 import functools
@@ -15,12 +15,18 @@ from .executed import Before, Elements, Execution, element_of, execution_of
 from .formula import Assignment, evaluate_each
 
 Outcome = Literal["active", "masked", "tail", "prestart", "fault", "pending", "kept", "idle"]
-"""How an element takes part. tail: also after the elements that vcompress packs; kept: the formula doesn't count for it, as below a slide's
-offset; pending: not reached, since the access of an element before it wasn't possible; idle: the instruction doesn't read it."""
+"""The outcome of an element.
+
+tail: also for the elements after those that vcompress packs; kept: the formula doesn't apply, as below a slide's offset
+pending: not reached, because the access of an earlier element failed; idle: the instruction doesn't read the element
+"""
 
 Role = Literal["destination", "data", "element", "single", "moved", "index"]
-"""The purpose of an operand. data: stored; element: read element by element; single: read at element 0; moved: its elements go to other
-places; index: numbers of elements, or offsets of addresses."""
+"""The role of an operand.
+
+data: stored; element: read element by element; single: read only at element 0; moved: its elements go to other places
+index: its elements are indices, or offsets of addresses
+"""
 
 End = Literal["ran", "fault", "illegal"]
 """How an instruction ended."""
@@ -35,9 +41,9 @@ _MOVES = ("gather", "slide", "compress")  # layouts whose elements go to other p
 class Group:
     """A vector register operand.
 
-    register: the number of the first register; size: registers of a group
-    groups: how many there are, one behind another: the fields of a segment
-    width: of an element in bits; 1 in a mask
+    register: the number of the first register; size: the number of registers in a group
+    groups: the number of consecutive groups: the fields of a segment
+    width: of an element in bits; 1 for a mask
     """
 
     role: Role
@@ -52,9 +58,9 @@ class Access:
     """A memory access.
 
     base: the number of the scalar register with the address
-    fields: of a segment
-    addresses: the address of the first field of each element, up to the end of the body; of a mask those of its bytes
-    field_bytes: from one field to the next
+    fields: the number of fields in a segment
+    addresses: of the first field of each element, up to the end of the body; for a mask, the addresses of its bytes
+    field_bytes: the distance from one field to the next, in bytes
     """
 
     base: int
@@ -68,10 +74,10 @@ class Access:
 class Equation:
     """The calculation of several elements that have one form.
 
-    calculation: that of the first of these elements; the terms of another one are `Term.step` elements further for each element
-    elements: their numbers, in rising order
-    sign: how the exact results are the bits of the elements: as signed or unsigned numbers, or as the reader's form says
-    others: exact results that are other numbers, by element, as `Calculation.results`
+    calculation: for the first of these elements; for the element after it, each term is `Term.step` elements further, and so on
+    elements: their indices, in rising order
+    sign: which numbers the exact results equal: the elements' bits as signed or unsigned numbers, or as the reader's form says
+    others: the exact results of elements for which that isn't so, by element, as `Calculation.results`
     """
 
     calculation: Calculation
@@ -85,17 +91,17 @@ class ExecutedInstruction:
     """A vector instruction that was executed, or that faulted.
 
     name: the mnemonic
-    layout: how sources lie to results (`Record.layout`)
-    groups: the operands: the destination or what a store writes, then vs2 and vs1; without those whose width no element has
-    elements: how many it has at most under the vector type
-    vl, vstart: before it
-    outcomes: by element; in a reduction of its source
-    results: the same of the destination's elements
-    pairs: an element of the source, and the element of the result that it goes to
-    does: its meaning in a sentence; formula: both with its own operands
-    is_shortened: whether vl is lower after it, since an element can't be read
-    scalars: the numbers of the scalar registers that it names, without x0
-    equations: the calculations of active elements; none if registers before it aren't known
+    layout: how sources correspond to results (`Record.layout`)
+    groups: the operands: first the destination or a store's data, then vs2 and vs1; operands with an unsupported width are omitted
+    elements: the most that it can have under the vector type
+    vl, vstart: before the instruction
+    outcomes: of each element; for a reduction, of its source
+    results: the outcomes of the destination's elements
+    pairs: each has an element of the source, and the element of the result to which it goes
+    does: a sentence with its meaning; does and formula have its own operands
+    is_shortened: whether it reduced vl because an element can't be read
+    scalars: the numbers of the scalar registers among its operands, without x0
+    equations: the calculations of active elements; none if the registers before the instruction aren't known
     """
 
     name: str
@@ -120,23 +126,24 @@ class ExecutedInstruction:
 def executed_instruction(
     before: Before, after: ControlRegisters, v: bytes, end: End, is_known: bool = True
 ) -> ExecutedInstruction | None:
-    """Return the vector instruction of a state; None if it is another one. Memory isn't read.
+    """Return the vector instruction that a state executes; None for other instructions. Memory isn't read.
 
-    after, v: the control registers and the bytes of all vector registers after it
-    is_known: whether the registers before it are known; else those of `before` are as they are after it, and there are no equations
+    after, v: the control registers and the bytes of all vector registers after the instruction
+    is_known: whether the registers before the instruction are known; if not, `before` has those after it, and there are no
+    equations
     """
     instruction = vector_instruction(before.word, before.control.vtype)
     return _Instruction(before, after, v, end).data(is_known) if instruction else None
 
 
 class _Form:
-    """What a word has in each state with a vector type.
+    """The properties of a vector instruction that depend only on its word and the vector type.
 
     does, formula: its sentence and its formula, whose terms have no values
-    is_whole: whether its operands are whole registers, whatever the vector type is
-    is_single: whether it reads or writes element 0 of a register alone, whatever LMUL is
-    elements: how many it has at most
-    The others are those of `ExecutedInstruction`.
+    is_whole: whether its operands are whole registers, for all vector types
+    is_single: whether it reads or writes only element 0 of a register, for any LMUL
+    elements: the most that it can have
+    The other attributes are as in `ExecutedInstruction`.
     """
 
     def __init__(self, word: int, vtype: int) -> None:
@@ -168,7 +175,7 @@ class _Form:
         return Group(self._role(place, operand), operand.registers.start, operand.group, groups, operand.eew)
 
     def _role(self, place: int, operand: Operand) -> Role:
-        """The role of the operand at this place among the operands."""
+        """Return the role of an operand. place: its index among the operands"""
         if place == 0 and operand.noun in ("destination", "data"):
             return "data" if self.is_store else "destination"
         is_second = place == 2
@@ -181,7 +188,7 @@ class _Form:
 
 
 def _has_elements(operand: Operand) -> bool:
-    """Whether there are elements of an operand's width, as not of 4 bits, for which its instruction is illegal."""
+    """Return whether an operand's width is supported; a width such as 4 bits isn't, and makes the instruction illegal."""
     return operand.part is None or 8 <= operand.eew <= 64
 
 
@@ -193,10 +200,10 @@ def _form_of(word: int, vtype: int) -> _Form:
 
 @functools.lru_cache(maxsize=4096)
 def _outcomes_of(elements: int, start: int, end: int, stop: int, how: End, mask: bytes) -> tuple[Outcome, ...]:
-    """How each element took part.
+    """Return the outcome of each element.
 
-    start, end: the first element that isn't done before, or that faults, and the first one that isn't reached
-    stop: the end of the body; how: the instruction ended; mask: the bytes of v0, or none if it masks nothing off
+    start: the first element that isn't prestart, or that faults; end: the first one that isn't reached
+    stop: the end of the body; how: the instruction's end; mask: the bytes of v0, or none if it masks nothing off
     """
 
     def outcome(element: int) -> Outcome:
@@ -217,12 +224,12 @@ def _outcomes_of(elements: int, start: int, end: int, stop: int, how: End, mask:
 
 @functools.lru_cache(maxsize=4096)
 def _active(outcomes: tuple[Outcome, ...]) -> Sequence[int]:
-    """The elements with the outcome `active`."""
+    """Return the indices of the elements with the outcome `active`."""
     return [element for element, outcome in enumerate(outcomes) if outcome == "active"]
 
 
 class _Instruction:
-    """Collects the data of an instruction."""
+    """Computes the data of an executed instruction."""
 
     def __init__(self, before: Before, after: ControlRegisters, v: bytes, end: End) -> None:
         self.before, self.after, self.v, self.end = before, after, v, end
@@ -232,7 +239,10 @@ class _Instruction:
         self.is_access, self.is_whole = form.is_access, form.is_whole
 
     def data(self, is_known: bool) -> ExecutedInstruction:
-        """Return the data."""
+        """Return the executed instruction.
+
+        is_known: whether the registers before it are known
+        """
         form, control, outcomes = self.form, self.before.control, self._outcomes()
         pairs = self._pairs(outcomes) if self.destination and not self.is_access else ()
         results = self._results(outcomes, len(pairs))
@@ -265,7 +275,7 @@ class _Instruction:
         return Access(before.word >> 15 & 31, self.form.is_store, fields, addresses, max(8, data.eew) // 8)
 
     def _stop(self) -> int:
-        """The end of the body, in elements."""
+        """Return the end of the body, in elements."""
         vl = self.before.control.vl
         if self.is_whole:
             return self.elements
@@ -274,10 +284,10 @@ class _Instruction:
         return min(1, vl) if self.form.is_single else vl
 
     def _outcomes(self) -> tuple[Outcome, ...]:
-        """How each element took part."""
+        """Return the outcome of each element."""
         if self.form.is_single and not self.destination and self.end == "ran":
             others: list[Outcome] = ["idle"] * (self.elements - 1)
-            return ("active", *others)  # for each vl and vstart
+            return ("active", *others)  # for all values of vl and vstart
         stop = self._stop()
         start = (self.after if self.end == "fault" else self.before.control).vstart
         end = self.after.vl if self.execution.is_fault_only_first else stop
@@ -285,7 +295,7 @@ class _Instruction:
         return _outcomes_of(self.elements, start, end, stop, self.end, mask)
 
     def _results(self, outcomes: tuple[Outcome, ...], count: int) -> tuple[Outcome, ...]:
-        """How each element of the destination was written. count: of pairs"""
+        """Return the outcome of each element of the destination. count: the number of pairs"""
         if not self.destination or self.is_access:
             return outcomes
         if self.layout == "reduce":
@@ -299,13 +309,13 @@ class _Instruction:
         return tuple("kept" if at in kept else each for at, each in enumerate(outcomes))
 
     def _kept(self, outcomes: tuple[Outcome, ...]) -> Collection[int]:
-        """The active elements that the record says aren't written."""
+        """Return the active elements that aren't written, according to the record."""
         condition, active = self.execution.record.kept, _active(outcomes)
         holds = evaluate_each(condition, self.execution.names, active) if condition else []
         return {element for element, is_kept in zip(active, holds) if is_kept}
 
     def _pairs(self, outcomes: tuple[Outcome, ...]) -> tuple[tuple[int, int], ...]:
-        """Elements of the source, with those of the result that they go to."""
+        """Return pairs of an element of the source, and the element of the result to which it goes."""
         active = _active(outcomes)
         if self.layout == "reduce":
             return tuple((element, 0) for element in active)
@@ -321,14 +331,17 @@ class _Instruction:
         return tuple(sorted(pairs, key=lambda pair: pair[1]))
 
     def _sources(self, node: ast.expr, elements: Sequence[int]) -> Iterator[tuple[int, int]]:
-        """The elements of the source that a gather or a slide reads, each with its element. node: the branch of the formula"""
+        """Yield pairs of an element of the source that a gather or a slide reads, and the element of the result.
+
+        node: the branch of the formula
+        """
         names = self.execution.names
         if isinstance(node, ast.Subscript) and numbers_of(node, names) is names["vs2"]:
             sources = evaluate_each(node.slice, names, elements)
             yield from (pair for pair in zip(sources, elements) if 0 <= pair[0] < self.elements)
 
     def _branches(self, elements: Sequence[int]) -> Sequence[tuple[ast.expr, Sequence[int]]]:
-        """The branches of the formula that count for elements, each with its elements, in the order of their first ones."""
+        """Return the branches of the formula that some elements select, each with these elements, in the order of the first ones."""
         if not elements:
             return []
         found = branches_of(self._assignment.value, self.execution.names, elements)
@@ -339,7 +352,7 @@ class _Instruction:
         return self.execution.formula.assignments[0]
 
     def _equations(self, results: tuple[Outcome, ...]) -> Iterator[Equation]:
-        """The calculations of active elements, those of one form together."""
+        """Yield the calculations of active elements, one for all elements with the same form."""
         if self.is_access:
             return
         if self.destination is None:
@@ -353,13 +366,13 @@ class _Instruction:
                 yield self._equation(shown, self._target(shown[0]), self._is_copy(node))
 
     def _is_copy(self, node: ast.expr) -> bool:
-        """Whether a branch of the formula is an element as wide as the result, so that both have the same bits."""
+        """Return whether a branch of the formula is an element as wide as the result, so that both have the same bits."""
         names = self.execution.names
         width = self.instruction.operands[0].eew
         return isinstance(node, ast.Subscript) and numbers_of(node, names).width == width
 
     def _target(self, element: int) -> Term:
-        """An element of the destination, with its bits afterwards."""
+        """Return an element of the destination as a term, with its bits after the instruction."""
         assert self.destination
         register, width = self.destination.registers.start, self.destination.eew
         name = f"v{register}{'.mask' * (width == 1)}[{element}]"
@@ -367,7 +380,10 @@ class _Instruction:
         return Term(name, bits, width, Sign.EITHER, register=register, index=element, step=1)
 
     def _equation(self, elements: Sequence[int], target: Term, is_copy: bool = False) -> Equation:
-        """The calculation of elements. target: the first of them, or a scalar register; is_copy: as `_is_copy` says"""
+        """Return the calculation of elements with one form.
+
+        target: the first of the elements, or a scalar register; is_copy: the value of `_is_copy`
+        """
         self.execution.at(elements[0])
         is_single = is_copy or self.destination is None or self.destination.eew == 1
         shown = elements[:1] if is_single else elements
@@ -383,7 +399,7 @@ class _Instruction:
     def _exact(
         self, elements: Sequence[int], results: Sequence[tuple[int, int]]
     ) -> tuple[Sign, dict[int, tuple[int, int]]]:
-        """The sign that most exact results of elements of one form have, and the other results."""
+        """Return the sign that most of the elements' exact results have, and the results that differ from it, by element."""
         operand = self.instruction.operands[0]
         values = Elements(self.v, operand.registers.start, operand.eew, operand.group)
         unsigned, signed = values.each(elements, False), values.each(elements, True)

@@ -1,6 +1,6 @@
-"""The records of what names mean: instructions, pseudo-instructions, directives, registers, calls, commands and refusals.
+"""The records of names: instructions, pseudo-instructions, directives, registers, calls, commands and refusals.
 
-`tables/meanings` has them in TOML, a table for each; those of commands and refusals are `tables/commands` and `tables/refusals`.
+`tables/meanings` has them in TOML, one table for each. Commands and refusals are in `tables/commands` and `tables/refusals`.
 """
 
 import ast
@@ -24,16 +24,16 @@ class Record:
     """The meaning of a name, or of a family of instructions.
 
     kind: `instruction`, `pseudo-instruction`, `directive`, `operand`, `control register`, `call`, `term` or `absent`
-    does: a sentence of 25 words at most, which may name vs1 for all forms: `does_of` has that of a form
+    does: a sentence of at most 25 words; it may name vs1 for all forms; `does_of` returns the sentence for one form
     template: `does` with braces around the words that other forms replace
-    formulas: of an instruction, by the end of a name, as `vx`; "" is for all others
+    formulas: of an instruction, by a form's suffix, such as `vx`; "" is for all other forms
     kept: the condition under which an element isn't written
-    layout: how sources lie to results: `by element`, `gather`, `slide`, `reduce`, `compress` or `scan`
-    elements: of inactive and tail elements, where the general rule doesn't hold
+    layout: how sources correspond to results: `by element`, `gather`, `slide`, `reduce`, `compress` or `scan`
+    elements: a sentence about inactive and tail elements, if the general rule doesn't hold
     see: names of related records
     extension: of RISC-V, for an instruction
     section: of the manual
-    file: the table of the record
+    file: the table that has the record
     kept_text: `kept` as text
     intrinsic: a call in C
     """
@@ -57,12 +57,12 @@ class Record:
     intrinsic: str = ""
 
     def does_of(self, name: str) -> str:
-        """The sentence for a mnemonic of this family, with the operand that its form has in place of vs1."""
+        """Return the sentence for a mnemonic of this family, with its own operand in place of vs1."""
         other = scalar_source(instruction_table()[name])
         return re.sub(r"\{.*?\}", other, self.template) if other else self.does
 
     def formula_of(self, name: str) -> Formula | None:
-        """The formula of a mnemonic of this family; None if it has none."""
+        """Return the formula of a mnemonic of this family; None if it has none."""
         end = name.rpartition(".")[2]
         found = next((text for ends, text in self.formulas.items() if ends and re.fullmatch(ends, end)), None)
         text = found or self.formulas.get("")
@@ -70,21 +70,21 @@ class Record:
 
     @functools.cached_property
     def members(self) -> list[str]:
-        """The mnemonics of the family, in the order of the table of instructions; of other records the name."""
+        """The mnemonics of the family, in the order of the table of instructions; for other records, the name."""
         if self.kind != "instruction":
             return [self.name]
         return [name for name in instruction_table() if re.fullmatch(self.names, name)]
 
 
 def scalar_source(row: Row) -> str:
-    """The operand in place of vs1 in a form with a scalar or an immediate; "" if the form has vs1."""
+    """Return the operand in place of vs1 in a form with a scalar or an immediate; "" if the form has vs1."""
     fields = row.fields()
     return "" if "vs1" in fields else "x[rs1]" if "rs1" in fields else "the immediate"
 
 
 @functools.cache
 def records() -> Mapping[str, Record]:
-    """All records by name, instructions first."""
+    """Return all records by name, instructions first."""
     found: dict[str, Record] = {}
     for path in sorted(FOLDER.glob("*.toml")):
         for name, cells in tomllib.loads(path.read_text("ascii")).items():
@@ -96,7 +96,7 @@ def records() -> Mapping[str, Record]:
 
 @functools.lru_cache(maxsize=1024)
 def record_of(name: str) -> Record:
-    """The record of a mnemonic. Raises LabError."""
+    """Return the record of a mnemonic. Raises LabError."""
     found = _family_names().get(name)
     if found is None:
         raise LabError(f"there is no instruction {name}")
@@ -105,13 +105,13 @@ def record_of(name: str) -> Record:
 
 @functools.cache
 def _family_names() -> Mapping[str, str]:
-    """The family of each mnemonic."""
+    """Return the family of each mnemonic."""
     instructions = [it for it in records().values() if it.kind == "instruction"]
     return {name: it.name for it in instructions for name in it.members}
 
 
 def instruction_records() -> list[Record]:
-    """The records of instructions, in the order of the table of instructions."""
+    """Return the records of instructions, in the order of the table of instructions."""
     return [records()[name] for name in dict.fromkeys(map(_family_names().__getitem__, instruction_table()))]
 
 
@@ -138,6 +138,6 @@ def _record(name: str, file: str, cells: Mapping[str, object]) -> Record:
 
 
 def _without_instructions(names: str) -> str:
-    """A pattern of names of other extensions, without the instructions that the machine has of these."""
+    """Return a pattern for names of other extensions that doesn't match the instructions that the machine has."""
     here = [re.escape(name) for name in instruction_table() if re.fullmatch(names, name)]
     return rf"(?!({'|'.join(here)})$)({names})" if here else names

@@ -1,4 +1,4 @@
-"""Why a register has its value after the instruction that was stepped last, at a guest's machine."""
+"""Why a register of a guest has its value after the last stepped instruction."""
 
 import functools
 from collections.abc import Callable, Sequence
@@ -14,7 +14,7 @@ from .why import NO_STEP, Explanation, Reason
 
 
 def why_stepped(stepper: Stepper, name: str, element: int | None = None) -> Reason:
-    """Why a register, or an element of a vector register, has its value. Raises LabError, also where nothing was stepped."""
+    """Return why a register, or an element of a vector register, has its value. Raises LabError, also if nothing was stepped."""
     if stepper.last is None:
         raise LabError(NO_STEP)
     before, retired = stepper.last
@@ -22,7 +22,7 @@ def why_stepped(stepper: Stepper, name: str, element: int | None = None) -> Reas
 
 
 class Step:
-    """An instruction of a call that was stepped: its address, word and text, its changes, and why registers have their values."""
+    """A stepped instruction of a call: its address, word and text, its changes, and the reasons for values of registers after it."""
 
     def __init__(self, guest: Guest, before: Registers, after: ControlRegisters, retired: Retired) -> None:
         self.pc, self.word, self.text = retired.pc, retired.word, retired.text
@@ -36,21 +36,23 @@ class Step:
         return f"{self.pc:x} {self.text}: {' '.join(map(str, self.changes))}".rstrip(": ")
 
     def why(self, name: str, element: int | None = None) -> Reason:
-        """Why a register, or an element of a vector register, has its value after this step. Raises LabError."""
+        """Return why a register, or an element of a vector register, has its value after this step. Raises LabError."""
         return self._explanation().why(name, element)
 
 
 def explanation_of(guest: Guest, before: Registers, after: ControlRegisters, retired: Retired) -> Explanation:
-    """The execution of an instruction for `why`, by the registers before it, and `vl` after it.
+    """Return the execution of an instruction, for `why`.
 
-    Memory is read now: no load has changed it, and what a store has written isn't read. Raises LabError.
+    before: the registers before the instruction; after: the control registers after it
+
+    Memory is read now: a load hasn't changed it, and the bytes that a store wrote aren't needed. Raises LabError.
     """
     if not retired.text:
         raise LabError(f"no instruction can be fetched at {retired.pc:#x}, so nothing was changed")
     stop, word = retired.stop, retired.word
     fault = stop.value if stop and stop.kind == "fault" else -1
     instruction = vector_instruction(word, before.control.vtype)
-    end = 1 << 64  # of what a load that only faults first has read
+    end = 1 << 64  # the end of the bytes that a fault-only-first load has read
     if instruction and is_fault_only_first(word) and after.vl < before.control.vl:
         end = before.x[word >> 15 & 31] + after.vl * ((word >> 29) + 1) * instruction.operands[0].eew // 8
 

@@ -1,4 +1,4 @@
-"""Why a register has its value after an instruction: the formula with the numbers in it, or why an element kept its value."""
+"""Why a register has its value after an instruction: the formula with its numbers, or the cause why an element kept its value."""
 
 import ast
 import re
@@ -19,18 +19,18 @@ _NAME = re.compile(r"(\w+)(?:\[(\d+)\]|\s+(\d+))?")
 
 @dataclass(frozen=True)
 class Reason:
-    """Why a register or an element has its value: its calculation, or why it kept its value; the text, and the unsigned value."""
+    """Why a register or an element has its value, or kept its value. It has the text and the unsigned value."""
 
     of: Calculation | Kept
 
     @property
     def text(self) -> str:
-        """The sentence, with signed numbers and registers such as x10."""
+        """The sentence, with signed numbers, and with registers such as x10."""
         return self.of.text()
 
     @property
     def value(self) -> int:
-        """The unsigned value afterwards."""
+        """The unsigned value after the instruction."""
         return self.of.target.bits
 
     def __str__(self) -> str:
@@ -38,7 +38,7 @@ class Reason:
 
 
 def read_name(text: str) -> tuple[str, int | None]:
-    """The register and the element that a text names: `v8[5]`, `v8 5`, or `a0`, which has no elements. Raises LabError."""
+    """Return the register and the element that a text names: `v8[5]`, `v8 5`, or `a0`, which has no elements. Raises LabError."""
     found = _NAME.fullmatch(text.strip())
     if found is None:
         raise LabError(f"{text.strip()!r} names no element: v8[5] is one, and x10 or a0 a register")
@@ -47,16 +47,16 @@ def read_name(text: str) -> tuple[str, int | None]:
 
 
 class Explanation:
-    """The reasons for the results of one instruction, which is executed by its formula once."""
+    """The reasons for the results of one instruction. Its formula is executed once."""
 
     def __init__(self, before: Before) -> None:
-        """Raises LabError for an instruction that is illegal or has no formula."""
+        """Raises LabError if the instruction is illegal or has no formula."""
         if reasons := illegal_reasons(before.word, before.control):
             raise LabError(f"the instruction is illegal and changed nothing: {reasons[0]}")
         self._execution, self._after = Execution(before), execute(before)
 
     def why(self, name: str, element: int | None = None) -> Reason:
-        """Why a scalar register, or an element of a vector register, has its value. Raises LabError."""
+        """Return why a scalar register, or an element of a vector register, has its value. Raises LabError."""
         number = _register(name)
         if not re.fullmatch(r"v\d+", name):
             if element is not None:
@@ -68,7 +68,7 @@ class Explanation:
 
 
 def _register(name: str) -> int:
-    """The number of a register. Raises LabError."""
+    """Return the number of a register. Raises LabError."""
     number = REGISTERS.get(name, name)
     if not re.fullmatch(r"[xv](?:\d|[12]\d|3[01])", number):
         kind = "there is no register" if re.fullmatch(r"[xv]\d+", name) else "a register has another name than"
@@ -77,7 +77,7 @@ def _register(name: str) -> int:
 
 
 def _why_scalar(execution: Execution, after: After, number: int) -> Calculation | Kept:
-    """Why a scalar register has its value."""
+    """Return why a scalar register has its value."""
     before = execution.before
     assignment = next((it for it in execution.formula.assignments if it.kind == "x"), None)
     if number not in after.x or assignment is None:
@@ -87,7 +87,7 @@ def _why_scalar(execution: Execution, after: After, number: int) -> Calculation 
 
 
 def _why_element(execution: Execution, after: After, register: int, element: int) -> Calculation | Kept:
-    """Why an element of the group that a vector register belongs to has its value."""
+    """Return why an element of a vector register group has its value. register: any register of the group"""
     operand, before, at, group = execution.operand, execution.before, 0, 1
     width, is_written = before.control.sew, operand is not None and register in operand.registers
     if operand and is_written:
@@ -106,9 +106,9 @@ def _why_element(execution: Execution, after: After, register: int, element: int
 
 
 def _why_written(execution: Execution, after: After, register: int, field: int, index: int) -> Calculation | Kept:
-    """Why an element of the operand at vd has its value.
+    """Return why an element of the operand in the field vd has its value.
 
-    register: the first of the group; field: the number of the segment's field
+    register: the first register of the group; field: the number of the segment's field; index: of the element
     """
     is_mask, control = execution.target.kind == "mask", after.control
     unit, name = 1 if is_mask else execution.width, f"v{register}{'.mask' * is_mask}[{index}]"
@@ -129,7 +129,7 @@ def _why_written(execution: Execution, after: After, register: int, field: int, 
 
 
 def _cause(execution: Execution, outcome: ElementOutcome, index: int) -> str:
-    """Why the formula doesn't count for an element."""
+    """Return why the formula doesn't apply to an element."""
     control, body = execution.before.control, execution.body
     stop = f"vl = {control.vl}" if body.stop == control.vl else f"{body.stop}"
     if execution.is_single:
@@ -145,7 +145,10 @@ def _cause(execution: Execution, outcome: ElementOutcome, index: int) -> str:
 
 
 def _kept_cause(execution: Execution) -> str:
-    """Why an element isn't written, by the record's condition with numbers; after the packed ones of vcompress is the tail (section 16.5)."""
+    """Return why an element isn't written, from the record's condition with numbers.
+
+    For vcompress, elements after the packed ones are the tail (section 16.5).
+    """
     kept = execution.record.kept
     if execution.record.layout == "compress" and isinstance(kept, ast.Compare):
         packed = evaluate(kept.comparators[0], execution.names)

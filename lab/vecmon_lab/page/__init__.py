@@ -1,1 +1,1 @@
-"""A machine's state on pages, and the files of pages."""
+"""The state of a machine as pages show it, and the files of pages."""

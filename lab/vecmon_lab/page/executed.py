@@ -1,4 +1,4 @@
-"""The vector instruction that a state executed last, as data for pages: `meanings/instruction.py` as JSON, with runs of equal outcomes."""
+"""The vector instruction that was executed last, as data for pages: `meanings/instruction.py` as JSON, with equal outcomes in runs."""
 
 import functools
 import itertools
@@ -27,7 +27,7 @@ class ShownTerm(TypedDict):
     value: in decimal digits, of a scalar register or a number with a name
     name: as `sew`; not of registers, and of the number of the element
     scalar: the number of a scalar register
-    register: the first vector register of a group, of which it is an element; width: in bits, 1 of a bit of a mask
+    register: the first vector register of the group that has the element; width: in bits, 1 for a bit of a mask
     sign: how the number is taken: signed or unsigned; without it as the reader's form of numbers says
     function: around its name, as `signed`
     index: of the element; where `by` is `element`, the distance from the element of the result; 0 is left out
@@ -150,10 +150,12 @@ def shown_executed(
     end: End,
     known: tuple[bool, bool, bool],
 ) -> ShownExecuted | None:
-    """Return the data of a word that was executed; None if it has no vector operands.
+    """Return the data of an executed instruction word; None if it has no vector operands.
 
-    before: the registers before it, or where these are unknown those after it; after, v: the registers after it
-    known: whether those of its sources and of its destination are known, and whether all are
+    before: the registers before it, or if these are unknown the ones after it
+    after, v: the control registers and the vector registers' bytes after it
+    end: how the instruction ended
+    known: whether the registers of its sources are known, those of its destination, and all registers before it
     """
     state = Before(0, word, before.x, before.control, bytes(before.v), False)
     data = executed_instruction(state, after, v, end, known[0])
@@ -226,12 +228,12 @@ def _access(access: Access) -> ShownAccess:
 
 @functools.lru_cache(maxsize=4096)
 def _runs(outcomes: Sequence[Outcome]) -> Sequence[OutcomeRun]:
-    """Outcomes as runs of equal ones."""
+    """Return outcomes as runs of equal ones."""
     return [{"outcome": outcome, "count": len([*run])} for outcome, run in itertools.groupby(outcomes)]
 
 
 def _pair_runs(pairs: Sequence[tuple[int, int]]) -> Iterator[PairRun]:
-    """Pairs as runs whose sources follow one another."""
+    """Yield pairs of source and result as runs in which the sources are consecutive."""
     run: PairRun | None = None
     for source, result in pairs:
         step = result - (run["result"] + run["step"] * (run["count"] - 1)) if run else 0
@@ -272,8 +274,8 @@ def _condition(condition: Condition, element: int) -> ShownCondition:
 
 
 def _element_runs(elements: Sequence[int]) -> list[list[int]]:
-    """Runs of elements that follow one another, each its first one and their number."""
-    if elements[-1] - elements[0] == len(elements) - 1:  # as most do; they are in rising order
+    """Return consecutive elements as runs, each with its first element and the number of elements. The elements are in rising order."""
+    if elements[-1] - elements[0] == len(elements) - 1:  # one run, the most frequent case
         return [[elements[0], len(elements)]]
     runs = list[list[int]]()
     for element in elements:
@@ -286,7 +288,7 @@ def _element_runs(elements: Sequence[int]) -> list[list[int]]:
 
 @functools.lru_cache(maxsize=4096)
 def _named(parts: Sequence[Part]) -> Sequence[str | ShownTerm]:
-    """Parts of a sentence or a formula for all elements, whose terms are scalar registers; texts next to each other are one."""
+    """Return the parts of a sentence or formula that is for all elements, with adjacent texts joined. Its terms are scalar registers."""
     shown = list[str | ShownTerm]()
     for part in parts:
         last = shown[-1] if shown else None
@@ -298,12 +300,12 @@ def _named(parts: Sequence[Part]) -> Sequence[str | ShownTerm]:
 
 
 def _parts(parts: Sequence[Part], element: int = 0) -> list[str | ShownTerm]:
-    """Parts of a formula or of an element's calculation."""
+    """Return the parts of a formula, or of the calculation of one element."""
     return [part if isinstance(part, str) else _term(part, element) for part in parts]
 
 
 def _term(term: Term, element: int) -> ShownTerm:
-    """A term of the calculation of an element."""
+    """Return a term of the calculation of one element."""
     shown: ShownTerm = {}
     if term.scalar is not None:
         shown["scalar"] = term.scalar

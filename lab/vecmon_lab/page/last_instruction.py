@@ -1,6 +1,7 @@
 """The last instruction of a program on pages: the registers that it read, and the memory that it accessed.
 
-The registers before it are known if the machine was looked at then. Otherwise those are known that it can't have changed.
+If the machine's state right before the instruction was read, all of these registers are known. Otherwise only registers that the
+instruction can't have changed are known.
 """
 
 import functools
@@ -81,10 +82,10 @@ def may_access(word: int) -> bool:
 
 
 def accesses(word: int, before: Registers, after: ControlRegisters, is_faulting: bool) -> list[Access]:
-    """Return the memory that an instruction read or wrote, in the order of its addresses; adjacent bytes are one access.
+    """Return the memory that an instruction read or wrote, in the order of its addresses. Adjacent bytes are one access.
 
     before, after: the registers before it, and the control registers after it
-    is_faulting: whether it stopped at its element vstart; then earlier elements count
+    is_faulting: whether it faulted at the element vstart; then only earlier elements count
     """
     end = 1 << 64
     if is_faulting:
@@ -98,7 +99,7 @@ def accesses(word: int, before: Registers, after: ControlRegisters, is_faulting:
 
 
 def scalar_accesses(word: int, after: Registers) -> list[Access] | None:
-    """Return the memory that a scalar instruction accessed, by the registers after it; None if they don't show that."""
+    """Return the memory that a scalar instruction accessed, from the registers after it; None if they don't show its address."""
     opcode = word & 0x7F
     if opcode in (LOAD_FP, STORE_FP) or opcode == LOAD and scalar_written(word) == word >> 15 & 31 != 0:
         return None
@@ -106,27 +107,27 @@ def scalar_accesses(word: int, after: Registers) -> list[Access] | None:
 
 
 def _call(word: int, x: Digits) -> int:
-    """The number of the call that an instruction makes; 0 for another instruction."""
+    """Return the number of the system call that an instruction makes; 0 for another instruction."""
     return int(x["17"], 16) if word == ECALL else 0
 
 
 @functools.lru_cache(maxsize=4096)
 def _scalars_read(word: int, call: int) -> Sequence[str]:
-    """The numbers of the scalar registers that an instruction reads, with the one that it stores, without x0."""
+    """Return the numbers of the scalar registers that an instruction reads, also the one that a store stores; x0 is left out."""
     stored = [word >> 20 & 31] if word & 0x7F == STORE else []
     return [f"{number}" for number in sorted({*scalars_read(word, call), *stored} - {0})]
 
 
 @functools.lru_cache(maxsize=4096)
 def _of_operands(word: int, vtype: int) -> Sequence[str]:
-    """The numbers of the vector registers of an instruction's operands."""
+    """Return the numbers of the vector registers of an instruction's operands."""
     instruction = vector_instruction(word, vtype)
     numbers = {number for operand in instruction.operands for number in operand.registers} if instruction else set()
     return [f"{number}" for number in sorted(numbers) if number < 32]
 
 
 def _of_destination(word: int, vtype: int) -> Collection[str]:
-    """The numbers of the vector registers that an instruction writes; none of a vset."""
+    """Return the numbers of the vector registers that an instruction writes; none for a vset instruction."""
     instruction = vector_instruction(word, vtype)
     operands = instruction.operands if instruction else []
     return {f"{number}" for each in operands if each.noun == "destination" for number in each.registers}
@@ -137,7 +138,7 @@ def _some(registers: Digits, numbers: Iterable[str]) -> dict[str, str]:
 
 
 def _joined(spans: Sequence[Span]) -> list[Span]:
-    """Spans without those that touch each other, which are one."""
+    """Return spans with adjacent and overlapping ones joined."""
     joined, start, end = list[Span](), 0, -1
     for address, length in sorted(spans):
         if address > end >= 0:

@@ -1,4 +1,4 @@
-"""The vector register operands of an instruction for pages, once for all vector types."""
+"""The vector register operands of an instruction for pages, which are the same for all vector types."""
 
 import functools
 from collections.abc import Sequence
@@ -29,12 +29,13 @@ MASK = ShownOperand(register=0, bits=True, written=False, masked=False)
 
 @functools.lru_cache(maxsize=4096)
 def shown_operands(word: int) -> Sequence[ShownOperand]:
-    """The operands of a word, v0 last where it is the mask; none of a word that is no vector instruction."""
+    """Return the operands of a word, with v0 as the last one if it is the mask; none if the word isn't a vector instruction."""
     instruction = vector_instruction(word, 0)
     if instruction is None:
         return []
     first, *others = instruction.operands
-    masked = others[0] if first.part and first.is_whole and others else first  # a reduction's mask is its source's
+    # A reduction masks off elements of its source.
+    masked = others[0] if first.part and first.is_whole and others else first
     is_masked = instruction.leaves_out and (first.noun, first.registers.start) != ("destination", 0)
     shown = [_shown(operand, is_masked and operand is masked) for operand in instruction.operands]
     return [*shown, MASK] if instruction.is_masked else shown

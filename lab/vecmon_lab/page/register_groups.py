@@ -1,4 +1,7 @@
-"""The vector register groups in use: each register as the instruction took it that wrote it last, or that read it if none did."""
+"""The vector register groups in use.
+
+Each register is shown in the group of the last instruction that wrote it, or, if none did, of the last one that read it.
+"""
 
 import functools
 from collections.abc import Iterable, Mapping, Sequence
@@ -9,8 +12,8 @@ from ..guest.vector_flow import flow_of_listing, type_after
 from ..instructions.accesses import vector_instruction
 
 REGISTERS = 32
-WIDTHS = (1, 8, 16, 32, 64)  # of elements in bits, 1 in a mask
-E32 = 2 << 3  # vtype e32,m1, in place of vill
+WIDTHS = (1, 8, 16, 32, 64)  # of elements in bits; 1 is a mask
+E32 = 2 << 3  # the vector type e32,m1, used while vill is set
 
 
 class ShownRegisterGroup(TypedDict):
@@ -27,7 +30,12 @@ def element_width(groups: Mapping[str, ShownRegisterGroup], number: int) -> int 
 
 
 class _Group(NamedTuple):
-    """A register group as an instruction takes it. is_whole: whether it has this size under all vector types"""
+    """A register group, as an instruction uses it.
+
+    first, size: the number of the first register, and the number of registers
+    width: of its elements in bits, 1 for a mask
+    is_whole: whether it has this size under all vector types
+    """
 
     first: int
     size: int
@@ -42,22 +50,25 @@ _MASK = _Group(0, 1, 1, is_written=False, is_whole=True)
 class RegisterGroups:
     """The groups of one user's vector registers while the user's program runs.
 
-    After a run, the machine's trace has its last 16 instructions. Registers that these don't take are shown as the listing has them.
+    After a run, only the last 16 instructions are known, from the machine's trace. Other registers are shown as the listing's instructions
+    use them.
     """
 
     def __init__(self) -> None:
-        self._executed = dict[int, _Group]()  # by register, of executed instructions
+        self._executed = dict[int, _Group]()  # groups that executed instructions use, by register
         self._trace: Sequence[int] = []
-        self._vtype: int | None = None  # after the last instruction
+        self._vtype: int | None = None  # the vector type after the last instruction; None if unknown
         self._code: Mapping[str, str] = {}
-        self._words = dict[int, int]()  # of the listing, in the order of addresses
-        self._types = dict[int, int]()  # vector types by address
+        self._words = dict[int, int]()  # the listing's words in the order of their addresses
+        self._types = dict[int, int]()  # vector types by address, as far as the listing shows them
 
     def follow(self, code: Mapping[str, str], trace: Sequence[int], stepped: int, vtype: int) -> None:
         """Take up the instructions that were executed since the last call.
 
-        code: the listing; trace: the addresses of the last instructions; vtype: after them
-        stepped: how many instructions were stepped; 0 if the program ran
+        code: the listing
+        trace: the addresses of the last instructions
+        stepped: the number of instructions that were stepped; 0 if the program ran
+        vtype: the vector type after these instructions
         """
         if code is not self._code:
             self._code = code
@@ -73,7 +84,7 @@ class RegisterGroups:
         self._trace, self._vtype = trace, vtype
 
     def _execute(self, addresses: Iterable[int], before: int | None, after: int) -> None:
-        """Take up executed instructions. before, after: the vector types before them, if it is known, and after them"""
+        """Take up executed instructions. before, after: the vector types before them (None if unknown) and after them"""
         vtype = before
         for address in addresses:
             word = self._words.get(address, 0)
@@ -83,8 +94,10 @@ class RegisterGroups:
     def shown(self, pc: int) -> dict[str, ShownRegisterGroup]:
         """Return the groups by their first registers.
 
-        Registers that no instruction took so far, as far as it is known, are shown as the last listed one before the program counter takes
-        them; and else as the first one after it would, under the present vector type.
+        pc: the program counter
+
+        If no executed instruction is known to use a register, it is shown in the group of the last listed instruction before the program
+        counter that uses it, or else of the first one after it under the present vector type.
         """
         before, after = dict[int, _Group](), dict[int, _Group]()
         present = E32 if self._vtype is None or self._vtype >> 63 else self._vtype
@@ -103,7 +116,7 @@ class RegisterGroups:
 
 @functools.lru_cache(maxsize=4096)
 def _groups_of(word: int, vtype: int) -> Sequence[_Group]:
-    """The register groups of an instruction under a vector type: those that it reads, then those that it writes."""
+    """Return the register groups of an instruction under a vector type: first those that it reads, then those that it writes."""
     instruction = vector_instruction(word, vtype)
     if instruction is None:
         return []
@@ -120,7 +133,7 @@ def _groups_of(word: int, vtype: int) -> Sequence[_Group]:
 
 
 def _take(groups: dict[int, _Group], new: Iterable[_Group]) -> None:
-    """Take groups of an instruction into those by register. One that is only read leaves written registers as they are."""
+    """Replace the group of each register that an instruction uses. A group that is only read doesn't replace one that was written."""
     for group in new:
         for number in range(group.first, group.first + group.size):
             old = groups.get(number)
@@ -131,9 +144,10 @@ def _take(groups: dict[int, _Group], new: Iterable[_Group]) -> None:
 
 
 def _joined(groups: Mapping[int, _Group]) -> dict[str, ShownRegisterGroup]:
-    """The groups by their first registers; the rest of one that another one took a part of has its own first register."""
+    """Return the groups by their first registers. If a group was replaced in part, its remaining registers are groups of their own."""
     numbers = sorted(groups)
-    places = {number: groups[number][:3] for number in numbers}  # without whether they are written
+    # A group's registers count as equal whether they were read or written.
+    places = {number: groups[number][:3] for number in numbers}
     runs = groupby(numbers, key=lambda number: (places[number], number - numbers.index(number)))
     rows = [(list(run), place) for (place, _), run in runs]
     return {f"{run[0]}": {"width": width, "size": len(run)} for run, (_, _, width) in rows}

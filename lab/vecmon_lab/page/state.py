@@ -91,7 +91,7 @@ class State(TypedDict):
     output: the bytes that answers to `out` have shown
     outputs: in a class in place of it, the last 64 KB of them, in blocks by number
     began, image: in a class, how often the user's machine began anew, and whether it began with an image
-    prepared: whether lines of what was just done set the program counter, and nothing was executed after them, as before a case
+    prepared: whether the last lines set the program counter, and nothing was executed after them, as before a case
     labels, lines, line_numbers, aliases, starts, stops, variables, data: in a class, those of `SourceNames`
     """
 
@@ -136,7 +136,7 @@ class State(TypedDict):
 
 ABSENT: State = {"run": "absent"}
 MAX_ROWS = 64
-MAPPED_PAGES, MAX_PAGES = 8, 32  # how many pages are looked at since they were mapped, and in all
+MAPPED_PAGES, MAX_PAGES = 8, 32  # numbers of watched pages up to which `map` adds pages, and other lines do
 MAX_WORDS = 512
 ILLEGAL = 2  # cause of a fault
 WORDS_AHEAD = 8
@@ -146,25 +146,25 @@ _LOOKS = ("state", "regs", "vcsr", "breaks", "trace")
 
 
 class WatchSet:
-    """The watched places of one user's memory: the program's words, and pages of data; and breakpoints."""
+    """The places of one user's memory that a page reads: words of the program, pages and rows of data; and the breakpoints."""
 
     def __init__(self) -> None:
         self.code: set[int] = set()  # addresses of words
         self.pages: set[int] = set()  # addresses of pages
-        self.named: set[int] = set()  # addresses of rows that lines named
-        self.accessed: dict[int, int] = {}  # by page: the row in which a load or store started its access first
-        self.breaks: set[int] = set()  # where the program stops, which a look at a running program doesn't show
-        self.is_compiled = False  # whether a compiler made the program in memory
-        self.end = 0  # the address of the ebreak after the last instruction of a source; 0 without one
-        self.trace: Sequence[int] = []  # as it was when it was looked at last
+        self.named: set[int] = set()  # addresses of rows that lines have named
+        self.accessed: dict[int, int] = {}  # by page: the first row at which a load or store started
+        self.breaks: set[int] = set()  # addresses of breakpoints, which can't be read while the program runs
+        self.is_compiled = False  # whether the program in memory is compiled
+        self.end = 0  # the address of the ebreak after the last instruction of a source; 0 without a source
+        self.trace: Sequence[int] = []  # the trace in the last state
         self.groups = RegisterGroups()
-        # First addresses of listings, in memory that hasn't changed since.
+        # Addresses from which words were listed, while memory hasn't changed.
         self.followed: set[int] = set()
 
     def follow(self, line: str) -> None:
-        """Takes up the places that a user's line names, which was accepted.
+        """Take up the places that a user's accepted line names.
 
-        Of the lines that set up the start of a program it is the last page of the stack.
+        For the lines that set up the start of a program, the place is the last page of the stack.
         """
         command = line.partition(" ")[2]
         if command in START:
@@ -191,7 +191,11 @@ class WatchSet:
                 self.breaks.discard(int(address, 16))
 
     def take_compiled(self, text: range, rows: Iterable[int]) -> None:
-        """Set the instructions of a compiled program, and the rows of its variables in place of all pokes."""
+        """Take up a compiled program.
+
+        text: the addresses of its instructions, which are added to the program's words
+        rows: the addresses of the rows with its variables, which replace all rows that lines have named
+        """
         self.code.update(text[: max(0, MAX_WORDS - len(self.code))])
         self.named, self.is_compiled = set(rows), True
 
@@ -204,7 +208,7 @@ class WatchSet:
         self.pages.update(pages[: max(0, limit - len(self.pages))])
 
     def add_accessed(self, word: int, x: Sequence[int]) -> None:
-        """Takes up the page and the row in which a load or store starts its access."""
+        """Take up the page and the row of the address at which a load or store starts. word: the instruction; x: the registers before it"""
         address = base_address(word, x)
         if address is not None:
             self._add_pages(address % (1 << 48), 1)
@@ -219,11 +223,15 @@ def look_at(
     executed: str = "",
     is_done: bool = True,
 ) -> State:
-    """The user's state after lines that were answered to the user so; before them the state was `before`.
+    """Return a user's state after some lines.
 
-    executed: the line of the listing with the instruction that a line may have executed, if it did nothing else
-    is_done: whether a line did more than look
-    While the program runs the machine shows nothing else, so that all but `run` and `pc` stays as it was.
+    watch_set: the places of memory to read
+    before: the state before the lines
+    answers: the user's answers to them
+    executed: the line of the listing with the instruction that was executed, if the lines executed at most this one
+    is_done: whether some line wasn't read-only
+
+    While the program runs, the machine shows only `run` and `pc`. Everything else stays as it was.
     """
     opcode = int(executed[:8], 16) & 0x7F if executed else None
     has_vectors = opcode in (None, OP_V, LOAD_FP)
@@ -272,7 +280,7 @@ def _forget_last(state: State) -> None:
 
 
 def _set_position(state: State, place: Position, answers: Sequence[Answer]) -> None:
-    """Set whether the program runs, and its program counter; add what the answers printed to its output."""
+    """Set whether the program runs, and its program counter. Add the output in the answers."""
     state["run"], state["pc"] = place.run, f"{place.pc:x}"
     for answer in answers:
         if isinstance(answer, Output) and answer.data:
@@ -282,7 +290,10 @@ def _set_position(state: State, place: Position, answers: Sequence[Answer]) -> N
 def _set_memory(
     guest: Guest, watch_set: WatchSet, state: State, scalar: ScalarRegisters, text: str, may_store: bool
 ) -> None:
-    """Set the shown memory of a state, if it may have changed or a page is new. text: the line of the listing at the program counter"""
+    """Set the memory of a state, if it may have changed or a page is new.
+
+    text: the line of the listing at the program counter; may_store: whether an instruction may have stored something
+    """
     pages = len(watch_set.pages)
     if text:
         watch_set.add_accessed(int(text[:8], 16), scalar.x)
@@ -291,7 +302,7 @@ def _set_memory(
 
 
 def _set_code(state: State, code: dict[str, str]) -> None:
-    """Set the listing of a state, and the operands and targets of its lines, if it has changed."""
+    """Set the listing of a state. If it has changed, set the operands and targets of its lines as well."""
     if code != state.get("code"):
         state["code"] = code
         words = {address: int(line[:8], 16) for address, line in code.items()}
@@ -301,7 +312,7 @@ def _set_code(state: State, code: dict[str, str]) -> None:
 
 
 def _set_stop(state: State, answers: Sequence[Answer], text: str, control: ControlRegisters, end: int) -> None:
-    """Set the description of the last stop among the answers.
+    """Set the description of the last stop among the answers, if there is one.
 
     text: the line of the listing at the program counter; end: as in `WatchSet`
     """
@@ -315,7 +326,7 @@ def _set_stop(state: State, answers: Sequence[Answer], text: str, control: Contr
 
 
 def add_executed(state: State, before: State | None) -> None:
-    """Add the last instruction's elements to a state, if it has vector operands, and the listing has it.
+    """Add the elements of the last instruction to a state, if it is in the listing, and has vector operands.
 
     before: the state before that instruction; None if it is unknown
     """
@@ -338,7 +349,10 @@ def add_executed(state: State, before: State | None) -> None:
 
 
 def _known(word: int, vtype: int, kept: ReadRegisters) -> tuple[bool, bool]:
-    """Whether the registers of an instruction's sources, and those of its destination, are among those that it can't have changed."""
+    """Return whether the registers of an instruction's sources are known, and those of its destination.
+
+    kept: the registers that the instruction can't have changed, which are known
+    """
     instruction = vector_instruction(word, vtype)
     if instruction is None:
         return False, False
@@ -349,7 +363,7 @@ def _known(word: int, vtype: int, kept: ReadRegisters) -> tuple[bool, bool]:
 
 
 def add_last_instruction(state: State, before: State | None) -> None:
-    """Add what the last instruction of a state read and accessed, if the listing has that instruction.
+    """Add the registers that the last instruction of a state read, and its memory accesses, if it is in the listing.
 
     before: the state before that instruction; None if it is unknown
     """
@@ -370,30 +384,31 @@ def add_last_instruction(state: State, before: State | None) -> None:
 
 
 def control_of(state: State) -> ControlRegisters:
-    """The vector control registers of a state that has them."""
+    """Return the vector control registers of a state that has registers."""
     return ControlRegisters(state["vl"], int(state["vtype"], 16), state["vstart"], state["vxrm"], state["vxsat"])
 
 
 def registers_of(state: State) -> Registers:
-    """The registers of a state that has them."""
+    """Return the registers of a state that has registers."""
     x, v = ([given[number] for number in _NUMBERS] for given in (state["x"], state["v"]))
     return Registers([int(digits, 16) for digits in x], control_of(state), bytearray.fromhex("".join(v)))
 
 
 class VisibleRows:
-    """The rows of a user's memory that are shown: those that lines name, that change, and that aren't zero.
+    """The rows of a user's memory that a page shows: those that lines name, those that change, and those that aren't zero.
 
-    Words in the listing aren't shown again, unless a line names it. If the program accesses a page of memory without such rows, one of
-    its rows is shown: the browser takes bytes without a row as 0 if their page has another row, and as unmapped otherwise.
+    Rows of the listing are shown only if a line names them. If the program accesses a page that has no such row, one of this page's rows is
+    shown. The browser takes a byte without a row as 0 if its page has another row, and as unmapped otherwise.
     """
 
     def __init__(self) -> None:
-        self._weights: Counter[str] = Counter()  # of each row that was there: 2 once it has changed, 0 while it is zero
+        # Of each row so far: 2 if it has ever changed, else 1 if it isn't zero, else 0.
+        self._weights: Counter[str] = Counter()
         self._relevant: dict[str, int] = {}  # the weights that aren't 0, in the same order
         self._last: dict[str, str] = {}
 
     def add(self, state: State) -> None:
-        """Takes up the next one of the user's states."""
+        """Take up the user's next state."""
         if "memory" not in state or state["memory"] is self._last:
             return
         last = self._last
@@ -404,7 +419,7 @@ class VisibleRows:
         self._relevant = {row: weight for row, weight in self._weights.items() if weight}
 
     def rows(self, watch_set: WatchSet, minimum: int = 1) -> set[str]:
-        """The addresses of the most relevant rows; 2 is the least for rows that have changed."""
+        """Return the addresses of the most relevant rows. minimum: 1 for rows that aren't zero, 2 for rows that have changed"""
         listing = {f"{row * ROW_BYTES:x}" for row in {address // ROW_BYTES for address in watch_set.code}}
         weights = Counter({row: it for row, it in self._relevant.items() if it >= minimum and row not in listing})
         weights.update({f"{row:x}": 3 for row in watch_set.named if f"{row:x}" in self._weights})
@@ -415,7 +430,7 @@ class VisibleRows:
 
 
 def with_rows(state: State, rows: set[str]) -> State:
-    """The state with these rows of memory alone."""
+    """Return a state with only these rows of its memory. rows: their addresses"""
     if "memory" not in state:
         return state
     shown, memory = state.copy(), state["memory"]
@@ -436,7 +451,7 @@ def set_vectors(state: State, registers: Sequence[VectorRegister]) -> None:
 
 
 def _take_calls(state: State) -> None:
-    """Takes calls that the machine doesn't support into a state, and forgets those whose ECALL isn't there any more."""
+    """Set the unsupported system calls of a state. Drop those whose address has no ECALL any more."""
     if not any(line.startswith(_ECALL_DIGITS) for line in state["code"].values()):
         state.pop("calls", None)
         return
@@ -452,9 +467,11 @@ def _take_calls(state: State) -> None:
 
 
 def _code(guest: Guest, watch_set: WatchSet, pc: int, trace: Sequence[int], known: dict[str, str]) -> dict[str, str]:
-    """The listing: words that lines wrote, executed words, and some from the program counter on, but for a case's set-up.
+    """Return the listing: words that lines wrote, executed words, and a few words from the program counter on.
 
-    known: the listing before, if memory hasn't changed since; its addresses are in the watch set
+    The instruction that sets up a case of an exercise isn't listed.
+
+    known: the listing before, or {} if memory may have changed; its addresses are in the watch set
     """
     if not known:
         watch_set.followed.clear()
@@ -471,7 +488,7 @@ def _code(guest: Guest, watch_set: WatchSet, pc: int, trace: Sequence[int], know
 
 
 def _ahead(guest: Guest, pc: int) -> Iterator[int]:
-    """The addresses of instructions from one on, up to a later word that is none, or the end of the page."""
+    """Yield the addresses of instructions from one on, up to a word that isn't an instruction, or to the end of the page."""
     (listing,) = guest.ask(f"dis {pc:x} {min(WORDS_AHEAD, (PAGE_BYTES - pc % PAGE_BYTES) // 4)}")
     for place, word in enumerate(listing.words if isinstance(listing, Listing) else ()):
         if place and word.text.startswith(".word"):
@@ -480,7 +497,7 @@ def _ahead(guest: Guest, pc: int) -> Iterator[int]:
 
 
 def _memory(guest: Guest, watch_set: WatchSet) -> dict[str, str]:
-    """The rows of all pages that are watched and mapped."""
+    """Return the rows of all pages that are watched and mapped, by address."""
     rows = dict[str, str]()
     for page in sorted(watch_set.pages):
         digits = guest.peek(page, PAGE_BYTES).hex()

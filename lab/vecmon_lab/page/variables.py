@@ -32,8 +32,8 @@ class ShownVariable(TypedDict):
     declaration: in C's syntax, as `int32_t x[37]`
     element: the kind of its numbers with their bits, as `i32`, or "" where it has none; counts: an array's dimensions
     function: the function that has the variable, also an inlined one; "" for a variable of all functions
-    scopes: where it is known; none for everywhere
-    locations: where none of them has the program counter, the compiler optimized the variable out
+    scopes: the addresses at which it is known; none for everywhere
+    locations: if none of them has the program counter, the compiler optimized the variable out
     """
 
     name: str
@@ -46,7 +46,7 @@ class ShownVariable(TypedDict):
 
 
 def shown_variables(variables: Iterable[Variable]) -> list[ShownVariable]:
-    """The variables of a program, in its order."""
+    """Return the variables of a program, in the same order."""
     return [_shown(variable) for variable in variables]
 
 

@@ -1,1 +1,1 @@
-"""The playground: the student's page with the lab and the machine in it, without a server."""
+"""The playground: the student's page, with the lab and the machine in the browser, without a server."""

@@ -1,8 +1,8 @@
-"""Builds the site from its parts: `python3 -m vecmon_lab.playground.build PARTS OUT`.
+"""Build the site from its parts: `python3 -m vecmon_lab.playground.build PARTS OUT`.
 
-PARTS has python.wasm and its snapshot `memory`, vecmon.wasm and the file PROVENANCE of tools/building/programs, later.zip, and the
-folder lessons. OUT gets playground.html, which is one file, play/, the same page with its parts as files, and index.html.
-The same parts give the same bytes.
+PARTS is a folder with python.wasm and the snapshot of its memory (`memory`), vecmon.wasm and the file PROVENANCE of
+tools/building/programs, later.zip, and the folder lessons. OUT is the folder for playground.html, which is a single file, for play/, which
+is the same page with its parts as separate files, and for index.html. The same parts give the same bytes.
 """
 
 import base64
@@ -30,14 +30,14 @@ from ..places import EXAMPLES
 
 WEB = pathlib.Path(__file__).with_name("web")
 DIGEST_BYTES = 32
-DATA, DATA_COUNT = 11, 12  # sections of WebAssembly
-LATER = "later"  # the part that is loaded where it is needed
+DATA, DATA_COUNT = 11, 12  # numbers of sections of WebAssembly
+LATER = "later"  # the part that is loaded only when it is needed
 LAB = pathlib.Path(__file__).parents[1]
 STEPPED = "strip_mined.s"  # the example of the start page
 
 
 def without_data(module: bytes) -> bytes:
-    """A WebAssembly module without the initial contents of its memory, which a snapshot replaces."""
+    """Return a WebAssembly module without the initial contents of its memory, since a snapshot replaces them."""
     made, at = module[:8], 8
     while at < len(module):
         start, size, shift, at = at, 0, 0, at + 1
@@ -49,7 +49,7 @@ def without_data(module: bytes) -> bytes:
 
 
 def parts_of(folder: pathlib.Path) -> dict[str, bytes]:
-    """The parts of a page by name. Raises LabError if the snapshot belongs to another module."""
+    """Return the parts of a page by name. folder: PARTS. Raises LabError if the snapshot belongs to another module."""
     python, memory = (folder / "python.wasm").read_bytes(), (folder / "memory").read_bytes()
     if memory[:DIGEST_BYTES] != hashlib.sha256(python).digest():
         raise LabError(
@@ -60,7 +60,7 @@ def parts_of(folder: pathlib.Path) -> dict[str, bytes]:
     tables = (path for path in sorted((LAB / "tables").glob("*.txt")) if not path.name.startswith("texts."))
     lessons |= {
         f"lab/{path.relative_to(LAB.parent)}": path.read_text("utf-8") for path in tables
-    }  # the others are in the snapshot
+    }  # all other files are in the snapshot
     return {
         "python": module,
         "memory": memory[DIGEST_BYTES:],
@@ -71,9 +71,9 @@ def parts_of(folder: pathlib.Path) -> dict[str, bytes]:
 
 
 def about(provenance: str) -> str:
-    """The text about the machine and the checks, in the playground's Help and at the foot of index.html.
+    """Return the text about the machine and its proofs, for the playground's Help and for the foot of index.html.
 
-    provenance: the text of tools/building/programs
+    provenance: the content of the file PROVENANCE
     """
     is_proved = "of the proved program" in provenance
     machine = page_text("playground.proved") if is_proved else page_text("playground.unproved")
@@ -81,13 +81,15 @@ def about(provenance: str) -> str:
 
 
 def examples() -> list[ExampleSource]:
-    """The examples in assembler: the page has no compiler."""
+    """Return the examples in assembler; the page has no compiler for others."""
     return [example for example in example_sources() if example["language"] == 0]
 
 
 def stepped_example(program: Vecmon) -> dict[str, object]:
-    """The frames of a loop from its first vector instruction on, for the start page: comments, states as merge patches, the numbers of
-    the vector registers that it uses, and the place of the first masked result, which the page shows first. Raises LabError.
+    """Return a loop, stepped from its first vector instruction on, for the start page. Raises LabError.
+
+    The result has the comments of the frames (`notes`), their states as merge patches (`states`), the numbers of the vector registers that
+    the loop uses (`used`), and the index of the frame with the first masked result, which the page shows first (`first`).
     """
     script = read_assembled((EXAMPLES / STEPPED).read_text("utf-8"), STEPPED)
     frames = make_frames(script, program)
@@ -103,14 +105,19 @@ def stepped_example(program: Vecmon) -> dict[str, object]:
 
 
 def _writes_masked(state: State) -> bool:
-    """Whether the executed instruction is masked, and writes elements of a register."""
+    """Whether the executed instruction of a state is masked and writes elements of a register."""
     operands = state["operands"].get(state.get("instruction", ""), ())
     return any(it["written"] and it["masked"] and not it["bits"] for it in operands)
 
 
 def playground(page: Page, entries: Mapping[str, object], words: str, connect: str) -> str:
-    """The page in HTML; entries: the place of each part; connect: a source of a content security policy."""
-    lesson = Page("lesson")  # which opens in a tab that has the page's policy
+    """Return the page in HTML.
+
+    entries: the place of each part, by name
+    words: the text about the machine
+    connect: the source of `connect-src` in the content security policy
+    """
+    lesson = Page("lesson")  # opens in a tab that has the policy of this page
     policy = "; ".join(
         [
             "default-src 'none'; img-src data:; base-uri 'none'; form-action 'none'; worker-src blob:",
@@ -127,7 +134,7 @@ def playground(page: Page, entries: Mapping[str, object], words: str, connect: s
 
 
 def build(folder: pathlib.Path, out: pathlib.Path) -> None:
-    """Writes the pages. Raises LabError and OSError."""
+    """Write the pages. folder: PARTS; out: OUT. Raises LabError and OSError."""
     parts, page = parts_of(folder), Page("class", replaced={CONNECTION: WEB / "connection.js"})
     provenance = (folder / "PROVENANCE").read_text("utf-8")
     words = about(provenance)
@@ -152,7 +159,7 @@ def build(folder: pathlib.Path, out: pathlib.Path) -> None:
 
 
 def _as_json(it: object) -> str:
-    """JSON that can be in a page."""
+    """Return JSON that a page can contain in a script element."""
     return json.dumps(it).replace("<", "\\u003c")
 
 

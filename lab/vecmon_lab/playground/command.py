@@ -1,4 +1,4 @@
-"""Copies the site: the playground, the tour, the course and the book (docs/PLAYGROUND.md)."""
+"""The command `vecmon-lab site`: copy the site with the playground, the tour, the course and the book (docs/PLAYGROUND.md)."""
 
 import argparse
 import pathlib
@@ -7,16 +7,16 @@ import shutil
 from .. import LabError
 from ..places import SITE
 
-FIRST = ("index.html", "playground.html")  # by which a site is known
+FIRST = ("index.html", "playground.html")  # a folder that has these files is a site
 
 
 def add_arguments(parser: argparse.ArgumentParser) -> None:
-    """The words of `vecmon-lab site`."""
+    """Add the arguments of `vecmon-lab site` to its parser."""
     parser.add_argument("folder", metavar="DIR", type=pathlib.Path, help="a new or empty folder, or an earlier site")
 
 
 def run(arguments: argparse.Namespace) -> int:
-    """Copies the site, and prints its first pages. Raises LabError and OSError."""
+    """Copy the site, and print the paths of its first pages. Raises LabError and OSError."""
     folder = arguments.folder
     if not (SITE / FIRST[0]).is_file():
         raise LabError(f"there is no built site here: in a clone, run tools/site {folder}")

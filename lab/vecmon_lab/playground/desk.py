@@ -1,6 +1,6 @@
-"""A student's seat at a private machine, in one thread and without a server, which answers each request at once.
+"""A student's seat at a private machine, in one thread and without a server. It responds to each request at once.
 
-Work without a request, running programs and checks of answers, is done in turns.
+A running program and checks of answers need no request. They progress each time that `turn` is called.
 """
 
 import time
@@ -10,51 +10,54 @@ from .. import LabError
 from ..assembler.source import Program
 from ..assembler.trial import read_tried_source, read_whole_source
 from ..classes.core.languages import SourceText
-from ..classes.core.messages import Answer, Changes, Hello, News, Result, Updates
-from ..classes.core.messages import answer_to, explain_refusals, request_of, with_changes
+from ..classes.core.messages import Response, Changes, Hello, News, Result, Updates
+from ..classes.core.messages import response_to, explain_refusals, request_of, with_changes
 from ..classes.core.progress import Exercises, Start, Try
 from ..classes.core.bad_request import BadRequest
 from ..classes.core.request_fields import JsonObject
 from ..classes.core.requests import (
-    AnswerRequest,
+    TryRequest,
     LinesRequest,
     Request,
     SeatsRequest,
     Settings,
     read_request,
 )
-from ..classes.core.shared_machine import Answers, MakeProgram, Returned, SharedMachine, Steps, Turn, WorkApart
+from ..classes.core.shared_machine import Answers, SharedMachine
+from ..classes.core.steps import MakeProgram, Returned, Steps, Turn, WorkApart
 from ..classes.core.sources import SeatSource
 from ..classes.core.student import ClassView, Student, try_result
 from ..classes.core.text_store import TextStore
 from ..exercises.check import check, lesson, lesson_before
 from ..exercises.exercise import Exercise
 from ..exercises.answer_cost import AnswerCost
+from ..language.line_types import read_typed_source
 from ..machine.process import Vecmon
 from ..machine.session import Session
 
-SLICES = 1000  # that a running program gets at once
-TURN_SECONDS, WATCH_SECONDS = 0.025, 0.5  # of a turn of a running program; and between looks at it
+SLICES = 1000  # granted to a running program at once
+# Seconds of one turn of a running program, and between two updates of its view.
+TURN_SECONDS, WATCH_SECONDS = 0.025, 0.5
 NO_C = "this page has no compiler; `vecmon-lab explore` on your own computer, and classes, compile C"
 
 
 class NoRecorder:
-    """Records no script: the session has it."""
+    """A recorder that records nothing, since the session has the script."""
 
     def append(self, line: str) -> None:
-        """Ignores a line."""
+        """Do nothing."""
 
     def cut(self, size: int) -> None:
-        """Does nothing."""
+        """Do nothing."""
 
 
 class Desk:
     """A seat, its machine and the exercises.
 
-    refusal_of_c, no_c: the refusal of sources in C, and its reason.
-    stopper: the name in messages of the one that stops a program that runs too long.
-    own_slices: whether the page offers slices of a running program.
-    limit: the approximate number of ticks that a program may run without a stop.
+    no_c, refusal_of_c: the reason why sources in C aren't compiled, and the message before it
+    stopper: the name, in messages, of what stops a program that runs too long
+    own_slices: whether the page offers to grant slices to a running program
+    limit: the approximate number of ticks that a program may run without a stop
     """
 
     no_c, stopper, own_slices = NO_C, "page", False
@@ -70,9 +73,10 @@ class Desk:
         limit: int = Settings.limit,
         source: SeatSource | None = None,
     ) -> None:
-        """texts: keeps the seat's source and its versions; starts: of each exercise the sources to start with
+        """texts: saves the seat's source and its versions
 
-        source: None for that of a class's seat
+        exercises: by name; starts: the sources with which one can start each exercise
+        limit: as the attribute; source: the seat's source; None for one as in a class
         """
         self.program, self.texts, self.limit = program, texts, limit
         self.exercises = Exercises(exercises, starts)
@@ -81,25 +85,25 @@ class Desk:
         self.student = Student(self.machine, self.seat, texts, self.exercises, self._begin_check, source)
         self._sent, self._good = Updates(), dict[str, AnswerCost]()
         self._checks: list[Callable[[], None]] = []
-        self._looked = 0.0  # when a running program was looked at last
+        self._looked = 0.0  # time of the last update of a running program's view
 
     @property
     def is_busy(self) -> bool:
-        """Whether there is work without a request."""
+        """Whether there is work that needs no request: a check, or a running program."""
         return bool(self._checks or self.machine.seats.running())
 
     def hello(self) -> Hello:
-        """The first message to a page."""
+        """Return the first message to a page."""
         self._sent = Updates()
         hello: Hello = {"kind": "hello", "who": self.seat.name, "time": time.time()}
         return with_changes(hello, self.news())
 
     def news(self) -> Changes:
-        """The changes that the page doesn't have yet."""
+        """Return the changes that the page hasn't received yet."""
         return self._sent.news(self.student.view(self._more()), [self.seat])
 
-    def answer(self, text: str) -> Answer:
-        """The answer to a request, with what is new."""
+    def respond(self, text: str) -> Response:
+        """Execute a request; return the response, with the changes. text: the request in JSON"""
         number, done = 0, Answers()
         message: JsonObject = {}
         result: Result
@@ -108,10 +112,10 @@ class Desk:
             result = self._execute(read_request(message, is_teacher=False), done)
         except (LabError, ValueError, RecursionError) as error:
             result = {"error": str(error), "done": done}
-        return answer_to(number, explain_refusals(result, self.seat.digit, message, done), self.news())
+        return response_to(number, explain_refusals(result, self.seat.digit, message, done), self.news())
 
     def turn(self) -> News | None:
-        """Do a part of the work without a request; return the changes, None if there are none."""
+        """Do a part of the work that needs no request. Return a message with the changes; None if there are none."""
         if self._checks:
             self._checks.pop(0)()
         elif self.machine.seats.running():
@@ -120,7 +124,10 @@ class Desk:
         return with_changes(News(kind="news"), changes) if changes else None
 
     def lesson(self, ticket: str) -> str:
-        """The lesson that a ticket opens, or the one before the exercise of this name, in HTML. Raises LabError."""
+        """Return a lesson in HTML. Raises LabError if there is none.
+
+        ticket: of a checked answer, for a lesson about it; or an exercise's name, for the lesson before that exercise
+        """
         if ticket in self.exercises.by_name and "lesson" in self.exercises.by_name[ticket].files:
             return lesson_before(self.program, self.exercises.by_name[ticket])
         if (answered := self.exercises.answered(ticket)) is None:
@@ -131,19 +138,22 @@ class Desk:
         )
 
     def try_of(self, name: str, number: int) -> Try:
-        """A try at an exercise; the first one has number 1. Raises BadRequest."""
+        """Return a try at an exercise. number: 1 for the first try. Raises BadRequest if there is none."""
         raise BadRequest("there is no such answer")
 
     def add_try(self, name: str, done: Try) -> None:
-        """Takes up the result of a check."""
+        """Take up the result of a check of an answer to an exercise."""
         self.exercises.take(self.seat.name, name, done)
 
     def lines(self, request: LinesRequest, done: Answers) -> Answers:
-        """Executes lines, which join `done` with their answers; the answers to lines that look. Raises LabError."""
+        """Execute the lines of a request; return the answers to its read-only lines. Raises LabError.
+
+        done: receives the answers to the other lines, also if an error is raised
+        """
         return self.run(self.machine.lines(self.seat, request, done))
 
     def run(self, steps: Steps[Returned]) -> Returned:
-        """Executes steps one after another. Raises LabError as the machine does."""
+        """Execute steps one after another; return their result. Raises LabError as the machine does."""
         made: Program | None = None
         try:
             while True:
@@ -162,15 +172,15 @@ class Desk:
             return returned
 
     def execute(self, request: Request, done: Answers) -> Result:
-        """Executes a request of a kind that only some desks know. Raises BadRequest."""
+        """Execute a request of a kind that only some desks accept. Raises BadRequest for other kinds."""
         raise BadRequest("this page doesn't do that")
 
     def names_of_images(self) -> list[str]:
-        """The names of the images that the machine can load."""
+        """Return the names of the images that the machine can load."""
         return [*self.machine.session.images]
 
     def _more(self) -> ClassView:
-        """The parts of the page's view that belong to no seat."""
+        """Return the parts of the page's view that belong to no seat."""
         return {
             "title": "Playground",
             "class_title": "",
@@ -186,11 +196,11 @@ class Desk:
         }
 
     def _execute(self, request: Request, done: Answers) -> Result:
-        """Execute a request; return its result. Raises BadRequest."""
+        """Execute a request; return its result. Raises BadRequest. done: receives the answers to lines that aren't read-only"""
         match request:
             case LinesRequest():
                 return {"do": done, "look": self.lines(request, done)}
-            case AnswerRequest(exercise=name, number=number):
+            case TryRequest(exercise=name, number=number):
                 self.exercises.exercise(name)
                 return try_result(self.try_of(name, number))
             case SeatsRequest():
@@ -201,7 +211,7 @@ class Desk:
         yield self.machine.grant(SLICES)
 
     def _run_for(self, seconds: float) -> None:
-        """Grants slices to a running program for a while, and looks at it now and then."""
+        """Grant slices to a running program for a number of seconds, and update the page's view of it from time to time."""
         start = time.monotonic()
         while self.machine.seats.running() and time.monotonic() - start < seconds:
             self.run(self._granted())
@@ -211,10 +221,11 @@ class Desk:
             self.run(self.machine.show(self.seat, why, self.stopper))
 
     def _make(self, step: MakeProgram) -> Program:
-        """The program of a source. Raises BadRequest for one in C."""
+        """Return the program of a source. Raises BadRequest for a source in C."""
         if step.source.choice is not None:
             raise BadRequest(f"{self.refusal_of_c}: {self.no_c}")
-        return (read_tried_source if step.is_tried else read_whole_source)(step.source.text, self.program)
+        read = read_typed_source if step.is_typed else read_tried_source if step.is_tried else read_whole_source
+        return read(step.source.text, self.program)
 
     def _begin_check(self, seat: str, name: str, source: SourceText) -> None:
         """Queue the check of an answer for one of the next turns. Raises BadRequest."""

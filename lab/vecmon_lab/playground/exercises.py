@@ -1,7 +1,7 @@
-"""Writes the exercises of the course for a page: `python3 -m vecmon_lab.playground.exercises VECMON PICKLE FOLDER`.
+"""Write the exercises of the course for a page: `python3 -m vecmon_lab.playground.exercises VECMON PICKLE FOLDER`.
 
-VECMON works out what is expected of answers. PICKLE gets the exercises and the sources that they start with, by name;
-FOLDER gets a file for each lesson, as the page has it in /lessons.
+The program VECMON calculates the expected results of answers. The file PICKLE gets the exercises and the sources with which one can start
+them, by name. The folder FOLDER gets a file for each lesson, which the page has in /lessons.
 """
 
 import pathlib
@@ -17,7 +17,7 @@ LESSONS = pathlib.Path("/lessons")
 
 
 def write_exercises(program: pathlib.Path, out: pathlib.Path, folder: pathlib.Path) -> None:
-    """Writes both. Raises LabError."""
+    """Write the pickle `out`, and the lessons' files into `folder`. program: vecmon. Raises LabError."""
     folder.mkdir(parents=True, exist_ok=True)
     exercises, starts = dict[str, Exercise](), {}
     for home in with_course([]):

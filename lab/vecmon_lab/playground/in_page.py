@@ -1,10 +1,10 @@
-"""The machine of a page: WebAssembly instances that the page's worker asks (web/worker.js)."""
+"""The machine of a page: WebAssembly instances, which the page's worker runs (web/worker.js)."""
 
 import pathlib
 from collections.abc import Iterator, Mapping, Sequence
 from itertools import count
 
-import _host  # of webassembly/python.c
+import _host  # a module of webassembly/python.c
 
 from ..machine.answers import OutOfStep, is_whole
 from ..machine.process import BLOCK_BYTES, Process, ProgramGone
@@ -13,14 +13,14 @@ _numbers = count(1)
 
 
 class PageProcess:
-    """An instance of vecmon.wasm: lines go in, answers come out at once."""
+    """An instance of vecmon.wasm, which receives lines and returns their answers at once."""
 
     def __init__(self, arguments: Sequence[str]) -> None:
         self.fed, self.number = 0, next(_numbers)
         _host.start(self.number, "\n".join(arguments))
 
     def ask(self, lines: Sequence[str]) -> list[list[str]]:
-        """The answers to lines that go in together. Raises ProgramGone and OutOfStep."""
+        """Send lines together; return the answer to each, as a list of lines. Raises ProgramGone and OutOfStep."""
         output = self._ask("".join(f"{line}\n" for line in lines).encode("ascii")).decode("latin-1").split("\n")
         rest, answers = iter(output[:-1]), list[list[str]]()
         for line in lines:
@@ -33,7 +33,7 @@ class PageProcess:
         return answers
 
     def stream(self, script: bytes) -> Iterator[bytes]:
-        """Feeds lines that do, and gives their answers, in whole lines. Raises ProgramGone."""
+        """Send the lines of a script; yield blocks of whole lines of their answers. Raises ProgramGone."""
         at = 0
         while at < len(script):
             end = script.rfind(b"\n", at, at + BLOCK_BYTES) + 1
@@ -41,7 +41,7 @@ class PageProcess:
             at = end
 
     def kill(self) -> None:
-        """Ends the instance."""
+        """End the instance."""
         _host.end(self.number)
 
     close = kill
@@ -55,10 +55,10 @@ class PageProcess:
 
 
 class PageProgram:
-    """vecmon.wasm, as the page has it. Images are files that the worker knows by their paths."""
+    """The page's vecmon.wasm. Images are files that the worker has by their paths."""
 
     def start(self, arguments: Sequence[str], images: Mapping[str, pathlib.Path]) -> Process:
-        """Starts an instance with the program's arguments."""
+        """Start an instance. arguments: of the program; images: ignored, since the arguments have their paths"""
         return PageProcess(arguments)
 
     def __str__(self) -> str:
@@ -66,5 +66,5 @@ class PageProgram:
 
 
 def put_file(path: pathlib.Path, content: bytes) -> None:
-    """Makes a file of this path and content, for Python and for machines."""
+    """Make a file with this path and content, for Python and for machines."""
     _host.file(str(path), content)

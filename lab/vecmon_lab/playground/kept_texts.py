@@ -1,8 +1,10 @@
-"""Texts by name that a page keeps: they are in memory, and each change is reported."""
+"""Texts by name that a page saves. They are in memory, and each change is reported to the page."""
 
 import fnmatch
 import time
 from collections.abc import Callable, Iterator, Mapping, Sequence
+
+from ..classes.core.text_store import TextStore
 
 Changed = Callable[[str, str | None, float], object]
 """Is given a name with its text, or None where it is removed, and the time in seconds since 1970."""
@@ -14,7 +16,10 @@ class KeptTexts:
     def __init__(
         self, texts: Mapping[str, Sequence[object]] = {}, changed: Changed = lambda name, text, when: None
     ) -> None:
-        """texts: by name, each with its time; entries of another form are left out"""
+        """texts: a list of the text and its time, by name; entries of another form are ignored
+
+        changed: is called with the name, text and time of each changed text; the text is None if it was removed
+        """
         self._changed = changed
         self._texts = dict[str, tuple[str, float]]()
         for name, entry in texts.items():
@@ -23,21 +28,26 @@ class KeptTexts:
                     self._texts[name] = text, when
 
     def files(self, pattern: str) -> Iterator[tuple[str, float]]:
-        """The names that match a pattern, and their times."""
+        """Yield the names that match a pattern, with the times of their texts."""
         yield from ((name, when) for name, (_, when) in self._texts.items() if fnmatch.fnmatchcase(name, pattern))
 
     def read_text(self, name: str) -> str:
-        """A text that was kept; empty if there is none."""
+        """Return the text of a name; "" if there is none."""
         return self._texts.get(name, ("", 0))[0]
 
     def write_text(self, name: str, text: str) -> bool:
-        """Keeps a text; True."""
+        """Save a text; return True, since this always succeeds."""
         if name not in self._texts or text != self._texts[name][0]:
             self._texts[name] = text, time.time()
             self._changed(name, *self._texts[name])
         return True
 
     def remove(self, name: str) -> None:
-        """Keeps it no more."""
+        """Remove the text of a name, if there is one."""
         if self._texts.pop(name, None):
             self._changed(name, None, 0)
+
+
+def set_aside(texts: TextStore, name: str) -> None:
+    """Copy a damaged text to another name, so that an export includes it."""
+    texts.write_text(f"damaged/{name.replace('/', '-')}", texts.read_text(name))

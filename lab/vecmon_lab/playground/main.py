@@ -1,13 +1,13 @@
-"""The interface to the worker of a page: `answer` takes a message in JSON and returns a message for the page, in JSON.
+"""The interface to the worker of a page: `answer` takes a message from the worker in JSON, and returns JSON with a message for the page.
 
-`{"begin": TEXTS}` makes the desk from the stored texts, each a text and its time by name.
-`{"request": "..."}` is a request of the page (docs/CLASS_PROTOCOL.md).
-`{"turn": true}` does a part of the work without a request.
+`{"begin": TEXTS}` makes the desk from the saved texts: by name, a list of a text and its time.
+`{"request": "..."}` executes a request of the page (docs/CLASS_PROTOCOL.md).
+`{"turn": true}` does a part of the work that needs no request.
 `{"keep": true}` sends each changed text to the worker, which saves it.
-`{"join": TEXTS}` takes up what another tab has changed, as `begin` has texts; null for a removed one.
-`{"image": NAME, "path": P}` is an image that was dropped, in the file P.
+`{"join": TEXTS}` takes up the changes of another tab. TEXTS is as for `begin`, with null for a removed text.
+`{"image": NAME, "path": P}` loads an image that was dropped on the page; P is its file.
 `{"lesson": TICKET}` returns a lesson, in HTML.
-`{"forget": true}` drops the desk, for a snapshot.
+`{"forget": true}` removes the desk, so that a snapshot can be taken.
 """
 
 import gc
@@ -18,7 +18,7 @@ import sys
 import types
 from typing import Any
 
-import _host  # of webassembly/python.c
+import _host  # a module of webassembly/python.c
 
 from .. import LabError
 from ..lessons.page import lesson_page
@@ -30,7 +30,7 @@ from .kept_texts import KeptTexts
 from .page_desk import PageDesk
 
 EXERCISES = pathlib.Path("/exercises.pickle")
-LATER = "/later.zip"  # modules that only images need
+LATER = "/later.zip"  # modules that are needed only for images
 STAND_INS: dict[str, list[str]] = {
     "logging.config": ["valid_ident"],
     "pdb": [],
@@ -44,7 +44,7 @@ _exercises: dict[str, Any] = {STARTS: {}, BY_NAME: {}}
 
 
 def prepare() -> None:
-    """Read all files, before the snapshot: later there are none but lessons, and tables that aren't read here."""
+    """Read all files before the snapshot is taken. Later, only lessons and tables that aren't read here can be read."""
     if EXERCISES.exists():
         _exercises.update(pickle.loads(EXERCISES.read_bytes()))
     lesson_page("", [], Script("", []))  # reads the files of pages, and texts
@@ -54,16 +54,16 @@ def prepare() -> None:
         sys.modules[name] = types.ModuleType(name)
         for function in functions:
             setattr(sys.modules[name], function, _refuse_compressed)
-    sys.path.insert(0, LATER)  # before the library, which isn't there later
+    sys.path.insert(0, LATER)  # before the standard library's archive, which isn't there later
 
 
 def _refuse_compressed(*data: object) -> None:
-    """Raises ValueError for a compressed section of an image."""
+    """Raise ValueError: a section of an image is compressed, and the page has no module for that."""
     raise ValueError("its debug data is compressed, which this page can't read: compile with -gz=none")
 
 
 def answer(text: str) -> str:
-    """The message for the page, and whether there is work without a request."""
+    """Return JSON with the message for the page, and whether there is work that needs no request. text: the worker's message"""
     asked = json.loads(text)
     message = _message(asked)
     if "keep" in asked and _desk:
@@ -72,7 +72,7 @@ def answer(text: str) -> str:
 
 
 def _message(asked: dict[str, Any]) -> object:
-    """The message that answers one of the worker's."""
+    """Return the message for the page that responds to a message of the worker."""
     global _desk
     match asked:
         case {"begin": texts}:
@@ -87,7 +87,7 @@ def _message(asked: dict[str, Any]) -> object:
     assert _desk
     match asked:
         case {"request": request}:
-            return _desk.answer(request)
+            return _desk.respond(request)
         case {"image": name, "path": path}:
             return _desk.drop(name, pathlib.Path(path).read_bytes())
         case {"lesson": ticket}:
@@ -101,7 +101,7 @@ def _message(asked: dict[str, Any]) -> object:
 
 
 def _lesson(desk: PageDesk, ticket: str) -> dict[str, str]:
-    """A lesson, or the reason why there is none."""
+    """Return a lesson (`page`), or the reason why there is none (`error`)."""
     try:
         return {"page": desk.lesson(ticket)}
     except LabError as error:

@@ -1,10 +1,10 @@
-"""Packs what Python in a page imports: `python3 -m vecmon_lab.playground.pack LIBRARY OUT`.
+"""Pack the modules that Python in a page imports: `python3 -m vecmon_lab.playground.pack LIBRARY OUT`.
 
-LIBRARY is the folder of CPython's library, as /usr/lib/python3.11.
+LIBRARY is the folder of CPython's standard library, such as /usr/lib/python3.11. The folder OUT gets:
 
 OUT/lib.zip   the standard library, compiled, without docstrings and line numbers
-OUT/lab/      the lab, compiled in the same way, and its texts
-OUT/later.zip pyelftools, and what it alone imports
+OUT/lab/      the lab, compiled in the same way, and its text files
+OUT/later.zip pyelftools, and the modules that only pyelftools imports
 
 The same sources give the same bytes.
 """
@@ -24,23 +24,26 @@ LEFT_OUT = set(
     "test idlelib tkinter lib2to3 ensurepip distutils turtledemo unittest asyncio multiprocessing xml email http xmlrpc "
     "curses dbm sqlite3 wsgiref msilib pydoc_data venv concurrent __pycache__ ctypes site-packages dist-packages lib-dynload".split()
 )
-OF_ELFTOOLS = ["pprint.py"]  # of the library what pyelftools alone imports
-TEXTS = {".txt", ".html", ".css", ".js", ".xml", ".s", ".toml"}  # suffixes of the lab's files that it reads
-HEADER = importlib.util.MAGIC_NUMBER + bytes(12)  # of a compiled module without a time
+OF_ELFTOOLS = ["pprint.py"]  # modules of the standard library that only pyelftools imports
+TEXTS = {".txt", ".html", ".css", ".js", ".xml", ".s", ".toml"}  # suffixes of the other files of the lab that it reads
+HEADER = importlib.util.MAGIC_NUMBER + bytes(12)  # of a compiled module without a time stamp
 
 
 class Stripper(ast.NodeTransformer):
-    """Removes docstrings, annotations of functions, and types of dictionaries; annotations of other classes stay, which dataclasses read."""
+    """Removes docstrings, annotations of functions, and the bodies of TypedDicts.
+
+    Annotations of other classes stay, since dataclasses read them.
+    """
 
     def visit_ClassDef(self, node: ast.ClassDef) -> ast.AST:
-        """Put `dict` in place of a TypedDict, whose fields only type checkers read."""
+        """Replace a TypedDict by `dict`: only type checkers read its fields."""
         if any(isinstance(base, ast.Name) and base.id in typed_dicts() for base in node.bases):
             made = ast.Assign([ast.Name(node.name, ast.Store())], ast.Name("dict", ast.Load()))
             return ast.fix_missing_locations(ast.copy_location(made, node))
         return self.generic_visit(node)
 
     def generic_visit(self, node: ast.AST) -> ast.AST:
-        """Strip a node and those in it."""
+        """Strip a node and all nodes in it."""
         match node:
             case ast.Module(body=[ast.Expr(ast.Constant(str())), *_]) | ast.ClassDef(
                 body=[ast.Expr(ast.Constant(str())), *_]
@@ -58,7 +61,10 @@ class Stripper(ast.NodeTransformer):
 
 @functools.cache
 def typed_dicts() -> frozenset[str]:
-    """The names of the lab's classes that are a TypedDict, with TypedDict itself; none that another class has, too."""
+    """Return the names of the lab's TypedDict classes, and `TypedDict` itself.
+
+    A name is left out if another class of the lab with this name isn't a TypedDict.
+    """
     classes = [
         each
         for _, path in modules(LAB)
@@ -75,20 +81,25 @@ def typed_dicts() -> frozenset[str]:
 
 
 def without_lines(code: types.CodeType) -> types.CodeType:
-    """A code object without its table of line numbers, and those in it."""
+    """Return a code object without line numbers; the code objects in it have none either."""
     constants = (without_lines(it) if isinstance(it, types.CodeType) else it for it in code.co_consts)
     return code.replace(co_linetable=b"", co_consts=tuple(constants))
 
 
 def compiled(path: pathlib.Path, name: str) -> bytes:
-    """A module as a .pyc file, without docstrings and line numbers; asserts stay, and tracebacks have names of functions."""
+    """Return a module as the content of a .pyc file, without docstrings and line numbers.
+
+    It still has `assert` statements, and tracebacks still show names of functions.
+
+    name: the path of the source in tracebacks
+    """
     tree = Stripper().visit(ast.parse(path.read_bytes()))
     code: types.CodeType = compile(tree, name, "exec", dont_inherit=True, optimize=0)
     return HEADER + marshal.dumps(without_lines(code))
 
 
 def modules(folder: pathlib.Path) -> Iterator[tuple[str, pathlib.Path]]:
-    """The modules below a folder, as paths from there on, but those that are left out."""
+    """Yield the relative path of each module below a folder, and its path. Modules in LEFT_OUT are left out."""
     for path in sorted(folder.rglob("*.py")):
         name = path.relative_to(folder)
         if not LEFT_OUT & set(name.parts):
@@ -96,14 +107,14 @@ def modules(folder: pathlib.Path) -> Iterator[tuple[str, pathlib.Path]]:
 
 
 def write_zip(out: pathlib.Path, packed: Iterable[tuple[str, bytes]]) -> None:
-    """Writes an archive that isn't compressed."""
+    """Write an archive without compression. packed: the name and the content of each file"""
     with zipfile.ZipFile(out, "w", zipfile.ZIP_STORED) as archive:
         for name, content in packed:
             archive.writestr(zipfile.ZipInfo(name), content)
 
 
 def pack(library: pathlib.Path, out: pathlib.Path) -> None:
-    """Writes all three."""
+    """Write all three into the folder `out`."""
     out.mkdir(parents=True, exist_ok=True)
     write_zip(out / "lib.zip", ((f"{name}c", compiled(path, f"/lib/{name}")) for name, path in modules(library)))
     for path in sorted(LAB.rglob("*")):
@@ -121,7 +132,7 @@ def pack(library: pathlib.Path, out: pathlib.Path) -> None:
 
 
 def elf_modules() -> Iterator[tuple[str, bytes]]:
-    """The modules of pyelftools."""
+    """Yield the name and the compiled content of each module of pyelftools."""
     found = importlib.util.find_spec("elftools")
     assert found and found.submodule_search_locations
     folder = pathlib.Path(found.submodule_search_locations[0])

@@ -1,8 +1,7 @@
-"""The desk of a page: its work is kept as texts, and images are dropped on it."""
+"""The desk of a page. Its work is saved as texts, and images can be dropped on it."""
 
 import base64
 import contextlib
-import json
 import pathlib
 import re
 from collections.abc import Callable, Mapping, Sequence
@@ -10,11 +9,10 @@ from functools import partial
 
 from .. import LabError, mistakes_in
 from ..checkpoints.checkpoint import checkpoint
-from ..classes.server.stored_files import attempt
 from ..classes.core.languages import SourceText
 from ..classes.core.messages import Hello, News, with_changes
 from ..classes.core.history import History
-from ..classes.core.progress import MAX_TRIES, Start, Try
+from ..classes.core.progress import Start, Try
 from ..classes.core.bad_request import BadRequest
 from ..classes.core.requests import LinesRequest
 from ..classes.core.shared_machine import LEAVING, Answers
@@ -30,18 +28,21 @@ from ..machine.program import image_refusal
 from ..machine.session import Session, recorded_lines
 from ..machine.target import check_flags, check_kind, target_warnings
 from .desk import Desk
-from .kept_texts import KeptTexts
+from .kept_texts import KeptTexts, set_aside
 from .page_source import PageSource
+from .page_tries import PageTries
 
-MOST_LINES = 250_000  # of the machine that are executed again: a page's own are fewer, since checkpoints shorten them
-SCRIPT, SET_UP = "A.script", "A.set_up"  # the machine's lines, and how many of the first ones set it up
-STOP = "A.stop"  # the last stop when those were made, unless something had changed since
-QUANTUM = "A.quantum"  # ticks of a slice, where a class had another number than this page
-IMAGES, IMAGE, ANSWERS = "images", "A1.image", "answers"
+MOST_LINES = 250_000  # largest number of the machine's lines that are executed again; a page has fewer, since checkpoints shorten them
+SCRIPT, SET_UP = "A.script", "A.set_up"  # the machine's lines, and the number of first lines that set it up
+STOP = "A.stop"  # the last stop when these first lines were made, unless something had changed since
+QUANTUM = "A.quantum"  # the ticks of a slice, if a class had another number than this page
+IMAGES, IMAGE = "images", "A1.image"
 IMAGE_BYTES, MOST_IMAGES = 1 << 20, 8
-IMAGE_NAME = re.compile(r"(?!-|\.{1,2}$)[A-Za-z0-9._-]{1,32}")  # a NAME for the program that is no option and no folder
-MACHINE_IMAGE_BYTES, MACHINE_IMAGES = 4 << 20, 16  # that the program takes: an archive of a class may have them
-ROOM = pathlib.Path("/images")  # where machines and pyelftools find images
+# An image's NAME for the program, but no option and no folder.
+IMAGE_NAME = re.compile(r"(?!-|\.{1,2}$)[A-Za-z0-9._-]{1,32}")
+# Limits of the program; an archive of a class may have images up to these.
+MACHINE_IMAGE_BYTES, MACHINE_IMAGES = 4 << 20, 16
+ROOM = pathlib.Path("/images")  # the folder of images, for machines and pyelftools
 C_ADVICE = (
     "this page has no compiler; compile it elsewhere, with "
     f"`clang-19 --target=riscv64 {MARCH} -mabi=lp64 -g -O2 -nostdlib -static`, and drop the image here"
@@ -58,9 +59,9 @@ class PageHello(Hello):
 
 
 class PageDesk(Desk):
-    """A desk whose sources, versions, tries, images and machine come back when the page is opened again.
+    """A desk whose sources, versions, tries, images and machine are restored when the page is opened again.
 
-    lost: sentences on what couldn't be read of the kept texts
+    lost: sentences about saved texts that couldn't be read
     """
 
     def __init__(
@@ -81,45 +82,48 @@ class PageDesk(Desk):
         super().__init__(program, session, texts, exercises, starts, source=self.source)
         self.source.take_unsaved()
         self._set_up, self._stops = 0, dict[str, str]()
-        self._restore_tries()
+        self._tries = PageTries(self.seat.name, texts, self.exercises, self.lost)
+        self._tries.restore()
         self._restore_machine()
         if cause := self.student.restore():
             self.lost.append(cause)
 
     def keep(self) -> None:
-        """Saves what has changed. Lines that would take long to execute again are replaced by a checkpoint's."""
+        """Save everything that has changed. If lines would take long to execute again, a checkpoint's lines replace them."""
         self.student.save()
         if self.machine.session.weight >= 1 and not self.is_busy:
-            with contextlib.suppress(LabError):  # the script is saved as it is
+            with contextlib.suppress(LabError):  # if there is no checkpoint, the script is saved unchanged
                 self._shorten()
         self.texts.write_text(SCRIPT, self.machine.session.script.decode("ascii"))
         self.texts.write_text(SET_UP, f"{self._set_up}")
         self.texts.write_text(STOP, self._stops.get(self.seat.digit, ""))
 
     def join(self, theirs: Mapping[str, Sequence[object] | None]) -> News:
-        """Take up what another tab has saved since this page opened: sources, versions, tries and images. Return the changes.
+        """Take up the sources, versions, tries and images that another tab has saved since this page opened.
 
-        theirs: the texts that the other tab has changed, as KeptTexts takes them; None for a removed one
+        Returns a message with the changes.
+
+        theirs: the texts that the other tab has changed, as KeptTexts takes them; None for a removed text
         """
         other = KeptTexts({name: entry for name, entry in theirs.items() if entry})
         self.source.join(other, [*self.exercises.by_name])
         for name in self.exercises.by_name:
-            self._join_tries(name, other)
+            self._tries.join(name, other)
         self._join_files(other)
         return with_changes(News(kind="news"), self.news())
 
     def drop(self, name: str, content: bytes) -> News:
-        """Loads an image that was dropped on the page, or says why it isn't loaded; what is new then."""
+        """Load an image that was dropped on the page, or log why it can't be loaded. Return a message with the changes."""
         try:
             with mistakes_in(name):
                 own = self._add_image(name, content)
             self.lines(LinesRequest([*LEAVING[self.seat.state["run"]], "enter", f"load {own}"]), [])
         except LabError as error:
-            self.seat.add_log_entry(f"!{error}")
+            self.seat.log.add(f"!{error}")
         return with_changes(News(kind="news"), self.news())
 
     def lines(self, request: LinesRequest, done: Answers) -> Answers:
-        """As any desk's. Symbols, lines and variables of an image that was loaded are the seat's."""
+        """As any desk's `lines`. If an image was loaded, the seat gets its symbols, lines and variables."""
         looks = super().lines(request, done)
         words = [
             words_of(f"1 {line}") for line, answer in zip(request.do, done) if first_word(f"1 {answer[0]}") == "loaded"
@@ -130,19 +134,17 @@ class PageDesk(Desk):
         return looks
 
     def try_of(self, name: str, number: int) -> Try:
-        """A try. Raises BadRequest."""
+        """Return a saved try at an exercise. number: 1 for the first try. Raises BadRequest if there is none."""
         if not 1 <= number <= len(self.exercises.progress(self.seat.name, name).tries):
             raise BadRequest("there is no such answer")
-        return self.exercises.with_case_names(name, self._kept_try(name, number))
+        return self.exercises.with_case_names(name, self._tries.read(name, number))
 
     def add_try(self, name: str, done: Try) -> None:
-        """Takes up the result of a check, and saves it if it counts as a try."""
-        if self.exercises.take(self.seat.name, name, done):
-            number = len(self.exercises.progress(self.seat.name, name).tries)
-            self.texts.write_text(self._file_of_try(name, number), json.dumps(done))
+        """Take up the result of a check, and save it if it counts as a try."""
+        self._tries.add(name, done)
 
     def _kept_images(self, texts: TextStore) -> dict[str, pathlib.Path]:
-        """The images that were kept, by name, as files."""
+        """Make files of the saved images; return their paths by name. Damaged images are set aside."""
         images = dict[str, pathlib.Path]()
         for file in sorted(file for file, _ in texts.files(f"{IMAGES}/*")):
             name = file.removeprefix(f"{IMAGES}/")
@@ -152,7 +154,7 @@ class PageDesk(Desk):
                 if is_excess or not IMAGE_NAME.fullmatch(name):
                     raise ValueError("no machine takes it")
             except ValueError:
-                _set_aside(texts, file)
+                set_aside(texts, file)
                 self.lost.append(f"the image {name} is damaged, so no machine loads it")
             else:
                 self._put_file(ROOM / name, content)
@@ -160,7 +162,10 @@ class PageDesk(Desk):
         return images
 
     def _add_image(self, file: str, content: bytes) -> str:
-        """Makes an image one of those that machines can load; its name there. Raises LabError."""
+        """Add an image to those that the machine can load; return its name there. Raises LabError if the machine refuses it.
+
+        file: the name of the dropped file; content: its bytes
+        """
         name = re.sub(r"[^A-Za-z0-9._-]+", "-", pathlib.PurePath(file).name.removesuffix(".elf"))[-32:]
         name = name.lstrip("-.") or "image"
         session = self.machine.session
@@ -188,7 +193,7 @@ class PageDesk(Desk):
         return name
 
     def _replace(self, heir: Session, script: bytes) -> None:
-        """Continues with another session, which executes a script. Raises LabError; then the first one stays."""
+        """Continue with another session, after it has executed a script. If this raises LabError, the first session stays."""
         try:
             for _ in heir.do_script(script):
                 pass
@@ -199,22 +204,22 @@ class PageDesk(Desk):
         self.machine.session = heir
 
     def _take_image(self, name: str) -> None:
-        """Makes symbols, lines and variables of an image those of the seat's program."""
+        """Give the seat the symbols, lines and variables of an image."""
         try:
             with mistakes_in(name, ValueError, LabError):
                 program = program_of(image_of(ROOM / name), (), IMAGE_BYTES)
         except LabError as error:
-            self.seat.add_log_entry(f"!{error}")
+            self.seat.log.add(f"!{error}")
             return
-        self.seat.take(SourceText(), program)
-        self.seat.list_program(program)
+        self.seat.loaded.take(SourceText(), program)
+        self.seat.display.list_program(program)
         contents = (
             f"{len(program.labels)} symbols, {len(program.rows)} rows of lines, {len(program.variables)} variables"
         )
-        self.seat.add_log_entry(f"!The image {name} has {contents}.")
+        self.seat.log.add(f"!The image {name} has {contents}.")
 
     def _shorten(self) -> None:
-        """Replaces the lines of the machine by those of a checkpoint. Raises LabError where there is none."""
+        """Replace the lines of the machine by those of a checkpoint. Raises LabError if there is none."""
         session = self.machine.session
         made = checkpoint(partial(self._opening, session.images), session.short_script, session.images)
         session.recorded.shorten(made, session.recorded.spent)
@@ -224,15 +229,15 @@ class PageDesk(Desk):
         self._stops = self.machine.seats.stops()
 
     def _restore_machine(self) -> None:
-        """Executes the kept lines of the machine again."""
+        """Execute the saved lines of the machine again."""
         text = self.texts.read_text(SCRIPT)
         script = recorded_lines(text.encode("ascii", "replace"))
         if len(script) < len(text):
             count = script.count(b"\n")
-            _set_aside(self.texts, SCRIPT)
+            set_aside(self.texts, SCRIPT)
             self.lost.append(f"the machine's lines are damaged behind line {count}")
         elif (count := script.count(b"\n")) > MOST_LINES:
-            _set_aside(self.texts, SCRIPT)
+            set_aside(self.texts, SCRIPT)
             self.lost.append(f"the machine has {count:,} lines, and only the first {MOST_LINES:,} are executed again")
             script = b"".join(script.splitlines(keepends=True)[:MOST_LINES])
         kept_count = self.texts.read_text(SET_UP)
@@ -244,9 +249,9 @@ class PageDesk(Desk):
         try:
             for block in session.do_blocks(script):
                 history.add(*block)
-                self.machine.follow_restored(self._set_up, *block)
+                self.machine.past.follow_restored(self._set_up, *block)
         except LabError as error:
-            _set_aside(self.texts, SCRIPT)
+            set_aside(self.texts, SCRIPT)
             self.lost.append(f"the machine's lines can't be executed again: {error}")
             session.close()
             self.machine.session, self._set_up, self._stops = self._opening(session.images), 0, {}
@@ -255,62 +260,9 @@ class PageDesk(Desk):
         if (image := self.texts.read_text(IMAGE)) in session.images and self.seat.state["run"] != "absent":
             self._take_image(image)
 
-    def _restore_tries(self) -> None:
-        """Takes up the kept tries at exercises. One that is lost counts as a try in which nothing passes."""
-        for name in self.exercises.by_name:
-            files = {file for file, _ in self.texts.files(f"{ANSWERS}/{self.seat.name}.{name}.*.json")}
-            number = next((number for number in range(MAX_TRIES, 0, -1) if self._file_of_try(name, number) in files), 0)
-            for each in range(1, number + 1):
-                self.exercises.restore(self.seat.name, name, self._kept_try(name, each))
-
-    def _kept_try(self, name: str, number: int) -> Try:
-        """A try as it was kept; one in which nothing passes where it was lost."""
-        file = self._file_of_try(name, number)
-        try:
-            return attempt(**json.loads(self.texts.read_text(file)))
-        except (ValueError, TypeError, RecursionError):
-            _set_aside(self.texts, file)
-            self.lost.append(f"try {number} at {name} is damaged, and counts as one in which nothing passes")
-            return attempt()
-
-    def _texts_of_tries(self, texts: TextStore, name: str) -> dict[str, str]:
-        """The tries at an exercise in a store, by file."""
-        files = {file for file, _ in texts.files(f"{ANSWERS}/{self.seat.name}.{name}.*.json")}
-        numbered = (self._file_of_try(name, number) for number in range(1, MAX_TRIES + 1))
-        return {file: texts.read_text(file) for file in numbered if file in files}
-
-    def _join_tries(self, name: str, other: TextStore) -> None:
-        """Add another tab's tries to those at an exercise, in the order of their times, unless they are there.
-
-        Damaged ones are set aside.
-        """
-        own = set(self._texts_of_tries(self.texts, name).values())
-        new = list[Try]()
-        for file, text in self._texts_of_tries(other, name).items():
-            try:
-                if text not in own:
-                    new.append(attempt(**json.loads(text)))
-            except (ValueError, TypeError, RecursionError):
-                self.texts.write_text(f"damaged/{file.replace('/', '-')}", text)
-        if not new:
-            return
-        count = len(self.exercises.progress(self.seat.name, name).tries)
-        tries = [*(self._kept_try(name, number) for number in range(1, count + 1)), *new][:MAX_TRIES]
-        self.exercises.forget(self.seat.name, name)
-        for done in sorted(tries, key=lambda each: each["time"]):
-            self.add_try(name, self.exercises.with_case_names(name, done))
-
     def _join_files(self, other: TextStore) -> None:
-        """Save another tab's images and damaged texts, unless there are some of these names."""
+        """Save another tab's images and damaged texts, unless there are texts of these names."""
         names = [name for pattern in (f"{IMAGES}/*", "damaged/*") for name, _ in other.files(pattern)]
         for name in names:
             if not self.texts.read_text(name):
                 self.texts.write_text(name, other.read_text(name))
-
-    def _file_of_try(self, name: str, number: int) -> str:
-        return f"{ANSWERS}/{self.seat.name}.{name}.{number}.json"
-
-
-def _set_aside(texts: TextStore, name: str) -> None:
-    """Keeps a damaged text under another name, so that an export has it."""
-    texts.write_text(f"damaged/{name.replace('/', '-')}", texts.read_text(name))

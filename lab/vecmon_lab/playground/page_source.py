@@ -1,9 +1,12 @@
-"""The source of a page's seat. A program that belongs to no exercise is a work of its own, next to those of the exercises.
+"""The source of a page's seat.
 
-free/A1.s: the free program; A1.s is a copy of the open work
+A work is the source of an exercise, or a program that belongs to no exercise: the free program. A page saves these texts:
+
+free/A1.s: the free program
+A1.s: a copy of the work that is open
 A1.exercise: the open exercise, and when it was opened; empty while the free program is open
-A1.unsaved: the text in the editor when the page closed before it was saved: JSON with text, language and exercise
-A1.unsaved.PAGE: the text in the editor of a tab that saved nothing, since another tab did, and was closed or reloaded
+A1.unsaved: the text in the editor, if the page closed before it was saved: JSON with text, language and exercise
+A1.unsaved.PAGE: the text in the editor of a tab that couldn't save, since another tab did, and that was then closed or reloaded
 """
 
 import json
@@ -19,26 +22,26 @@ FREE, UNSAVED = "free", "A1.unsaved"
 
 
 class PageSource(SeatSource):
-    """As a seat's source; the exercise "" is the free program, which can be opened like an exercise."""
+    """A source as any seat has, with the free program as the exercise "", which can be opened like other exercises."""
 
     has_free_program = True
 
     def __init__(self, name: str, store: TextStore, starts: Mapping[str, Sequence[Start]] = {}) -> None:
-        """starts: of each exercise the sources to start with"""
+        """store: has the saved texts; starts: the sources with which one can start each exercise"""
         super().__init__(name, store)
         self._starts = starts
         if not self.exercise and not self.own.text:
-            self.own = kept_source(store, name)  # of version 2.0, or of a class without exercises
+            self.own = kept_source(store, name)  # saved by version 2.0, or by a class without exercises
 
     @property
     def free_program(self) -> SourceText:
-        """As that of a seat."""
+        """The source of the free program, also while an exercise is open."""
         return self.own if not self.exercise else self._left.get("") or kept_source(self._store, self._place(""))
 
     def settle(self, exercises: Sequence[str]) -> None:
-        """Open the free program, unless the student has opened an exercise of the page.
+        """Open the free program, unless the open exercise is one of `exercises` and the student has opened or tried it.
 
-        Version 2.0 saved a free program as the source of the first exercise, which nobody had opened or tried.
+        Version 2.0 saved a free program as the source of the first exercise, although the student hadn't opened or tried that exercise.
         """
         exercise = self.exercise
         if exercise in exercises and (self.opened or self._has_tries(exercise)):
@@ -50,10 +53,11 @@ class PageSource(SeatSource):
                 self._left[exercise] = SourceText()
 
     def _free_first(self, first: str) -> None:
-        """Make the source of the first exercise the free program, if version 2.0 saved that there and another exercise was opened since.
+        """Make the source of the first exercise the free program, if version 2.0 saved it there, and another exercise was opened later.
 
-        That version has no free program, and doesn't say whether the first exercise was opened: an answer to it was tried, or has a line
-        of its start. Later versions save a free program, perhaps an empty one, before an exercise is opened.
+        Version 2.0 has no free program, and doesn't save whether the first exercise was opened. The exercise counts as opened if an answer
+        to it was tried, or if its source has a line of one of its starts. Later versions save a free program, perhaps an empty one, before
+        an exercise is opened.
         """
         source = kept_source(self._store, self._place(first))
         is_of_2_0 = not any(self._store.files(f"{self._place('')}.*"))
@@ -63,9 +67,9 @@ class PageSource(SeatSource):
             self._left |= {"": source, first: SourceText()}
 
     def take_unsaved(self) -> None:
-        """Take up the text that was in the editor when the page closed, unless a newer one of the same work is saved.
+        """Take up the text that was in the editor when the page closed, unless a newer source of the same work is saved.
 
-        Those of tabs that saved nothing become versions.
+        The texts of tabs that couldn't save become versions.
         """
         self._take_waiting()
         text = self._store.read_text(UNSAVED)
@@ -85,8 +89,11 @@ class PageSource(SeatSource):
     def join(self, other: TextStore, exercises: Sequence[str]) -> None:
         """Take up the sources and versions of another tab.
 
-        other: what that tab has changed since this one opened. A version is added as one; a source becomes a version if this page
-        shows the same work, and otherwise its work's source in place of this page's, which becomes a version.
+        other: the texts that this tab has changed since this page opened
+        exercises: the names of all exercises
+
+        Its versions are added. Its source becomes a version if this page has the same work open. Otherwise, it replaces this page's source
+        of the work, which becomes a version.
         """
         theirs = PageSource(self._name, other)
         known = {(version["exercise"], self.version(version["number"])) for version in self.versions}
@@ -103,7 +110,7 @@ class PageSource(SeatSource):
         self._add_waiting(other)
 
     def _take_waiting(self) -> None:
-        """Take up the texts in the editors of tabs that saved nothing."""
+        """Take up the texts in the editors of tabs that couldn't save, and remove them from the store."""
         if names := [name for name, _ in self._store.files(f"{UNSAVED}.*")]:
             self._add_waiting(self._store)
             self.save()
@@ -111,7 +118,7 @@ class PageSource(SeatSource):
                 self._store.remove(name)
 
     def _add_waiting(self, store: TextStore) -> None:
-        """Make versions of the texts in the editors of tabs that saved nothing, unless there are equal ones."""
+        """Make versions of the texts in the editors of tabs that couldn't save, unless there are equal versions."""
         known = {(version["exercise"], self.version(version["number"])) for version in self.versions}
         for name in sorted(name for name, _ in store.files(f"{UNSAVED}.*")):
             read = unsaved_source(store.read_text(name))
@@ -123,7 +130,7 @@ class PageSource(SeatSource):
                 known.add((exercise, source))
 
     def _join_source(self, source: SourceText, exercise: str) -> None:
-        """Take up the source of a work of another tab."""
+        """Take up another tab's source of a work. exercise: the name of the exercise, or "" for the free program"""
         if exercise == self.exercise:
             if source != self.own:
                 self._add_version(source, "typed", exercise)
@@ -137,7 +144,7 @@ class PageSource(SeatSource):
         return any(True for _ in self._store.files(f"answers/{self._name}.{exercise}.*"))
 
     def _place(self, exercise: str) -> str:
-        """The name of a work's source, without its suffix."""
+        """Return the name of the text with a work's source, without its suffix."""
         return f"{DRAFTS}/{self._name}.{exercise}" if exercise else f"{FREE}/{self._name}"
 
     def _write_own(self) -> bool:
@@ -149,12 +156,12 @@ class PageSource(SeatSource):
 
 
 def _lines(text: str) -> set[str]:
-    """The lines of a text that have several words, since a line as `ret` is in many sources."""
+    """Return the lines of a text that have at least two words. Lines such as `ret` are left out, since many sources have them."""
     return {" ".join(line.split()) for line in text.splitlines() if len(line.split()) > 1}
 
 
 def unsaved_source(text: str) -> tuple[SourceText, str] | None:
-    """The source of A1.unsaved and its exercise; None if the text is damaged."""
+    """Return the source in the text of A1.unsaved, and its exercise ("" for the free program); None if the text is damaged."""
     try:
         match json.loads(text):
             case {"text": str() as source, "language": int() as language, "exercise": str() as exercise}:

@@ -1,4 +1,4 @@
-"""Random programs with what the machine makes of each (docs/GOLDEN_VECTORS.md)."""
+"""Write random programs with the machine's results (docs/GOLDEN_VECTORS.md)."""
 
 import argparse
 import concurrent.futures
@@ -24,15 +24,17 @@ from ..instructions.table import instruction_table
 from ..machine.answers import Stop
 from ..tables.table import table_lines
 from ..vectors.on_qemu import LAYOUT, NAMES
-from .draw import CHECKPOINT, DONE, FIRST, Drawn, draw_program, jump_bits
+from .draw import draw_program
+from .emitter import CHECKPOINT, DONE, FIRST, Drawn
+from .scalar_draws import jump_bits
 
-_SIGNATURES = 256  # words of 64 bits: signatures have a multiple of them
+_SIGNATURES = 256  # 64-bit words: the size of a signature is a multiple of this
 Coverage = Counter[tuple[str, int, bool, str]]
-"""The count of an instruction in programs, by its name, the vector type, whether it is masked, and its tail."""
+"""The number of occurrences of instructions in programs, by name, vector type, whether they are masked, and tail."""
 
 
 def add_arguments(parser: argparse.ArgumentParser) -> None:
-    """The words of `vecmon-lab programs`."""
+    """Add the arguments of `vecmon-lab programs`."""
     parser.add_argument(
         "folder", metavar="DIR", type=pathlib.Path, help="the folder of the programs, created if necessary"
     )
@@ -61,7 +63,7 @@ def add_arguments(parser: argparse.ArgumentParser) -> None:
 
 
 def run(arguments: argparse.Namespace) -> int:
-    """Writes the programs, on all cores. Raises LabError and OSError for bad input."""
+    """Write the programs, on all cores. Raises LabError and OSError for bad input."""
     if arguments.faults and arguments.environment != "linux":
         raise LabError("programs that fault want a handler of signals: --environment linux has one")
     arguments.folder.mkdir(parents=True, exist_ok=True)
@@ -75,7 +77,7 @@ def run(arguments: argparse.Namespace) -> int:
 
 
 def _write(arguments: argparse.Namespace, seed: int) -> tuple[int, Coverage]:
-    """Writes a program, its signature and the state at its end; how many instructions it has, and what is met in it."""
+    """Write a program, its signature and the state at its end. Return the number of executed instructions, and the coverage."""
     environment = ENVIRONMENTS[arguments.environment]
     runner = replace(ENVIRONMENTS["vecmon"], code=environment.code, base=environment.base)  # at the same addresses
     drawn = draw_program(f"{seed}", arguments.length, arguments.choices, arguments.faults)
@@ -87,7 +89,7 @@ def _write(arguments: argparse.Namespace, seed: int) -> tuple[int, Coverage]:
             raise LabError(f"{path} doesn't end as it should: {guest.describe(stop)}")
         left, size = _state(guest, code, stop), code.labels["end_signature"] - code.labels["begin_signature"]
         digests = [word for (word,) in struct.iter_unpack("<Q", guest.peek(code.labels["begin_signature"], size))]
-    if arguments.faults:  # the part of the state that the handler of signals has
+    if arguments.faults:  # the part of the state that the signal handler receives
         digests[drawn.digests - 1] = digest(left[:56] + left[1096:1328] + left[64:1088])
         digests[drawn.digests] = digest(left[BLOCK_BYTES:])
     _write_image(path, environment, drawn, state)
@@ -97,7 +99,7 @@ def _write(arguments: argparse.Namespace, seed: int) -> tuple[int, Coverage]:
 
 
 def _state(guest: Guest, code: Harness, stop: Stop) -> bytes:
-    """The state at the end of a program: after its last call, or at a fault the machine's, by the signal's number."""
+    """Return the state at the end of a program: after its last call, or at a fault, with the signal's number."""
     base = code.environment.base
     memory, block = guest.peek(base + MEMORY, MEMORY_BYTES), guest.peek(code.labels["found"], BLOCK_BYTES)
     if stop.kind != "fault":
@@ -110,7 +112,7 @@ def _state(guest: Guest, code: Harness, stop: Stop) -> bytes:
 
 
 def _first_state(draws: random.Random, base: int) -> bytes:
-    """The state before a program: x29 is the middle of memory, and all else is drawn."""
+    """Return the state before a program: x29 is the middle of memory, and all other registers and memory are random."""
     values: dict[str, object] = {**dict.fromkeys(NAMES, 0), **vars(FIRST), "x29": base + MEMORY + MEMORY_BYTES // 2}
     values |= {f"x{number}": draws.getrandbits(64) for number in range(1, 29)}
     values |= {"v": draws.randbytes(1024), "memory": draws.randbytes(MEMORY_BYTES)}
@@ -118,7 +120,10 @@ def _first_state(draws: random.Random, base: int) -> bytes:
 
 
 def _write_image(path: pathlib.Path, environment: Environment, drawn: Drawn, state: bytes) -> Harness:
-    """Writes the ELF file of a program; the code around it. Its signature has a digest more, of memory at the end."""
+    """Write the ELF file of a program, and return the code around the program.
+
+    The program's signature has one more digest, of memory at the end. state: the state before the program
+    """
     code = harness(environment, "walk", -(-(drawn.digests + 1) // _SIGNATURES) * _SIGNATURES)
     body = bytearray()
     for word in drawn.words:
@@ -134,7 +139,7 @@ def _write_image(path: pathlib.Path, environment: Environment, drawn: Drawn, sta
 
 
 def _state_json(block: bytes, base: int) -> dict[str, object]:
-    """A state by the keys of golden vectors."""
+    """Return a state with the keys of golden vectors."""
     values = dict(zip(NAMES, LAYOUT.unpack(block)))
     state: dict[str, object] = {name: values[name] for name in ("vl", "vstart", "vxrm", "vxsat")}
     v, memory = values["v"], values["memory"].hex()
@@ -149,7 +154,7 @@ def _state_json(block: bytes, base: int) -> dict[str, object]:
 
 
 def _table(coverage: Coverage) -> Iterator[str]:
-    """The instructions in programs, a line for each instruction, vector type, mask and tail; and those in none."""
+    """Yield a line for each instruction, vector type, mask and tail in programs; and the instructions that occur in none."""
     rows: list[Sequence[object]] = [("instruction", "type", "mask", "tail", "times")]
     for (name, vtype, is_masked, tail), count in sorted(coverage.items()):
         rows.append((name, vtype_text(vtype).partition(",t")[0], "masked" if is_masked else "-", tail, count))

@@ -1,4 +1,4 @@
-"""Differences between a log and the machine after an instruction: registers, the vector type, accesses to memory."""
+"""Differences between a log and the machine after an instruction: registers, the vector type and memory accesses."""
 
 import itertools
 from collections.abc import Callable, Iterable, Iterator
@@ -15,16 +15,17 @@ Difference = tuple[str, set[Cell]]
 """A line about a difference, and the places that differ."""
 
 Element = tuple[int, int]
-"""The address of an element that was accessed, and how many bytes it has."""
+"""The address of an accessed element, and its size in bytes."""
 
 
 def differences(
     step: LoggedStep, after: Registers, shift: int, peek: Callable[[int, int], bytes]
 ) -> Iterator[Difference]:
-    """The differences between the log and the machine, by the machine's registers after the instruction.
+    """Yield the differences between the log and the machine.
 
+    after: the machine's registers after the instruction
     shift: the distance from the machine's stack to the log's, in bytes
-    peek: the machine's bytes after the instruction, by their address and number
+    peek: returns the machine's bytes after the instruction, by address and number
     """
     if step.commit.word not in (None, step.retired.word):
         yield f"word: {step.retired.word:08x} here, {step.commit.word:08x} in the log", set()
@@ -37,7 +38,7 @@ def differences(
 
 
 def _of_scalars(step: LoggedStep, after: Registers, shift: int) -> Iterator[Difference]:
-    """Scalar registers. Registers that the log doesn't name keep their values."""
+    """Yield differences of scalar registers. Registers that the log doesn't name keep their values."""
     for number in range(1, 32):
         there = step.commit.x.get(number, step.before.x[number])
         if there not in (after.x[number], after.x[number] + shift):
@@ -46,7 +47,7 @@ def _of_scalars(step: LoggedStep, after: Registers, shift: int) -> Iterator[Diff
 
 
 def _of_vectors(step: LoggedStep, after: Registers) -> Iterator[Difference]:
-    """Elements of vector registers, of the width of the destination."""
+    """Yield differences of elements of vector registers, with the width of the destination's elements."""
     instruction = vector_instruction(step.retired.word, step.before.control.vtype)
     width = max(8, instruction.operands[0].eew) if instruction and instruction.operands else 8
     names = {number: elements_in(data, width) for number, data in step.commit.v.items()}
@@ -62,7 +63,7 @@ def _of_vectors(step: LoggedStep, after: Registers) -> Iterator[Difference]:
 
 
 def _of_vector_type(step: LoggedStep, after: Registers) -> Iterator[Difference]:
-    """SEW, LMUL and vl, where the log shows them."""
+    """Yield a difference of SEW, LMUL or vl, if the log shows them."""
     control, there = after.control, step.commit.vector_type
     here = (control.sew, control.lmul, control.vl)
     if there and control.vtype >> 63:
@@ -74,12 +75,12 @@ def _of_vector_type(step: LoggedStep, after: Registers) -> Iterator[Difference]:
 
 
 def _type_text(sew: int, lmul: Fraction, vl: int) -> str:
-    """SEW, LMUL and vl as logs have them."""
+    """Return SEW, LMUL and vl in the form of logs."""
     return f"e{sew} {f'm{lmul}' if lmul >= 1 else f'mf{lmul.denominator}'} l{vl}"
 
 
 def _of_control(step: LoggedStep, after: Registers) -> Iterator[Difference]:
-    """Control registers. Those that the log doesn't name keep their values, once it has named one."""
+    """Yield differences of control registers. After the log has named one, those that it doesn't name keep their values."""
     values = {**vars(after.control), "vcsr": after.control.vxrm << 1 | after.control.vxsat, "vlenb": REGISTER_BYTES}
     before = vars(step.before.control) if "control" in step.commit.compared else {}
     for name, there in {**before, **step.commit.control}.items():
@@ -89,7 +90,7 @@ def _of_control(step: LoggedStep, after: Registers) -> Iterator[Difference]:
 
 
 def _of_memory(step: LoggedStep, after: Registers, peek: Callable[[int, int], bytes]) -> Iterator[Difference]:
-    """Addresses of elements that were loaded; addresses and bytes of those that were stored."""
+    """Yield differences of addresses of loaded elements, and of addresses and bytes of stored elements."""
     opcode, commit, here = step.retired.word & 0x7F, step.commit, list(_elements(step, after))
     is_store = opcode in (STORE, STORE_FP)
     bytes_here = {address + at for address, length in here for at in range(length)}
@@ -97,7 +98,7 @@ def _of_memory(step: LoggedStep, after: Registers, peek: Callable[[int, int], by
     loaded = {*commit.loads}
     if is_store:
         missing, more, loads = bytes_here - stored.keys(), stored.keys() - bytes_here, loaded
-    else:  # of a load the log has where elements begin, or where parts of them do
+    else:  # for a load, the log has the addresses of elements, or of parts of them
         missing, more, loads = {address for address, _ in here} - loaded, {*stored}, loaded - bytes_here
     verb = "stored" if is_store else "loaded"
     yield from ((f"{verb}: {_run_text(run)} here, not in the log", _places(run)) for run in _runs(missing))
@@ -111,7 +112,7 @@ def _of_memory(step: LoggedStep, after: Registers, peek: Callable[[int, int], by
 
 
 def _elements(step: LoggedStep, after: Registers) -> Iterator[Element]:
-    """The elements that an instruction accessed here, the fields of a segment one after another."""
+    """Yield the elements that an instruction accessed on the machine. The fields of a segment are consecutive."""
     word, before = step.retired.word, step.before
     instruction = vector_instruction(word, before.control.vtype)
     is_shortened = is_fault_only_first(step.retired.word)
@@ -122,17 +123,17 @@ def _elements(step: LoggedStep, after: Registers) -> Iterator[Element]:
 
 
 def _runs(addresses: Iterable[int]) -> Iterator[range]:
-    """Addresses that follow each other."""
+    """Yield the runs of consecutive addresses."""
     for _, run in itertools.groupby(enumerate(sorted(addresses)), lambda pair: pair[1] - pair[0]):
         places = [place for _, place in run]
         yield range(places[0], places[-1] + 1)
 
 
 def _run_text(run: range) -> str:
-    """Addresses as a line shows them."""
+    """Return addresses as text for a line."""
     return f"{run.start:x}" if len(run) == 1 else f"{run.start:x} to {run.stop - 1:x}"
 
 
 def _places(run: range) -> set[Cell]:
-    """Bytes of memory."""
+    """Return bytes of memory as places."""
     return {("memory", address) for address in run}

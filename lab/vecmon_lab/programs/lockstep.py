@@ -1,4 +1,7 @@
-"""Another device's log of an image compared with the machine: the first instruction that differs, and what the standard allows there."""
+"""Compare another device's log of an image with the machine.
+
+Report the first instruction that differs, and what the standard allows there.
+"""
 
 import argparse
 import itertools
@@ -24,7 +27,7 @@ _NUMBER = re.compile(r"\b([xv])(\d+)\b")
 
 
 def add_arguments(parser: argparse.ArgumentParser) -> None:
-    """The words of `vecmon-lab lockstep`."""
+    """Add the arguments of `vecmon-lab lockstep`."""
     parser.add_argument("image", metavar="IMAGE", type=pathlib.Path, help="an ELF file")
     logs = "Spike's --log-commits, vecmon-record's --log, or QEMU's -d nochain,cpu,vpu,strace (7.2: without vpu)"
     parser.add_argument("log", metavar="LOG", type=pathlib.Path, help=logs)
@@ -35,7 +38,10 @@ def add_arguments(parser: argparse.ArgumentParser) -> None:
 
 
 def run(arguments: argparse.Namespace) -> int:
-    """Prints the first difference, with status 1; or how many instructions agree. Raises LabError and OSError."""
+    """Print the first difference, and return 1; or print the number of instructions that agree, and return 0.
+
+    Raises LabError and OSError.
+    """
     image, symbols = arguments.image, Symbols.read(arguments.image)
     report_target(image, arguments.any_vlen)
     with arguments.log.open(errors="replace") as lines, started(image, policy=arguments.policy) as guest:
@@ -50,7 +56,7 @@ def run(arguments: argparse.Namespace) -> int:
 class _Lockstep:
     """The machine, and a log to compare it with.
 
-    number: how many instructions were compared
+    number: the number of compared instructions
     """
 
     def __init__(self, guest: Guest, log: Log, symbols: Symbols) -> None:
@@ -59,7 +65,7 @@ class _Lockstep:
         self._stepper, self._steps, self._shift = Stepper(guest), deque[LoggedStep](maxlen=LOOKS_BACK), 0
 
     def run(self) -> int:
-        """Compares all instructions from the machine's program counter on; the status. Raises LabError."""
+        """Compare all instructions, from the machine's program counter on. Return the exit status. Raises LabError."""
         commits = itertools.dropwhile(lambda commit: commit.pc != self._guest.pc, self._log.commits())
         for commit, following in itertools.pairwise(itertools.chain(commits, [None])):
             assert commit
@@ -69,8 +75,11 @@ class _Lockstep:
         return self._finish() if self.number else 2
 
     def _compare(self, commit: Commit, following: Commit | None) -> int | None:
-        """Executes an instruction and compares it with the log's; the status, if it ends the comparison. Raises LabError."""
-        if commit.pc != self._guest.pc:  # Spike shows nothing of an instruction that isn't executed
+        """Execute an instruction and compare it with the log's. Raises LabError.
+
+        Return the exit status if the comparison ends, or else None. following: the log's next instruction, or None
+        """
+        if commit.pc != self._guest.pc:  # Spike's log has no line for an instruction that isn't executed
             commit, following = Commit(self._guest.pc, commit.word, is_done=False), commit
         if not commit.is_done and following is None and self._log.end is Kind.TRUNCATED:
             raise self._truncated(commit.pc)
@@ -84,7 +93,7 @@ class _Lockstep:
         return self._agree(step) if step.retired.stop else None
 
     def _step(self, commit: Commit) -> LoggedStep:
-        """Executes an instruction, for this one of the log."""
+        """Execute an instruction, for one of the log."""
         before = self._stepper.registers.copy()
         self.number += 1
         if self.number == 1 and commit.stack is not None:
@@ -94,7 +103,10 @@ class _Lockstep:
         return step
 
     def _finish(self) -> int:
-        """The status where all instructions of a log in Spike's form agree: it ends where the program does. Raises LabError."""
+        """Return the exit status after all instructions of a log in Spike's form agree. Raises LabError if the log is truncated.
+
+        The log and the program must end together.
+        """
         if self._log.end is Kind.LIMITED:
             print(f"{self.number:,} instructions agree, up to the limit of ticks of the log")
             return 0
@@ -110,22 +122,25 @@ class _Lockstep:
         return self._report({f"executed here, {self._log.end_text} in the log": {("vstart", 0)}}, is_trap=True)
 
     def _agree(self, step: LoggedStep) -> int:
-        """Prints that all agrees up to a stop."""
+        """Print that all instructions up to a stop agree, and return 0."""
         print(f"{self.number:,} instructions agree; {self._stop_text(step)}")
         return 0
 
     def _stop_text(self, step: LoggedStep) -> str:
-        """Where and why the program stopped."""
+        """Return where and why the program stopped."""
         return self._guest.describe(step.retired.stop, self._symbols.place(self._guest.pc))
 
     def _truncated(self, pc: int) -> LabError:
-        """The error that the log ends before the instruction at an address."""
+        """Return the error that the log ends before the instruction at an address."""
         place = f"{pc:x} {self._symbols.place(pc)}".rstrip()
         agreed = f"{self.number:,} instructions agree, and then the log is truncated"
         return LabError(f"{agreed}: the program goes on at {place}. Record all of it, or less of the program")
 
     def _trap(self, step: LoggedStep, following: Commit | None) -> str | None:
-        """How one device refused what the other executed, if it did, by the log's next instruction and its end. Raises LabError."""
+        """Return how one device refused an instruction that the other executed; None if none did. Raises LabError.
+
+        following: the log's next instruction; None at the log's end
+        """
         commit, stop, log = step.commit, step.retired.stop, self._log
         if stop:
             has_advanced = commit.is_done and (commit.word is not None or following and following.pc == commit.pc + 4)
@@ -136,7 +151,7 @@ class _Lockstep:
             return f"executed here, and the log goes on at {following.pc:x}"
         if log.end is Kind.ENDED:
             return f"executed here, {log.end_text} in the log"
-        if log.has_calls:  # so a signal would have its line
+        if log.has_calls:  # so a signal would be in the log
             self.number -= 1
             raise self._truncated(step.retired.pc)
         return (
@@ -144,13 +159,13 @@ class _Lockstep:
         )
 
     def _report(self, lines: dict[str, set[Cell]], is_trap: bool) -> int:
-        """Prints a difference; the status."""
+        """Print a difference, and return 1. is_trap: whether only one device executed the instruction"""
         print(*_report(self._steps, lines, is_trap, self._symbols), sep="\n")
         return 1
 
 
 def _retire(stepper: Stepper, commit: Commit) -> Retired:
-    """Executes an instruction. The result of a call is the log's: it depends on the other device's system."""
+    """Execute an instruction. The result of a call is taken from the log, since it depends on the other device's system."""
     before, retired = stepper.registers.x[10], stepper.step()
     if retired.word == ECALL and commit.is_done:
         stepper.guest.ask(f"set x10 {commit.x.get(10, before):x}")
@@ -159,7 +174,7 @@ def _retire(stepper: Stepper, commit: Commit) -> Retired:
 
 
 def _report(steps: Sequence[LoggedStep], lines: dict[str, set[Cell]], is_trap: bool, symbols: Symbols) -> Iterator[str]:
-    """The lines of a difference: the instruction, the parts that differ, and where the standard leaves them open."""
+    """Yield lines about a difference: the instruction, the parts that differ, and where the standard leaves them open."""
     yield from _shown(steps[-1], symbols)
     yield from lines
     places = set[Cell]().union(*lines.values())
@@ -171,7 +186,7 @@ def _report(steps: Sequence[LoggedStep], lines: dict[str, set[Cell]], is_trap: b
 
 
 def _shown(step: LoggedStep, symbols: Symbols) -> Iterator[str]:
-    """An instruction, and before it the control registers and the registers that it names."""
+    """Yield lines about an instruction, with the control registers and its registers before it."""
     pc, control, sources = step.retired.pc, step.before.control, []
     yield f"instruction {step.number:,}: {f'{pc:x} {symbols.place(pc)}'.rstrip()}: {step.retired.text}"
     for kind, number in dict.fromkeys((kind, int(digits)) for kind, digits in _NUMBER.findall(step.retired.text)):

@@ -1,4 +1,4 @@
-"""Logs of other devices, instruction by instruction: Spike's form, which `vecmon-record` writes too, and QEMU's."""
+"""Logs of other devices, one instruction at a time, in Spike's form, which `vecmon-record` also writes, and in QEMU's form."""
 
 import enum
 import itertools
@@ -25,20 +25,23 @@ _VECTOR_UNIT = re.compile(r" (v[a-z0-9]+) +([0-9a-f]+)$")
 _CALL, _EXIT, _SIGNAL = re.compile(r"\d+ \w+\("), re.compile(r"\d+ exit(_group)?\("), re.compile(r"--- (SIG\w+) ")
 
 Kind = enum.Enum("Kind", "OPEN TRUNCATED LIMITED ENDED")
-"""How a log ends: OPEN, nothing says it; TRUNCATED, inside an instruction; LIMITED, where the recorder's ticks were used
-up; ENDED, where it says that the program ended."""
+"""How a log ends.
+
+OPEN: the log doesn't say; TRUNCATED: inside an instruction; LIMITED: the recorder's ticks were used up; ENDED: the log says
+that the program ended.
+"""
 
 
 @dataclass
 class Commit:
-    """An instruction of a log: its address and word, and what it wrote, which is also what the log shows to have changed.
+    """An instruction of a log: its address, its word, and the changes that the log shows.
 
-    QEMU has no word. It has the stack pointer before each instruction.
+    word: None in QEMU's form; stack: the stack pointer before the instruction, only in QEMU's form
     x, v, control: values of registers after the instruction, by number or name
-    vector_type: SEW, LMUL and vl after the instruction
-    loads: addresses that were read; stores: addresses that were written, each with its bytes
-    compared: those of `v`, `control` and `memory` that the log shows: parts that it doesn't name didn't change
-    is_done: False where the log doesn't show that the instruction was executed
+    vector_type: SEW, LMUL and vl after the instruction, or None
+    loads: the addresses that were read; stores: the addresses that were written, each with its bytes
+    compared: which of `v`, `control` and `memory` the log shows: in these, parts that it doesn't name didn't change
+    is_done: False if the log doesn't show that the instruction was executed
     """
 
     pc: int
@@ -55,20 +58,23 @@ class Commit:
 
 
 class Log:
-    """A log, which is read once. How it ends is known when all instructions have been read.
+    """A log, which can be read once.
 
-    end: how the log ends; end_text: its text, as `SIGILL` or `exit 0`
-    has_calls: whether calls are in it, as QEMU's -d strace has them
+    end: how the log ends, known after all instructions have been read; end_text: its text, as `SIGILL` or `exit 0`
+    has_calls: whether it contains calls, as with QEMU's -d strace
     """
 
     def __init__(self, lines: Iterable[str]) -> None:
         self.end, self.end_text, self.has_calls = Kind.OPEN, "", False
         self._lines = lines
-        self._compared = {"v"}  # the parts that a log in Spike's form has shown up to now
-        self._states: list[Commit] = []  # QEMU's, before an instruction each: the last one and this one
+        self._compared = {"v"}  # the kinds of registers and memory that a log in Spike's form has shown up to now
+        self._states: list[Commit] = []  # in QEMU's form: the states before the last and the current instruction
 
     def commits(self) -> Iterator[Commit]:
-        """The instructions. QEMU's last state is before an instruction, which isn't done. Raises LabError."""
+        """Yield the instructions. Raises LabError.
+
+        The last state in QEMU's form precedes an instruction with `is_done` False.
+        """
         for line in self._lines:
             if not line.endswith("\n"):
                 self.end = Kind.TRUNCATED
@@ -85,7 +91,7 @@ class Log:
         yield from (Commit(state.pc, stack=state.x.get(2), is_done=False) for state in self._states[-1:])
 
     def _commit(self, pc: int, word: int, text: str) -> Commit:
-        """An instruction in Spike's form."""
+        """Return an instruction in Spike's form."""
         commit = Commit(pc, word)
         for kind, number, digits in _REGISTER.findall(text):
             if kind == "x":
@@ -107,7 +113,7 @@ class Log:
         return commit
 
     def _take_end(self, line: str) -> bool:
-        """Whether a line says that the program ended, or made a call; takes it in then."""
+        """Record the program's end, or that it made a call, if a line says so. Return whether the end is known."""
         self.has_calls |= bool(_CALL.match(line))
         if end := _END.match(line):
             self.end = Kind.LIMITED if end[1] == "running" else Kind.ENDED
@@ -117,7 +123,7 @@ class Log:
         return self.end is not Kind.OPEN
 
     def _take_registers(self, line: str) -> None:
-        """Takes in what a line of QEMU's shows of the state before an instruction. Raises LabError for another VLEN."""
+        """Record the registers in a line of QEMU's, which precede an instruction. Raises LabError for another VLEN."""
         state = self._states[-1]
         state.x.update({int(number): int(digits, 16) for number, digits in _X.findall(line)})
         if shown := _VECTOR_UNIT.match(line):
@@ -128,12 +134,12 @@ class Log:
                 state.control[name] = int(digits, 16)
 
     def _is_whole(self) -> bool:
-        """Whether the last state of QEMU's has all registers, those of the vector unit if the first one does."""
+        """Return whether the last state of QEMU's has all registers, including vector registers if the first state has them."""
         first, last = self._states[0], self._states[-1]
         return len(last.x) == 32 and len(last.v) in (0, 32) and len(last.v) == len(first.v)
 
     def _changed(self) -> Iterator[Commit]:
-        """The changes by an instruction, from QEMU's registers before it and after it, if there are both."""
+        """Yield an instruction with its changes, from QEMU's registers before and after it, if both are known."""
         for before, after in itertools.pairwise(self._states):
             compared = frozenset({"v", "control"} if after.v else set())
             yield Commit(
@@ -147,7 +153,7 @@ class Log:
 
 
 def _vector(digits: str) -> bytes:
-    """The bytes of a vector register, from its digits, the last byte first. Raises LabError for another VLEN."""
+    """Return the bytes of a vector register. digits: the last byte first. Raises LabError for another VLEN."""
     if len(digits) != 2 * REGISTER_BYTES:
         width = f"{4 * len(digits)} bits, and here they have {8 * REGISTER_BYTES}"
         raise LabError(

@@ -1,4 +1,7 @@
-"""Where a difference from another device's log comes from: the instruction that left it open, and what the standard says there."""
+"""The origin of a difference from another device's log.
+
+It is the instruction whose result the standard leaves open, with what the standard says about it.
+"""
 
 from collections.abc import Sequence
 from dataclasses import dataclass
@@ -15,7 +18,7 @@ LOOKS_BACK = 20_000  # the number of instructions that are examined before a dif
 
 @dataclass(frozen=True)
 class LoggedStep(Executed):
-    """An instruction of the log, and its number there."""
+    """An instruction of the log with its number, and the registers before it on the machine."""
 
     number: int
     commit: Commit
@@ -24,10 +27,12 @@ class LoggedStep(Executed):
 def origin(
     steps: Sequence[LoggedStep], places: set[Cell], is_trap: bool, is_part: bool = False
 ) -> tuple[LoggedStep, str] | None:
-    """The last instruction that left open what differs after the last of some, and what it left open; None where none did.
+    """Return the instruction that is the origin of a difference after the last step, and what the standard leaves open there.
 
-    places: where it differs; is_trap: whether only one device executed the last instruction
-    is_part: whether it is enough that some of the elements that made these places are agnostic
+    Return None if no step is the origin. The search goes from the last step backwards.
+
+    places: the places that differ; is_trap: whether only one device executed the last instruction
+    is_part: whether it is enough that some of the elements in these places are agnostic
     """
     last = steps[-1]
     unseen = (
@@ -47,7 +52,10 @@ def origin(
 def _left_open(
     step: LoggedStep, matching: Sequence[Part], is_trap: bool, is_part: bool, last: LoggedStep
 ) -> str | None:
-    """The parts that the standard leaves open for an instruction, by the parts it wrote, or because it is refused."""
+    """Return what the standard leaves open for an instruction; None if it leaves nothing open.
+
+    matching: the parts of its results that differ; last: the last instruction; is_trap, is_part: as in `origin`
+    """
     text, kinds = step.retired.text, {kind for _, _, kind in matching} - {""}
     agnostic = sorted(kinds - {"active"})
     if agnostic and (is_part or len(agnostic) == len(kinds)):

@@ -1,4 +1,4 @@
-"""Knowledge of registers while a random program is drawn: bits that the standard fixes, and values not yet read."""
+"""The state of registers while a random program is drawn: which bits the standard defines, and which values are unread."""
 
 import functools
 import random
@@ -11,14 +11,14 @@ from ..instructions.words import Operand, decode
 from ..machine.answers import ControlRegisters
 
 SCALARS = range(1, 29)
-"""The scalar registers of programs: x29 has the middle of memory, and x30 and x31 are those of the code around them."""
+"""The scalar registers of programs. x29 has the middle of memory; the code around the program uses x30 and x31."""
 
 _TEMPLATE = {8: "vd", 16: "vs2", 24: "vs1"}  # the places of operands while a row is read
 
 
 @functools.cache
 def operands_of(name: str, vtype: int) -> dict[str, Operand] | None:
-    """The vector operands of an instruction by their places, under a vector type; None where that makes it illegal."""
+    """Return the vector operands of an instruction under a vector type, by their fields; None if it is illegal under the type."""
     row, view = instruction_table()[name], ControlRegisters(vtype=vtype)
     word = row.word(8 << 7 | 16 << 20 | 24 << 15 | 1 << 25)
     instruction = None if illegal_reasons(word, view) else decode(word, view.sew, view.lmul)
@@ -26,11 +26,11 @@ def operands_of(name: str, vtype: int) -> dict[str, Operand] | None:
 
 
 class DrawnRegisters:
-    """Scalar and vector registers.
+    """Scalar and vector registers of a program.
 
-    fixed: how many of the lowest bits of each vector register the standard fixes
-    x, v: those that were written and not read since
-    kept: the scalar registers that nothing may write now
+    fixed: for each vector register, the number of its lowest bits that the standard defines
+    x, v: the registers that were written and not read since
+    kept: the scalar registers that must not be written now
     """
 
     def __init__(self, draws: random.Random, has_choices: bool) -> None:
@@ -39,24 +39,27 @@ class DrawnRegisters:
         self._draws, self._has_choices = draws, has_choices
 
     def x_source(self) -> int:
-        """A scalar register to be read, mostly one that nothing has read yet."""
+        """Return a scalar register to read, preferably one that hasn't been read since it was written."""
         number: int = self._draws.choice([*self.x, *self.x, *SCALARS[::4], self._draws.choice(SCALARS)])
         self.x.discard(number)
         return number
 
     def x_target(self) -> int:
-        """A scalar register to be written."""
+        """Return a scalar register to write."""
         return self._draws.choice([number for number in SCALARS if number not in self.x | self.kept])
 
     def source(self, name: str, place: str, operand: Operand, vl: int) -> int | None:
-        """The first register of an operand that an instruction reads, mostly one that nothing has read; None if there is none."""
+        """Return the first register of an operand to read, preferably an unread one; None if no register is possible."""
         needed_bits = list(needed(name, place, operand, vl))
         fits = [first for first in self._firsts(operand) if self.is_fixed(first, needed_bits)]
         unread = [first for first in fits if not self.v.isdisjoint(range(first, first + len(needed_bits)))]
         return self._draws.choice(unread if unread and self._draws.random() < 0.7 else fits) if fits else None
 
     def target(self, name: str, operand: Operand, vl: int, read: Iterable[int]) -> int | None:
-        """The first register of a destination: nothing is lost there, where the instruction reads some registers as well."""
+        """Return the first register of a destination; None if no register is possible.
+
+        Unread values aren't overwritten, except those in registers that the instruction reads. read: these registers
+        """
         accumulates, size = name.startswith(ACCUMULATES), len(operand.registers)
         lost, needed_bits = (set[int](), list(bits_of(operand, vl))) if accumulates else (self.v - set(read), [])
         fits = [first for first in self._firsts(operand) if self.is_fixed(first, needed_bits)]
@@ -64,11 +67,14 @@ class DrawnRegisters:
         return self._draws.choice(fits) if fits else None
 
     def is_fixed(self, first: int, needed_bits: Sequence[int]) -> bool:
-        """Whether the standard fixes this number of bits in registers from one on."""
+        """Return whether the standard defines these numbers of bits in registers. first: the first register"""
         return self._has_choices or all(self.fixed[first + at] >= bits for at, bits in enumerate(needed_bits))
 
     def write(self, name: str, operand: Operand, control: ControlRegisters, is_masked: bool) -> bool:
-        """An instruction writes its destination, which has its registers; whether the standard fixes all of these then."""
+        """Record that an instruction writes its destination. Return whether the standard then defines all bits of the destination.
+
+        operand: the destination, with its registers
+        """
         is_first = name.startswith(FIRST_ELEMENT)
         keeps_tail, keeps_masked = not control.vtype >> 6 & 1 and operand.eew > 1, not control.vtype >> 7 & 1
         if name.startswith("vcompress"):

@@ -1,1 +1,1 @@
-"""Instants of a program's run: back to earlier ones by a replay, and to where a place is accessed."""
+"""Go back to earlier states of a program's run by executing it again, and find the instructions that access given memory."""

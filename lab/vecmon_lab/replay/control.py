@@ -4,12 +4,16 @@ import time
 from collections.abc import Callable
 from dataclasses import dataclass
 
-SECONDS = 2.0  # before the first report of progress, and between two
+SECONDS = 2.0  # before the first report of progress, and between two reports
 
 
 @dataclass(frozen=True)
 class Advance:
-    """The progress of long work. work: what is done; done, whole: its parts, where `whole` is 0 if they aren't known"""
+    """The progress of long work.
+
+    work: a description of the work, such as `going back`
+    done, whole: the number of finished parts and of all parts, in any unit; `whole` is 0 if the number of all parts is unknown
+    """
 
     work: str
     done: int
@@ -17,7 +21,7 @@ class Advance:
 
     @property
     def amount(self) -> str:
-        """How much is done, as `45 %` or `12 million ticks`."""
+        """The finished part of the work, as `45 %` or `12 million ticks`."""
         return f"{100 * self.done // self.whole} %" if self.whole else f"{self.done / 1e6:,.0f} million ticks"
 
     @property
@@ -27,19 +31,20 @@ class Advance:
 
 
 class Interrupted(Exception):
-    """The user has ended the work, as by Ctrl-C."""
+    """The user has interrupted the work, for example with Ctrl-C."""
 
 
 def never() -> bool:
-    """Nobody interrupts the work, and it doesn't pause."""
+    """Return False: the default `is_interrupted`, with which work is never interrupted."""
     return False
 
 
 class Control:
     """Ends long work if the user asks for it, and reports its progress.
 
-    is_interrupted: whether the user asks for the end
-    report: is given the parts that are done, and all parts, once the work has taken two seconds, and then every two
+    is_interrupted: returns whether the user wants the work to end
+    report: is called with the number of finished parts and of all parts when the work has taken two seconds, and every two seconds after
+        that
     """
 
     def __init__(
@@ -53,16 +58,16 @@ class Control:
 
     @property
     def percent(self) -> int:
-        """How much is done, as far as all parts are known."""
+        """The finished part of the work in percent, at most 99; 0 before the first `advance`."""
         return min(99, 100 * self._done // self._whole)
 
     def advance(self, done: int, whole: int) -> None:
-        """Note how much is done, in any unit. Raises Interrupted."""
+        """Set the number of finished parts and of all parts, in any unit. Raises Interrupted."""
         self._done, self._whole = done, max(done, whole, 1)
         self.check()
 
     def check(self) -> None:
-        """Report progress if that is due. Raises Interrupted."""
+        """Report progress if two seconds have passed since the last report. Raises Interrupted if the user wants the work to end."""
         if self.is_interrupted():
             raise Interrupted
         now = time.monotonic()

@@ -1,4 +1,8 @@
-"""Counts the instructions of a leg: of one that ended with a stop by steps, and of one that ended with ticks by a second machine."""
+"""Count the instructions of a leg.
+
+If the leg ended with a stop, the private machine steps to the stop. If it ended after a number of ticks, a second machine
+runs for as many ticks, and the private machine steps until its registers are the same.
+"""
 
 from collections.abc import Callable, Collection, Generator, Sequence
 
@@ -8,10 +12,10 @@ from .legs import Leg
 from .private_machine import CHUNK, PrivateMachine, ReplayDiffers, Signature
 from .history import Parts
 
-WINDOW = 512  # instructions around an expected number
-GROWTH = 8  # times the ticks of the number before
-MAX_SLICES = 1000  # of one line
-SHORT = 1 << 20  # ticks that are first taken for as many instructions, without a look at fewer of them
+WINDOW = 512  # instructions before and after an expected count
+GROWTH = 8  # factor between the numbers of ticks of two successive counts
+MAX_SLICES = 1000  # largest number of slices that one line grants
+SHORT = 1 << 20  # ticks for which the count is first assumed to be the number of ticks, without counting shorter parts
 
 Reach = Callable[[int, int], Generator[None, None, PrivateMachine]]
 """Makes a machine that is at a place: a leg and a number of its instructions."""
@@ -20,10 +24,16 @@ Open = Callable[[int], PrivateMachine]
 
 
 def count_to_stop(legs: Sequence[Leg], place: int, most: int, quantum: int, reach: Reach) -> Parts:
-    """Set the count of a leg that ended with a stop, unless it is above a number. Raises ReplayDiffers.
+    """Set the count of a leg that ended with a stop. It stays None if it is above `most`.
 
-    If each instruction took one tick, and there is no breakpoint before, the stop is in the last slice.
-    most: that number; quantum: of a slice in ticks
+    If no breakpoint was set, the search starts where the last slice would start if each instruction took one tick.
+
+    legs, place: all legs, and the index of this one
+    most: the largest number of instructions to count
+    quantum: the ticks of a slice
+    reach: moves the private machine to a place: the index of a leg, and an offset in instructions
+
+    Raises ReplayDiffers if the replay stops elsewhere than the program did.
     """
     leg, found, least = legs[place], None, 0
     if leg.ticks is not None and quantum < leg.ticks <= most and not leg.breaks:
@@ -42,11 +52,15 @@ def count_to_stop(legs: Sequence[Leg], place: int, most: int, quantum: int, reac
 def first_stop(
     place: int, least: int, most: int, breaks: Collection[int], reach: Reach
 ) -> Generator[None, None, tuple[int, Position | Stop] | None]:
-    """The first stop, or address of a breakpoint, after an instruction of a leg, and the count there; None without one.
+    """Find the first instruction of a leg after which the program stops or is at a breakpoint.
 
-    least, most: the number of the leg's instructions with which the search begins, and at which it ends
+    place: the leg's index
+    least, most: the offsets in instructions at which the search starts and ends
+    breaks: the addresses of the breakpoints
+
+    Returns the number of the leg's instructions executed there, and the program's state; None if there is no such instruction.
     """
-    is_near = True  # the first instructions are stepped singly, and those in which a stop is
+    is_near = True  # whether to step single instructions: at the start, and around a stop that was found
     while least <= most:
         machine = yield from reach(place, least)
         unit = 1 if is_near or most - least < MAX_STEPS else MAX_STEPS
@@ -63,7 +77,7 @@ def first_stop(
         machine.is_used_up = True
         reply = read([answers[found]])
         assert isinstance(reply, Position | Stop)
-        is_passed = isinstance(reply, Position)  # the last one of these instructions comes to the address
+        is_passed = isinstance(reply, Position)  # the address is reached after the last instruction of this step
         count = least + unit * (found + is_passed)
         if unit == 1 or is_passed:
             return (count, reply) if count <= most else None
@@ -73,7 +87,7 @@ def first_stop(
 
 
 def _stepped(machine: PrivateMachine, unit: int, number: int, breaks: Collection[int]) -> list[str]:
-    """Step a number of times by some instructions, with breakpoints; return the answers."""
+    """Execute `step unit` a number of times while breakpoints are set; return the answers of these steps."""
     digit = machine.digit
     places = [f"{address:x}" for address in breaks]
     before, after = ([f"{digit} {command} {place}" for place in places] for command in ("break", "unbreak"))
@@ -83,18 +97,25 @@ def _stepped(machine: PrivateMachine, unit: int, number: int, breaks: Collection
 
 
 def _first_irregular(answers: Sequence[str], breaks: Collection[int]) -> int | None:
-    """The place of the first answer with a stop, or with the address of a breakpoint; None without one."""
+    """Return the index of the first answer that reports a stop or the address of a breakpoint; None if there is none."""
     replies = (read([answer]) for answer in answers)
     is_regular = (isinstance(reply, Position) and reply.pc not in breaks for reply in replies)
     return next((place for place, each in enumerate(is_regular) if not each), None)
 
 
 def count_to_ticks(legs: Sequence[Leg], place: int, most: int, quantum: int, reach: Reach, open_at: Open) -> Parts:
-    """Set the count of a leg that ended with a known number of ticks, unless it is above a number.
+    """Set the count of a leg that ended after a known number of ticks. It stays None if it is above `most`.
 
-    Each instruction but a vector load or store takes one tick. With these, the count of a few ticks is looked for, and then
-    those of more and more of them, near the count that the rate before predicts. Raises ReplayDiffers if it isn't found.
-    most: that number; quantum: of a slice in ticks
+    Each instruction takes one tick, except vector loads and stores. If the leg has such instructions, the instructions of its first
+    few ticks are counted, and then those of ever more ticks. Each count is searched near a prediction from the previous rate.
+
+    legs, place: all legs, and the index of this one
+    most: the largest number of instructions to count
+    quantum: the ticks of a slice
+    reach: moves the private machine to a leg and an offset
+    open_at: opens a second machine for the start of a leg
+
+    Raises ReplayDiffers if no count is found.
     """
     leg, rate, ticks, count, is_cut = legs[place], 1.0, 0, 0, False
     whole, may_be_equal = leg.ticks or 0, True
@@ -117,7 +138,10 @@ def count_to_ticks(legs: Sequence[Leg], place: int, most: int, quantum: int, rea
 def _after(
     legs: Sequence[Leg], place: int, ticks: int, quantum: int, open_at: Open
 ) -> Generator[None, None, tuple[Signature, bool]]:
-    """The registers after a number of a leg's ticks, and whether they cut an instruction, which is completed."""
+    """Return the registers after a number of a leg's ticks, and whether the last slice cut an instruction.
+
+    A cut instruction is completed before the registers are read.
+    """
     machine, slices, leg = open_at(place), ticks // quantum, legs[place]
     try:
         yield from machine.go_to(place, 0)
@@ -139,7 +163,10 @@ def _after(
 
 
 def _find(place: int, expected: int, window: int, reach: Reach, wanted: Signature) -> Generator[None, None, int | None]:
-    """The count nearest to an expected one after which registers are the wanted ones; None without one in the window."""
+    """Return the count after which the registers are `wanted`; None if there is none.
+
+    The counts within `window` instructions of the expected one are tried. If several fit, the one nearest to it is returned.
+    """
     first, found = max(0, expected - window), list[int]()
     try:
         machine = yield from reach(place, first)

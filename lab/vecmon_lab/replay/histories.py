@@ -1,4 +1,4 @@
-"""The histories of all users of a machine, by the lines of its script."""
+"""The histories of all users of a machine, which follow the lines of its script."""
 
 from collections.abc import Callable, Sequence
 
@@ -10,7 +10,7 @@ from .own_lines import Instant, OwnLines
 
 
 class UserHistory(History[Instant]):
-    """The history of a machine's user. run: what the user's program has executed; it takes up the user's lines"""
+    """The history of one user of a machine. run: the run of the user's program, which receives the user's lines"""
 
     def __init__(self, run: OwnLines) -> None:
         super().__init__(run)
@@ -26,7 +26,7 @@ class Histories:
         self._shares = Shares()
 
     def follow(self, line: str, answer: Sequence[str]) -> None:
-        """Take up the next line of the script."""
+        """Take up the next line of the script and its answer."""
         if line[0] != "*":
             if not is_look(line):
                 self._follow_users(line, answer)
@@ -46,7 +46,7 @@ class Histories:
             history.close()
 
     def set_up(self, is_on: bool) -> None:
-        """The lines that follow are those of a checkpoint, or no longer."""
+        """Note whether the lines that follow are those of a checkpoint (`is_on`)."""
         for history in self.users.values():
             history.run.legs.set_up(is_on)
 
@@ -57,15 +57,18 @@ class Histories:
 
 
 class Shares:
-    """How many slices each user is granted: turns go round among those whose programs run."""
+    """The number of slices that each user is granted. Turns go round among the users whose programs run."""
 
     def __init__(self) -> None:
-        self._last: str | None = DIGITS[-1]  # whose turn was the last; None if it is unknown
+        self._last: str | None = DIGITS[-1]  # the user of the last turn; None if unknown
 
     def of(self, line: str, granted: Granted, running: set[str]) -> dict[str, int | None]:
-        """Return the slices of an operator's line by user; None for an unknown number of them.
+        """Return the slices of an operator's line by user; None if a user's number of slices is unknown.
 
-        It is unknown if another program has stopped meanwhile. running: the users whose programs ran before
+        The numbers are unknown if several programs ran and one of them stopped, or if the user of the last turn is unknown.
+
+        granted: the answer to the line
+        running: the users whose programs ran before the line
         """
         words = words_of(line)
         if not granted.slices or not running:

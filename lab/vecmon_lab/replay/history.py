@@ -1,7 +1,8 @@
 """The history of a program: the state after any number of its instructions, and the places where it would halt.
 
-This is the one way back of the pages, the console, gdb, and what else goes back. Instruction 0 is the program as it was loaded. A
-history finds places by the stretches of a run. `OwnLines` is the run of a user among others, and `WholeScript` that of a guest alone.
+The pages, the console, gdb and all other ways to go back use this module. At instruction 0 the program has been loaded, and
+nothing has been executed. A history searches the stretches of a run: `OwnLines` is the run of one user among others, and
+`WholeScript` is the run of a machine's only user.
 """
 
 from collections.abc import Callable, Generator, Sequence
@@ -25,18 +26,22 @@ OfState = TypeVar("OfState", covariant=True)
 
 
 class NoWayBack(LabError):
-    """There are no states before a place; the text says why."""
+    """The history has no states before some place; the text says why."""
 
 
 class Stretch(Protocol):
-    """Instructions in a row. count: how many they are; None until they are counted"""
+    """Consecutive instructions. count: their number; None until they are counted"""
 
     count: int | None
 
 
 @dataclass(frozen=True)
 class Halts:
-    """Where a program halts: at the addresses of `breaks`, and where an instruction does what is watched for."""
+    """The places where a program halts.
+
+    breaks: addresses; the program halts before an instruction there
+    watches: watched memory; the program halts at an instruction that accesses or changes it
+    """
 
     breaks: frozenset[int] = frozenset()
     watches: tuple[Watch, ...] = ()
@@ -44,17 +49,24 @@ class Halts:
 
 @dataclass(frozen=True)
 class Found(Generic[OfState]):
-    """What a search backwards found. state: None if there is no halt; watch: None if the halt is a breakpoint"""
+    """The result of a backward search.
+
+    state: the state at the halt; None if there is no halt
+    watch: the watched memory of the halt; None if the halt is a breakpoint
+    """
 
     state: OfState | None
     watch: Watch | None
 
 
 class Run(Protocol[OfState]):
-    """What a program has executed since it was loaded, in stretches; a place is a stretch, and a number of its instructions.
+    """The instructions that a program has executed since it was loaded, in stretches.
 
-    limit, too_far: how many instructions a way back may have; and the error if it has more
-    needs_counts: whether a stretch can be executed again only if those before it are counted
+    A place is the index of a stretch, and an offset: a number of its instructions.
+
+    limit: the largest number of instructions of a way back
+    too_far: the text of the error for a longer way back
+    needs_counts: whether a stretch can be executed again only if all stretches before it are counted
     """
 
     limit: int
@@ -63,71 +75,77 @@ class Run(Protocol[OfState]):
 
     @property
     def number(self) -> int:
-        """How often the run has begun anew."""
+        """The number of times that the run has started anew."""
 
     @property
     def stretches(self) -> Sequence[Stretch]:
-        """The stretches up to the present. Lines that set registers or memory are before the first instruction of one."""
+        """The stretches up to the present. Lines that set registers or memory precede the first instruction of a stretch."""
 
     @property
     def percent(self) -> int:
-        """How much of the present work is done."""
+        """The finished part of the current work in percent."""
 
     def count(self, place: int, most: int) -> Parts:
-        """Set the count of a stretch; it may stay None if it is above `most`. Raises LabError and Interrupted, as all of these."""
+        """Set the count of a stretch. It may stay None if it is above `most`.
+
+        Raises LabError and Interrupted, as the next methods do.
+        """
 
     def state(self, place: int, offset: int) -> Generator[None, None, OfState]:
-        """Return the state at a place."""
+        """Return the state after `offset` instructions of a stretch."""
 
     def first_halt(self, place: int, offset: int, halts: Halts) -> Generator[None, None, int | None]:
-        """Return the first offset above this one at which the program halts before the next instruction; None without one."""
+        """Return the first offset above this one where the program halts before its next instruction; None if there is none."""
 
     def last_halt(self, place: int, halts: Halts) -> Generator[None, None, tuple[int, Watch | None] | None]:
-        """Return the last offset at a breakpoint, or after an instruction that does what is watched for, and the watched place.
+        """Return the last offset at which the program halts, and the watched memory; None if there is no halt.
 
-        The end of the stretch is no breakpoint: the program is there now, or the next stretch begins there.
+        The offset is that of a breakpoint, or the one after an instruction that accesses or changes watched memory. The watched memory
+        is None for a breakpoint. A breakpoint at the end of the stretch doesn't count: the program is there now, or the next stretch
+        starts there.
         """
 
     def close(self) -> None:
-        """End machines, and forget states that are saved."""
+        """End the run's machines, and drop its saved states."""
 
 
 class History(Generic[State]):
-    """The states of a run. A call works until `is_due`, and then returns None: the same call goes on with the work.
+    """The states of a run.
 
-    Another call, or `cancel`, drops that work. An error drops it, too.
+    A call works until `is_due` returns true, and then returns None. The same call, made again, continues this work. A different
+    call, an error or `cancel` drops the work.
     """
 
     def __init__(self, run: Run[State]) -> None:
         self._run = run
         self._work: Generator[None, None, object] | None = None
         self._wanted: object = None
-        self._number = 0  # of the run that the work belongs to
-        self._found: tuple[object, int] | None = None  # the last halt that `next_halt` has found, with what it was for
+        self._number = 0  # the run to which the current work belongs
+        self._found: tuple[object, int] | None = None  # the last result of `next_halt`, with the arguments of that call
 
     @property
     def end(self) -> int | None:
-        """The number of instructions up to the present; None until it is counted."""
+        """The number of instructions up to the present; None until they are counted."""
         counts = [stretch.count for stretch in self._run.stretches]
         return sum(count for count in counts if count is not None) if None not in counts else None
 
     def count(self, is_due: IsDue) -> int | None:
-        """Return the number of instructions up to the present; None if it is due before. Raises as `at`."""
+        """Return the number of instructions up to the present; None if `is_due` ends the work before. Raises as `at` does."""
         return self._drive("count", self._counted, is_due)
 
     def at(self, count: int, is_due: IsDue) -> State | None:
-        """Return the state after this number of instructions, from 0 to `end`; None if it is due before.
+        """Return the state after `count` instructions; None if `is_due` ends the work before.
 
-        A negative number counts from the end. If there are fewer instructions, the state is the first or the last one. Lines that set
-        registers or memory there are done. Raises NoWayBack, and as a session does.
+        A negative number counts from the end. A number outside 0 to `end` gives the first or the last state. Lines that set registers
+        or memory after this number of instructions are executed. Raises NoWayBack, and errors of a session.
         """
         return self._drive(("at", count), partial(self._at, count), is_due)
 
     def next_halt(self, count: int, halts: Halts, is_due: IsDue) -> int | None:
-        """Return the next number of instructions after one at which the program halts, or the end.
+        """Return the next number of instructions above `count` at which the program halts, or the end.
 
-        A breakpoint or a watched place halts before its instruction. None if it is due before. The last number that was found is returned
-        again at once. Raises as `at`.
+        The program halts before the instruction that has a breakpoint, or accesses or changes watched memory. Returns None if
+        `is_due` ends the work before. The last result is returned again at once. Raises as `at` does.
         """
         if self._found and self._found[0] == (count, halts, self._run.number, self.end):
             return self._found[1]
@@ -137,25 +155,30 @@ class History(Generic[State]):
         return found
 
     def last_halt(self, halts: Halts, is_due: IsDue) -> Found[State] | None:
-        """Return the last state before the present that is at a breakpoint, or after an instruction that does what is watched for.
+        """Return the last state before the present at which the program halts.
 
-        None if it is due before. Raises as `at`.
+        It is at a breakpoint, or after an instruction that accesses or changes watched memory. Returns None if `is_due` ends the work
+        before. Raises as `at` does.
         """
         return self._drive(("last", halts), partial(self._last_halt, halts), is_due)
 
     def cancel(self) -> None:
-        """Drop the work of a call that was due before its end."""
+        """Drop the work of a call that `is_due` ended."""
         if self._work:
             self._work.close()
         self._wanted = self._work = None
 
     def close(self) -> None:
-        """End the run's machines, and forget the states that it has saved."""
+        """End the run's machines, and drop its saved states."""
         self.cancel()
         self._run.close()
 
     def _drive(self, wanted: object, work: Callable[[], Generator[None, None, Result]], is_due: IsDue) -> Result | None:
-        """Go on with a work until it is due; with another one than before, begin it."""
+        """Continue the current work until it is due; return its result, or None if it isn't finished.
+
+        wanted: identifies the work; a different value than before starts the work anew
+        work: starts the work
+        """
         if self._wanted != wanted or self._number != self._run.number or self._work is None:
             self.cancel()
             self._wanted, self._work, self._number = wanted, work(), self._run.number
@@ -179,7 +202,7 @@ class History(Generic[State]):
             raise
 
     def _count(self, place: int, most: int) -> Generator[None, None, int]:
-        """The number of instructions of a stretch, which is counted if it wasn't yet."""
+        """Return the number of instructions of a stretch, which is counted first if necessary. Raises NoWayBack if it is above `most`."""
         stretch = self._run.stretches[place]
         if stretch.count is None:
             yield from self._run.count(place, most)
@@ -188,7 +211,7 @@ class History(Generic[State]):
         return stretch.count
 
     def _counted(self) -> Generator[None, None, int]:
-        """The number of all instructions."""
+        """Count all stretches; return the number of all instructions."""
         total = 0
         for place, _ in enumerate(self._run.stretches):
             total += yield from self._count(place, self._run.limit - total)
@@ -196,12 +219,12 @@ class History(Generic[State]):
         return total
 
     def _check_limit(self, count: int) -> None:
-        """Raise NoWayBack if a way back has more instructions than it may have."""
+        """Raise NoWayBack if this number of instructions is above the limit of a way back."""
         if count > self._run.limit:
             raise NoWayBack(self._run.too_far)
 
     def _at(self, count: int) -> Generator[None, None, State]:
-        """The state after a number of instructions."""
+        """Return the state after a number of instructions."""
         if not self._run.stretches:
             raise NoWayBack(NO_PROGRAM)
         if count < 0 and not self._run.needs_counts:
@@ -212,7 +235,7 @@ class History(Generic[State]):
         return (yield from self._run.state(place, offset))
 
     def _find(self, count: int) -> tuple[int, int]:
-        """The last place after a number of instructions, which are counted."""
+        """Return the last place (stretch and offset) after a number of instructions, which are counted."""
         found, start = (0, 0), 0
         for place, stretch in enumerate(self._run.stretches):
             if start > count:
@@ -221,7 +244,7 @@ class History(Generic[State]):
         return found
 
     def _find_from_end(self, number: int) -> Generator[None, None, tuple[int, int]]:
-        """The last place from which there are as many instructions to the present, or the first place."""
+        """Return the last place that has this number of instructions up to the present, or else the first place."""
         passed = 0
         for place in reversed(range(len(self._run.stretches))):
             count = yield from self._count(place, self._run.limit)
@@ -232,7 +255,7 @@ class History(Generic[State]):
         return 0, 0
 
     def _next_halt(self, count: int, halts: Halts) -> Generator[None, None, int]:
-        """The next number of instructions at which the program halts, or the end."""
+        """Return the next number of instructions at which the program halts, or the end."""
         end = yield from self._counted()
         place, offset = self._find(min(count, end))
         start = min(count, end) - offset
@@ -245,7 +268,7 @@ class History(Generic[State]):
         return end
 
     def _last_halt(self, halts: Halts) -> Generator[None, None, Found[State]]:
-        """The last halt before the present."""
+        """Return the last halt before the present."""
         passed = 0
         for place in reversed(range(len(self._run.stretches))):
             count = yield from self._count(place, self._run.limit)

@@ -1,4 +1,4 @@
-"""The instructions of a user's program, as the lines of a script executed them while no other program ran."""
+"""The instructions of a user's program in intervals, derived from the lines of a script. In an interval, no other program ran."""
 
 from collections.abc import Iterable, Sequence
 from dataclasses import dataclass
@@ -8,20 +8,20 @@ from ..machine.answers import Granted, Position, Refused, read
 from ..machine.lines import words_of
 from ..machine.session import Session
 
-MAX_TICKS = 256  # of an instruction: those of a load or store of 256 elements, and no group has more (e8, m8)
+MAX_TICKS = 256  # of one instruction: a load or store of 256 elements (e8, m8) takes the most
 
 
 @dataclass
 class Interval:
-    """Instructions one after another, between which no line wrote registers or memory.
+    """Consecutive instructions, between which no line wrote registers or memory.
 
-    start: how many bytes of the script bring a machine to the first one
-    count: how many they are; None where slices executed them, until they are counted
-    ticks: how many slices had, as many at least as the instructions take
-    breaks: the breakpoints before them, and meanwhile where slices executed them
-    has_stopped: whether the program has stopped by itself behind the last one
-    continues: whether they follow the interval before, and nothing was written between
-    maps: how many pieces of memory the user had mapped before
+    start: the size in bytes of the part of the script that brings a machine to the first instruction
+    count: the number of instructions; None if slices executed them and they aren't counted yet
+    ticks: the ticks of these slices, at least as many as the instructions take
+    breaks: the user's breakpoints at the start, and also during the slices
+    has_stopped: whether the program stopped by itself after the last instruction
+    continues: whether the interval follows the one before it, and no line wrote registers or memory between them
+    maps: the number of `map` commands that the user had made before
     """
 
     start: int
@@ -34,15 +34,15 @@ class Interval:
 
     @property
     def work(self) -> int:
-        """A measure of their cost, in instructions or ticks."""
+        """The cost of executing the interval: its number of instructions, or its ticks if that is larger or the count is unknown."""
         return max(self.count or 0, self.ticks)
 
 
 class Intervals:
-    """The intervals of a user since the user's machine began, by the lines of a script and their answers.
+    """The intervals of a user since the user's machine started, derived from the lines of a script and their answers.
 
-    size: how many bytes of the script were followed
-    number: how often the user's machine began
+    size: the number of bytes of the script that were followed
+    number: the number of times that the user's machine started
     """
 
     def __init__(self, user: int, quantum: int) -> None:
@@ -52,28 +52,28 @@ class Intervals:
         self._users = dict[str, User]()
         self._has_others = False
         self._breaks = frozenset[int]()
-        self._is_written = True  # since the last leg
+        self._is_written = True  # whether a line has written registers or memory since the last interval
         self._is_running = False
 
     @property
     def is_alone(self) -> bool:
-        """Whether this user is there, and no other one ever was."""
+        """Whether this user is present, and no other user has ever been."""
         return self._user in self._users and not self._has_others
 
     @property
     def work(self) -> int:
-        """The cost of all intervals."""
+        """The cost of all intervals, in instructions or ticks."""
         return sum(interval.work for interval in self.intervals)
 
     def user(self, session: Session, interval: Interval | None = None) -> User:
-        """The user's image and pages, at the start of an interval, or now."""
+        """Return the user's image and pages at the start of an interval, or the present ones if `interval` is None."""
         now = self._users[self._user]
         user = User(now.image, now.maps[: interval.maps if interval else None], now.has_area)
         user.pages = dict(pages_of(user, session.images))
         return user
 
     def follow(self, line: str, answer: Sequence[str]) -> None:
-        """Takes up the next line of the script."""
+        """Take up the next line of the script and its answer."""
         reply, words = read(answer), words_of(line)
         if line[0] == "*" and isinstance(reply, Granted) and self._is_running:
             ends = [stop.kind for user, stop in reply.stops if user == self._user]
@@ -87,11 +87,11 @@ class Intervals:
         self.size += len(line) + 1
 
     def split(self) -> None:
-        """Begin a new interval here, where the program is stopped: the one before ends."""
+        """End the current interval, and start a new one that continues it. The program is stopped."""
         self._begin(None).continues = len(self.intervals) > 1
 
     def join(self, size: int) -> None:
-        """Join the interval that starts at this number of bytes with the one before, if both were executed in one way."""
+        """Join the interval that starts after `size` bytes of the script with the one before, if slices executed both or neither."""
         place = next((number for number, it in enumerate(self.intervals) if it.start == size), 0)
         second, first = self.intervals[place], self.intervals[place - 1]
         if place == 0 or not second.continues or (first.count is None) != (second.count is None):
@@ -103,12 +103,18 @@ class Intervals:
         del self.intervals[place]
 
     def cut(self, place: int, intervals: Iterable[Interval], size: int, breaks: Iterable[int]) -> None:
-        """The script now has this number of bytes: it ends with these intervals in place of those from a place on."""
+        """Replace the intervals from index `place` on, because the script was replaced by one of `size` bytes.
+
+        intervals: the new ones; breaks: the user's breakpoints at the end of the new script
+        """
         self.intervals[place:] = intervals
         self.size, self._breaks, self._is_written, self._is_running = size, frozenset(breaks), False, False
 
     def _add_command(self, command: str, words: Sequence[str], done: int) -> None:
-        """Add a user's accepted command; done: the number of instructions that a step executed."""
+        """Add a user's accepted command.
+
+        words: the command's arguments; done: the number of instructions that a `step` executed
+        """
         match command:
             case "step" if done or words == ["1"]:
                 self._steps(done)
@@ -127,14 +133,14 @@ class Intervals:
                 self._is_written = True
 
     def _steps(self, done: int) -> None:
-        """Add a number of instructions."""
+        """Add instructions that a `step` executed."""
         last = self._last()
         if last is None or last.count is None and last.ticks > 0:
             last = self._begin(0)
         last.count = (last.count or 0) + done
 
     def _slices(self, ticks: int, has_stopped: bool) -> None:
-        """Add slices of this number of ticks."""
+        """Add slices that have this number of ticks together. has_stopped: whether the program stopped by itself in them"""
         last = self._last()
         if ticks == 0:
             return
@@ -144,11 +150,11 @@ class Intervals:
         last.has_stopped = has_stopped
 
     def _last(self) -> Interval | None:
-        """The last interval, if nothing was written since."""
+        """Return the last interval; None if there is none, or if a line has written registers or memory since."""
         return self.intervals[-1] if self.intervals and not self._is_written else None
 
     def _begin(self, count: int | None) -> Interval:
-        """Begins an interval, in place of one without an instruction."""
+        """Start an interval. It replaces the last one if that has no instruction."""
         if self.intervals and self.intervals[-1].work == 0:
             self.intervals.pop()
         maps = len(self._users[self._user].maps)

@@ -7,22 +7,23 @@ from ..guest.guest import SET_UP_ADDRESS
 from ..machine.answers import Output, Position, Refused, Stop, read
 from ..machine.lines import words_of
 
-TRYING = " "  # at the end of a step that may stop
-TRIED = ("fault", "ebreak", "exit")  # stops at an instruction that was tried, and may have changed something
+TRYING = " "  # ends a `step` line that may stop
+# Kinds of stops at which the instruction was executed, and may have changed something.
+TRIED = ("fault", "ebreak", "exit")
 _WRITES = ("set", "vset", "setpc", "poke", "asm", "map", "policy")
 
 
 @dataclass
 class Leg:
-    """Lines, and then instructions one after another.
+    """Lines, and the consecutive instructions that the program executed after them.
 
-    lines: with the user's digit; they leave a machine that was at the end of the leg before at the start of this one. Steps among
-        them, which may stop, have a space at their end.
-    count: of instructions; None if lines don't say it, until it is counted
-    most: how many instructions there are at most if their count is unknown: the steps or ticks that they were given
-    ticks: how many a run was given; None of other legs, and if that is unknown
-    breaks: the user's breakpoints meanwhile
-    stop: why the program stopped at the end of the leg; None if it was stopped, or only stepped
+    lines: with the user's digit. They bring a machine from the end of the leg before to the start of this one. A `step` line among
+    them that may stop ends with a space.
+    count: the number of instructions; None if the lines don't show it and it isn't counted yet
+    most: an upper bound for a count that is unknown: the granted steps or ticks
+    ticks: the ticks that were granted to a program that ran; None for steps, or if they are unknown
+    breaks: the user's breakpoints during the leg
+    stop: the program's stop at the end of the leg; None if a line stopped it, or if it was only stepped
     """
 
     lines: list[str] = field(default_factory=list)
@@ -34,15 +35,15 @@ class Leg:
 
     @property
     def is_blank(self) -> bool:
-        """Whether nothing has been executed after its lines."""
+        """Whether the leg has no instruction."""
         return self.count == 0 and self.stop is None
 
 
 @dataclass
 class Place:
-    """A place in legs: after the lines of one of them, and a number of its instructions.
+    """A place in the legs: after the lines of leg number `leg`, and after `offset` instructions of this leg.
 
-    has_tried: whether the instruction at which the leg stops was tried
+    has_tried: whether the machine has also executed the instruction at which the leg stops
     """
 
     leg: int = -1
@@ -51,11 +52,11 @@ class Place:
 
 
 class Legs:
-    """The legs of a user since the user's machine began, by the lines of a script and their answers.
+    """The legs of a user since the user's machine started, derived from the lines of a script and their answers.
 
-    number: how often the history began anew
+    number: the number of times that the history has started anew
     is_running: whether the program runs
-    written: how many bytes the program has written, as far as they were taken
+    written: the number of bytes of the program's output that `out` has taken
     """
 
     def __init__(self, digit: str, quantum: int) -> None:
@@ -63,17 +64,18 @@ class Legs:
         self.number, self.is_running, self.written = 0, False, 0
         self.digit, self._quantum = digit, quantum
         self._breaks = frozenset[int]()
-        self._has_set_up = False  # whether lines are those of a checkpoint, whose instructions aren't the program's
+        # Whether lines are those of a checkpoint; the program's instructions don't include theirs.
+        self._has_set_up = False
         self._is_preparing = (
             False  # whether the program counter is at the instruction that prepares a case of an exercise
         )
 
     def set_up(self, is_on: bool) -> None:
-        """The lines that follow are those of a checkpoint, which belong to step 0, or no longer."""
+        """Note whether the lines that follow are those of a checkpoint: they precede instruction 0."""
         self._has_set_up = is_on
 
     def follow(self, line: str, answer: Sequence[str]) -> None:
-        """Take up the user's next line."""
+        """Take up the user's next line and its answer."""
         reply, words = read(answer), words_of(line)
         if isinstance(reply, Refused):
             return
@@ -108,7 +110,10 @@ class Legs:
                 self._add_line(line)
 
     def grant(self, slices: int | None, stop: Stop | None) -> None:
-        """Take up slices of the running program, None if their number is unknown, and the stop that ended them, if any."""
+        """Take up slices of the user's program, if it runs.
+
+        slices: their number; None if it is unknown. stop: the stop that ended them; None if there was none
+        """
         if not self.is_running:
             return
         leg = self.legs[-1]
@@ -118,27 +123,27 @@ class Legs:
             leg.stop, self.is_running = stop, False
 
     def _restart(self, lines: list[str]) -> None:
-        """Begin anew with these lines; without any there is no machine."""
+        """Start the history anew with these lines. Without lines, the user has left, and there are no legs."""
         self.legs = [Leg(lines)] if lines else []
         self.number += 1
         self._breaks, self.is_running, self.written = frozenset(), False, 0
         self._is_preparing = False
 
     def _last(self) -> Leg:
-        """The leg that takes instructions: a new one, if the last one's count is unknown, or its end a stop."""
+        """Return the leg to which instructions are added: a new one if the last one's count is unknown, or if a stop ended it."""
         last = self.legs[-1]
         if last.count is None or last.stop:
             self.legs.append(Leg())
         return self.legs[-1]
 
     def _add_line(self, line: str) -> None:
-        """Add a line to a leg that has executed nothing."""
+        """Add a line to the last leg, or to a new one if the last one has instructions."""
         if not self.legs[-1].is_blank:
             self.legs.append(Leg())
         self.legs[-1].lines.append(line.rstrip())
 
     def _go(self, is_resumed: bool) -> None:
-        """The program runs. is_resumed: the server let it go on, after a look at it"""
+        """Note that the program runs. is_resumed: whether the server resumed it after it had stopped it to read its state"""
         self.is_running, last = True, self.legs[-1]
         if is_resumed and last.count is None and last.stop is None and last.breaks == self._breaks:
             return
@@ -148,7 +153,7 @@ class Legs:
         last.count, last.ticks, last.breaks = None, 0, self._breaks
 
     def _step(self, number: int, reply: object) -> None:
-        """Add a step by a number of instructions."""
+        """Take up a `step` of a number of instructions. reply: its answer, as `answers.read` returns it"""
         if isinstance(reply, Position):
             last = self._last()
             last.count = (last.count or 0) + reply.number

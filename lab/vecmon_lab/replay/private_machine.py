@@ -1,4 +1,4 @@
-"""A private machine that executes the legs of a user again, and stops at any of their instructions."""
+"""A private machine executes the legs of a user again, and stops after any of their instructions."""
 
 from collections.abc import Sequence
 from dataclasses import replace
@@ -16,17 +16,20 @@ from .legs import TRIED, TRYING, Legs, Place
 from .saved_states import SavedState, SavedStates
 
 CHUNK = 1 << 17  # instructions of one part of a replay
-_LINE_COST = 32  # instructions that take as long as a line
+_LINE_COST = 32  # number of instructions that take as long as a line
 
 Signature = Sequence[Sequence[str]]
 """Registers in the machine's answers."""
 
 
-_FOLLOWED = ("enter", "load", "map", "vset")  # commands that change what is known of the user
+_FOLLOWED = ("enter", "load", "map", "vset")  # commands that change the user's image or pages
 
 
 class ReplayDiffers(LabError):
-    """A private machine doesn't do what the user's machine did. offset: of the leg's instructions that it has executed"""
+    """A private machine behaves differently from the user's machine.
+
+    offset: the number of the leg's instructions that were executed before the difference, as far as known
+    """
 
     def __init__(self, message: str, offset: int = 0) -> None:
         super().__init__(message)
@@ -34,18 +37,21 @@ class ReplayDiffers(LabError):
 
 
 class PrivateMachine:
-    """A machine in which the user is alone. It saves states on its way. output: what the program has written, as far as it was taken."""
+    """A machine with only one user, which saves states as it executes legs.
+
+    output: the program's output that `out` has taken
+    """
 
     def __init__(self, session: Session, legs: Legs, saved: SavedStates) -> None:
-        """session: on a new machine; saved: the states of the legs"""
+        """session: on a new machine; legs: the user's legs; saved: the saved states of these legs, which the machine adds to"""
         self.session, self.place, self.output = session, Place(), bytearray()
-        self.executed = 0  # instructions, and lines by their cost
-        self.is_used_up = False  # whether it may not go on as the user's machine did
+        self.executed = 0  # the cost of the replays, in instructions; each line counts as `_LINE_COST` instructions
+        self.is_used_up = False  # whether the machine may go on differently from the user's machine
         self._all, self._legs, self.digit = legs, legs.legs, legs.digit
         self._saved, self._users = saved, dict[str, User]()
 
     def begin(self, state: SavedState) -> None:
-        """Set up a saved state, whose lines leave it, on the new machine."""
+        """Bring the new machine into a saved state by the state's lines."""
         lines, user = state.lines() or b"", state.snapshot.user
         for _ in self.session.do_blocks(lines):
             pass
@@ -55,18 +61,21 @@ class PrivateMachine:
 
     @property
     def guest(self) -> Guest:
-        """The user."""
+        """The user on this machine."""
         return Guest(self.session, int(self.digit))
 
     def is_before(self, leg: int, offset: int) -> bool:
-        """Whether it can go on to a place."""
+        """Return whether the machine can go on to a place, because it hasn't passed this place."""
         here = self.place
         return (
             (here.leg, here.offset) < (leg, offset) or (here.leg, here.offset) == (leg, offset) and not here.has_tried
         )
 
     def go_to(self, leg: int, offset: int, is_trying: bool = False) -> Parts:
-        """Go on to a place. is_trying: also try the instruction at which the leg stops. Raises ReplayDiffers."""
+        """Go on to a place. Raises ReplayDiffers if the program stops before.
+
+        is_trying: whether to execute the instruction at which the leg stops as well
+        """
         while (self.place.leg, self.place.offset) != (leg, offset):
             before = self.place.offset if self.place.leg == leg else 0
             part = self._part(leg, offset)
@@ -82,7 +91,7 @@ class PrivateMachine:
             self.place.has_tried = True
 
     def do(self, lines: Sequence[str]) -> list[str]:
-        """Execute lines; return their answers."""
+        """Execute lines, and return their answers, one string for each line."""
         script, answers = "".join(f"{line}\n" for line in lines).encode("ascii"), list[str]()
         for _, block in self.session.do_blocks(script):
             answers += block
@@ -96,18 +105,18 @@ class PrivateMachine:
         return answers
 
     def take_output(self) -> None:
-        """Empty the output buffer."""
+        """Take the program's output with `out`, which empties the output buffer."""
         self.do([f"{self.digit} out"])
 
     @property
     def position(self) -> int:
-        """How many instructions the program has executed."""
+        """The number of instructions that the program has executed."""
         return sum(leg.count or 0 for leg in self._legs[: max(0, self.place.leg)]) + self.place.offset
 
     def save_if_due(self, gap: int | None = None) -> None:
-        """Save the state here, if it is far after the last one that is saved.
+        """Save the present state if it is far enough after the last saved state before it.
 
-        gap: the number of instructions that is far; None for the distance of the states on a long way
+        gap: the number of instructions that is far enough; None for the usual spacing of states
         """
         position = self.position
         is_due = self._saved.is_due(position) if gap is None else self._saved.gap_before(position) >= gap
@@ -123,7 +132,10 @@ class PrivateMachine:
 
     @property
     def _can_save(self) -> bool:
-        """Whether the state here stays the place's, and the output buffer is empty, or all output has room in it."""
+        """Whether the present state can be saved.
+
+        It must belong to the place, without a tried instruction. The output buffer must be empty, or have room for all output.
+        """
         leg, lines = self._legs[self.place.leg], self._legs[self.place.leg].lines
         if self.place.has_tried or leg.is_blank:
             return False
@@ -131,12 +143,12 @@ class PrivateMachine:
         return has_room or self.place.offset == 0 and bool(lines) and command_of(lines[-1]) == "out"
 
     def signature(self) -> Signature:
-        """The registers of the stopped program."""
+        """Return the answers that show all registers of the stopped program."""
         looks = [f"{self.digit} {look}" for look in ("regs", "vcsr", *VECTOR_LOOKS)]
         return self.session.do_all(looks)
 
     def _part(self, leg: int, offset: int) -> list[str]:
-        """The lines of the next part of the way to a place, where the machine is then."""
+        """Return the lines of the next part of the way to a place, and set `place` to the end of this part."""
         lines, left, here = list[str](), CHUNK, self.place
         while left > 0 and (here.leg, here.offset) != (leg, offset):
             end = offset if here.leg == leg else (self._legs[here.leg].count or 0) if here.leg >= 0 else 0
@@ -152,16 +164,16 @@ class PrivateMachine:
             lines += self._legs[here.leg].lines
             left -= _LINE_COST * len(self._legs[here.leg].lines)
             if lines and command_of(lines[-1]) == "out" and self._saved.is_due(self.position):
-                break  # where a state can be saved
+                break  # a state can be saved here
         return lines
 
 
 def is_step(line: str) -> bool:
-    """Whether a line steps instructions that don't stop."""
+    """Return whether a line steps instructions, and none of them may stop."""
     return line.startswith("step ", 2) and not line.endswith(TRYING)
 
 
 def steps(digit: str, number: int) -> list[str]:
-    """The lines that step a number of instructions."""
+    """Return the lines that step a number of instructions."""
     whole, rest = divmod(number, MAX_STEPS)
     return [f"{digit} step {MAX_STEPS}"] * whole + [f"{digit} step {rest}"] * (rest > 0)

@@ -1,4 +1,4 @@
-"""Where a run changes watched places, or reaches a breakpoint, from the recorder's output."""
+"""Find where a run changes or accesses watched memory, or reaches a breakpoint, in the recorder's output."""
 
 import itertools
 import os
@@ -15,14 +15,19 @@ from ..runs.recorder import Record, record
 from .control import Control
 from .watches import Watch, logged_access
 
-FIRST_WINDOW, GROWTH = 4096, 16  # instructions of a log, the last ones; and how many times more each one before has
-PC = slice(14, 30)  # in a line of a log
-BLOCK_BYTES = 1 << 18  # of a record, at once: more than the lines of one instruction's changes
+# Instructions of the last window of a log, and the factor from each window to the one before it.
+FIRST_WINDOW, GROWTH = 4096, 16
+PC = slice(14, 30)  # columns of the program counter in a line of a log
+BLOCK_BYTES = 1 << 18  # bytes of a record read at once, more than the lines of one instruction's changes
 
 
 class Halt(NamedTuple):
-    """An instruction by its number, which is 1 for the first one, with the place that it changes or accesses; without one a
-    breakpoint is there. ticks: that have passed after it, or 0 if they aren't known."""
+    """An instruction at which a run halts.
+
+    number: the instruction's number, from 1
+    watch: the watched memory that it changes or accesses; None if it has a breakpoint
+    ticks: the ticks that had passed after it, or 0 if they are unknown
+    """
 
     number: int
     watch: Watch | None
@@ -30,9 +35,12 @@ class Halt(NamedTuple):
 
 
 class Search:
-    """The accesses of a run to watched places, and where it reaches breakpoints.
+    """The accesses of a run to watched memory, and the instructions where it reaches breakpoints.
 
-    initial_state: of the run, with all of its memory
+    initial_state: the state in which the run starts, with all of its memory
+    watches: watched memory
+    breaks: the addresses of breakpoints
+    control: ends the search if it is interrupted
     """
 
     def __init__(
@@ -44,7 +52,11 @@ class Search:
         self._check = control.check
 
     def first(self, ticks: int) -> tuple[Counts, list[Halt], int]:
-        """A run of a number of ticks; its first halt, among others; and the number of bytes it writes."""
+        """Run a number of ticks, and find halts.
+
+        Returns the run's counts, its first halt and perhaps others (an empty list if there are none), and the number of bytes that the
+        program wrote.
+        """
         done, halts, written = self.first_change(ticks)
         if self._needs_log(done):
             last = min([done.instructions, *(halt.number for halt in halts)])
@@ -52,13 +64,18 @@ class Search:
         return done, halts, written
 
     def first_change(self, ticks: int) -> tuple[Counts, list[Halt], int]:
-        """A run of a number of ticks; the first instruction that changes a place, if any; and its number of bytes written."""
+        """Run a number of ticks, and find the first instruction that changes watched memory.
+
+        Returns the run's counts, a list with this halt (empty if there is none), and the number of bytes that the program wrote.
+        """
         return self._changes(ticks, self._first_of_changes)
 
     def length(self, ticks: int, last: int) -> int:
-        """The instructions of a run in a number of ticks, up to a stop or a breakpoint at which it doesn't begin.
+        """Return the number of instructions of a run, up to a stop or to a breakpoint after its start.
 
-        last: in how many of the last ticks the breakpoint is, unless it is one at which the run comes by more often
+        ticks: the length of the run
+        last: the breakpoint that ended the run is in this number of last ticks; if the run passes a breakpoint earlier, all of the run is
+            searched
         """
         done = self._run(ticks, [], _nothing)[0]
         is_over = done.ticks > ticks or isinstance(done.end, Stop) and done.end.kind == "exit"
@@ -70,9 +87,11 @@ class Search:
         return min([halt.number - 1 for halt in halts] or [done.instructions - is_over])
 
     def back(self, ticks: int, count: int) -> Iterator[list[Halt]]:
-        """The last halts among a number of instructions, among others, the last one first; none if the window has none.
+        """Yield lists of halts among the first `count` instructions, from the end of the run to its start.
 
-        ticks: that they take, or fewer
+        Each list is for one window of instructions. It has the window's last halt and perhaps others, or is empty if there is no halt.
+
+        ticks: at most the ticks that these instructions take
         """
         ticks, done, changes = self._covering(ticks, count)
         minimum = changes[-1].number if changes else 1
@@ -84,22 +103,33 @@ class Search:
         yield changes
 
     def _covering(self, ticks: int, count: int) -> tuple[int, Counts, list[Halt]]:
-        """The ticks for a number of instructions, from a number on; a run of these; and where it last changes a place."""
+        """Run until at least `count` instructions have executed, or the program stops.
+
+        ticks: the ticks of the first attempt; they are doubled until they suffice
+
+        Returns the ticks of the last attempt, its counts, and the last changes of watched memory by the first `count` instructions.
+        """
         done, changes, _ = self._changes(ticks, lambda file: self._last_of_changes(file, count))
         covers = done.instructions >= count or isinstance(done.end, Stop)
         return (ticks, done, changes) if covers else self._covering(2 * ticks, count)
 
     def _needs_log(self, done: Counts) -> bool:
-        """Whether a log has more of a run: accesses, or executed instructions at breakpoints."""
+        """Return whether a log shows more halts of this run: accesses, or breakpoints that were reached."""
         return bool(self._accessed) or any(b"%016x" % place.address in self._breaks for place in done.places)
 
     def _changes(self, ticks: int, read: Callable[[BinaryIO], list[Halt]]) -> tuple[Counts, list[Halt], int]:
-        """A run of a number of ticks; what is read of its changes; and its number of bytes written."""
+        """Run a number of ticks while changes of watched memory are recorded.
+
+        read: reads the halts from the record. Returns the run's counts, these halts, and the number of bytes that the program wrote.
+        """
         words = [word for watch in self._changed for place in self._places(watch) for word in ("--watch", place)]
         return self._run(ticks, [*words, "--changes"] if words else [], read if words else _nothing)
 
     def _log(self, ticks: int, first: int, last: int) -> list[Halt]:
-        """The halts at breakpoints, or by accesses, from one instruction to another; none where the first is behind the last."""
+        """Return halts at breakpoints or accesses from instruction `first` to `last`: the first one and the last two.
+
+        Returns an empty list if `first` is above `last`.
+        """
         if first > last:  # the recorder refuses such a window
             return []
         words = ["--from", f"{first}", "--to", f"{last}", "--log"]
@@ -108,7 +138,13 @@ class Search:
     def _run(
         self, ticks: int, words: Sequence[str], read: Callable[[BinaryIO], list[Halt]]
     ) -> tuple[Counts, list[Halt], int]:
-        """A run with a record, if there are words for it; what is read of it; and its bytes."""
+        """Run a number of ticks, with a record unless `words` is empty.
+
+        words: the recorder's arguments for the record
+        read: reads the halts from the record
+
+        Returns the run's counts, these halts, and the number of bytes that the program wrote.
+        """
         sizes = list[int]()
         end, other = os.pipe()
         with ThreadPoolExecutor(1) as pool, open(end, "rb") as file:
@@ -119,21 +155,21 @@ class Search:
             return done, halts.result(), sum(sizes)
 
     def _places(self, watch: Watch) -> Iterator[str]:
-        """The words for a place, as far as there is memory."""
+        """Yield the recorder's arguments for watched memory, as far as the program has this memory."""
         for address, _, data in self._initial_state.memory:
             first, end = max(address, watch.address), min(address + len(data), watch.address + watch.length)
             for at in range(first, end, LINE_BYTES):
                 yield f"{at:x}:{min(LINE_BYTES, end - at)}"
 
     def _first_of_changes(self, file: BinaryIO) -> list[Halt]:
-        """The first change in a file of them, which is read to its end."""
+        """Return a list with the first change in a file of changes (empty if it has none), and read this file to its end."""
         halts = [*itertools.islice(self._halts_of_changes(file), 1)]
         while file.read(BLOCK_BYTES):
             pass
         return halts
 
     def _last_of_changes(self, file: BinaryIO, last: int) -> list[Halt]:
-        """The last changes in a file of them up to an instruction: only the lines near it are looked at."""
+        """Return the last changes in a file of changes up to instruction `last`; only lines near this instruction are parsed."""
         kept, is_over = deque[bytes]([b""], 3), False
         while block := file.read(BLOCK_BYTES):
             if not is_over:
@@ -141,11 +177,11 @@ class Search:
                 words = block.rpartition(b"\n")[0].rpartition(b"\n")[2].split()
                 is_over = bool(words) and words[0].isdigit() and int(words[0]) > last
         lines = b"".join(kept).splitlines()
-        whole = lines[1:] if len(kept) == 3 and kept[0] else lines  # the first line may be a part of one
+        whole = lines[1:] if len(kept) == 3 and kept[0] else lines  # the first line may be incomplete
         return _ends(halt for halt in self._halts_of_changes(whole) if halt.number <= last)
 
     def _halts_of_changes(self, lines: Iterable[bytes]) -> Iterator[Halt]:
-        """The changes in lines of them, for each instruction the first one."""
+        """Yield a halt for each instruction in lines of changes. It has the first place that the instruction changes."""
         changes = itertools.takewhile(lambda line: line[:1].isdigit(), lines)
         for number, (line, *_) in itertools.groupby(changes, lambda line: int(line.partition(b" ")[0])):
             _, ticks, _, place, *_ = line.split()
@@ -154,7 +190,7 @@ class Search:
             yield Halt(number, watch, int(ticks))
 
     def _halts_of_log(self, file: BinaryIO, first: int) -> Iterator[Halt]:
-        """The content of a log that begins with the instruction of a number."""
+        """Yield the halts in a log that starts with instruction `first`."""
         for number, line in enumerate(file, first):
             if self._accessed and (watch := logged_access(self._accessed, line)):
                 yield Halt(number, watch)
@@ -163,10 +199,10 @@ class Search:
 
 
 def _nothing(file: BinaryIO) -> list[Halt]:
-    """No halt: nothing is recorded."""
+    """Return no halts, for a run without a record."""
     return []
 
 
 def _ends(halts: Iterator[Halt]) -> list[Halt]:
-    """The first halt and the last two: one of them may follow the other."""
+    """Return the first halt and the last two; two successive halts may be of one instruction."""
     return [*itertools.islice(halts, 1), *deque(halts, 2)]

@@ -1,4 +1,4 @@
-"""A part of a run that is executed again, in a session of its own, up to a number of instructions."""
+"""Execute a part of a run again in a separate session, up to a given number of instructions."""
 
 from dataclasses import replace
 
@@ -12,25 +12,31 @@ from .intervals import Interval
 from . import saved_states
 from .saved_states import SavedState, SavedStates
 
-PARTS = 16  # of a part in which a call may have found too little room for its output
+# Number of parts of a stretch that is executed again because a system call had too little room for its output.
+PARTS = 16
 
 
 class Replayed:
     """Executes an interval again from its start.
 
-    session: at its start, without breakpoints, and then where `execute` has come to
-    saved: the states up to there; dropped: those that `execute` has dropped
+    session: at first at the start of the interval, without breakpoints; then after the instructions that `execute` has executed
+    saved: the saved states up to this place
+    dropped: the saved states that `execute` has dropped to make room for new ones
     """
 
     def __init__(self, session: Session, digit: int, saved: SavedStates, position: int) -> None:
-        """saved: the states before; position: of the interval's start"""
+        """session: at the start of the interval; digit: the user's number
+        saved: the saved states before the interval; position: the position of its start
+        """
         self.session, self.saved, self.dropped = session, saved, list[SavedState]()
         self._digit, self._position = digit, position
 
     def execute(self, interval: Interval, count: int, user: User | None, control: Control) -> list[Interval]:
-        """Execute this number of the interval's instructions, and save states on the way; the intervals that they are.
+        """Execute the first `count` instructions of an interval, and save states on the way.
 
-        user: the image and the pages; None if the states can't be saved. Raises Interrupted.
+        user: the user's image and pages; None if states can't be saved
+
+        Returns the intervals into which the saved states divide these instructions. Raises Interrupted.
         """
         ticks, whole, left = interval.ticks, max(interval.count or 0, 1), count
         made = [replace(interval, count=0, ticks=0, has_stopped=False)]
@@ -49,12 +55,12 @@ class Replayed:
         return made
 
     def _save(self, user: User) -> None:
-        """Save the state here."""
+        """Save the present state."""
         if dropped := self.saved.add(self._position, Guest(self.session, self._digit), user):
             self.dropped.append(dropped)
 
     def _step(self, number: int, control: Control) -> None:
-        """Execute a number of instructions, whose calls all find room for their output. Raises Interrupted."""
+        """Execute a number of instructions, and leave enough room in the output buffer for each system call. Raises Interrupted."""
         size = self.session.size
         if self._step_at_once(number, MAX_STEPS, control):
             return
@@ -68,7 +74,10 @@ class Replayed:
             self._step(min(number // PARTS, number - done), control)
 
     def _step_at_once(self, number: int, at_once: int, control: Control) -> bool:
-        """Execute instructions in groups; return whether each call has found room, else the session is of no use."""
+        """Execute instructions, `at_once` in one line.
+
+        Returns whether the output buffer had room for each system call. If it hadn't, the session can't be used any more.
+        """
         commands = [*stepping(number, at_once), "out"]
         lines = "".join(f"{self._digit} {command}\n" for command in commands).encode("ascii")
         for _, answers in self.session.do_blocks(lines):
@@ -79,7 +88,7 @@ class Replayed:
 
 
 def _is_full(answer: Answer) -> bool:
-    """Whether an answer says that the output buffer is full."""
+    """Return whether an answer shows that the output buffer is full."""
     if isinstance(answer, Output):
         return len(answer.data) == OUTPUT_BYTES
     return isinstance(answer, Stop) and answer.kind == "outfull"

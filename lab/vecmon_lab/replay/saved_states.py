@@ -1,4 +1,4 @@
-"""States of a run that are saved on its way, so that a way back needn't start at its beginning: a bounded number."""
+"""A bounded number of states of a run, saved as it executes, so that a replay needn't start at the run's beginning."""
 
 import bisect
 from collections.abc import Callable, Mapping, Sequence
@@ -11,9 +11,10 @@ from ..machine.script import ScriptStart
 from ..machine.session import Session
 from .legs import Place
 
-MAX_STATES = 48  # of a run; each has 1 MiB of memory at most, and equal pages are shared
-SPACING, PAGE_SPACING = 1 << 22, 1 << 18  # instructions or ticks between two saved states, and more for each page
-NEAR = 4096  # instructions before a wanted one, where a state is saved: the next way back mostly starts there
+MAX_STATES = 48  # of one run; each has at most 1 MiB of memory, and equal pages are shared
+# Instructions or ticks between two saved states, and the increase for each page.
+SPACING, PAGE_SPACING = 1 << 22, 1 << 18
+NEAR = 4096  # instructions between a saved state and the wanted instruction; the next step back mostly starts there
 
 Opening = Callable[[], Session]
 """Opens a session on a new machine with the same images."""
@@ -23,10 +24,11 @@ Opening = Callable[[], Session]
 class SavedState:
     """A user's state at a place of a run.
 
-    position: of the place, a number that rises as the run goes on, such as the number of its instructions
-    size: how many bytes of the session's script bring a machine there
-    start: the script's start up to there
-    place, output: in legs, and what the program has written up to there, for a run that is followed by legs
+    position: a number that rises as the run goes on, such as the number of its instructions
+    size: the size in bytes of the part of the session's script that brings a machine into this state
+    start: this part of the script, as a `ScriptStart`
+    place: the place in the run's legs, if the run has legs
+    output: the program's output up to the place, if the run has legs
     """
 
     position: int
@@ -42,7 +44,7 @@ class SavedState:
     _is_checked: bool = False
 
     def lines(self) -> bytes | None:
-        """The lines that set the state up on a new machine; None if they leave another state."""
+        """Return the lines that bring a new machine into this state; None if lines can't restore it exactly."""
         if not self._is_checked:
             self._is_checked = True
             lines = "".join(f"{line}\n" for line in self.snapshot.lines(self._digit, self._fresh())).encode("ascii")
@@ -55,35 +57,43 @@ class SavedState:
 
 
 class SavedStates:
-    """States of one user's run, dense near a place, and ever sparser away from it.
+    """Saved states of one user's run: many near the last place, and fewer the further away they are.
 
-    states: in the order of their positions, MAX_STATES at most
+    states: in the order of their positions, at most `max_states`
     """
 
     def __init__(self, opening: Opening, max_states: int | None = None, max_bytes: int | None = None) -> None:
         """opening: opens a session on a new machine with the run's images
 
-        max_states: None for MAX_STATES; max_bytes: of the memory of all states, of which there is at least one; None for no limit
+        max_states: the largest number of states; None for MAX_STATES
+        max_bytes: the largest number of bytes of all states' memory; None for no limit. One state is always saved
         """
         self.states = list[SavedState]()
         self._opening, self._max_states, self._max_bytes = opening, max_states or MAX_STATES, max_bytes
         self._fresh: tuple[User, Mapping[int, bytes]] | None = None
 
     def is_due(self, position: int, pages: int = 0) -> bool:
-        """Whether a state of this number of pages at a position is so far after the one before that it is worth its time."""
+        """Return whether a new state should be saved at a position: whether it is far enough after the saved state before it.
+
+        pages: the number of the user's pages; with more pages, states are further apart
+        """
         return self.gap_before(position) >= spacing(pages)
 
     def gap_before(self, position: int) -> int:
-        """How far a position is after the last state at or before it, or after the start."""
+        """Return the distance of a position from the last saved position at or before it, or from the start."""
         place = bisect.bisect_right(self.states, position, key=lambda state: state.position)
         return position - (self.states[place - 1].position if place else 0)
 
     def add(
         self, position: int, guest: Guest, user: User, place: Place = Place(), output: bytes = b""
     ) -> SavedState | None:
-        """Save the state of a guest, whose program is stopped, and whose output was taken; return the one that is dropped.
+        """Save the state of a guest, whose program is stopped, and whose output was taken.
 
-        position: of none of the states; user: the image and the pages; place, output: as a saved state has them
+        position: one at which no state is saved yet
+        user: the image and the pages
+        place, output: for the fields of the saved state
+
+        Returns the saved state that was dropped to make room, which may be the new one; None if none was dropped.
         """
         number = bisect.bisect(self.states, position, key=lambda state: state.position)
         before = self.states[number - 1].snapshot if self.states else None
@@ -105,40 +115,40 @@ class SavedStates:
         return sum(pages.values()) > self._max_bytes
 
     def until(self, size: int) -> "SavedStates":
-        """The states up to this number of bytes of the script, to which others can be added."""
+        """Return a new collection of the states up to this number of bytes of the script."""
         states = SavedStates(self._opening, self._max_states, self._max_bytes)
         states.states, states._fresh = [state for state in self.states if state.size <= size], self._fresh
         return states
 
     def at(self, size: int) -> SavedState | None:
-        """The state at this number of bytes of the script."""
+        """Return the state after this number of bytes of the script; None if there is none."""
         return next((state for state in self.states if state.size == size), None)
 
     def before(self, leg: int, offset: int) -> SavedState | None:
-        """The last state at or before a place in legs, whose lines leave that state."""
+        """Return the last state, at or before a place in legs, that lines can restore; None if there is none."""
         earlier = (state for state in reversed(self.states) if (state.place.leg, state.place.offset) <= (leg, offset))
         return next((state for state in earlier if state.lines() is not None), None)
 
     def starts(self) -> Sequence[ScriptStart]:
-        """The starts of the script up to the states, the shortest first."""
+        """Return the parts of the script up to the saved states, the shortest first."""
         return [state.start for state in self.states]
 
     def _fresh_memory(self, user: User) -> Mapping[int, bytes]:
-        """The contents of a user's new pages."""
+        """Return the contents of a user's pages before the program starts, by their addresses."""
         if self._fresh is None or self._fresh[0] != user:
             self._fresh = user, fresh_memory(self._opening, user)
         return self._fresh[1]
 
 
 def spacing(pages: int) -> int:
-    """The instructions or ticks between two states of this number of pages, on a long way."""
+    """Return the number of instructions or ticks between two saved states with this number of pages."""
     return SPACING + pages * PAGE_SPACING
 
 
 def sparsest(positions: Sequence[int], here: int | None = None) -> int:
-    """The number of the position whose loss leaves the smallest gap in relation to its distance from a position.
+    """Return the index of the position to drop: the one that leaves the smallest gap in relation to its distance from `here`.
 
-    The last one is never lost. here: that position; None for the last one
+    The last position is never dropped. here: None for the last position
     """
     last, before = positions[-1] if here is None else here, [0, *positions]
     ends = [(before[at], positions[at + 1]) for at in range(len(positions) - 1)]

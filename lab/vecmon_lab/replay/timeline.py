@@ -1,6 +1,6 @@
-"""A guest that goes back to earlier instants of its run, and to where a place is accessed: for gdb, the console, and others.
+"""A guest that goes back to earlier states of its run, and to instructions that access watched memory, for gdb and the console.
 
-Where it goes back, the later instants are forgotten. `History` finds the way; here are the guest, and its way forward.
+When the guest goes back, it forgets the later states. `History` finds the way; this module moves the guest, and runs it forward.
 """
 
 import contextlib
@@ -17,25 +17,27 @@ from .watches import Watch, accessed
 from .whole_script import Replay, WholeScript
 
 FEW = 16  # instructions that execute on the machine itself before the recorder runs
-MIN_TICKS, FIRST_TICKS = 4, 256  # that the recorder is given; of the least, all output has room
-LOGGED_TICKS, SEARCHED_TICKS = 1 << 20, 1 << 24  # at most, with a log of all instructions, and without
-GROWTH = 8  # of these, from one search to the next
+# Ticks of the recorder's shortest and of its first search. The output of the shortest one fits into the buffer.
+MIN_TICKS, FIRST_TICKS = 4, 256
+# Largest number of ticks with a log of all instructions, and without one.
+LOGGED_TICKS, SEARCHED_TICKS = 1 << 20, 1 << 24
+GROWTH = 8  # factor between the ticks of two successive searches
 
 Report = Callable[[Advance], object]
 """Is given the progress of work that takes more than two seconds."""
 
 
 class Timeline:
-    """The instants of a guest, which is at the last one.
+    """The states of a guest, which is at the last one.
 
-    watches: the places that `go`, `step`, `back` and `back_to_halt` stop at, before an instruction executes or is taken
-        back, that does what is watched for: so gdb has it for RISC-V
-    hit: the place of the last of these, where it stopped there
-    run: the guest's run, and the states from which a replay may start
+    watches: watched memory. `go`, `step`, `back` and `back_to_halt` stop at an instruction that accesses or changes it, before the
+    instruction executes. When they go back, they stop after such an instruction. gdb expects this for RISC-V.
+    hit: the watched memory at which the last of these calls stopped; None if it stopped for another reason
+    run: the guest's run, with the saved states from which a replay may start
     """
 
     def __init__(self, guest: Guest, report: Report = lambda advance: None) -> None:
-        """report: is given the progress of a search or replay that takes more than two seconds, and then every two"""
+        """report: is called with the progress of a search or replay after two seconds, and every two seconds after that"""
         self.watches = list[Watch]()
         self.hit: Watch | None = None
         self.run = WholeScript(guest)
@@ -43,9 +45,12 @@ class Timeline:
         self._history: History[Replay] = History(self.run)
 
     def go(self, is_interrupted: Callable[[], bool]) -> Stop | None:
-        """The program runs to a stop, or to an instruction that does what is watched for; None where it is interrupted."""
+        """Run the program to a stop, or to an instruction that accesses or changes watched memory.
+
+        Returns the stop; None if it is interrupted.
+        """
         breaks = self._breaks()
-        for _ in range(FEW if self.watches else 1):  # gdb steps so, by a breakpoint
+        for _ in range(FEW if self.watches else 1):  # gdb steps past a breakpoint in this way
             if (stop := self.step()) or self._guest.pc in breaks:
                 return stop or Stop("break", self._guest.pc)
         if not self.watches:
@@ -57,7 +62,7 @@ class Timeline:
             return None
 
     def step(self) -> Stop | None:
-        """Carries out one instruction, unless it may do what is watched for; the stop, if it stops instead."""
+        """Execute one instruction, unless it may access or change watched memory. Return the stop, or None if the instruction executed."""
         word = self._guest.word_at(self._guest.pc)[0] if self.watches else 0
         self.hit = accessed(self.watches, self._guest, word)
         stop = Stop("break", self._guest.pc) if self.hit else self._guest.step()
@@ -65,7 +70,7 @@ class Timeline:
         return stop
 
     def count(self, is_interrupted: Callable[[], bool] = never) -> int:
-        """How many instructions were executed since the first instant. Raises LabError and Interrupted."""
+        """Return the number of instructions since the first state. Raises LabError and Interrupted."""
         self.run.control = self._control(is_interrupted, "counting instructions")
         count = self._history.count(is_interrupted)
         if count is None:
@@ -74,16 +79,17 @@ class Timeline:
         return count
 
     def at(self, number: int, is_interrupted: Callable[[], bool] = never) -> bool | None:
-        """Go back to where a number of instructions was executed; as `back`."""
+        """Go back to the state after `number` instructions. Returns and raises as `back` does."""
         try:
             return self.back(self.count(is_interrupted) - number, is_interrupted)
         except Interrupted:
             return None
 
     def back(self, number: int = 1, is_interrupted: Callable[[], bool] = never) -> bool | None:
-        """Go back by a number of instructions; return whether there were enough, else be at the first.
+        """Go back by a number of instructions; return whether there were enough.
 
-        None if it is interrupted, and then the guest stays where it is. Raises LabError.
+        If there are fewer, the guest goes to the first state. Returns None if it is interrupted; then the guest doesn't move. Raises
+        LabError.
         """
         before, self.hit = self._watched_values(), None
         is_there = self._go_back(number, is_interrupted)
@@ -97,9 +103,9 @@ class Timeline:
 
     @contextlib.contextmanager
     def before(self, is_interrupted: Callable[[], bool] = never) -> Iterator[Guest | None]:
-        """A guest on its own session, in the state before the last instruction; the timeline's guest stays where it is.
+        """Yield a guest on a separate session, in the state before the last instruction; the timeline's guest doesn't move.
 
-        None if nothing was executed, or if it is interrupted. Raises LabError.
+        Yields None if no instruction was executed, or if it is interrupted. Raises LabError.
         """
         self.run.control = self._control(is_interrupted, "going back")
         replay = None if self.run.is_at_start else self._history.at(-1, is_interrupted)
@@ -121,9 +127,11 @@ class Timeline:
         return is_there
 
     def back_to_halt_if_any(self, breaks: Sequence[int], is_interrupted: Callable[[], bool]) -> bool | None:
-        """Go back to the last instruction at one of these addresses, or after the last one that does what is watched for.
+        """Go back to the last breakpoint, or to the state after the last instruction that accesses or changes watched memory.
 
-        Return whether there was one, or None if interrupted; the guest stays where it is unless there was one. Raises LabError.
+        breaks: the addresses of breakpoints
+
+        Returns whether there is such a place; None if it is interrupted. The guest moves only if there is one. Raises LabError.
         """
         self.hit, self.run.control = None, self._control(is_interrupted, "searching backwards")
         found = self._history.last_halt(Halts(frozenset(breaks), tuple(self.watches)), is_interrupted)
@@ -137,7 +145,7 @@ class Timeline:
         return True
 
     def _go_back(self, number: int, is_interrupted: Callable[[], bool]) -> bool | None:
-        """As `back`, whatever is watched. Changes at the first instant stay, if the guest is there."""
+        """As `back`, without regard to watched memory. At the first state, the guest keeps changes that lines have made there."""
         self.run.control = self._control(is_interrupted, "going back")
         if number <= 0 or self.run.is_at_start:
             return number <= 0
@@ -155,9 +163,12 @@ class Timeline:
         self.run.take_over(replay)
 
     def _go_far(self, breaks: Sequence[int], control: Control) -> Stop | None:
-        """As `go`, with watched places: the recorder determines how far the program may run. Raises Interrupted."""
+        """As `go`, with watched memory: the recorder determines how far the program may run.
+
+        breaks: the addresses of breakpoints. Raises Interrupted.
+        """
         is_logged, ticks, passed = any(each.kind != "watch" for each in self.watches), FIRST_TICKS, 0
-        is_near = True  # whether a halt may be so near that the program is stepped there
+        is_near = True  # whether a halt may be near, so that the program is stepped to it
         while True:
             control.advance(passed, 0)
             search = Search(self.run.present(), self.watches, breaks, control)
@@ -180,14 +191,17 @@ class Timeline:
             ticks = near if is_near else min(GROWTH * ticks, most)
 
     def _go_near(self, search: Search, ticks: int, breaks: Sequence[int]) -> tuple[bool, Stop | None]:
-        """Run the program for a number of ticks, or to the first halt or stop; whether there was one, and the stop."""
+        """Run the program for a number of ticks, or to the first halt or stop.
+
+        Returns whether there was one, and the stop to report; None if there was none, or if the program didn't stop.
+        """
         guest = self._guest
         done, halts, written = search.first(ticks)
         end = done.instructions - (isinstance(done.end, Stop) and done.end.kind == "exit")
         before = [Halt(halt.number - 1, halt.watch) for halt in halts]
         first = min(before or [Halt(end, None)], key=lambda halt: halt.number)
         self.hit = first.watch
-        # a call may find less room here than there
+        # a system call may find less room in this buffer than in the recorder's
         guest.pass_over(first.number, MAX_STEPS if written <= OUTPUT_BYTES else SAFE_STEPS)
         if halts or guest.pc in breaks:
             return True, Stop("break", guest.pc)
@@ -196,7 +210,10 @@ class Timeline:
         return False, None
 
     def _pass_ticks(self, ticks: int, control: Control) -> tuple[Stop | None, bool]:
-        """Run the program in whole slices for a number of ticks at most; its stop, and whether its output had room."""
+        """Run the program in whole slices for at most a number of ticks.
+
+        Returns its stop (None if it didn't stop), and whether the output buffer had room for all output. Raises Interrupted.
+        """
         left, at_once = max(0, ticks) // self._guest.session.quantum, MAX_SLICES
         while left:
             control.check()
@@ -214,12 +231,12 @@ class Timeline:
         return self._guest.query("breaks", Addresses).addresses
 
     def _watched_values(self) -> dict[Watch, bytes]:
-        """The contents of the places watched for changes."""
+        """The contents of memory that is watched for changes."""
         changes = [watch for watch in self.watches if watch.kind == "watch"]
         return {watch: self._guest.peek(watch.address, watch.length) for watch in changes}
 
     def _control(self, is_interrupted: Callable[[], bool], what: str) -> Control:
-        """Ends work if it is interrupted, and reports its progress. what: the work"""
+        """Return a control that ends work if it is interrupted, and reports its progress. what: a description of the work"""
 
         def report(done: int, whole: int) -> None:
             self._report(Advance(what, done, whole if whole > done else 0))

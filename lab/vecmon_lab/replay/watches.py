@@ -1,4 +1,4 @@
-"""Watched places of memory: changes and accesses by instructions."""
+"""Watched memory: the instructions that access it."""
 
 import re
 from collections.abc import Callable, Iterable, Iterator, Sequence
@@ -10,16 +10,17 @@ from ..instructions.accesses import Span, active_spans
 from ..instructions.words import LOAD, LOAD_FP, STORE, STORE_FP, decode
 
 ACCESSES = {"watch": (STORE, STORE_FP), "rwatch": (LOAD, LOAD_FP), "awatch": (LOAD, LOAD_FP, STORE, STORE_FP)}
-"""The opcodes of what may do what is watched for, as gdb calls it: change the bytes, load them, or load or store them."""
+"""The opcodes of instructions that may trigger each kind of watchpoint, by gdb's names: changes, loads, or both."""
 
-WORD = slice(34, 42)  # in a line of a log
-MOVED = re.compile(rb" mem 0x(\w{16})(?: 0x(\w+))?")  # there: an element's address, and of stores its bytes
+WORD = slice(34, 42)  # columns of the instruction in a line of a log
+# In a line of a log: an element's address, and for stores its bytes.
+MOVED = re.compile(rb" mem 0x(\w{16})(?: 0x(\w+))?")
 SEW = re.compile(rb" e(\d+) m")
 
 
 @dataclass(frozen=True)
 class Watch:
-    """Bytes from an address on, and what is watched for."""
+    """Watched bytes, from an address on. kind: `watch` for changes, `rwatch` for loads, `awatch` for loads and stores"""
 
     kind: str
     address: int
@@ -27,20 +28,23 @@ class Watch:
 
 
 def accessed(watches: Sequence[Watch], guest: Guest, word: int) -> Watch | None:
-    """The first place that the next instruction of a guest, which is this word, loads from or stores to as watched for.
+    """Return the first watched bytes that a guest's next instruction accesses in the watched way; None if there are none.
 
-    Elements count that are active; those that a fault or a fault-only-first load leaves out, too.
+    word: this instruction. All active elements count, also those that a fault or a fault-only-first load leaves out.
     """
     return _met(watches, word, lambda: _spans(guest, word))
 
 
 def logged_access(watches: Sequence[Watch], line: bytes) -> Watch | None:
-    """The first place that an instruction has loaded from or stored to as watched for, by its line in a log."""
+    """Return the first watched bytes that an instruction has accessed in the watched way; None if there are none. line: its line in a log"""
     return _met(watches, int(line[WORD], 16), lambda: _logged_spans(line)) if b" mem " in line else None
 
 
 def _met(watches: Sequence[Watch], word: int, spans: Callable[[], Iterable[Span]]) -> Watch | None:
-    """The first place that an instruction, which is this word, accesses as watched for, by what it accesses."""
+    """Return the first watched bytes that an instruction accesses in the watched way; None if there are none.
+
+    word: the instruction; spans: returns the addresses that it accesses, each with its number of bytes
+    """
     candidates = [watch for watch in watches if word & 0x7F in ACCESSES[watch.kind]]
     found = list(spans()) if candidates else []
     for watch in candidates:
@@ -50,7 +54,10 @@ def _met(watches: Sequence[Watch], word: int, spans: Callable[[], Iterable[Span]
 
 
 def _logged_spans(line: bytes) -> Iterator[Span]:
-    """The accesses of a load or store, by its line in a log, which has the bytes of stores alone."""
+    """Yield the addresses that a load or store has accessed, each with its number of bytes.
+
+    line: the instruction's line in a log, which shows the bytes of stores, but not of loads
+    """
     word = int(line[WORD], 16)
     loaded = 1 << (word >> 12 & 3)
     if word & 0x7F == LOAD_FP:
@@ -62,6 +69,6 @@ def _logged_spans(line: bytes) -> Iterator[Span]:
 
 
 def _spans(guest: Guest, word: int) -> Iterator[Span]:
-    """The accesses of a load or store, by the registers before it: addresses, each with its number of bytes."""
+    """Yield the addresses that a load or store will access, from the registers before it, each with its number of bytes."""
     before = Stepper(guest).registers
     yield from (span for _, span in active_spans(word, before.x, before.control, bytes(before.v)))

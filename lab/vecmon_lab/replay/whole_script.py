@@ -1,7 +1,7 @@
-"""The run of a guest, who is alone on a machine, by the whole script of its session.
+"""The run of a guest that is the only user of a machine, from the whole script of its session.
 
-The machine of a place is another session: it starts at the last saved state before, or at the beginning, and executes the script up to
-the place, with all lines typed by hand. The recorder counts and searches.
+To reach a place, another session starts at the last saved state before it, or at the beginning, and executes the script from there,
+including all lines typed by hand. The recorder counts instructions and searches.
 """
 
 from collections.abc import Generator, Sequence
@@ -20,14 +20,15 @@ from .replayed import Replayed
 from .saved_states import SavedStates, spacing
 from .watches import Watch
 
-MAX_BACK = 1_000_000_000  # instructions of a way back
+MAX_BACK = 1_000_000_000  # largest number of instructions of a way back
 
 
 @dataclass(frozen=True)
 class Replay:
-    """A guest's earlier state, on a session of its own, until it is taken over or closed.
+    """A guest's earlier state in a separate session, until it is taken over or closed.
 
-    place: of the interval; intervals: what was executed of it
+    place: the index of the interval; intervals: the parts of this interval that were executed
+    guest: the guest in this session; replayed: the replay that has the session
     """
 
     place: int
@@ -41,10 +42,11 @@ class Replay:
 
 
 class WholeScript:
-    """A guest's run, by the lines of its session; a `Run` of `Replay`s.
+    """A guest's run, from the lines of its session: a `Run` of `Replay`s.
 
-    guest: it is at the present. saved: the states from which a replay may start
-    control: ends work that takes long
+    guest: the guest at the present
+    saved: the saved states from which a replay may start
+    control: ends long work if it is interrupted
     """
 
     limit = MAX_BACK
@@ -55,13 +57,14 @@ class WholeScript:
         self.guest, self.control = guest, Control()
         self.saved = SavedStates(lambda: guest.session.rewound(b""))
         self._intervals = Intervals(guest.user, guest.session.quantum)
-        self._new = list[tuple[int, str, str]]()  # lines and answers that aren't followed yet, with sizes of the script
+        # Lines and answers to follow, each after the size of the script before it.
+        self._new = list[tuple[int, str, str]]()
         guest.session.on_lines = self._note
         guest.on_pause = self.save_if_due
 
     @property
     def number(self) -> int:
-        """How often the run has begun anew."""
+        """The number of times that the run has started anew."""
         self._catch_up()
         return self._intervals.number
 
@@ -73,16 +76,16 @@ class WholeScript:
 
     @property
     def percent(self) -> int:
-        """How much of the present work is done."""
+        """The finished part of the current work in percent."""
         return self.control.percent
 
     @property
     def is_at_start(self) -> bool:
-        """Whether nothing was executed."""
+        """Whether no instruction was executed."""
         return not any(interval.work for interval in self.stretches)
 
     def count(self, place: int, most: int) -> Parts:
-        """Count an interval."""
+        """Set the count of an interval, whatever `most` is."""
         interval = self._intervals.intervals[place]
         self._advance(place)
         breaks = interval.breaks if interval.has_stopped else ()
@@ -91,7 +94,7 @@ class WholeScript:
         yield
 
     def state(self, place: int, offset: int) -> Generator[None, None, Replay]:
-        """Return the state at a place."""
+        """Return the state after `offset` instructions of an interval."""
         guest, intervals = self.guest, self._intervals.intervals
         replayed = Replayed(
             self._open(intervals[place]),
@@ -109,7 +112,7 @@ class WholeScript:
         return Replay(place, made, Guest(replayed.session, guest.user), replayed)
 
     def first_halt(self, place: int, offset: int, halts: Halts) -> Generator[None, None, int | None]:
-        """Return the first offset above this one at which the program halts before the next instruction; None without one."""
+        """Return the first offset above this one where the program halts before its next instruction; None if there is none."""
         interval = self._intervals.intervals[place]
         start = yield from self.state(place, offset + 1)
         try:
@@ -123,7 +126,11 @@ class WholeScript:
         return offset + number if number and offset + number <= (interval.count or 0) else None
 
     def last_halt(self, place: int, halts: Halts) -> Generator[None, None, tuple[int, Watch | None] | None]:
-        """Return the last offset at a breakpoint, or after an instruction that does what is watched for, and the watched place."""
+        """Return the last offset at which the program halts, and the watched memory; None if there is no halt.
+
+        The offset is that of a breakpoint, with None for the watched memory, or the one after an instruction that accesses or changes
+        watched memory.
+        """
         interval = self._intervals.intervals[place]
         count = interval.count or 0
         self._advance(place)
@@ -136,10 +143,10 @@ class WholeScript:
         return None
 
     def close(self) -> None:
-        """Nothing: the session is the guest's, and the states that are saved remain true."""
+        """Do nothing: the session belongs to the guest, and the saved states stay valid."""
 
     def take_over(self, replay: Replay) -> None:
-        """Move the guest to an earlier state; later ones are forgotten. Breakpoints stay as they are."""
+        """Move the guest to an earlier state, and forget the later ones. The guest's present breakpoints are set there."""
         guest, breaks = self.guest, self.guest.query("breaks", Addresses).addresses
         guest.session.close()
         guest.session, self.saved = replay.replayed.session, replay.replayed.saved
@@ -152,7 +159,7 @@ class WholeScript:
         guest.session.on_lines = self._note
 
     def save_if_due(self) -> None:
-        """Save the guest's state, if it is far from the last one that was saved; the program is stopped."""
+        """Save the guest's state if it is far enough after the last saved state. The program is stopped."""
         self._catch_up()
         intervals = self._intervals.intervals
         if (
@@ -170,23 +177,23 @@ class WholeScript:
                 self._intervals.join(dropped.size)
 
     def present(self) -> InitialState:
-        """Return the guest's state now."""
+        """Return the guest's present state."""
         self._catch_up()
         return initial_state_of_snapshot(take_snapshot(self.guest, self._intervals.user(self.guest.session)))
 
     def _note(self, size: int, lines: Sequence[str], answers: Sequence[str]) -> None:
-        """Note lines of the guest's script, which had a number of bytes before them."""
-        while self._new and self._new[-1][0] >= size:  # the guest has gone back since
+        """Note lines and their answers that were added to the guest's script. size: the number of bytes of the script before them"""
+        while self._new and self._new[-1][0] >= size:  # the guest has gone back to before these lines
             self._new.pop()
         for line, answer in zip(lines, answers):
             self._new.append((size, line, answer))
             size += len(line) + 1
 
     def _catch_up(self) -> None:
-        """Take up what the script has had since the last time."""
+        """Follow the lines that were added to the script since the last call."""
         session, new = self.guest.session, [each for each in self._new if each[0] < self.guest.session.size]
         size, first = self._intervals.size, new[0][0] if new else session.size
-        if size < first:  # before this run was followed
+        if size < first:  # lines from before this run followed the session
             with session.rewound(session.script[:size]) as other:
                 for line, lines in other.do_script(session.script[size:first]):
                     self._intervals.follow(line, lines)
@@ -195,18 +202,18 @@ class WholeScript:
         self._new.clear()
 
     def _advance(self, place: int) -> None:
-        """Note that the work has come to an interval, on its way back from the present. Raises Interrupted."""
+        """Report that the work, on its way back from the present, has reached an interval. Raises Interrupted."""
         intervals = self._intervals.intervals
         self.control.advance(sum(interval.work for interval in intervals[place + 1 :]), self._intervals.work)
 
     def _open(self, interval: Interval) -> Session:
-        """A session at the start of an interval, which has no breakpoints then. Raises Interrupted."""
+        """Return a session at the start of an interval, with no breakpoints. Raises Interrupted."""
         guest, commands = self.guest, ["stop", *(f"unbreak {it:x}" for it in interval.breaks)]
         lines = "".join(f"{guest.user} {command}\n" for command in commands).encode("ascii")
         return guest.session.rewound(guest.session.script[: interval.start] + lines, self.control.check)
 
     def _beginning(self, interval: Interval) -> InitialState:
-        """The state at the start of an interval. Raises Interrupted."""
+        """Return the state at the start of an interval. Raises Interrupted."""
         saved = self.saved.at(interval.start)
         if saved:
             return initial_state_of_snapshot(saved.snapshot)

@@ -1,1 +1,1 @@
-"""An image run to its end: as a plain program, compared, counted and profiled."""
+"""Run an image to its end: as a plain program, compared, counted or profiled."""

@@ -1,17 +1,17 @@
-"""The cost of functions together with those they call, by the number of calls from each place."""
+"""The cost of functions together with the functions that they call, by the number of calls from each place."""
 
 from collections import Counter, defaultdict
 from collections.abc import Iterator, Mapping
 from dataclasses import dataclass
 
-MIN_SHARE, MAX_FRAMES = 0.001, 100  # of all ticks, which a frame has; and one below the other
+MIN_SHARE, MAX_FRAMES = 0.001, 100  # the least share of all ticks in a frame; the most nested frames
 
 
 @dataclass(frozen=True)
 class CallFrame:
-    """A function where those above it have called it.
+    """A function below its callers in a call tree.
 
-    own: its ticks there; total: with those of what it calls; callees: these, those first that took most
+    own: its ticks for these callers; total: with the ticks of its callees; callees: the functions that it calls, most ticks first
     """
 
     name: str
@@ -21,43 +21,42 @@ class CallFrame:
 
 
 class Callers:
-    """The ticks of functions among their callers: divided by how often each calls them, as if all calls took the same.
+    """The ticks of functions, divided among their callers by the number of calls, as if all calls took the same time.
 
-    A call that leads back to a running function is left out, as are its ticks there: they are where
-    that one was called first.
+    A call back to a function that is already running isn't followed. Its ticks count for the first call of that function.
     """
 
     def __init__(self, own: Mapping[str, int], calls: Mapping[tuple[str, str], int], entry: str) -> None:
-        """own: the ticks of each function; calls: by caller and callee how often; entry: where the run begins."""
+        """own: the ticks of each function; calls: their number, by caller and callee; entry: the function where the run starts"""
         self._own, self._calls = own, calls
         self._known = defaultdict[str, list[str]](list)
         for caller, callee in calls:
             self._known[caller].append(callee)
-        self._callees = dict[str, dict[str, int]]()  # each behind those that it calls
+        self._callees = dict[str, dict[str, int]]()  # each function comes after its callees
         for name in (entry, *own):
             self._follow(name)
         self._called = Counter[str]()
         for callees in self._callees.values():
             self._called.update(callees)
         self.total = dict[str, float]()
-        """The ticks of a function with those of what it calls."""
+        """The ticks of each function, including those of its callees."""
         for name, callees in self._callees.items():
             shares = (self.total[callee] * times / self._called[callee] for callee, times in callees.items())
             self.total[name] = own.get(name, 0) + sum(shares)
 
     def edges(self) -> Iterator[tuple[str, str, int, int]]:
-        """Each caller and callee, how often it was called, and the ticks of these calls; without those that lead back."""
+        """Yield each caller and callee, the number of calls, and the ticks of these calls; 0 ticks for calls back to a running function."""
         for (caller, callee), times in self._calls.items():
             share = self._callees[caller].get(callee, 0) / max(1, self._called[callee])
             yield caller, callee, times, round(self.total[callee] * share)
 
     def frames(self) -> tuple[CallFrame, ...]:
-        """The functions that none has called, with all that they have called: together, they have all ticks."""
+        """Return the functions that no function calls, with everything that they call. Together they have all ticks."""
         tops = {name: 1.0 for name in self._callees if not self._called[name]}
         return self._frames(tops, MIN_SHARE * sum(self._own.values()))
 
     def _follow(self, first: str) -> None:
-        """Takes in whom a function calls, and whom these call, without calls that lead back to one above."""
+        """Record the functions that a function calls directly and indirectly, without calls back to a running function."""
         above, found = {first: iter(self._known[first])}, defaultdict[str, dict[str, int]](dict)
         while above and first not in self._callees:
             name, callees = next(reversed(above.items()))
@@ -71,7 +70,10 @@ class Callers:
                     above[callee] = iter(self._known[callee])
 
     def _frames(self, shares: Mapping[str, float], minimum: float, room: int = MAX_FRAMES) -> tuple[CallFrame, ...]:
-        """The frames of functions by such shares, except those with fewer ticks than this."""
+        """Return the frames of functions, except those with fewer ticks than `minimum`.
+
+        shares: the share of each function's ticks that belongs here; room: the greatest number of further levels
+        """
         shown = [name for name, share in shares.items() if room and self.total[name] * share >= minimum]
         frames = (self._frame(name, shares[name], minimum, room - 1) for name in shown)
         return tuple(sorted(frames, key=lambda frame: -frame.total))

@@ -1,5 +1,6 @@
-"""Compares an image's runs: with agnostic elements kept and as ones, in slices of different lengths, and with registers
-and stack filled where nobody has written."""
+"""Compare an image's runs: with agnostic elements kept and as ones, in slices of different lengths, and with registers and stack
+filled with other numbers.
+"""
 
 import argparse
 import itertools
@@ -25,18 +26,18 @@ from .run import TICKS_RAN_OUT
 
 POLICIES, QUANTUMS = ("keep", "ones"), (1000, 7, 1)
 LOADED, ONES = "as loaded", "under ones"  # names of runs
-FILLED = {"filled": 0, "filled anew": 0xFF}  # others, and which bits are turned round there
+FILLED = {"filled": 0, "filled anew": 0xFF}  # names of filled runs, with the bits to invert
 SHOWN_BYTES = 40
-MAX_BYTES = 1 << 20  # of output, behind which a run in slices goes on no longer
+MAX_BYTES = 1 << 20  # the output after which a run in slices stops
 
 
 @dataclass(frozen=True)
 class Outcome:
-    """How a run ended.
+    """The end of a run.
 
-    stop: none where its ticks ran out, or it wrote more than MAX_BYTES
-    end: that in words
-    has_exact_ticks: whether it has used up as many ticks as another run that has no end
+    stop: why it stopped; None if its ticks ran out, or it wrote more than MAX_BYTES
+    end: a text about the end
+    has_exact_ticks: whether it used exactly its ticks, so that it can be compared with another run without an end
     """
 
     stop: Stop | None
@@ -45,14 +46,17 @@ class Outcome:
     has_exact_ticks: bool
 
     def is_like(self, other: "Outcome") -> bool:
-        """Whether two runs end in the same way; of runs without an end, which had more ticks or less, as far as both go."""
+        """Return whether two runs end in the same way.
+
+        If runs have no end and different numbers of ticks, compare their output up to the end of the shorter one.
+        """
         if self.stop or other.stop or self.has_exact_ticks and other.has_exact_ticks:
             return (self.stop, self.end, self.output) == (other.stop, other.end, other.output)
         return self.output.startswith(other.output) or other.output.startswith(self.output)
 
 
 def add_arguments(parser: argparse.ArgumentParser) -> None:
-    """The words of `vecmon-lab compare`."""
+    """Add the arguments of `vecmon-lab compare`."""
     add_image(parser)
     parser.set_defaults(ticks=70_000_000)
 
@@ -87,9 +91,9 @@ def run(arguments: argparse.Namespace) -> int:
 
 
 def filled(initial_state: InitialState, turned: int) -> InitialState:
-    """The same, with numbers in all registers but x2, in vxrm and vxsat, and in the stack below x2.
+    """Return the initial state with numbers in all registers but x2, in vxrm and vxsat, and in the stack below x2.
 
-    turned: the bits of each byte that are turned round, by which there are two ways
+    turned: the bits to invert in each byte; two values give two different fillings
     """
     random, pointer = Random(0), int(dict(line.split() for line in initial_state.registers)["x2"], 16)
     junk = [bytes(byte ^ turned for byte in random.randbytes(size)) for size in [8] * 31 + [REGISTER_BYTES] * 32]
@@ -103,16 +107,16 @@ def filled(initial_state: InitialState, turned: int) -> InitialState:
 
 
 def _segments_in_stack(image: pathlib.Path) -> Iterator[tuple[int, str, bytes]]:
-    """The image's own bytes in the pages of the stack, by its program headers."""
+    """Yield the image's own bytes in the pages of the stack, by its program headers."""
     for address, _, length, data in segments_of(image.read_bytes()):
         if address < STACK_END and address + length > STACK_END - STACK_BYTES:
             yield address, "rw", data.ljust(length, b"\0")
 
 
 def _find_dependence(runs: dict[str, InitialState], symbols: Symbols, ticks: int) -> tuple[Stop | None, bool]:
-    """Prints which runs do otherwise than the first one, and why: of those that are filled, of one.
+    """Print which runs differ from the first one, with the reasons; for the filled runs, print one reason.
 
-    How the first one stops, if it does; and whether another one does otherwise.
+    Return the stop of the first run, or None, and whether another run differs.
     """
     with ThreadPoolExecutor(len(runs)) as pool:
         found = dict(zip(runs, pool.map(lambda initial_state: recorded(initial_state, ticks), runs.values())))
@@ -130,7 +134,7 @@ def _find_dependence(runs: dict[str, InitialState], symbols: Symbols, ticks: int
 
 
 def _reason(pair: Pair, names: Sequence[str], symbols: Symbols, ticks: int) -> list[str]:
-    """Why two runs diverge, in lines; the last one has the origin."""
+    """Return lines that explain why two runs diverge; the last line has the origin."""
     number = alike_until(pair, ticks)
     try:
         return [*explain(pair, number, names, symbols)]
@@ -139,7 +143,7 @@ def _reason(pair: Pair, names: Sequence[str], symbols: Symbols, ticks: int) -> l
 
 
 def _outcome(guest: Guest, ticks: int) -> Outcome:
-    """A run of an image."""
+    """Run an image, and return its outcome."""
     written, runner = bytearray(), guest.runner
     guest.write = written.extend
     stop = guest.go(ticks, lambda: len(written) > MAX_BYTES)
@@ -150,6 +154,6 @@ def _outcome(guest: Guest, ticks: int) -> Outcome:
 
 
 def _outcome_text(end: str, output: bytes) -> str:
-    """An outcome in a line."""
+    """Return a line about an outcome."""
     more = "..." if len(output) > SHOWN_BYTES else ""
     return f"{end}; {len(output):,} bytes: {output[:SHOWN_BYTES]!r}{more}"

@@ -17,9 +17,10 @@ from ..tables.table import html_table
 
 @dataclass(frozen=True)
 class CountedWord:
-    """The executions at an address: the word, their number, their ticks, and their elements.
+    """The executions of a word at an address.
 
-    elements: those that were active, that were masked off, and of the tail
+    times: their number; ticks: of all of them
+    elements: the numbers of active, masked-off and tail elements
     """
 
     address: int
@@ -31,13 +32,13 @@ class CountedWord:
 
 @dataclass(frozen=True)
 class Counts:
-    """The executed instructions. An exit's call is counted; an instruction that stops the program otherwise isn't.
+    """The executed instructions. An exit's call is counted; any other instruction that stops the program isn't.
 
-    places: by addresses in rising order, one for each word that executed there
-    lengths: how many vector instructions had which vector type and vl
-    calls: by the address of a jump that links or returns, and by where it led, how often
-    end: the stop, or the place of the program when its ticks ran out
-    short_writes: how many calls wrote some bytes, but less than they were asked to
+    places: by rising address, one for each word that was executed there
+    lengths: the number of vector instructions by vector type and vl
+    calls: the number of jumps that link or return, by the address of the jump and its target
+    end: the stop, or the program's position when its ticks ran out
+    short_writes: the number of calls that wrote some bytes, but fewer than requested
     """
 
     places: Sequence[CountedWord]
@@ -50,16 +51,16 @@ class Counts:
 
     @property
     def stop(self) -> answers.Stop | None:
-        """The stop; None where the ticks ran out."""
+        """The stop; None if the ticks ran out."""
         return self.end if isinstance(self.end, answers.Stop) else None
 
     @property
     def elements(self) -> Sequence[int]:
-        """How many elements of groups were active, were masked off, and were of the tail."""
+        """The numbers of active, masked-off and tail elements of register groups, in all vector instructions."""
         return [sum(numbers) for numbers in zip((0, 0, 0), *(place.elements for place in self.places))]
 
     def _repr_html_(self) -> str:
-        """The instructions by address, as a notebook shows them, and all together."""
+        """Return HTML with the instructions by address and their totals, for a notebook."""
         rows = [(f"{it.address:x}", self.texts[it.word], it.times, it.ticks, *it.elements) for it in self.places]
         head = ("address", "instruction", "times", "ticks", "active", "masked off", "tail")
         last = ("", "all", self.instructions, self.ticks, *self.elements)
@@ -81,7 +82,7 @@ class Counts:
 
 
 def read_counts(text: str) -> Counts:
-    """The content of a file of counts. Raises LabError if it is none."""
+    """Return the content of a file of counts. Raises LabError if the text isn't one."""
     places, lengths, calls = list[CountedWord](), Counter[tuple[str, int]](), dict[tuple[int, int], int]()
     try:
         *rows, last = text.splitlines()

@@ -1,4 +1,4 @@
-"""The results of an instruction, bit by bit, their sources, and the other values that the instruction depends on."""
+"""The results of an instruction bit by bit, the sources of each, and the other values that the instruction depends on."""
 
 import re
 from collections.abc import Iterator
@@ -21,39 +21,45 @@ from ..instructions.words import LOAD, OP_V, STORE, VECTOR_ACCESSES, VectorInstr
 from ..machine.answers import CONTROL
 
 Cell = tuple[str, int]
-"""A bit of the vector registers (`v`, 0 to 8,191) or of the scalar ones (`x`, 0 to 2,047), a byte of memory (`memory`),
-or a control register and 0."""
+"""A bit of the vector registers (`v`, 0 to 8,191) or of the scalar registers (`x`, 0 to 2,047), a byte of memory (`memory` and its
+address), or a control register (its name and 0).
+"""
 
 Part = tuple[set[Cell], set[Cell], str]
-"""A result of an instruction, written or used for its effect: the places, their sources, and of elements their kind."""
+"""A part of an instruction's results, written or used for its effect: its places, their sources, and a kind.
+
+The kind of elements is `active`, `masked off` or `tail`; other parts have "".
+"""
 
 _VSTART = {("vstart", 0)}
-_ACROSS = re.compile("vw?red|vrgather|vslide|vcompress|viota|vms[bio]f")  # which read elements of other numbers
-_ROUNDS = re.compile("va(add|sub)u?|vsmul|vssr[la]|vnclip")  # as vxrm says
+_ACROSS = re.compile("vw?red|vrgather|vslide|vcompress|viota|vms[bio]f")  # these read elements with other indices
+_ROUNDS = re.compile("va(add|sub)u?|vsmul|vssr[la]|vnclip")  # these round as vxrm says
 _ARITHMETIC, _OF_NOTHING = (0x13, 0x1B, 0x33, 0x3B), (0x37, 0x17, 0x6F, 0x67)  # opcodes; lui, auipc, jal and jalr
 
 
 @dataclass(frozen=True)
 class Executed:
-    """An executed instruction, and the registers before it."""
+    """An executed instruction, with the registers before it."""
 
     retired: Retired
     before: Registers
 
 
 def bits_of_registers(first: int, width: int) -> set[Cell]:
-    """Bits of the vector registers, from one on."""
+    """Return `width` bits of the vector registers. first: the first bit"""
     return {("v", bit) for bit in range(first, first + width)}
 
 
 def bits_of_scalar(number: int, first: int = 0, width: int = 64) -> set[Cell]:
-    """Bits of a scalar register, from one on."""
+    """Return `width` bits of a scalar register. first: the first bit"""
     return {("x", 64 * number + bit) for bit in range(first, first + width)}
 
 
 def conditions(step: Executed) -> set[Cell]:
-    """The values that an instruction depends on, except its elements and bytes: scalar registers, its vector type
-    and length, its mask, and of an access the indices."""
+    """Return the values that an instruction depends on, apart from its elements and bytes.
+
+    They are scalar registers, the vector type and length, the mask, and for an access the indices.
+    """
     control = step.before.control
     scalars = scalars_read(step.retired.word, step.before.x[17])
     places = set[Cell]().union(*map(bits_of_scalar, scalars))
@@ -67,7 +73,7 @@ def conditions(step: Executed) -> set[Cell]:
 
 
 def parts(step: Executed) -> Iterator[Part]:
-    """The possible results of an instruction, written or used for its effect."""
+    """Yield the parts of an instruction's results, written or used for its effect."""
     word, text, before = step.retired.word, step.retired.text, step.before
     opcode, rd = word & 0x7F, word >> 7 & 31
     if opcode in (LOAD, STORE):
@@ -99,7 +105,7 @@ def parts(step: Executed) -> Iterator[Part]:
 
 
 def _moved(step: Executed, instruction: VectorInstruction) -> Iterator[Part]:
-    """The bytes that a vector load or store moves."""
+    """Yield the parts that a vector load or store moves."""
     before, data = step.before, instruction.operands[0]
     for element, (address, length) in active_spans(step.retired.word, before.x, before.control, bytes(before.v)):
         width = length * data.group // len(data.registers)
@@ -111,11 +117,11 @@ def _moved(step: Executed, instruction: VectorInstruction) -> Iterator[Part]:
 
 
 def _made(step: Executed, instruction: VectorInstruction, active: set[int]) -> Iterator[Part]:
-    """The results of an operation in vector registers, and the agnostic elements of a load as well."""
+    """Yield the parts that an operation writes to vector registers, and the agnostic elements of a load."""
     text, control, target = step.retired.text, step.before.control, instruction.operands[0]
     read = [operand for operand in instruction.operands if operand.noun == "source" or text.startswith(ACCUMULATES)]
     sources = [(256 * it.registers.start, it.eew, sum(needed(text, "vs2", it, control.vl))) for it in read]
-    if text.startswith(("vred", "vwred")):  # which reads element 0 of vs1 alone
+    if text.startswith(("vred", "vwred")):  # these read only element 0 of vs1
         sources[1] = (*sources[1][:2], sources[1][1])
     sources += [(0, 1, control.vl)] if instruction.is_masked else []
     always = _VSTART | ({("vxrm", 0)} if _ROUNDS.match(text) else set())

@@ -1,4 +1,4 @@
-"""Where two runs of an image diverge, and the origin of the value that made them diverge."""
+"""Where two runs of an image diverge, and the origin of the value that makes them diverge."""
 
 import bisect
 import itertools
@@ -28,7 +28,7 @@ _AGNOSTIC = {"tail": "the tail of", "masked off": "elements masked off by"}
 _CONTROLS = {(name, 0) for name in CONTROL}
 
 Pair = Sequence[InitialState]
-"""The start of two runs."""
+"""The initial states of two runs."""
 
 Given = TypeVar("Given")
 Made = TypeVar("Made")
@@ -36,41 +36,44 @@ Made = TypeVar("Made")
 
 @dataclass(frozen=True)
 class CommonStep:
-    """An instruction that two runs execute, its number from 1 on, and its state in each of them."""
+    """An instruction that two runs execute.
+
+    number: from 1 on; runs: the instruction in each run, with the registers before it
+    """
 
     number: int
     runs: Sequence[Executed]
 
     def differs(self, place: Cell) -> bool:
-        """Whether a place isn't the same in both runs before it. Memory is taken to differ."""
+        """Return whether a place differs between the runs before the instruction. Memory always counts as different."""
         return place[0] == "memory" or len({_value_at(place, run.before) for run in self.runs}) > 1
 
     def describe(self, symbols: Symbols) -> str:
-        """Its address, the place by a symbol, the source line, and its text."""
+        """Return its address, the place relative to a symbol, the source line, and its text."""
         retired = self.runs[0].retired
         places = [symbols.place(retired.pc), symbols.line(retired.pc)]
         return f"{' '.join([f'{retired.pc:x}', *filter(None, places)])}: {retired.text}"
 
 
 def recorded(initial_state: InitialState, ticks: int | None) -> tuple[Counts, bytes]:
-    """The executed instructions of a run, with the elements of those that access memory, and its output."""
+    """Return the counts of a run, with elements only for instructions that access memory, and the run's output."""
     output = list[bytes]()
     counts = record(initial_state, ticks, output.append)
     return replace(counts, places=[_accessed(place) for place in counts.places]), b"".join(output)
 
 
 def _accessed(place: CountedWord) -> CountedWord:
-    """The executions at an address, with the elements of a load or store only.
+    """Return the executions at an address, with elements only for a load or store.
 
-    A mask with agnostic bits may activate other elements of an operation, whose results nothing uses.
+    A mask with agnostic bits may activate other elements of an operation, whose results may never be used.
     """
     return place if place.word & 0x7F in VECTOR_ACCESSES else replace(place, elements=(0, 0, 0))
 
 
 def alike_until(pair: Pair, ticks: int) -> int:
-    """The number of instructions that two runs execute before the divergence, if they diverge within these ticks.
+    """Return the number of instructions that two runs execute before they diverge, if they diverge within these ticks.
 
-    They diverge in the next address, a stop, the output, vl, or the number of active elements of a load or store.
+    They diverge if the next address, a stop, the output, vl, or the number of active elements of a load or store differs.
     """
 
     def are_unlike(count: int) -> bool:
@@ -85,9 +88,9 @@ def alike_until(pair: Pair, ticks: int) -> int:
 
 
 def explain(pair: Pair, number: int, names: Sequence[str], symbols: Symbols) -> Iterator[str]:
-    """Lines of the instruction at which two runs diverge, of the values it reads, and of their origin.
+    """Yield lines about the instruction at which two runs diverge, the values that it reads, and their origin.
 
-    names: of the runs, in sentences
+    number: of instructions before the divergence; names: of the runs, in sentences
     """
     first = max(0, number - STEPPED)
     with _guests_at(pair, first) as guests:
@@ -110,9 +113,10 @@ def explain(pair: Pair, number: int, names: Sequence[str], symbols: Symbols) -> 
 def _source(
     pair: Pair, first: int, steps: Sequence[CommonStep], places: set[Cell], chain: list[CommonStep], symbols: Symbols
 ) -> str:
-    """The cause of the undefined value that differs after some instructions, in words; "" if it isn't found.
+    """Return a text about the origin of a value that differs after some instructions; "" if it isn't found.
 
-    first: the number of instructions before these; chain: gets those that passed it on, the last one first
+    first: the number of instructions before `steps`; places: the places that differ
+    chain: the instructions that passed the value on are appended, the last one first
     """
     leaps = 0
     while places:
@@ -134,7 +138,10 @@ def _source(
 def _followed(
     steps: Sequence[CommonStep], places: set[Cell], chain: list[CommonStep]
 ) -> tuple[tuple[CommonStep, str] | None, set[Cell]]:
-    """The instruction that left places open that differ behind some, and as what; or where it differed before them."""
+    """Search backwards for the instruction that leaves the differing places agnostic.
+
+    Return it with the kind of elements, or None, and the places that differ before the steps, where the search must go on.
+    """
     for step in reversed(steps):
         matching = [part for part in parts(step.runs[0]) if not places.isdisjoint(part[0])]
         made = [part for part in matching if not places.isdisjoint(part[0] - part[1].intersection(_CONTROLS))]
@@ -151,10 +158,11 @@ def _followed(
 
 
 def _last_change(pair: Pair, number: int, places: set[Cell], is_exact: bool) -> int:
-    """The number of the instruction that gave places their values after a number of instructions; 0 for none.
+    """Return the number of the last instruction that changed places before a number of instructions; 0 if there is none.
 
-    It is searched in leaps, between which the value is taken to be unchanged. is_exact: else only that they differ
-    counts, and of what differs from the beginning on it is 0
+    The search goes back in leaps, and assumes that the values are unchanged between two of them.
+
+    is_exact: whether to find when the places got their values; otherwise, when they began to differ between the runs
     """
     now = _contents(pair, number, places)
 
@@ -172,7 +180,7 @@ def _last_change(pair: Pair, number: int, places: set[Cell], is_exact: bool) -> 
 
 
 def _never_written(pair: Pair, number: int, places: set[Cell]) -> set[Cell]:
-    """The places that still have their initial values after a number of instructions, and differ."""
+    """Return the places that differ, and still have their initial values after a number of instructions."""
     start, now = (_contents(pair, count, places) for count in (0, number))
     names = {name for name, value in start[0].items() if value != start[1][name]}
     names = {name for name in names if all(run[name] == later[name] for run, later in zip(start, now))}
@@ -180,13 +188,13 @@ def _never_written(pair: Pair, number: int, places: set[Cell]) -> set[Cell]:
 
 
 def _contents(pair: Pair, number: int, places: set[Cell]) -> Sequence[dict[str, int]]:
-    """The values of places in both runs after a number of instructions."""
+    """Return the values of places in both runs after a number of instructions, by name."""
     with _guests_at(pair, number) as guests:
         return _side_by_side(lambda guest: _values(places, guest, Stepper(guest).registers), guests)
 
 
 def _value_at(place: Cell, registers: Registers) -> int:
-    """A bit of a register, or a control register."""
+    """Return a bit of a register, or the value of a control register."""
     kind, at = place
     if kind in "xv":
         return (registers.x[at // 64] >> at % 64 if kind == "x" else registers.v[at // 8] >> at % 8) & 1
@@ -194,7 +202,7 @@ def _value_at(place: Cell, registers: Registers) -> int:
 
 
 def _name(place: Cell) -> str:
-    """The name of what a place is in: a scalar or control register, or a byte of a vector register or of memory."""
+    """Return the name of a place: that of a scalar or control register, or of a byte in a vector register or in memory."""
     kind, at = place
     if kind == "v":
         return f"v{at // REGISTER_BITS}.e8[{at % REGISTER_BITS // 8}]"
@@ -202,7 +210,7 @@ def _name(place: Cell) -> str:
 
 
 def _values(places: set[Cell], guest: Guest, registers: Registers) -> dict[str, int]:
-    """The values of places, by name. A page that isn't there has zeros."""
+    """Return the values of places, by name. Pages that aren't mapped have zeros."""
     values = dict[str, int]()
     for kind, at in sorted(places):
         name = _name((kind, at))
@@ -216,14 +224,14 @@ def _values(places: set[Cell], guest: Guest, registers: Registers) -> dict[str, 
 
 
 def _listed(places: set[Cell]) -> str:
-    """The registers of places, and where their memory begins."""
+    """Return a text with the registers of places, and with the first address of their memory."""
     registers = dict.fromkeys(_name(place).partition(".")[0] for place in sorted(places) if place[0] != "memory")
     memory = [f"memory from {at:x} on" for kind, at in sorted(places) if kind == "memory"]
     return listed([*registers, *memory[:1]])
 
 
 def _put_out_otherwise(guests: Sequence[Guest], before: Registers) -> Iterator[Cell]:
-    """The bytes of a call's output that differ."""
+    """Yield the bytes of a call's output that differ between the runs. before: the registers before the call"""
     address, length = before.x[11], min(before.x[12], MAX_WRITTEN)
     for at, pair in enumerate(zip(*(guest.peek(address, length) for guest in guests))):
         if pair[0] != pair[1]:
@@ -232,13 +240,13 @@ def _put_out_otherwise(guests: Sequence[Guest], before: Registers) -> Iterator[C
 
 @contextmanager
 def _guests_at(pair: Pair, number: int) -> Iterator[Sequence[Guest]]:
-    """The guests of both runs, each on a private machine, after a number of instructions."""
+    """Yield the guests of both runs, each on its own machine, after a number of instructions."""
     with ExitStack() as stack:
         yield _side_by_side(lambda initial_state: _continued(initial_state, number, stack), pair)
 
 
 def _continued(initial_state: InitialState, number: int, stack: ExitStack) -> Guest:
-    """A guest of a run after a number of instructions, until the stack ends."""
+    """Return a guest of a run after a number of instructions. stack: closes the guest"""
     assert initial_state.image
     for pace in PACES:
         guest = stack.enter_context(started(initial_state.image, policy=initial_state.policy, report=unreported))
@@ -250,7 +258,10 @@ def _continued(initial_state: InitialState, number: int, stack: ExitStack) -> Gu
 
 
 def _writes(line: str, guest: Guest) -> Iterator[str]:
-    """The commands that give a register its first value. A control register has it by an instruction in the first one's place."""
+    """Yield the commands that give a register its initial value.
+
+    A control register is set by an instruction, which is temporarily written over the first one.
+    """
     (name, value), pc = line.split(), guest.pc
     if name in CONTROL:
         word = guest.word_at(pc)[0].to_bytes(4, "little").hex()
@@ -260,7 +271,7 @@ def _writes(line: str, guest: Guest) -> Iterator[str]:
 
 
 def _stepped(guests: Sequence[Guest], first: int, last: int) -> list[CommonStep]:
-    """The instructions behind the first ones up to the last one, which both guests are stepped through."""
+    """Step both guests from after instruction `first` to instruction `last`, and return these instructions."""
     steppers, steps = [Stepper(guest) for guest in guests], list[CommonStep]()
     for number in range(first + 1, last + 1):
         before = [stepper.registers.copy() for stepper in steppers]
@@ -269,6 +280,6 @@ def _stepped(guests: Sequence[Guest], first: int, last: int) -> list[CommonStep]
 
 
 def _side_by_side(work: Callable[[Given], Made], pair: Sequence[Given]) -> Sequence[Made]:
-    """The results of a function for each of two values, at the same time."""
+    """Return the results of a function for each of two values. Both are computed at the same time."""
     with ThreadPoolExecutor(2) as pool:
         return list(pool.map(work, pair))

@@ -15,16 +15,16 @@ from ..machine.lines import words_of
 from ..machine.start_state import STACK_END
 
 PlacedBytes = tuple[int, str, bytes]
-"""Memory: an address, the permissions of pages that aren't there, and bytes."""
+"""Bytes in memory: an address, the permissions for pages that aren't mapped yet, and the bytes."""
 
 
 @dataclass(frozen=True)
 class InitialState:
     """The start of a run.
 
-    image: an ELF file; without one there is no memory, and all registers are 0
-    memory: what is laid over it, in this order
-    registers: lines, each the name of a register and its value in hexadecimal digits
+    image: an ELF file; None for empty memory, and 0 in all registers
+    memory: bytes to write over the image, in this order
+    registers: lines, each with the name of a register and its value in hexadecimal digits
     policy: of agnostic elements, `keep` or `ones`
     """
 
@@ -41,9 +41,12 @@ def initial_state_of(
     policy: str = "keep",
     name: object = None,
 ) -> InitialState:
-    """The start of a run of an image, with arguments, the first of them its name; file: its input.
+    """Return the start of a run of an image.
 
-    name: what messages call the image, by default its path. Raises LabError and OSError where the image can't be read or isn't for this machine, or these have no room.
+    arguments: the first one is the program's name; file: the program's input
+    name: the image's name in messages, by default its path
+
+    Raises LabError and OSError if the image can't be read, isn't for this machine, or if the arguments or the input don't fit.
     """
     check_image(image)
     with mistakes_in(name or image):
@@ -58,9 +61,10 @@ def initial_state_of(
 def initial_state_at(
     guest: Guest, image: pathlib.Path | None = None, lines: Iterable[str] | None = None
 ) -> InitialState:
-    """The start of a run from a guest's state, after these lines since it entered; without them, its script.
+    """Return the start of a run from a guest's current state.
 
-    image: the one that they loaded, if any, whose other pages nothing has written to
+    image: the loaded image, or None; memory that `lines` can't have changed is taken from it
+    lines: all lines since the guest entered; None for the session's script
     """
     pages, spans = dict[int, str](), dict[Span, None]()
     for line in guest.session.script.decode("ascii").splitlines() if lines is None else lines:
@@ -80,7 +84,7 @@ def initial_state_at(
 
 
 def initial_state_of_snapshot(snapshot: Snapshot) -> InitialState:
-    """The start of a run from a snapshot."""
+    """Return the start of a run from a snapshot."""
     shown, pages = snapshot.shown, snapshot.user.pages
     memory = [(page, permissions, shown.memory[page]) for page, permissions in sorted(pages.items())]
     return InitialState(
@@ -89,14 +93,14 @@ def initial_state_of_snapshot(snapshot: Snapshot) -> InitialState:
 
 
 def _register_lines(scalars: ScalarRegisters, control: ControlRegisters, vectors: Sequence[bytes]) -> Sequence[str]:
-    """The lines that set registers."""
+    """Return the lines that set registers."""
     lines = [f"pc {scalars.pc:x}", *(f"{name} {value:x}" for name, value in vars(control).items())]
     lines += [f"x{number} {scalars.x[number]:x}" for number in range(1, 32)]
     return [*lines, *(f"v{number} {data.hex()}" for number, data in enumerate(vectors))]
 
 
 def _joined(memory: Iterable[PlacedBytes]) -> Sequence[PlacedBytes]:
-    """The same, where what follows each other with the same permissions is one."""
+    """Return the memory with adjacent parts of the same permissions joined."""
     joined = list[PlacedBytes]()
     for address, permissions, data in memory:
         first, before, content = joined[-1] if joined else (0, "", b"")

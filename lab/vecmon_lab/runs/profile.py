@@ -1,4 +1,4 @@
-"""Where an image spends its ticks, and what it makes of its vectors' elements: tables, a CSV file, a page."""
+"""Show where an image spends its ticks, and how many of its vector elements are active: tables, a CSV file, a page."""
 
 import argparse
 import csv
@@ -17,11 +17,11 @@ from .tick_profile import ELEMENTS, TickProfile, Table, TableRow, compared, elem
 from .run import counted, ending, report_calls, status_of
 
 HEAD = ("address", "place", "source", "instruction", "times", "ticks", *ELEMENTS)
-SHOWN_ROWS = 10  # of a table, in a terminal
+SHOWN_ROWS = 10  # rows of a table in a terminal, at most
 
 
 def add_arguments(parser: argparse.ArgumentParser) -> None:
-    """The words of `vecmon-lab profile`."""
+    """Add the arguments of `vecmon-lab profile`."""
     add_image(parser)
     parser.add_argument("-o", dest="page", metavar="FILE.html", type=pathlib.Path, help="write a page, and FILE.csv")
     help_ = "compare with another image or source, such as an earlier one"
@@ -29,9 +29,9 @@ def add_arguments(parser: argparse.ArgumentParser) -> None:
 
 
 def run(arguments: argparse.Namespace) -> int:
-    """Prints the tables, and writes the page and the CSV file; 0, or what `run` has where the program didn't exit.
+    """Print the tables, and write the page and the CSV file. Raises LabError and OSError for bad input.
 
-    Raises LabError and OSError for bad input.
+    Return 0, or the status of `vecmon-lab run` if the program didn't exit.
     """
     image, page = arguments.image, arguments.page
     other = image_path(arguments.against, arguments) if arguments.against else None
@@ -58,7 +58,7 @@ def run(arguments: argparse.Namespace) -> int:
 
 
 def _profiled(arguments: argparse.Namespace, image: pathlib.Path) -> tuple[Counts, Symbols, TickProfile, list[str]]:
-    """The counts of an image's run, its symbols, where its ticks were spent, and all that in sentences."""
+    """Return the counts of an image's run, its symbols, the profile of its ticks, and a summary in sentences."""
     words = argparse.Namespace(**{**vars(arguments), "image": image})
     symbols, counts = Symbols.read(image), counted(words)
     if symbols.warning:
@@ -69,21 +69,21 @@ def _profiled(arguments: argparse.Namespace, image: pathlib.Path) -> tuple[Count
 
 
 def _rows(counts: Counts, symbols: Symbols) -> Iterator[TableRow]:
-    """A row for each executed instruction, by addresses in rising order."""
+    """Yield a row for each executed instruction, by rising address."""
     for place in counts.places:
         where = (f"{place.address:x}", symbols.place(place.address), symbols.line(place.address))
         yield [*where, counts.texts[place.word], place.times, place.ticks, *elements_row(place.elements)]
 
 
 def _shown(table: Table) -> Iterator[str]:
-    """The first rows of a table."""
+    """Yield the first rows of a table as text."""
     yield from table_lines([table.head, *table.rows[:SHOWN_ROWS]], table.texts)
     if len(table.rows) > SHOWN_ROWS:
         yield f"and {len(table.rows) - SHOWN_ROWS:,} more, which -o FILE.html shows"
 
 
 def summary_of(counts: Counts, end: str) -> Iterator[str]:
-    """The total of the executed instructions, and how the run ended."""
+    """Yield sentences with the totals of the executed instructions, and with the end of the run."""
     elements = counts.elements
     yield f"{counts.instructions:,} instructions in {counts.ticks:,} ticks; {end}"
     if sum(elements):
@@ -93,7 +93,7 @@ def summary_of(counts: Counts, end: str) -> Iterator[str]:
 
 
 def _histogram(counts: Counts) -> Iterator[str]:
-    """The vector lengths by vector type, with a bar each."""
+    """Yield the vector lengths by vector type, each with a bar."""
     limit = max(counts.lengths.values(), default=1)
     for (kind, vl), times in sorted(counts.lengths.items()):
         yield f"{kind:<14} vl={vl:<4} {times:>10,}  {'#' * -(-40 * times // limit)}"

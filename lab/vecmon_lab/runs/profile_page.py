@@ -10,7 +10,7 @@ from .callers import CallFrame
 from .tick_profile import Table, TableRow
 
 Length = tuple[str, int, int]
-"""A vector type, a vector length, and the number of instructions that had both."""
+"""A vector type, a vector length, and the number of instructions that executed with both."""
 
 
 def profile_page(
@@ -21,7 +21,10 @@ def profile_page(
     frames: Sequence[CallFrame],
     rows: Sequence[TableRow],
 ) -> str:
-    """The page in HTML. rows: of each instruction its address, place, source line, text, times, ticks, and elements"""
+    """Return the HTML of the page.
+
+    rows: for each instruction its address, place, source line, text, number of executions, ticks, and elements
+    """
     limit = max((times for _, _, times in lengths), default=1)
     length_rows = [
         (cell(kind), cell(f"vl={vl}", "number"), cell(times), bar({"ticks": times / limit}))
@@ -42,7 +45,7 @@ def profile_page(
 
 
 def _section(table: Table) -> Html:
-    """A table of loops, functions, calls or source lines, below its title."""
+    """Return a table of loops, functions, calls or source lines, with its title."""
     kinds = ["" if place < table.texts else "number" for place in range(len(table.head))]
     head = [element("th", name, class_=kind) for name, kind in zip(table.head, kinds)]
     body = [element("tr", *(cell(it, kind) for it, kind in zip(row, kinds))) for row in table.rows]
@@ -51,7 +54,7 @@ def _section(table: Table) -> Html:
 
 
 def _instructions(rows: Sequence[TableRow]) -> Iterator[Html]:
-    """Rows of instructions by address; each symbol has a row above its first instruction."""
+    """Yield rows of instructions by address. Each symbol has a row above its first instruction."""
     most = max((int(row[5]) for row in rows), default=1)
     groups = itertools.groupby(rows, lambda row: f"{row[1]}".partition("+")[0])
     for place, (symbol, own) in enumerate(groups):
@@ -62,7 +65,7 @@ def _instructions(rows: Sequence[TableRow]) -> Iterator[Html]:
 
 
 def _instruction(row: TableRow, most: int) -> Html:
-    """The row of an instruction. most: ticks of the bar that is as wide as its cell"""
+    """Return the row of an instruction. most: the ticks of a bar that fills its cell"""
     address, _, source, text, times, ticks, *elements = row
     cells = [cell(address, tag="th"), cell(text, "text"), cell(source), cell(times), cell(ticks)]
     cells.append(bar({"ticks": int(ticks) / most}))
@@ -73,14 +76,17 @@ def _instruction(row: TableRow, most: int) -> Html:
 
 
 def _flame_graph(frames: Sequence[CallFrame]) -> Html:
-    """A bar for all frames, above those of the functions that no other one calls."""
+    """Return a flame graph: a bar for all ticks, and below it the functions that no other function calls."""
     whole = sum(frame.total for frame in frames)
     first = CallFrame(page_text("flame.all"), 0, whole, tuple(frames))
     return element("div", _frame_list([first], whole, whole), class_="flame")
 
 
 def _frame_list(frames: Sequence[CallFrame], above: int, whole: int) -> Html:
-    """A list of bars, each as wide as its share of the ticks of the one above, with those that it calls below it."""
+    """Return a list of bars, each with the bars of its callees below it.
+
+    above: the ticks of the bar above, which is as wide as the list; whole: all ticks
+    """
     items = []
     for frame in frames:
         text = f"{frame.name} {round(1000 * frame.total / whole) / 10:g} %"

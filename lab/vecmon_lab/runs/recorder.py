@@ -1,4 +1,4 @@
-"""The program vecmon-record, which executes a run of one user alone: its input, and its counts."""
+"""The program vecmon-record, which executes a run of one user: its input, and its counts."""
 
 import contextlib
 import io
@@ -14,14 +14,17 @@ from ..machine.program import RECORDER, find_recorder, image_refusal
 from .initial_state import InitialState
 from .counts import Counts, read_counts
 
-TAKEN_BYTES = 1 << 16  # of the output, at once
+TAKEN_BYTES = 1 << 16  # the most bytes of output to read at once
 CHECK_SECONDS = 0.1  # between two calls of `check`
-LARGE_PAGES = "glibc.malloc.hugetlb=1"  # which spare a short run a third of its time
+LARGE_PAGES = "glibc.malloc.hugetlb=1"  # this saves a third of a short run's time
 
 
 @dataclass(frozen=True)
 class Record:
-    """A record in addition to the counts: the recorder's options for it, without its file; and the file, then closed."""
+    """A record to write in addition to the counts.
+
+    words: the recorder's options for it, without the file; file: receives the record, and is then closed
+    """
 
     words: Sequence[str]
     file: io.FileIO
@@ -34,10 +37,12 @@ def record(
     more: Sequence[Record] = (),
     check: Callable[[], object] = lambda: None,
 ) -> Counts:
-    """Carries out a run to its end, or until its ticks have run out. `write` is given its output as it comes.
+    """Execute a run to its end, or until its ticks run out, and return its counts.
 
-    more: further records; check: is called meanwhile, several times a second, and ends the run if it raises. Raises LabError
-    without a recorder, or if it refuses its arguments.
+    Raises LabError if there is no recorder, or if it refuses its arguments.
+
+    ticks: the most ticks; None for no limit; write: is called with the run's output as it arrives; more: further records
+    check: is called several times a second during the run, and ends the run if it raises
     """
     registers, counts = "\n".join(initial_state.registers).encode(), _in_memory()
     given = [
@@ -66,9 +71,9 @@ def _run_recorder(
     write: Callable[[bytes], object] | None,
     check: Callable[[], object],
 ) -> tuple[int, str]:
-    """Runs the recorder, which is given files, to its end; its status, and what it says on standard error.
+    """Run the recorder to its end. Return its exit status, and its text on standard error.
 
-    So many of the last ones are its own then, so that who reads one from a pipe comes to its end.
+    files: are passed to the recorder. The last `number` of them are closed in this process, so that a reader of a pipe sees its end.
     """
     command, given = [str(find_recorder()), *words], [file.fileno() for file in files]
     output, variables = PIPE if write else DEVNULL, {"GLIBC_TUNABLES": LARGE_PAGES, **os.environ}
@@ -93,7 +98,10 @@ def _run_recorder(
 
 
 def _refusal(operands: str, initial_state: InitialState) -> str:
-    """Why the recorder recorded nothing, by what it says; of an image as the monitor has it."""
+    """Return why the recorder recorded nothing. If it refused the image, the text is the monitor's.
+
+    operands: the recorder's text on standard error
+    """
     reason = operands.removeprefix(f"{RECORDER}: ").strip()
     if refused := re.search("(?:bad image: ([A-Za-z]+)|image takes too many pages)$", reason):
         return f"{initial_state.image}: " + image_refusal("image", f"E09 {refused[1]}" if refused[1] else "E10")
@@ -101,7 +109,7 @@ def _refusal(operands: str, initial_state: InitialState) -> str:
 
 
 def _in_memory(data: bytes = b"") -> io.FileIO:
-    """A file that holds these bytes, and is in memory alone."""
+    """Return a file in memory with these bytes."""
     file = io.FileIO(os.memfd_create(RECORDER), "w+")
     file.write(data)
     return file

@@ -1,4 +1,4 @@
-"""Runs an image to its end: its output is standard output, and its status the status."""
+"""Run an image to its end. Its output goes to standard output, and its exit status becomes the command's."""
 
 import argparse
 import contextlib
@@ -32,12 +32,12 @@ from .recorder import Record, record
 from .trace import trace
 from .writes import short_write
 
-LINES_AT_ONCE = 1000  # of a trace
-TICKS_RAN_OUT, BREAKPOINT, FAULT = 124, 133, 139  # as timeout says, and a shell of SIGTRAP and SIGSEGV
+LINES_AT_ONCE = 1000  # lines of a trace to write at once
+TICKS_RAN_OUT, BREAKPOINT, FAULT = 124, 133, 139  # the statuses of timeout, and of shells for SIGTRAP and SIGSEGV
 
 
 def add_arguments(parser: argparse.ArgumentParser) -> None:
-    """The words of `vecmon-lab run`."""
+    """Add the arguments of `vecmon-lab run`."""
     add_image(parser)
     number = between(1, 1 << 63)
     parser.add_argument("--policy", choices=("keep", "ones"), default="keep", help="policy for agnostic elements")
@@ -58,7 +58,7 @@ def add_arguments(parser: argparse.ArgumentParser) -> None:
 
 
 def run(arguments: argparse.Namespace) -> int:
-    """Runs the image; its status, or one that says how it stopped. Raises LabError and OSError for bad input."""
+    """Run the image. Return its exit status, or a status for the way it stopped. Raises LabError and OSError for bad input."""
     named, symbols = arguments.named, Symbols.read(arguments.image)
     _check_window(arguments)
     check_outputs([arguments.trace, arguments.log], named, *filter(None, [arguments.input]))
@@ -86,9 +86,9 @@ def counted(
     write: Callable[[bytes], object] | None = None,
     more: Sequence[Record] = (),
 ) -> Counts:
-    """The counts of an image's run, by the arguments of a command; more: further records.
+    """Return the counts of an image's run. Raises LabError and OSError for bad input.
 
-    Raises LabError and OSError for bad input.
+    arguments: of a command; write: is called with the output; more: further records
     """
     words = [arguments.image.name, *arguments.words]
     initial_state = initial_state_of(arguments.image, words, arguments.input, arguments.policy, arguments.named)
@@ -96,7 +96,7 @@ def counted(
 
 
 def ending(arguments: argparse.Namespace, counts: Counts, symbols: Symbols) -> str:
-    """How a run that was counted ended, in a line; of a stop why, by the registers of a machine that comes there."""
+    """Return a line about the end of a counted run. To explain a stop, the image runs again on a machine up to this stop."""
     stop, place = counts.stop, f"{counts.end.pc:x} {symbols.place(counts.end.pc)}".rstrip()
     if stop is None:
         return f"the ticks ran out at {place}"
@@ -109,9 +109,9 @@ def ending(arguments: argparse.Namespace, counts: Counts, symbols: Symbols) -> s
 
 
 def report_calls(arguments: argparse.Namespace, counts: Counts, symbols: Symbols) -> None:
-    """Prints calls of a run that aren't supported on standard error, as a machine that runs it once more finds them.
+    """Print the unsupported calls of a run on standard error.
 
-    It runs only where the code of the calls doesn't show that they are supported.
+    If the code doesn't show that all its calls are supported, the image runs again on a machine to find them.
     """
     executed = [place.address for place in counts.places if place.word == ECALL]
     if executed and unshown_calls(arguments.image.read_bytes(), executed):
@@ -120,12 +120,12 @@ def report_calls(arguments: argparse.Namespace, counts: Counts, symbols: Symbols
 
 
 def total(counts: Counts) -> str:
-    """The number of executed instructions, and of their ticks."""
+    """Return a text with the numbers of executed instructions and of ticks."""
     return f"{counts.instructions:,} instructions in {counts.ticks:,} ticks"
 
 
 def stats(counts: Counts) -> Iterator[str]:
-    """The instructions by name, and the vector instructions by length and type, those that are most first."""
+    """Yield lines with the numbers of instructions by name, and of vector instructions by length and type, the greatest first."""
     names = Counter[str]()
     for place in counts.places:
         names[counts.texts[place.word].split()[0]] += place.times
@@ -136,7 +136,10 @@ def stats(counts: Counts) -> Iterator[str]:
 
 
 def status_of(stop: Stop | None, image: pathlib.Path) -> int:
-    """The exit status for the stop of an image's program, 0 for an exit and for a return. Without a stop its ticks ran out."""
+    """Return the exit status for the stop of an image's program: 0 for an exit and for a return.
+
+    stop: None if the ticks ran out
+    """
     start = image_start(image)
     if stop and stop.kind == "ebreak" and start.commands and stop.pc in (RETURN, start.end):
         return 0
@@ -144,7 +147,7 @@ def status_of(stop: Stop | None, image: pathlib.Path) -> int:
 
 
 def _begun(arguments: argparse.Namespace, report: Report = unreported) -> AbstractContextManager[Guest]:
-    """The guest that the image of a command is loaded for, whose output nobody sees."""
+    """Return a guest with the image that a command's arguments name. Its output is discarded."""
     image, words = arguments.image, [arguments.image.name, *arguments.words]
     given: dict[str, Any] = {"policy": arguments.policy, "arguments": words, "file": arguments.input}
     given["name"] = arguments.named
@@ -152,7 +155,7 @@ def _begun(arguments: argparse.Namespace, report: Report = unreported) -> Abstra
 
 
 def _check_window(arguments: argparse.Namespace) -> None:
-    """Raises LabError where a window has neither a trace nor a log, or no instruction."""
+    """Raise LabError if a window has neither a trace nor a log, or contains no instruction."""
     trace, log = arguments.trace, arguments.log
     if log and not (arguments.ticks or arguments.last or f"{log}".startswith("/dev/")):
         raise LabError("a log needs --ticks or --to, so that it has an end, unless FILE begins with /dev/")
@@ -164,7 +167,7 @@ def _check_window(arguments: argparse.Namespace) -> None:
 
 
 def _logs(arguments: argparse.Namespace) -> Iterator[Record]:
-    """The log that the recorder writes, if one is asked for, and its window."""
+    """Yield the log that the recorder writes, with its window, if the arguments ask for one."""
     if arguments.log:
         window = {"--from": arguments.first, "--to": arguments.last}
         words = [word for option, number in window.items() if number for word in (option, f"{number}")]
@@ -172,7 +175,7 @@ def _logs(arguments: argparse.Namespace) -> Iterator[Record]:
 
 
 def _write_trace(path: pathlib.Path, file: io.FileIO, lines: Iterator[str]) -> None:
-    """Empty a file of this path, and write lines to it. Raises LabError if they can't be written."""
+    """Empty a file, and write lines to it. Raises LabError if they can't be written. path: for the message"""
     try:
         if stat.S_ISREG(os.fstat(file.fileno()).st_mode):
             file.truncate(0)
@@ -184,7 +187,7 @@ def _write_trace(path: pathlib.Path, file: io.FileIO, lines: Iterator[str]) -> N
 
 
 def _window(arguments: argparse.Namespace, counts: Counts) -> range:
-    """The numbers of the instructions that a trace of such a run has. Raises LabError where the run is shorter."""
+    """Return the numbers of the instructions in a trace of a run. Raises LabError if the run ends before them."""
     stops = counts.stop is not None and counts.stop.kind != "exit"  # at one more, which has a line, too
     first, last = arguments.first or 1, counts.instructions + stops
     if first > last:

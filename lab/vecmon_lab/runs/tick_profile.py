@@ -1,4 +1,4 @@
-"""Where a run has spent its ticks: its loops, its functions with their calls, and its source lines."""
+"""Where a run spends its ticks: its loops, its functions with their calls, and its source lines."""
 
 import bisect
 import functools
@@ -17,13 +17,15 @@ LINKS = (1, 5)  # registers that a call leaves its return address in
 TableRow = Sequence[str | int]
 
 ELEMENTS = ("active", "masked off", "tail", "work")
-"""Columns of elements. Work is the share of the elements of groups that were active; all are "" without any."""
+"""Columns of elements of register groups. Work is the share of active elements. Without elements, all columns are ""."""
 
 
 @dataclass(frozen=True)
 class Table:
-    """A table of a profile: its title, its columns, the number of text columns, and its rows, those first that took
-    most."""
+    """A table of a profile.
+
+    name: the title; head: the columns; texts: the number of text columns; rows: the greatest first
+    """
 
     name: str
     head: Sequence[str]
@@ -35,7 +37,7 @@ class Table:
 
 
 class TickProfile:
-    """The cost of a run, by the places of an image whose entry is at this address."""
+    """The ticks of a run, by places of its image."""
 
     def __init__(self, counts: Counts, symbols: Symbols, entry: int) -> None:
         self._counts, self._symbols = counts, symbols
@@ -47,17 +49,20 @@ class TickProfile:
         for (pc, target), times in calls.items():
             self._calls[self.function(pc), self.function(target)] += times
         self.callers = Callers(self.ticks(False), self._calls, self.function(entry))
-        """The cost of functions with those that they call."""
+        """The ticks of functions, with those of their callees."""
 
     def function(self, address: int) -> str:
-        """The function that an address is in: it begins where a call leads, or a symbol that has a size, or the run."""
+        """Return the function that contains an address.
+
+        A function begins at the target of a call, at a symbol with a size, or at the entry.
+        """
         at = bisect.bisect_right(self._functions, address) - 1
         start = self._functions[max(at, 0)]
         name = self._symbols.place(start)
         return name if name and "+" not in name else f"{start:x}"
 
     def tables(self) -> Iterator[Table]:
-        """The loops, functions, calls and source lines, as far as there are any."""
+        """Yield the tables of loops, functions, calls and source lines. A table may be empty."""
         ticks_spent = ("instructions", "ticks", "share", *ELEMENTS)
         yield Table("Loops", ("loop", "to", "place", "source", "rounds", *ticks_spent), 4, _sorted(self._loops(), -6))
         functions = self._summed((self.function(place.address), place) for place in self._counts.places)
@@ -72,7 +77,7 @@ class TickProfile:
         yield Table("Source lines", ("source", *ticks_spent), 1, _sorted(of_lines, -6))
 
     def ticks(self, by_line: bool) -> Counter[str]:
-        """The ticks of each source line, or of each function; those of no line are of the function."""
+        """Return the ticks of each source line or function. Instructions without a source line count for their function."""
         ticks = Counter[str]()
         for place in self._counts.places:
             name = self._symbols.line(place.address) if by_line else ""
@@ -81,12 +86,15 @@ class TickProfile:
 
     @functools.cached_property
     def source_files(self) -> set[str]:
-        """The source files of the executed instructions, as far as they have lines."""
+        """The source files of the executed instructions. Instructions without a source line are ignored."""
         lines = (self._symbols.line(place.address) for place in self._counts.places)
         return {line.rpartition(":")[0] for line in lines if line}
 
     def _loops(self) -> Iterator[TableRow]:
-        """A row for each address that a jump leads back to in its function; a loop ends with the last such jump."""
+        """Yield a row for each loop.
+
+        A loop begins at an address to which an instruction in the same function jumps back, and ends with the last such jump.
+        """
         places = self._counts.places
         addresses, ends = [place.address for place in places], dict[int, int]()
         for place in places:
@@ -102,7 +110,7 @@ class TickProfile:
             yield (*where, rounds, *self._spent(body))
 
     def _lines(self, places: Sequence[CountedWord]) -> str:
-        """The source lines of places, as `sum.c:20-24`; of several files, that of the first one."""
+        """Return the source lines of places, as `sum.c:20-24`; if they are in several files, those of the first one."""
         lines = [line.rpartition(":") for place in places if (line := self._symbols.line(place.address))]
         numbers = sorted(int(number) for file, _, number in lines if file == lines[0][0])
         if not numbers:
@@ -110,7 +118,7 @@ class TickProfile:
         return f"{lines[0][0]}:{numbers[0]}" + (f"-{numbers[-1]}" if numbers[-1] > numbers[0] else "")
 
     def _summed(self, named: Iterable[tuple[str, CountedWord]]) -> Iterator[TableRow]:
-        """A row for each name, with what its places spent."""
+        """Yield a row for each name, with the totals of its places."""
         groups = defaultdict[str, list[CountedWord]](list)
         for name, place in named:
             groups[name].append(place)
@@ -118,7 +126,7 @@ class TickProfile:
             yield (name, *self._spent(places))
 
     def _spent(self, places: Sequence[CountedWord]) -> Iterator[str | int]:
-        """Instructions, ticks, their share of all, and the columns of elements."""
+        """Yield the numbers of instructions and ticks, the share of all ticks, and the columns of elements."""
         ticks = sum(place.ticks for place in places)
         yield sum(place.times for place in places)
         yield ticks
@@ -127,17 +135,20 @@ class TickProfile:
 
 
 def elements_row(elements: Sequence[int]) -> TableRow:
-    """The columns of elements."""
+    """Return the columns of elements. elements: the numbers of active, masked-off and tail elements"""
     return [*elements, share(elements[0], sum(elements))] if sum(elements) else [""] * len(ELEMENTS)
 
 
 def share(number: int, whole: int) -> str:
-    """How many of a hundred."""
+    """Return a percentage as text."""
     return f"{100 * number / max(1, whole):.0f} %"
 
 
 def compared(ours: TickProfile, theirs: TickProfile) -> Iterator[Table]:
-    """The ticks of two runs side by side, largest savings first: by source lines, if both have some, and functions."""
+    """Yield tables that compare the ticks of two runs, the largest savings first.
+
+    One table is by source lines, if both runs have some, and one by functions.
+    """
     for by_line in (True, False) if ours.source_files and theirs.source_files else (False,):
         mine, others = ours.ticks(by_line), theirs.ticks(by_line)
         rows = [(name, mine[name], others[name], mine[name] - others[name]) for name in dict.fromkeys([*mine, *others])]
@@ -147,7 +158,7 @@ def compared(ours: TickProfile, theirs: TickProfile) -> Iterator[Table]:
 
 
 def unmatched(ours: TickProfile, theirs: TickProfile) -> Iterator[str]:
-    """Sentences about rows of `compared` that can't match: of source files that one program lacks, and of all functions."""
+    """Yield sentences about rows of `compared` without a counterpart: lines of files in only one program, or all functions."""
     mine, others = ours.source_files, theirs.source_files
     if mine and others and mine != others:
         yield f"the lines of {listed(sorted(mine ^ others))} are in one program only: they are compared with 0"
@@ -156,17 +167,17 @@ def unmatched(ours: TickProfile, theirs: TickProfile) -> Iterator[str]:
 
 
 def _sorted(rows: Iterable[TableRow], column: int) -> list[TableRow]:
-    """Rows, those first that have most in a column."""
+    """Return rows in falling order of a column."""
     return sorted(rows, key=lambda row: -int(row[column]))
 
 
 def _links(word: int) -> bool:
-    """Whether a word is a jump that leaves its return address."""
+    """Return whether a word is a jump that saves its return address."""
     return word & 0x7F in (JAL, JALR) and word >> 7 & 31 in LINKS
 
 
 def _offset(word: int) -> int:
-    """How far a branch, or a jump that leaves no address, leads; 4 for any other word."""
+    """Return the distance of a branch, or of a jump that saves no return address; 4 for any other word."""
     sign = -(word >> 31)
     if word & 0x7F == BRANCH:
         return sign << 12 | (word >> 7 & 1) << 11 | (word >> 25 & 0x3F) << 5 | (word >> 8 & 0xF) << 1

@@ -1,4 +1,4 @@
-"""The instructions of a run, a line each: all of them, or those of a window."""
+"""The instructions of a run, one line for each: all of them, or those in a window."""
 
 from collections.abc import Callable, Iterator
 from contextlib import AbstractContextManager
@@ -9,10 +9,10 @@ from ..guest.symbols import Symbols
 
 
 def trace(start: Callable[[], AbstractContextManager[Guest]], symbols: Symbols, window: range) -> Iterator[str]:
-    """A line for each instruction of a run that is in a window; the first one of all has the number 1.
+    """Yield a line for each instruction of a run whose number is in the window. The first instruction has number 1.
 
-    start: a guest where the run begins. Instructions before the window execute in groups, and once more from the
-    beginning, few at once, where a call could have found the output buffer without room.
+    start: returns a guest at the start of the run. Instructions before the window execute in groups. If a call among them may have
+    had too little room in the output buffer, they execute again from the start in smaller groups.
     """
     for pace in PACES:
         with start() as guest:
@@ -23,6 +23,6 @@ def trace(start: Callable[[], AbstractContextManager[Guest]], symbols: Symbols, 
 
 
 def _line(retired: Retired, symbols: Symbols) -> str:
-    """An instruction in a line: its address, its place by a symbol or `-`, its text, and what it changed."""
+    """Return a line about an instruction: its address, its place relative to a symbol or `-`, its text, and its changes."""
     place = symbols.place(retired.pc) or "-"
     return f"{retired.pc:<8x}  {place:<18}  {retired.text:<32}  {'  '.join(map(str, retired.changes))}".rstrip()

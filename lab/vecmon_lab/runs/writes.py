@@ -1,4 +1,4 @@
-"""Calls that are given more bytes than they write."""
+"""Calls that write fewer bytes than requested."""
 
 from ..guest.guest import Guest
 from ..guest.runner import MAX_BREAKPOINTS, WRITE_BYTES
@@ -7,16 +7,16 @@ from ..instructions.calls import A0, A7, ECALL, STANDARD_OUTPUT, WRITE
 from ..machine.answers import ScalarRegisters
 from .counts import Counts
 
-MAX_CALLS = 1000  # that are looked at
+MAX_CALLS = 1000  # calls that are examined, at most
 WHY = "the most that one writes: a0 has how many"
 A1, A2 = 11, 12
 
 
 def short_write(guest: Guest, counts: Counts, symbols: Symbols) -> str:
-    """The first call of a run that is given more bytes than it writes, in a line; nothing if the next one that writes
-    goes on behind those that were written, or where there is none among the first calls.
+    """Return a line about the first call of a run that writes fewer bytes than requested.
 
-    It is looked for at as many addresses of calls as a user may have breakpoints.
+    Return "" if the next call that writes continues after the bytes that were written, or if no such call is found. The search
+    covers the first MAX_CALLS calls, at as many addresses as a user can have breakpoints.
     """
     calls = [place.address for place in counts.places if place.word == ECALL]
     guest.ask(*(f"break {address:x}" for address in calls[:MAX_BREAKPOINTS]))

@@ -1,1 +1,1 @@
-"""Tables as text: those of the lab, which are files here, and those that commands print."""
+"""Tables as text: the lab's own tables, which are files in this folder, and tables that commands print."""

@@ -1,4 +1,4 @@
-"""The names of other extensions, and why the machine doesn't have them."""
+"""Names of instructions and registers of other extensions, and why the machine doesn't have them."""
 
 import functools
 import pathlib
@@ -8,17 +8,17 @@ import tomllib
 
 @functools.cache
 def absent() -> list[tuple[re.Pattern[str], str]]:
-    """The patterns of the names, each with a sentence."""
+    """Return patterns of these names, each with a sentence that explains why the machine doesn't have them."""
     return [(re.compile(record["names"]), record["does"]) for record in _records().values()]
 
 
 def floating_point(name: str) -> bool:
-    """Whether a name in small letters is an instruction or a register of floating point."""
+    """Whether a name in small letters is that of a floating-point instruction or register."""
     return re.fullmatch(_records()["floating-point"]["names"], name) is not None
 
 
 @functools.cache
 def _records() -> dict[str, dict[str, str]]:
-    """The records of the table by their names."""
+    """Return the records of meanings/absent.toml by name."""
     text = pathlib.Path(__file__).with_name("meanings").joinpath("absent.toml").read_text("ascii")
     return tomllib.loads(text)

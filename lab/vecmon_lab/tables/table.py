@@ -1,6 +1,6 @@
 """Tables as plain text, and as HTML.
 
-Those of this folder have a row to a line, its cells apart by two spaces or more; # begins a comment.
+In the files of this folder, each line is a row, two or more spaces separate its cells, and a line that starts with # is a comment.
 """
 
 import html
@@ -8,17 +8,20 @@ import pathlib
 import re
 from collections.abc import Iterable, Iterator, Sequence
 
-_FORMULAS = ("=", "+", "-", "@", "\t", "\r")  # how cells begin that a spreadsheet works out
+_FORMULAS = ("=", "+", "-", "@", "\t", "\r")  # first characters of cells that a spreadsheet calculates
 
 
 def read_table(name: str) -> list[list[str]]:
-    """The rows of a table, each with its cells."""
+    """Return the rows of a table of this folder, each with its cells."""
     lines = pathlib.Path(__file__).with_name(f"{name}.txt").read_text("utf-8").splitlines()
     return [re.split(" {2,}", line) for line in lines if line and not line.startswith("#")]
 
 
 def table_lines(rows: Sequence[Sequence[object]], texts: int) -> Iterator[str]:
-    """Rows as lines with columns, this number of them texts, and the others numbers, which end below each other."""
+    """Return rows as lines with aligned columns.
+
+    texts: the number of columns with texts, which come first and are aligned left; the others are aligned right
+    """
     widths = [max(len(str(cell)) for cell in column) for column in zip(*rows)]
     for row in rows:
         cells = [f"{cell!s:{'<' if at < texts else '>'}{width}}" for at, (cell, width) in enumerate(zip(row, widths))]
@@ -26,7 +29,10 @@ def table_lines(rows: Sequence[Sequence[object]], texts: int) -> Iterator[str]:
 
 
 def html_table(rows: Sequence[Sequence[object]], texts: int) -> str:
-    """Rows as a table of HTML, as notebooks show it: a head, and rows with columns, this number of them texts."""
+    """Return rows as an HTML table, as notebooks show it; the first row is the head.
+
+    texts: the number of columns with texts, which come first and are aligned left; the others are aligned right
+    """
     lines = []
     for row, tag in zip(rows, ("th", *["td"] * len(rows))):
         sides = ["left" if at < texts else "right" for at in range(len(row))]
@@ -36,5 +42,5 @@ def html_table(rows: Sequence[Sequence[object]], texts: int) -> str:
 
 
 def spreadsheet_row(cells: Iterable[object]) -> list[object]:
-    """Cells of a row of CSV, none of them a formula: a spreadsheet shows a text with ' before it."""
+    """Return the cells of a row of CSV. A text that a spreadsheet would take as a formula gets a leading apostrophe."""
     return [f"'{cell}" if not isinstance(cell, int) and str(cell).startswith(_FORMULAS) else cell for cell in cells]

@@ -1,6 +1,6 @@
-"""Single instructions, each with a state to execute it in, drawn by chance from the most revealing values.
+"""Single instructions, each with a state to execute it in. Both are random, with a preference for boundary values.
 
-A case depends on its instruction, its number and the seed alone.
+A case depends only on its instruction, its number and the seed.
 """
 
 import functools
@@ -30,10 +30,10 @@ from ..instructions.words import (
 from ..machine.answers import VILL, ControlRegisters
 
 CODE, PC = 0x10000, 0x10800
-"""The page of the code, and the place of the instruction."""
+"""The page of the code, and the address of the instruction."""
 
 DATA, READ_ONLY, DATA_END = 0x20000, 0x21000, 0x22000
-"""The limits of two pages of data; the second can only be read."""
+"""The limits of two pages of data. The second page is read-only."""
 
 _LOADS, _STORES = (LOAD, LOAD_FP), (STORE, STORE_FP)
 PLACES = {"rd": 7, "vd": 7, "rs1": 15, "vs1": 15, "rs2": 20, "vs2": 20, "csr": 20, "vtypei": 20}  # lowest bits
@@ -45,7 +45,7 @@ _WILD = (0, 8, 0x7FC, 1 << 31, 1 << 40, (1 << 48) - 4, 1 << 48, (1 << 64) - 4096
 
 @dataclass(frozen=True)
 class Kind:
-    """The purpose of a case: a vector type, a mask or none; to be illegal, or to access where it may not."""
+    """The purpose of a case: its vector type, and whether it is masked, illegal, or accesses memory outside of its pages."""
 
     vtype: int
     is_masked: bool = False
@@ -55,7 +55,7 @@ class Kind:
 
 @dataclass
 class Case:
-    """A word and the state before it. Registers and bytes that aren't named are 0; memory is runs of bytes by address."""
+    """A word and the state before it. Other registers and bytes are 0. memory: runs of bytes, by address"""
 
     word: int
     control: ControlRegisters
@@ -64,22 +64,26 @@ class Case:
     memory: dict[int, bytes] = field(default_factory=dict)
 
     def register(self, name: str) -> int:
-        """The number of the register at a place of the word."""
+        """Return the number of the register in a field of the word."""
         return self.word >> PLACES[name] & 31
 
 
 class _Draws(random.Random):
-    """Numbers by chance."""
+    """Random numbers for cases."""
 
     def scalar(self) -> int:
-        """64 bits: small, any, or at the edge of a width."""
+        """Return 64 bits: a small number, any number, or one at the limit of a width."""
         edge = 1 << self.choice((7, 8, 15, 16, 31, 32, 63, 64))
         values = (self.randrange(70), self.getrandbits(64), self.getrandbits(32), edge, edge - 1, -edge, -edge - 1, -1)
         return self.choice(values) % (1 << 64)
 
     def elements(self, eew: int, limit: int, is_offset: bool = False) -> bytes:
-        """A register: any bytes; or elements below a limit, as offsets are; or at the edges of their width, or all the same."""
-        eew = min(64, max(8, eew))  # of a mask, and of an illegal instruction
+        """Return the bytes of a register.
+
+        They are random, or have elements below `limit`, or at the limits of their width, or all equal; offsets are always below
+        `limit`.
+        """
+        eew = min(64, max(8, eew))  # a mask's is 1, and an illegal instruction's may be out of range
         count, edges = 256 // eew, (0, 1, (1 << eew) - 1, 1 << eew - 1, (1 << eew - 1) - 1)
         small = [self.randrange(min(limit, 1 << eew)) for _ in range(count)]
         chosen = self.choice((small, self.choices(edges, k=count), [self.choice(edges)] * count))
@@ -87,14 +91,14 @@ class _Draws(random.Random):
         return data if is_offset else self.choice((self.randbytes(32), data))
 
     def stride(self, vl: int) -> int:
-        """A stride that keeps a number of elements within reach."""
+        """Return a stride for which `vl` elements are within reach."""
         limit = _REACH // max(1, vl)
         return self.choice(
             (0, min(limit, 8), self.randrange(-limit, limit + 1), self.randrange(-limit, limit + 1) & ~7)
         )
 
     def field(self, row: Row, name: str, step: int) -> tuple[int, int]:
-        """The mask of a field at its place, and a value for it."""
+        """Return the mask of a field, and a value for it. step: register numbers are multiples of it"""
         if name == "csr":
             return 0xFFF, self.choice((*CONTROL_REGISTERS, *CONTROL_REGISTERS, *CONTROL_REGISTERS, 0x300, 0x7C0))
         if name == "vtypei":
@@ -105,13 +109,13 @@ class _Draws(random.Random):
 
 
 def touches_memory(row: Row) -> bool:
-    """Whether an instruction loads, stores or calls: then there are pages of data."""
+    """Return whether an instruction loads, stores or calls. Its cases have pages of data."""
     return row.opcode in _LOADS + _STORES or row.name == "ecall"
 
 
 @functools.cache
 def plan(row: Row, seed: int) -> list[Kind]:
-    """The purposes of an instruction's cases: each type under which it is legal, with and without a mask; faults."""
+    """Return the purposes of an instruction's cases: each legal vector type, with and without a mask; and faults."""
     draws, types, masks = _Draws(f"{seed} {row.name}"), [VILL] * _SCALAR_CASES, (False, True)
     if _is_vector(row):
         types = [vtype for vtype in SUPPORTED if not illegal_reasons(*_draw_word(row, Kind(vtype), _Draws(0), [8]))]
@@ -127,7 +131,7 @@ def plan(row: Row, seed: int) -> list[Kind]:
 
 
 def draw_case(row: Row, number: int, seed: int) -> Case:
-    """The case of this number of an instruction."""
+    """Return the case of an instruction with a number."""
     kinds, draws = plan(row, seed), _Draws(f"{seed} {row.name} {number}")
     kind = kinds[number % len(kinds)]
     word, view = _draw_word(row, kind, draws, (1, 2, 4, 8))
@@ -144,14 +148,17 @@ def draw_case(row: Row, number: int, seed: int) -> Case:
 
 
 def moved(case: Case, row: Row, base: int) -> Case:
-    """A case whose memory is a number of bytes further on."""
+    """Return a case whose memory is `base` bytes further on."""
     address = 11 if row.name == "ecall" else case.register("rs1")
     x = case.x | ({address: (case.x[address] + base) % (1 << 64)} if touches_memory(row) else {})
     return replace(case, x=x, memory={base + first: data for first, data in case.memory.items()})
 
 
 def without_choices(case: Case, row: Row) -> Case:
-    """A case with vstart 0, and with an address and a stride that are multiples of 8: the standard fixes the result of more of these."""
+    """Return a case with vstart 0, and with an address and a stride that are multiples of 8.
+
+    The standard then defines the results of more cases.
+    """
     x = dict(case.x)
     if row.opcode in _LOADS + _STORES:
         address = base_address(case.word, [x.get(number, 0) for number in range(32)]) or 0
@@ -163,26 +170,28 @@ def without_choices(case: Case, row: Row) -> Case:
 
 
 def _is_vector(row: Row) -> bool:
-    """Whether it is a vector instruction, and no vset."""
+    """Return whether a row is a vector instruction other than a vset."""
     return row.opcode in VECTOR_ACCESSES or row.opcode == OP_V and not row.name.startswith("vset")
 
 
 def _is_strided(row: Row) -> bool:
-    """Whether it is a vector load or store with a stride, which isn't drawn from the register of its base."""
+    """Return whether a row is a vector load or store with a stride. Its stride mustn't be drawn from the base register."""
     return row.opcode in VECTOR_ACCESSES and "rs2" in row.fields()
 
 
 def _operands(row: Row, word: int, view: ControlRegisters) -> list[Operand]:
-    """The vector register operands, and the mask."""
+    """Return the vector register operands, including the mask."""
     instruction = decode(word, view.sew, view.lmul) if _is_vector(row) else None
     mask = [Operand("mask", 1, Fraction(1), True, 1, range(1))] if instruction and instruction.is_masked else []
     return instruction.operands + mask if instruction else []
 
 
 def _draw_word(row: Row, kind: Kind, draws: _Draws, steps: Sequence[int]) -> tuple[int, ControlRegisters]:
-    """A row's word and a state that are legal together, or illegal; either, if _DRAWS draws find none. Never an odd one.
+    """Return a word of a row, and a state, that are legal or illegal together, as the case's purpose asks.
 
-    steps: of one of these numbers the numbers of vector registers are multiples
+    If _DRAWS draws find none, the last pair is returned in any case, unless `_is_odd`.
+
+    steps: one of these numbers is chosen, and register numbers are multiples of it
     """
     for number in itertools.count(1):
         vlmax = ControlRegisters(vtype=kind.vtype).vlmax
@@ -203,14 +212,14 @@ def _draw_word(row: Row, kind: Kind, draws: _Draws, steps: Sequence[int]) -> tup
 
 
 def _is_odd(row: Row, word: int, view: ControlRegisters) -> bool:
-    """Whether a legal word is left out: its stride and its base are one register, or its encoding is reserved."""
+    """Return whether a legal word is excluded: its stride and its base are in the same register, or its encoding is reserved."""
     stride_is_base = _is_strided(row) and not (word >> 15 ^ word >> 20) & 31
     instruction = decode(word, view.sew, view.lmul) if _is_vector(row) else None
     return stride_is_base or instruction is not None and bool(registers_of_two_widths(instruction))
 
 
 def _fill_scalars(case: Case, row: Row, draws: _Draws) -> None:
-    """Gives values to the scalar registers that the instruction names."""
+    """Set the scalar registers that the instruction names."""
     for name in ("rs1", "rs2", "rd"):
         if name in row.fields():
             case.x[case.register(name)] = draws.scalar()
@@ -225,7 +234,7 @@ def _fill_scalars(case: Case, row: Row, draws: _Draws) -> None:
 
 
 def _fill_vectors(case: Case, operands: list[Operand], draws: _Draws) -> None:
-    """Gives values to v0, to the neighbours of the first operand, and to the registers of all operands."""
+    """Set v0, the neighbours of the first operand, and the registers of all operands."""
     if operands:
         first = operands[0].registers
         case.v = {number: draws.randbytes(32) for number in (0, first.start - 1, first.stop) if 0 <= number < 32}
@@ -236,7 +245,7 @@ def _fill_vectors(case: Case, operands: list[Operand], draws: _Draws) -> None:
 
 
 def _fill_memory(case: Case, row: Row, operands: list[Operand], is_out_of_range: bool, draws: _Draws) -> None:
-    """Gives the base register an address, the stride a value, and bytes to the memory around it."""
+    """Set the base register to an address, set the stride, and write bytes to the memory around the address."""
     base = 11 if row.name == "ecall" else case.register("rs1")
     distance, before, after = 0, 0, 256
     if _is_strided(row):

@@ -1,6 +1,6 @@
-"""Golden results of single instructions: the machine's results, a JSON line a case (docs/GOLDEN_VECTORS.md).
+"""Print golden results of single instructions: the machine's results, one line of JSON for each case (docs/GOLDEN_VECTORS.md).
 
-Or, as `self_checking` writes them, programs that try them and compare.
+With `self_checking`, write programs that execute the cases and compare the results.
 """
 
 import argparse
@@ -25,7 +25,7 @@ _PROLOGUE = "5770b5807390a6007310970073108600"  # vsetvl x0, x10, x11; csrrw x0,
 
 
 def add_arguments(parser: argparse.ArgumentParser) -> None:
-    """The words of `vecmon-lab vectors`."""
+    """Add the arguments of `vecmon-lab vectors`."""
     parser.add_argument("names", metavar="NAME", nargs="+", help="an instruction, such as vadd.vv; all means each one")
     parser.add_argument(
         "--cases",
@@ -54,12 +54,12 @@ def add_arguments(parser: argparse.ArgumentParser) -> None:
 
 
 def names() -> list[str]:
-    """The values of NAME."""
+    """Return the values of NAME."""
     return ["all", *instruction_table()]
 
 
 def run(arguments: argparse.Namespace) -> int:
-    """Prints the cases. Raises LabError for a name that no instruction has."""
+    """Print the cases. Raises LabError for an unknown instruction."""
     program, table = find_program(), instruction_table()
     names = list(table) if arguments.names == ["all"] else arguments.names
     if "all" in names:
@@ -101,10 +101,11 @@ def golden_results(
     base: int = 0,
     has_choices: bool = True,
 ) -> Iterator[dict[str, object]]:
-    """A number of cases of an instruction, or its whole plan, with the machine's results. Raises as `Session` does.
+    """Yield cases of an instruction with the machine's results. Raises the errors of `Session`.
 
-    base: how much further on than the page on the format says all addresses lie
-    has_choices: whether all cases are tried as they are drawn; else those whose results are open, with vstart 0 and aligned
+    cases: their number; None for the whole plan
+    base: is added to all addresses in the description of the format
+    has_choices: whether to use all cases as drawn; otherwise, cases whose results are open have vstart 0 and aligned addresses
     """
     count = len(plan(row, seed)) if cases is None else cases
     for first in range(0, count, _CASES_OF_A_SESSION):
@@ -118,12 +119,12 @@ def golden_results(
 
 
 def execute_case(session: Session, row: Row, case: Case, policy: str = "keep", base: int = 0) -> dict[str, object]:
-    """A case with the machine's results, as in the page on the format. User 1 enters, and leaves again.
+    """Return a case with the machine's results, in the described format. User 1 enters, and leaves again.
 
-    base: how much further on than that page says the instruction and the memory of the case lie
+    base: is added to the addresses of the instruction and of memory in the description of the format
     """
     pages = {base + CODE: "rx"} | ({base + DATA: "rw", base + READ_ONLY: "r"} if touches_memory(row) else {})
-    guest = Guest(session, report=lambda address, sentence: None)  # the numbers of calls are drawn
+    guest = Guest(session, report=lambda address, sentence: None)  # the numbers of calls are random
     pc, data = base + PC, base + DATA
     guest.ask(*_set_up(case, pages, policy))
     stepper = Stepper(guest)
@@ -151,7 +152,7 @@ def execute_case(session: Session, row: Row, case: Case, policy: str = "keep", b
 
 
 def _set_up(case: Case, pages: dict[int, str], policy: str) -> Iterator[str]:
-    """The lines that make the state before a case."""
+    """Yield the lines that set up the state before a case."""
     code, control = min(pages), dict(enumerate(vars(case.control).values(), 10))
     pc = code + PC - CODE
     yield "enter"
@@ -168,7 +169,7 @@ def _set_up(case: Case, pages: dict[int, str], policy: str) -> Iterator[str]:
 
 
 def _named(pc: int, registers: Registers) -> tuple[dict[str, object], dict[str, dict[int, str]]]:
-    """pc and the control registers by the names that lines have; x and v by number."""
+    """Return pc and the control registers by the names in the format, and x and v by number."""
     control: dict[str, object] = {"pc": f"{pc:x}", **vars(registers.control), "vtype": f"{registers.control.vtype:x}"}
     x = {number: f"{value:x}" for number, value in enumerate(registers.x) if number}
     return control, {"x": x, "v": {number: registers.v[32 * number : 32 * number + 32].hex() for number in range(32)}}

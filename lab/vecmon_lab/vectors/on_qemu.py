@@ -1,7 +1,7 @@
-"""Runs golden vectors (docs/GOLDEN_VECTORS.md) on QEMU's user mode, and prints where it differs: on_qemu.py FILE
+"""Run golden vectors (docs/GOLDEN_VECTORS.md) on QEMU's user mode, and print the differences: on_qemu.py FILE
 
-All cases go through one process, and those behind a case that ends QEMU itself through another one. The program around
-them (on_qemu.txt) takes each from standard input; a signal ends it.
+One process runs all cases. If a case ends QEMU itself, another process runs the cases after it. The program around the cases
+(on_qemu.txt) reads each from standard input; a signal ends each case.
 """
 
 import argparse
@@ -21,14 +21,14 @@ QEMU = ["qemu-riscv64", "-cpu", "rv64,Zve64f=true,vext_spec=v1.0,vlen=256,elen=6
 """The command of QEMU 7.2."""
 
 POLICIES = {"keep": "", "ones": ",rvv_ta_all_1s=true,rvv_ma_all_1s=true"}
-"""The end of its last argument, by the policy for agnostic elements."""
+"""The end of the last argument in QEMU, by the policy for agnostic elements."""
 
 CODE, DATA, PROGRAM, BLOCK, STACK = 0x10000, 0x20000, 0x60000000, 0x60010000, 0x60020000
 CONTROL = ("vl", "vtype", "vxrm", "vxsat", "vstart")
 NAMES = ("end", *CONTROL, "value", "v", "pc", *(f"x{number}" for number in range(1, 32)), "memory")
-LAYOUT = struct.Struct("<7Q8x1024s32Q8192s")  # of these; a case has its word as the end, and a result its signal
+LAYOUT = struct.Struct("<7Q8x1024s32Q8192s")  # of NAMES; `end` is the word of a case, and the signal of a result
 EBREAKS = b"\x73\0\x10\0" * 1024
-"""A page of code full of ebreaks: one ends a case that ran."""
+"""A page of code full of ebreaks. One of them ends a case that ran."""
 Case = Mapping[str, object]
 State = dict[str, int | bytes | str]
 SIGNALS = {4: "fault 2", 5: "ebreak", 7: "fault {}", 11: "fault {}"}
@@ -41,7 +41,10 @@ def program() -> list[int]:
 
 
 def image(words: Sequence[int], mapped: Mapping[int, bytes]) -> bytes:
-    """An ELF image of the program around the cases, and of what is mapped for these, by address."""
+    """Return an ELF image of the program around the cases.
+
+    mapped: the memory of the cases, by address
+    """
     block = bytes(0x700) + struct.pack("<QQQ8xQQQ", STACK, 0, 0x10000, PROGRAM + 18 * 4, 0x08000004, 0)
     parts = {**mapped, PROGRAM: struct.pack(f"<{len(words)}I", *words)}
     parts |= {BLOCK: block.ljust(4096, b"\0"), STACK: bytes(0x10000)}
@@ -54,13 +57,13 @@ def image(words: Sequence[int], mapped: Mapping[int, bytes]) -> bytes:
 
 
 def object_in(case: Case, name: str) -> dict[str, str]:
-    """An object in a case; an empty one where there is none."""
+    """Return an object in a case; an empty one if there is none."""
     value = case.get(name)
     return value if isinstance(value, dict) else {}
 
 
 def state(*named: Case) -> State:
-    """The state that a case names, or a case and its changes; all else is 0."""
+    """Return the state of a case; with the case's changes, the state after it. Registers and memory that aren't named are 0."""
     v, memory, values = bytearray(1024), bytearray(8192), dict[str, int].fromkeys(NAMES, 0)
     for part in named:
         values |= {name: int(str(part[name]), 16) for name in ("pc", "vtype") if name in part}
@@ -76,19 +79,22 @@ def state(*named: Case) -> State:
 
 
 def can_run(case: Case) -> bool:
-    """Whether a case has no call, which QEMU hands on to the system, and no misaligned target, which ends QEMU."""
+    """Return whether QEMU can run a case: it has no call, which would reach the system, and no misaligned target, which ends QEMU."""
     return case["name"] != "ecall" and case.get("cause") != 0
 
 
 def expected(case: Case) -> State:
-    """The state after a case, and how it ends."""
+    """Return the expected state after a case, and how the case ends."""
     value = int(str(case["value"]), 16) if case.get("cause") in (5, 7) else 0
     end = f"fault {case['cause']}" if case["end"] == "fault" else str(case["end"])
     return {**state(case, object_in(case, "after")), "end": end, "value": value}
 
 
 def found(case: Case, result: bytes | None) -> State:
-    """The same by a result of QEMU's. A signal at another place means that the instruction ran."""
+    """Return the state after a case, from QEMU's result, and how the case ends.
+
+    If the signal is at another address, the instruction ran. result: None if QEMU ended
+    """
     if result is None:
         return {**expected(case), "end": "QEMU ended"}
     values = dict(zip(NAMES, LAYOUT.unpack(result)))
@@ -98,7 +104,10 @@ def found(case: Case, result: bytes | None) -> State:
 
 
 def differences(cases: Sequence[Case]) -> list[dict[str, tuple[object, object]]]:
-    """For each case what QEMU leaves otherwise, by name: what is expected, and what was found. All have one policy."""
+    """Return QEMU's differences for each case, by name: the expected and the found value.
+
+    All cases must have the same policy.
+    """
     befores = [LAYOUT.pack(*(state(case) | {"end": int(str(case["word"]), 16)}).values()) for case in cases]
     left = results(befores, str(cases[0]["policy"]) if cases else "keep")
     pairs = [(expected(case), found(case, result)) for case, result in zip(cases, left, strict=True)]
@@ -106,7 +115,7 @@ def differences(cases: Sequence[Case]) -> list[dict[str, tuple[object, object]]]
 
 
 def results(befores: Sequence[bytes], policy: str = "keep") -> Iterator[bytes | None]:
-    """The state that QEMU leaves of each case; None where QEMU itself ends. Raises CalledProcessError where it doesn't start."""
+    """Yield the state after each case; None if QEMU itself ended. Raises CalledProcessError if QEMU doesn't start."""
     done = 0
     while done < len(befores):
         output = _run(b"".join(before[-8192:] + before[:-8192] for before in befores[done:]), policy)
@@ -119,7 +128,10 @@ def results(befores: Sequence[bytes], policy: str = "keep") -> Iterator[bytes | 
 
 
 def _run(cases: bytes, policy: str) -> bytes:
-    """The output of the program around cases. It reads them from a file, since a read from a pipe may be short."""
+    """Return the output of the program around the cases.
+
+    The program reads them from a file, since a read from a pipe may be short.
+    """
     with tempfile.TemporaryDirectory() as folder, tempfile.TemporaryFile() as feed:
         elf = pathlib.Path(folder, "image")
         elf.write_bytes(image(program(), {CODE: EBREAKS, DATA: bytes(8192)}))
@@ -134,20 +146,20 @@ def _run(cases: bytes, policy: str) -> bytes:
 
 @functools.cache
 def version() -> tuple[int, int]:
-    """The version of the QEMU that is installed: its first two numbers; zeros if it prints none."""
+    """Return the first two numbers of the installed QEMU's version; zeros if it prints none."""
     printed = subprocess.run([QEMU[0], "--version"], stdout=subprocess.PIPE, text=True, check=True).stdout
     numbers = re.search(r"version (\d+)\.(\d+)", printed)
     return (int(numbers[1]), int(numbers[2])) if numbers else (0, 0)
 
 
 def qemu(policy: str = "keep") -> list[str]:
-    """The command of the QEMU that is installed, with a policy: since version 8.2 names of extensions are in lower case."""
+    """Return the command of the installed QEMU for a policy. Since version 8.2, names of extensions are in lower case."""
     extensions = QEMU[2].replace("Zve", "zve") if version() >= (8, 2) else QEMU[2]
     return [*QEMU[:2], extensions + POLICIES[policy]]
 
 
 def main() -> None:
-    """Print the word, the text and the differing parts of each case of a file that QEMU leaves otherwise."""
+    """Print the word, the text and the differing parts of each case in a file for which QEMU's result differs."""
     description = "Run golden vectors on QEMU's user mode, and print each case that it leaves otherwise, with the differing parts."
     parser = argparse.ArgumentParser(prog="on_qemu.py", description=description)
     parser.add_argument("file", metavar="FILE", type=pathlib.Path, help="golden vectors, a line of JSON each")

@@ -1,4 +1,4 @@
-"""Golden vectors as programs that check themselves: ELF files and assembler sources (docs/GOLDEN_VECTORS.md)."""
+"""Golden vectors as self-checking programs: ELF files and assembler sources (docs/GOLDEN_VECTORS.md)."""
 
 import json
 import pathlib
@@ -22,17 +22,17 @@ _SECTIONS = pathlib.Path(__file__).with_name("sections.s").read_text("ascii")
 
 
 class Writer:
-    """Writes programs into folders, and counts what is in them.
+    """Writes programs into folders, and counts them.
 
-    elf, asm: the folders of ELF files and of sources
+    elf, asm: the folders of ELF files and of sources; None to write none
     """
 
     def __init__(
         self, elf: pathlib.Path | None, asm: pathlib.Path | None, environment: str, has_choices: bool = False
     ) -> None:
-        """An environment has a name. Makes the folders.
+        """Create the folders.
 
-        has_choices: whether cases are written whose results the standard leaves open
+        environment: the name of an environment; has_choices: whether to write cases whose results the standard leaves open
         """
         self._folders, self._environment = {".elf": elf, ".s": asm}, ENVIRONMENTS[environment]
         self._has_choices = has_choices
@@ -41,7 +41,7 @@ class Writer:
             folder.mkdir(parents=True, exist_ok=True)
 
     def write(self, name: str, goldens: Sequence[Case]) -> None:
-        """Write the programs of an instruction's cases, and next to each its cases and its signature."""
+        """Write the programs of an instruction's cases, and next to each program its cases and its signature."""
         reasons = [self._reason_to_leave_out(golden) for golden in goldens]
         shown = [golden for golden, reason in zip(goldens, reasons) if not reason]
         self._left_out.update(filter(None, reasons))
@@ -51,13 +51,13 @@ class Writer:
             self._write_part(f"{name}_{first // CASES_OF_A_PROGRAM + 1}" if first else name, part)
 
     def summary(self) -> Iterator[str]:
-        """The written files, and the cases that can't run in the environment, each in a line."""
+        """Yield lines about the written files, and about the cases that can't run in the environment."""
         counts = [(self._cases, "case"), (self._programs, "program")]
         yield " in ".join(f"{number:,} {unit}{'s' * (number != 1)}" for number, unit in counts)
         yield from (f"left out: {count:,} {reason}" for reason, count in sorted(self._left_out.items()))
 
     def _reason_to_leave_out(self, golden: Case) -> str:
-        """Why a case isn't written, as the summary has it; "" for one that is."""
+        """Return why a case isn't written, for the summary; "" if it is written."""
         kind = kind_of(golden, self._environment.base)
         if kind not in self._environment.ends:
             return f"of {kind}"
@@ -83,7 +83,7 @@ class Writer:
 
 
 def kind_of(golden: Case, base: int) -> str:
-    """How a case ends, as environments name it."""
+    """Return how a case ends, as environments name it. base: is added to all addresses"""
     after = object_in(golden, "after")
     pc = int(str(after.get("pc", golden["pc"])), 16)
     if golden["name"] == "ecall":
@@ -101,7 +101,7 @@ def kind_of(golden: Case, base: int) -> str:
 
 
 def executed(golden: Case) -> Executed:
-    """A case as an instruction with the state before it, and its fault."""
+    """Return a case as an executed instruction, with the state before it, and its fault."""
     before, after = state(golden), object_in(golden, "after")
     v = before["v"]
     assert isinstance(v, bytes)
@@ -114,7 +114,7 @@ def executed(golden: Case) -> Executed:
 
 
 def case_words(golden: Case, environment: Environment) -> tuple[list[int], int]:
-    """The 64-bit words for the code to execute a case, and the digest of the state after it."""
+    """Return the 64-bit words with which the code executes a case, and the digest of the state after it."""
     word, has_memory = int(str(golden["word"]), 16), f"{environment.base + MEMORY:x}" in object_in(golden, "pages")
     named = {word >> 7 & 31, word >> 15 & 31, word >> 20 & 31}
     spare = next(number for number in SPARE if not {number, number - 1} & named)
@@ -126,7 +126,10 @@ def case_words(golden: Case, environment: Environment) -> tuple[list[int], int]:
 
 
 def _runs(old: bytes, new: bytes) -> Iterator[int]:
-    """The places of new 64-bit words, in runs: their number, and above it the place; then these; 0 ends the runs."""
+    """Yield the 64-bit words that differ from old ones, in runs, followed by 0.
+
+    Each run starts with a word that has the number of words in its lower half, and the place in its upper half.
+    """
     one, other = (struct.unpack(f"<{len(data) // 8}Q", data) for data in (old, new))
     for first, last in runs(one, other):
         yield last - first | 8 * first << 32
@@ -135,7 +138,7 @@ def _runs(old: bytes, new: bytes) -> Iterator[int]:
 
 
 def source_lines(name: str, part: Sequence[Case], cases: Sequence[Sequence[int]], around: Harness) -> Iterator[str]:
-    """The source of a program for stock assemblers, with how it is linked."""
+    """Yield the source of a program for stock assemblers, with a comment that says how to link it."""
     base, code = around.environment.base, around.environment.code
     places = {".cases": code + LIST, ".instruction": base + CODE, ".memory": base + MEMORY}
     yield f"# {len(part)} cases of {name}, made by vecmon-lab. gcc or clang makes a program of them with\n"

@@ -7,33 +7,36 @@ from ...machine.lines import DIGITS
 
 TEACHER, WALL = "teacher", "wall"
 LETTERS = "ABCDEFGHIJKL"  # of machines
-CODE_LETTERS = "abcdefghjkmnpqrstuvwxyz23456789"  # none looks like another one
+CODE_LETTERS = "abcdefghjkmnpqrstuvwxyz23456789"  # without letters and digits that look alike
 CODE_LENGTH = 14  # 69 bits
 
 
 def new_code() -> str:
-    """A code that nobody can guess."""
+    """Return a new code that can't be guessed."""
     return "".join(secrets.choice(CODE_LETTERS) for _ in range(CODE_LENGTH))
 
 
 class Codes:
-    """The code of each seat (A1 to L8), of the teacher, and of the wall, which only looks."""
+    """The code of each seat (A1 to L8), of the teacher, and of the wall, a page that shows one seat and makes no requests."""
 
     def __init__(self, machines: Iterable[str], stored: Mapping[str, str]) -> None:
-        """The codes that were kept, and new ones for all others."""
+        """machines: the letters of the machines; stored: the codes of an earlier server, by name. Other names get new codes."""
         seats = [f"{machine}{digit}" for machine in machines for digit in DIGITS]
         self.codes = {name: stored.get(name) or new_code() for name in (TEACHER, WALL, *seats)}
 
     def owner(self, code: object) -> str | None:
-        """Whose code it is, if anybody's; it takes as long for any text."""
+        """Return the owner of a code, or None. The comparison takes the same time for any text."""
         text = code.encode("utf-8", "replace") if isinstance(code, str) else b""
         matches = [secrets.compare_digest(known.encode("ascii"), text) for known in self.codes.values()]
         return next((name for name, match in zip(self.codes, matches) if match), None)
 
     def shown(self, name: str) -> dict[str, str]:
-        """The code of a seat or of the wall, or all of these for "", by name: the codes that a teacher hands out."""
+        """Return codes that a teacher hands out, by name. The teacher's own code isn't among them.
+
+        name: a seat or `wall`, for its code only; "" for all codes. The result is empty for an unknown name.
+        """
         return {each: code for each, code in self.codes.items() if each != TEACHER and name in ("", each)}
 
     def renew(self, seat: str) -> None:
-        """Gives a seat another code; the old one opens nothing from now on."""
+        """Give a seat a new code. The old one is no longer valid."""
         self.codes[seat] = new_code()

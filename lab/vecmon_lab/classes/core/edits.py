@@ -12,11 +12,14 @@ _DECIMAL, _HEXADECIMAL = re.compile(r"-?[0-9]{1,20}"), re.compile(r"(0x)?[0-9A-F
 
 
 def edit_line(edit: str, text: str, is_decimal: bool, v: Mapping[str, str]) -> str:
-    """Return the line that writes a text where an edit says.
+    """Return the monitor's line that writes a typed value to the place that an edit names.
 
-    edit: `setpc`, `poke 20000`, `set x5`, or `vset v1 32 3 signed`: a vector register, an element's bits (1 for a bit of a mask) and index,
-    and the form in which pages show it; is_decimal: whether they show scalar registers in decimal; v: the vector registers' bytes by number
-    Raises BadRequest for any other edit, and for a text that is no number or doesn't fit.
+    edit: `setpc`, `poke 20000`, `set x5`, or `vset v1 32 3 signed`. The last one names a vector register, the number of bits of an
+        element (1 for a bit of a mask), its index, and the form in which pages show it.
+    text: the typed value; is_decimal: whether pages show scalar registers in decimal
+    v: the bytes of each vector register in hexadecimal digits, by the register's number
+    Raises BadRequest for any other edit or a missing element, and if the text for a register isn't a number that fits. The machine
+    checks the texts for `setpc` and `poke`.
     """
     found = _EDIT.fullmatch(edit)
     if not found:
@@ -36,7 +39,10 @@ def edit_line(edit: str, text: str, is_decimal: bool, v: Mapping[str, str]) -> s
 
 
 def _value(text: str, is_decimal: bool, bits: int) -> int:
-    """The number of a text, signed or not, modulo 2^bits; one that starts with 0x is hexadecimal. Raises BadRequest."""
+    """Return the number in a text, modulo 2^bits. A text that starts with 0x is always hexadecimal.
+
+    Raises BadRequest if the text isn't a number from -2^(bits - 1) to 2^bits - 1.
+    """
     is_decimal = is_decimal and not text.startswith("0x")
     if (_DECIMAL if is_decimal else _HEXADECIMAL).fullmatch(text):
         value = int(text, 10 if is_decimal else 16)
@@ -49,12 +55,13 @@ def _value(text: str, is_decimal: bool, bits: int) -> int:
 def breakpoint_lines(
     stops: Mapping[str, Sequence[str]], breaks: Sequence[str], line: int, is_only_set: bool = False
 ) -> list[str]:
-    """Return the lines that set all breakpoints of a line of the source, or remove those that are there.
+    """Return the lines that set all breakpoints of a line of the source, or that remove its breakpoints if any of them is set.
 
-    A line without instructions has the breakpoints of the next line with one.
-    stops: the addresses of each line's breakpoints, by its number; breaks: those of all breakpoints in the machine
-    is_only_set: whether those that are there stay
-    Raises BadRequest if neither the line nor one after it has an instruction, and if not all of its breakpoints can be set.
+    A line without instructions has the breakpoints of the next line that has an instruction.
+    stops: the addresses of the breakpoints of each line of the source, by the line's number
+    breaks: the addresses of all breakpoints that are set in the machine; line: the number of the line
+    is_only_set: whether breakpoints that are set stay, and the missing ones are set
+    Raises BadRequest if neither the line nor a later one has an instruction, and if not all of its breakpoints can be set.
     """
     place = _place(sorted(map(int, stops)), line)
     there = [address for address in stops.get(f"{place}", []) if address in breaks]
@@ -69,9 +76,9 @@ def breakpoint_lines(
 def setting_lines(
     stops: Mapping[str, Sequence[str]], breaks: Sequence[str], numbers: Sequence[int]
 ) -> tuple[list[str], list[str]]:
-    """Return the lines that set all breakpoints of lines of the source, and a sentence for each reason why some have none.
+    """Return the lines that set all breakpoints of some lines of the source, and a sentence for each reason why a line gets none.
 
-    stops, breaks: as for `breakpoint_lines`
+    numbers: the numbers of the lines; stops, breaks: as for `breakpoint_lines`
     """
     there, missing, crowded, needed = set(breaks), list[int](), dict[int, None](), set[str]()
     added, places = list[str](), sorted(map(int, stops))
@@ -93,7 +100,10 @@ def setting_lines(
 
 
 def _place(places: Sequence[int], line: int) -> int:
-    """The number of a line, or of the next one that has an instruction; 0 if none has. places: those of lines that have, in rising order"""
+    """Return the number of the first line that has an instruction, beginning with `line`; 0 if there is none.
+
+    places: the numbers of lines with instructions, in rising order
+    """
     at = bisect_left(places, line)
     return places[at] if at < len(places) else 0
 
@@ -104,7 +114,7 @@ def _no_instruction(lines: Sequence[int]) -> str:
 
 
 def _no_room(lines: Sequence[int], needed: int, left: int) -> str:
-    """The refusal of lines that need more breakpoints than the machine has left."""
+    """Return the refusal of lines that need more breakpoints than the machine has left. needed, left: the numbers of breakpoints"""
     need = "needs" if len(lines) == 1 else "need"
     breakpoints = "1 breakpoint" if needed == 1 else f"{needed} breakpoints"
     rest = f"{left or 'none'} of {MAX_BREAKPOINTS} {'is' if left < 2 else 'are'} left"
@@ -112,6 +122,6 @@ def _no_room(lines: Sequence[int], needed: int, left: int) -> str:
 
 
 def _named(lines: Sequence[int]) -> str:
-    """Lines by their numbers, as `Lines 3, 4 and 9`."""
+    """Return a phrase that names lines by their numbers, such as `Lines 3, 4 and 9`."""
     *first, last = map(str, lines)
     return f"Lines {', '.join(first)} and {last}" if first else f"Line {last}"

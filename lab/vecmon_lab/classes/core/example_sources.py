@@ -12,11 +12,13 @@ from ...tables.table import read_table
 from .languages import C
 
 LESSON = "lesson.s"  # in the folder of an exercise
-_OF_LESSONS = re.compile(r"^(?:#|//)> *(?:step|go|out)\b.*\n", re.MULTILINE)  # lines that pages don't take
+_OF_LESSONS = re.compile(
+    r"^(?:#|//)> *(?:step|go|out)\b.*\n", re.MULTILINE
+)  # lines of lessons, which other pages don't execute
 
 
 class ExampleSource(TypedDict):
-    """A source to begin with.
+    """A source that the start page offers.
 
     group: the heading that it is below; name: of its file; about: a sentence, with backquotes around code
     language: its number
@@ -31,7 +33,7 @@ class ExampleSource(TypedDict):
 
 
 def example_sources() -> list[ExampleSource]:
-    """The examples with their groups in order: assembler, with the course's lessons; flawed ones; C."""
+    """Return the examples in the order of their groups: assembler, with the lessons of the course; sources with flaws; C."""
     lessons = [OURS / name / LESSON for name, _ in read_table("course")]
     groups = {
         page_text("author.assembler"): [*sorted(EXAMPLES.glob("*.s")), *lessons],
@@ -42,9 +44,9 @@ def example_sources() -> list[ExampleSource]:
 
 
 def _example(group: str, path: pathlib.Path) -> ExampleSource:
-    """The example in a file: its title is in a line that begins with ##, and its sentence in the first comments.
+    """Return the example in a file. The comments at its start have the title, in a line that begins with ##, and the sentence.
 
-    A lesson of the course is named after its title, since its folder has the name of the exercise after it.
+    A lesson of the course gets a file name from its title: the file itself is called `lesson.s`, in the folder of the exercise after it.
     """
     text = path.read_text("utf-8")
     comments = _first_comments(text.splitlines())
@@ -58,13 +60,13 @@ def _example(group: str, path: pathlib.Path) -> ExampleSource:
 
 
 def _file_name(title: str) -> str:
-    """The name of a title's file: its words up to the first comma, without an article, as `losses_halved.s`."""
+    """Return a file name for a title: the words before the first comma, without an article at the start, such as `losses_halved.s`."""
     words = re.sub("^(The|An?) ", "", title.partition(",")[0])
     return f"{words.lower().replace(' ', '_')}.s"
 
 
 def _first_comments(lines: Iterable[str]) -> list[str]:
-    """The comments at the start of a source."""
+    """Return the comment lines at the start of a source."""
     comments = list[str]()
     for line in lines:
         if not re.match("#(?!include)|//", line):

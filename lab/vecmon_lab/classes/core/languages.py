@@ -1,4 +1,4 @@
-"""The languages of sources: the lab's assembler, C by options of a compiler, and a stock assembler; by their numbers."""
+"""The languages of sources, by number: the lab's assembler, C with each choice of a compiler's options, and a stock assembler."""
 
 from dataclasses import dataclass
 
@@ -7,7 +7,11 @@ from ...compilers.compiler import C_SOURCE, CHOICES
 
 @dataclass(frozen=True)
 class Language:
-    """A language: its name on pages, the suffix of files, and the number of the compiler's options, if that takes it."""
+    """The language of a source.
+
+    name: the name that pages show; suffix: the suffix of its files, without the first dot
+    choice: the number of the compiler's options in CHOICES; None for the lab's assembler
+    """
 
     name: str
     suffix: str
@@ -23,7 +27,7 @@ LANGUAGES = [
 ]
 NUMBERS = {language.suffix: number for number, language in enumerate(LANGUAGES)}
 C = NUMBERS[f"{CHOICES[0].name}.c"]
-"""The number of C with the options that are meant where nothing else is said."""
+"""The number of C with the default options."""
 
 
 @dataclass(frozen=True)
@@ -35,7 +39,7 @@ class SourceText:
 
     @property
     def suffix(self) -> str:
-        """That of its file."""
+        """The suffix of the source's file."""
         return LANGUAGES[self.language].suffix
 
     @property

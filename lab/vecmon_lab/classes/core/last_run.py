@@ -1,23 +1,33 @@
 """The registers before the last instruction of a run: a second machine executes the script up to there.
 
-A run executes a slice of instructions at once, so that the state before the last one isn't seen. The second machine gets the
-lines before those slices, the slices before the user's last one, and steps through that one.
+A run executes the instructions of a slice at once, so the state before the last instruction isn't seen. The second machine executes
+the lines before the run and the slices before the user's last slice. Then it steps through this last slice.
 """
 
+from collections.abc import Sequence
 from dataclasses import dataclass
 
 from ...guest.guest import VECTOR_LOOKS, Guest
-from ...machine.answers import Addresses, ControlRegisters, Position, ScalarRegisters, VectorRegister, is_stop
+from ...machine.answers import (
+    Addresses,
+    ControlRegisters,
+    Position,
+    ScalarRegisters,
+    VectorRegister,
+    is_refusal,
+    is_stop,
+)
 from ...machine.lines import words_of
 from ...machine.session import TOGETHER, Session
 from ...page.state import State, set_registers, set_vectors
+from .seats import may_change
 
 
 @dataclass(frozen=True)
 class Run:
     """A run, or several steps at once, of a user.
 
-    session: its machine; script: the lines before the last line that executed the user's instructions; line: that line
+    session: the user's machine; line: the last line that executed the user's instructions; script: the lines before this line
     """
 
     session: Session
@@ -25,8 +35,40 @@ class Run:
     line: str
 
 
+class LastRuns:
+    """For each user, by digit, the last line that ended a run of the user's program or stepped it."""
+
+    def __init__(self) -> None:
+        self._lines: dict[str, tuple[Session, int]] = {}  # the session, and the line's number in its script
+
+    def follow(self, session: Session, line: str, answer: Sequence[str], number: int) -> None:
+        """Take up an executed line and its answer. number: the number of the line in the session's script, from 1 on"""
+        digit, words = line[0], words_of(line)
+        if may_change(line, answer) and words != ["out"]:
+            self._lines.pop(digit, None)
+        if words[:1] in (["slices"], ["run"]):
+            self._lines.update({part[0]: (session, number) for part in answer if is_stop(part)})
+        elif words[:1] == ["step"] and not is_refusal(answer):
+            self._lines[digit] = session, number
+
+    def has(self, digit: str) -> bool:
+        """Return whether there is a line for a user, so that `run` may be called."""
+        return digit in self._lines
+
+    def run(self, digit: str, present: Session) -> Run | None:
+        """Return a user's last run; None if a checkpoint or another script has replaced its line.
+
+        present: the session of the machine now
+        """
+        session, number = self._lines[digit]
+        return run_at(session, number) if session is present else None
+
+
 def run_at(session: Session, number: int) -> Run | None:
-    """The run that the line of this number of a session's script ended; None if a checkpoint has replaced the line."""
+    """Return the run that ended with a line of a session's script; None if a checkpoint has replaced the line.
+
+    number: the number of the line, from 1 on
+    """
     after = session.lines - number
     lines = session.short_script.splitlines(keepends=True)
     if number <= session.recorded.base[0].number or after < 0:
@@ -36,9 +78,9 @@ def run_at(session: Session, number: int) -> Run | None:
 
 
 def state_before(run: Run, digit: str, address: int) -> State | None:
-    """The registers before the last instruction of a user's run, which is at an address; None if it wasn't executed there.
+    """Return the registers before the last instruction of a user's run; None if that instruction isn't at `address`.
 
-    Raises LabError where the script can't be executed again.
+    Raises LabError if the script can't be executed again.
     """
     words = words_of(run.line)
     slices = _slices_before(run, digit, int(words[1])) if words[0] == "slices" else 0
@@ -52,7 +94,10 @@ def state_before(run: Run, digit: str, address: int) -> State | None:
 
 
 def _slices_before(run: Run, digit: str, number: int) -> int:
-    """The number of slices before the one in which a user's program stops, of those that a line grants."""
+    """Return how many slices of a run come before the slice in which a user's program stops; 0 if it doesn't stop.
+
+    number: the number of slices that the run's line grants
+    """
     granted = 0
     with run.session.rewound(run.script) as copy:
         while granted < number:
@@ -65,7 +110,10 @@ def _slices_before(run: Run, digit: str, number: int) -> int:
 
 
 def _walk(guest: Guest, address: int, most: int) -> State | None:
-    """Step to a stop or a breakpoint, at most this number of times; return the state before the last step from an address."""
+    """Step to a stop or a breakpoint, at most `most` times.
+
+    Return the state before the last step that began at `address`; None if no step began there.
+    """
     breaks = guest.query("breaks", Addresses).addresses
     found: State | None = None
     for _ in range(most):

@@ -25,9 +25,9 @@ def is_servers(line: str) -> bool:
 
 
 def with_output(done: Iterable[tuple[str, Sequence[str]]], states: dict[str, State]) -> dict[str, bool]:
-    """Return the users whose stopped programs may have output; and whether each goes on with an empty buffer.
+    """Return by digit the users whose stopped programs may have output: True if the program resumes once its buffer is empty.
 
-    done: lines and their answers; states: those before, by digit
+    done: executed lines and their answers; states: the states of users before these lines, by digit
     """
     steps = dict.fromkeys(states, 0)
     still: dict[str, bool] = {}
@@ -47,9 +47,9 @@ def with_output(done: Iterable[tuple[str, Sequence[str]]], states: dict[str, Sta
 
 
 def _calls(state: State, steps: int) -> bool:
-    """Whether one of this number of steps from a state on may call the system, by its listing."""
+    """Return whether any of the next `steps` instructions after a state may be a system call, by the state's listing."""
     code = state.get("code", {})
     if steps == 1:
         return code.get(state.get("pc", ""), "ecall").endswith("ecall")
-    # a listing has only this number of executed instructions
+    # a listing has at most TRACED executed instructions
     return steps > TRACED or any(text.endswith("ecall") for text in code.values())

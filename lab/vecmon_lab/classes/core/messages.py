@@ -1,4 +1,4 @@
-"""Messages to pages of a class (docs/CLASS_PROTOCOL.md): answers, and the news that a page hasn't got yet."""
+"""Messages to pages of a class (docs/CLASS_PROTOCOL.md): responses to requests, and news."""
 
 import json
 from collections.abc import Mapping, Sequence
@@ -6,6 +6,7 @@ from typing import Literal, NotRequired, TypedDict, TypeVar, cast
 
 from ...assembler.commands import refusal_on_pages
 from ...assembler.mistakes import Mistake
+from ...assembler.source import LineType
 from ...exercises.check import CheckResult
 from ...page.build.pages import merge_patch
 from ...page.state import State
@@ -102,7 +103,7 @@ class Hello(Changes):
 
 
 class Beat(TypedDict):
-    """The answer to `{"ask":"beat"}`."""
+    """The response to `{"ask":"beat"}`."""
 
     kind: Literal["beat"]
 
@@ -118,7 +119,10 @@ class NoResult(TypedDict):
 
 
 class LinesResult(TypedDict):
-    """The answers to lines that were executed and to read-only ones; words: of each of `do` the explanation of a refusal, or "\" """
+    """The answers to executed lines and to read-only ones.
+
+    words: for each line of `do` the explanation of its refusal; an empty text without one
+    """
 
     do: Answers
     look: Answers
@@ -130,6 +134,12 @@ class SourceResult(TypedDict):
 
     mistakes: list[Mistake]
     warnings: list[Mistake]
+
+
+class ProblemsResult(SourceResult):
+    """The mistakes of a source, and the vector types at its lines; none of one that a compiler takes."""
+
+    types: Sequence[LineType]
 
 
 class TextResult(TypedDict):
@@ -170,14 +180,20 @@ class WhyResult(TypedDict):
 
 
 class CodesResult(TypedDict):
-    """Codes by seat; pictures: of a sheet to print, by seat, and by "" of the address alone"""
+    """Codes by seat.
+
+    pictures: QR codes for a sheet to print, by seat; by "" that of the address without a code
+    """
 
     codes: dict[str, str]
     pictures: NotRequired[dict[str, str]]
 
 
 class Refusal(TypedDict):
-    """The reason why a request was refused; the answers to lines that were executed before, and their words as in `LinesResult`."""
+    """The reason why a request was refused.
+
+    done, words: the answers to lines that were executed before, and explanations as in `LinesResult`
+    """
 
     error: str
     done: Answers
@@ -188,6 +204,7 @@ Result = (
     NoResult
     | LinesResult
     | SourceResult
+    | ProblemsResult
     | TextResult
     | TryResult
     | ListingsResult
@@ -200,104 +217,108 @@ Result = (
 )
 
 
-class AnswerHead(Changes):
-    """The answer to a request, by its number."""
+class ResponseHead(Changes):
+    """The response to the request of this number. Pages know it by the kind `answer`."""
 
     kind: Literal["answer"]
     id: int
 
 
-class EmptyAnswer(AnswerHead, NoResult):
-    """The answer to a request that returns nothing."""
+class EmptyResponse(ResponseHead, NoResult):
+    """The response to a request that returns nothing."""
 
 
-class LinesAnswer(AnswerHead, LinesResult):
-    """The answer to lines."""
+class LinesResponse(ResponseHead, LinesResult):
+    """The response to lines."""
 
 
-class SourceAnswer(AnswerHead, SourceResult):
-    """The answer to `source`, `again`, `case`, `problems`, `run` and `step`."""
+class SourceResponse(ResponseHead, SourceResult):
+    """The response to `source`, `again`, `case`, `run` and `step`."""
 
 
-class TextAnswer(AnswerHead, TextResult):
-    """The answer to `version`."""
+class ProblemsResponse(ResponseHead, ProblemsResult):
+    """The response to `problems`."""
 
 
-class TryAnswer(AnswerHead, TryResult):
-    """The answer to `answer`."""
+class TextResponse(ResponseHead, TextResult):
+    """The response to `version`."""
 
 
-class ListingsAnswer(AnswerHead, ListingsResult):
-    """The answer to `listings`."""
+class TryResponse(ResponseHead, TryResult):
+    """The response to `answer`."""
 
 
-class ReplacedAnswer(AnswerHead, ReplacedResult):
-    """The answer to `give` and `take-back`."""
+class ListingsResponse(ResponseHead, ListingsResult):
+    """The response to `listings`."""
 
 
-class UnsentAnswer(AnswerHead, UnsentResult):
-    """The answer to `unsend`."""
+class ReplacedResponse(ResponseHead, ReplacedResult):
+    """The response to `give` and `take-back`."""
 
 
-class WhyAnswer(AnswerHead, WhyResult):
-    """The answer to `why`."""
+class UnsentResponse(ResponseHead, UnsentResult):
+    """The response to `unsend`."""
 
 
-class PastAnswer(AnswerHead, PastResult):
-    """The answer to `past`."""
+class WhyResponse(ResponseHead, WhyResult):
+    """The response to `why`."""
 
 
-class CodesAnswer(AnswerHead, CodesResult):
-    """The answer to `codes` and `renew`."""
+class PastResponse(ResponseHead, PastResult):
+    """The response to `past`."""
 
 
-class RefusedAnswer(AnswerHead, Refusal):
-    """The answer to a request that was refused."""
+class CodesResponse(ResponseHead, CodesResult):
+    """The response to `codes` and `renew`."""
 
 
-Answer = (
-    EmptyAnswer
-    | LinesAnswer
-    | SourceAnswer
-    | TextAnswer
-    | TryAnswer
-    | ListingsAnswer
-    | ReplacedAnswer
-    | UnsentAnswer
-    | WhyAnswer
-    | PastAnswer
-    | CodesAnswer
-    | RefusedAnswer
+class RefusedResponse(ResponseHead, Refusal):
+    """The response to a request that was refused."""
+
+
+Response = (
+    EmptyResponse
+    | LinesResponse
+    | SourceResponse
+    | ProblemsResponse
+    | TextResponse
+    | TryResponse
+    | ListingsResponse
+    | ReplacedResponse
+    | UnsentResponse
+    | WhyResponse
+    | PastResponse
+    | CodesResponse
+    | RefusedResponse
 )
-Message = Hello | News | Beat | Answer
+Message = Hello | News | Beat | Response
 
 WithChanges = TypeVar("WithChanges", Hello, News)
 
 
 class Updates:
-    """The state of a page: its view, and the number of entries of each log."""
+    """The state of a page by the messages that it got: its view, and the number of entries of each log."""
 
     def __init__(self) -> None:
         self.view: Mapping[str, object] = {}
         self.since: dict[str, int] = {}
 
     def news(self, view: Mapping[str, object], seats: Sequence[Seat]) -> Changes:
-        """The changes since: a patch of its view, and new entries of the logs of seats."""
+        """Return the changes since the last message: a patch of the view, and new entries of the logs of seats."""
         patch, self.view = merge_patch(self.view, view), view
         news: Changes = {"patch": patch} if patch else {}
         logs = Logs()
         for seat in seats:
-            new = seat.number - self.since.get(seat.name, 0)
-            if new:
-                logs[seat.name] = list(seat.log)[-new:]
-            self.since[seat.name] = seat.number
+            if new := seat.log.since(self.since.get(seat.name, 0)):
+                logs[seat.name] = new
+            self.since[seat.name] = seat.log.count
         if logs:
             news["logs"] = logs
         return news
 
 
 def request_of(text: str) -> tuple[int, JsonObject]:
-    """The number and the object of a request. Raises BadRequest and ValueError."""
+    """Parse a request; return its number and its object. Raises BadRequest and ValueError."""
     message = json.loads(text)
     if not isinstance(message, dict) or type(message.get("id")) is not int:
         raise BadRequest("a request is an object with a whole number as id")
@@ -305,13 +326,13 @@ def request_of(text: str) -> tuple[int, JsonObject]:
 
 
 def with_changes(message: WithChanges, changes: Changes) -> WithChanges:
-    """A greeting or news with these changes."""
+    """Return a greeting or news with these changes."""
     return cast(WithChanges, {**message, **changes})
 
 
-def answer_to(number: int, result: Result, changes: Changes) -> Answer:
-    """The answer to the request of a number; the fields of a type of `Result` and of `AnswerHead` are those of a type of `Answer`."""
-    return cast(Answer, {"kind": "answer", "id": number, **result, **changes})
+def response_to(number: int, result: Result, changes: Changes) -> Response:
+    """Return the response to the request of a number. For each type of `Result` there is one of `Response` with its fields."""
+    return cast(Response, {"kind": "answer", "id": number, **result, **changes})
 
 
 def explain_refusals(result: Result, digit: str, request: JsonObject, done: Answers) -> Result:
@@ -325,7 +346,7 @@ def explain_refusals(result: Result, digit: str, request: JsonObject, done: Answ
 
 
 def source_view(source: SeatSource, seat: Seat, titles: Mapping[str, str]) -> SourceView:
-    """The source of a seat, for pages. titles: of exercises, by name"""
+    """Return the source of a seat, for pages. titles: of exercises, by name"""
     versions: list[dict[str, object]] = [
         {**each, "title": titles.get(each["exercise"], each["exercise"])} for each in source.versions
     ]
@@ -334,7 +355,7 @@ def source_view(source: SeatSource, seat: Seat, titles: Mapping[str, str]) -> So
         "language": source.own.language,
         "number": source.number,
         "exercise": source.exercise,
-        "stands": source.own == seat.written,
+        "stands": source.own == seat.loaded.source,
         "versions": cast(list[VersionView], versions),
     }
     if source.is_given:
@@ -345,8 +366,8 @@ def source_view(source: SeatSource, seat: Seat, titles: Mapping[str, str]) -> So
 
 
 def shown(seat: Seat) -> State:
-    """A seat's state as pages show it."""
-    shown = cast(State, {**seat.shown, **seat.named})
-    if seat.output:
-        shown["outputs"] = seat.output
+    """Return a seat's state as pages show it."""
+    shown = cast(State, {**seat.display.shown, **seat.loaded.names})
+    if seat.execution.output:
+        shown["outputs"] = seat.execution.output
     return shown

@@ -1,4 +1,4 @@
-"""Earlier states of a seat's program: its own lines are executed again on a private machine."""
+"""Earlier states of a seat's program, found by executing the seat's lines again on a private machine."""
 
 import copy
 import time
@@ -7,22 +7,23 @@ from typing import NotRequired, TypedDict
 
 from ...machine.answers import Answer, Position
 from ...page.register_groups import RegisterGroups
-from ...page.state import State, WatchSet, add_last_instruction, look_at, with_rows
+from ...page.state import State, WatchSet, add_last_instruction, look_at
 from ...replay.histories import UserHistory
 from ...replay.history import IsDue
 from ...replay.own_lines import Instant
 from .bad_request import BadRequest
-from .seats import Condition, Seat, condition_after, output_blocks
+from .execution import Condition, condition_after, output_blocks
+from .seats import Seat
 
 SHARE = 500_000_000  # instructions that a seat's replays may execute at once
-REFILL = 5_000_000  # that are added to what is left of them each second
+REFILL = 5_000_000  # instructions by which the rest of the share grows each second
 
 
 class HistoryView(TypedDict):
-    """What is known of a seat's history.
+    """The history of a seat's program, as far as it is known.
 
-    number: how often it began anew: moments of another number belong to another program
-    end: how many instructions the program has executed, if they are counted
+    number: how often the history has begun: moments of another number are of another program
+    end: the number of instructions that the program has executed, once they are counted
     """
 
     number: int
@@ -30,11 +31,11 @@ class HistoryView(TypedDict):
 
 
 class Moment(TypedDict):
-    """A state of the past.
+    """An earlier state.
 
-    at: after this number of instructions; end: how many there are up to the present
-    state, before: without the names of the source and the breakpoints; and the state before the last instruction
-    condition: of the machine there
+    at: the number of instructions before it; end: their number up to the present
+    state, before: this state, and the one before its last instruction, both without names of the source and breakpoints
+    condition: of the machine in this state
     """
 
     at: int
@@ -45,10 +46,10 @@ class Moment(TypedDict):
 
 
 class PastResult(TypedDict):
-    """A moment, or how much of the replay is done, which goes on with the same request.
+    """A moment, or the progress of a replay, which the same request continues.
 
-    number: of the history; moment: missing if it is the present; percent: of a replay that isn't at its end
-    text, language: of the source in the machine, if the seat's source is another one
+    number: of the history; moment: missing if it is the present; percent: the progress, if the replay isn't complete
+    text, language: the source in the machine, if the seat's source differs from it
     """
 
     number: int
@@ -59,10 +60,10 @@ class PastResult(TypedDict):
 
 
 class Budget:
-    """A seat's share of the processor for replays, which fills up with time."""
+    """The number of instructions that a seat's replays may still execute. It starts at `share`, and grows each second up to `share`."""
 
     def __init__(self, share: int = SHARE, refill: int = REFILL, now: Callable[[], float] = time.monotonic) -> None:
-        """share: in instructions; refill: instructions each second; now: the time in seconds"""
+        """share: in instructions; refill: instructions that are added each second; now: returns the time in seconds"""
         self._share, self._refill, self._now = share, refill, now
         self._left, self._since = float(share), now()
 
@@ -76,14 +77,15 @@ class Budget:
             raise BadRequest(f"going back has used up this seat's share of the processor: try again in {seconds} s")
 
     def spend(self, instructions: int) -> None:
-        """Take executed instructions from the share."""
+        """Subtract executed instructions from the rest of the share, which may become negative."""
         self._left -= instructions
 
 
 def moment_at(seat: Seat, history: UserHistory, at: int, is_due: IsDue) -> PastResult:
-    """The moment after a number of instructions, negative from the end; or how much is done if it is due before.
+    """Return the moment after `at` instructions, or the progress of the replay if its time is over first.
 
-    Raises LabError as a replay does.
+    at: a negative number counts back from the end; is_due: returns whether the time is over
+    The result has no moment if `at` is the present or later. Raises LabError if the replay fails.
     """
     number, end = history.run.number, history.count(is_due)
     if end is None:
@@ -94,8 +96,8 @@ def moment_at(seat: Seat, history: UserHistory, at: int, is_due: IsDue) -> PastR
     earlier = history.at(max(0, at - 1), is_due)
     if earlier is None:
         return {"number": number, "percent": history.run.percent}
-    watch_set = copy.deepcopy(seat.watch_set)
-    watch_set.groups = RegisterGroups()  # of the present program counter
+    watch_set = copy.deepcopy(seat.display.watch_set)
+    watch_set.groups = RegisterGroups()  # the copied groups are those at the present program counter
     before = _state_of(earlier, watch_set, {"run": "absent"})
     state = before
     instant: Instant | None = earlier
@@ -110,13 +112,12 @@ def moment_at(seat: Seat, history: UserHistory, at: int, is_due: IsDue) -> PastR
         add_last_instruction(state, before)
     if instant.output:
         state["outputs"] = output_blocks({}, instant.output.hex())
-    rows = seat.rows.rows(seat.watch_set, 1 + seat.watch_set.is_compiled)
     moment: Moment = {
         "at": at,
         "end": end,
-        "state": with_rows(state, rows),
-        "before": with_rows(before, rows),
-        "condition": condition_after(instant.stop, is_started=at > 0),
+        "state": seat.display.with_rows(state),
+        "before": seat.display.with_rows(before),
+        "condition": condition_after(instant.stop, has_started=at > 0),
     }
     return {"number": number, "moment": moment}
 
@@ -126,13 +127,13 @@ def _never() -> bool:
 
 
 def _answers(instant: Instant) -> Sequence[Answer]:
-    """The answers to the step that came to a moment."""
+    """Return the answers to the step that led to an instant."""
     pc = instant.guest.query("state", Position).pc
     return [Position("stepped", pc, 1), *([instant.stop] if instant.stop else [])]
 
 
 def _state_of(instant: Instant, watch_set: WatchSet, before: State, answers: Sequence[Answer] = ()) -> State:
-    """The state of a moment."""
+    """Return the state at an instant. before: the state before it; answers: the answers to the step that led to it"""
     state = look_at(instant.guest, watch_set, before, answers)
     state.pop("output", None)
     state.pop("breaks", None)

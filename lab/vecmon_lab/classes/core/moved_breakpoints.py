@@ -1,4 +1,4 @@
-"""The breakpoints of a program in the program of a changed source."""
+"""Breakpoints of a program, moved to the program of a changed source."""
 
 from collections import Counter
 from collections.abc import Iterable, Sequence
@@ -8,14 +8,14 @@ from ...assembler.source import Program
 from ...compilers.compiled import CompiledProgram
 
 MAX_BREAKPOINTS = 16  # of a user
-MAX_EQUAL_PAIRS = 100_000  # of lines that are compared, an old one and a new one: the time grows with this number
+MAX_EQUAL_PAIRS = 100_000  # of an old and a new line; the time of a comparison grows with their number
 
 
 def moved_breakpoints(addresses: Iterable[int], before: Program, old: str, after: Program, new: str) -> list[int]:
     """Return the addresses of breakpoints at the same lines of a changed source, in rising order.
 
-    before, old: the program with these breakpoints, and its source; after, new: those that replace them. A breakpoint that
-    is at no line, or whose line is gone, is left out.
+    before, old: the program with these breakpoints, and its source; after, new: the program and the source that replace them
+    A breakpoint that is at no line, or whose line is gone, is left out. At most MAX_BREAKPOINTS are returned.
     """
     lines, firsts, starts = _moved_lines(old, new), before.addresses(), after.addresses()
     moved = set[int]()
@@ -31,9 +31,10 @@ def moved_breakpoints(addresses: Iterable[int], before: Program, old: str, after
 
 
 def _moved_lines(old: str, new: str) -> dict[int, int]:
-    """The number of each line of a text in a changed text, without lines that are gone; the first is 1.
+    """Return the new number of each line of a text in a changed text, by its old number. Numbers start at 1.
 
-    Of the lines from the first change to the last one, too many equal pairs aren't compared: these lines count as replaced.
+    Lines that are gone are left out. If the lines from the first change to the last one have too many equal pairs to compare, they
+    all count as replaced.
     """
     before, after = old.split("\n"), new.split("\n")
     head = _equal_at_start(before, after)
@@ -48,13 +49,15 @@ def _moved_lines(old: str, new: str) -> dict[int, int]:
 
 
 def _equal_at_start(before: Sequence[str], after: Sequence[str]) -> int:
-    """How many lines at the start of two texts are equal."""
+    """Return how many lines at the start of two texts are equal."""
     pairs = enumerate(zip(before, after))
     return next((place for place, (own, other) in pairs if own != other), min(len(before), len(after)))
 
 
 def _changes(before: Sequence[str], after: Sequence[str]) -> Sequence[tuple[str, int, int, int, int]]:
-    """The changes between two lists of lines, as `SequenceMatcher.get_opcodes` returns them."""
+    """Return the changes between two lists of lines, as `SequenceMatcher.get_opcodes` does.
+    If the lists have too many equal pairs, the whole first list counts as replaced by the second one.
+    """
     counts, others = Counter(before), Counter(after)
     if sum(count * others[line] for line, count in counts.items()) > MAX_EQUAL_PAIRS:
         return [("replace", 0, len(before), 0, len(after))]

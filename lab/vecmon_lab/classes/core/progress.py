@@ -11,21 +11,23 @@ from ...exercises.exercise import Case, Exercise
 from .codes import new_code
 from .languages import NUMBERS, C, SourceText
 from .bad_request import BadRequest
-from .seats import TriedCase
+from .loaded import TriedCase
 
 MAX_TRIES = 200  # of a seat at an exercise
-MAX_FAILURES = 50  # of checks, which the teacher is shown
-STUCK_SECONDS, STUCK_TRIES = 600, 3  # at an open exercise, and failed tries, after which a student may need somebody
+MAX_FAILURES = 50  # the last failed checks, which the teacher sees
+# A student may need somebody if an exercise has been open for this time, and this number of tries has failed.
+STUCK_SECONDS, STUCK_TRIES = 600, 3
 
 Try = TypedDict("Try", {"time": int, "text": str, "suffix": NotRequired[str], "told": CheckResult})
-"""An answer: when, in seconds since 1970; the source, and that of its language, else `s`; and the result of its check."""
+"""A checked answer: its time in seconds since 1970, its text, the suffix of its language (`s` without one), and `told`, the result."""
 CheckFailure = TypedDict("CheckFailure", {"seat": str, "exercise": str, "time": int, "cause": str})
 """A check that failed twice on the server's side: the seat, the exercise, the time in seconds since 1970, and the cause."""
 PendingCheck = TypedDict("PendingCheck", {"exercise": str, "number": int, "text": str, "language": int})
 """A check under way: the exercise, the number of the try that it may become, the source, and the number of its language."""
 Start = TypedDict("Start", {"text": str, "language": int})
 SeatResult = TypedDict("SeatResult", {"tries": int, "passed": int, "best": int, "time": int})
-"""Of a seat at an exercise: tries; which passed first, or 0; the most cases that passed; when it passed, or the last."""
+"""The results of a seat at an exercise: the number of tries; the number of the first try that passed, or 0; the most cases that passed
+in one try; and the time of the first try that passed, or else of the last one, in seconds since 1970."""
 
 
 class CaseView(TypedDict):
@@ -37,12 +39,13 @@ class CaseView(TypedDict):
 
 
 class ExerciseView(TypedDict):
-    """An exercise on a student's page: of a hidden case the name, and whether it passes; the hints that are due.
+    """An exercise on a student's page.
 
     number: its place among the exercises, from 1 on
-    starts: sources to start with, the preferred one first; of two one is in C
+    starts: sources to start with, the preferred one first: one in assembler, one in C, or both
     unsigned: whether all numbers in the memory of its cases are unsigned, and so those that the page shows
-    hint_count: of those that are due and others; best: the most cases that passed in one try
+    hints: those that are due; hint_count: the number of all hints; best: the most cases that passed in one try
+    told: the result of the last check; checking: whether an answer is being checked
     before: the path of the lesson before it; "" for none
     lesson: the path of a lesson of the case that failed first; "" for none
     """
@@ -66,9 +69,11 @@ class ExerciseView(TypedDict):
 
 @dataclass
 class Progress:
-    """The progress of a seat in an exercise: time and number of passed cases of each try, and all of the last one.
+    """The progress of a seat in an exercise.
 
-    first: number of the first try that passed, or 0; ticket: opens a lesson of the last one
+    tries: the time and the number of passed cases of each try; first: the number of the first try that passed, or 0
+    source: the source of the last try; last_result: the result of the last check
+    ticket: opens a lesson on the last try; "" if there is none
     """
 
     tries: list[tuple[int, int]] = field(default_factory=list)
@@ -78,7 +83,7 @@ class Progress:
     ticket: str = ""
 
     def add(self, done: Try) -> bool:
-        """Adds the result of a check; returns whether it counts as a try, which mistakes of form don't."""
+        """Add the result of a check; return whether it counts as a try. A source with mistakes doesn't count."""
         self.last_result, self.ticket = done["told"], ""
         if "cases" not in self.last_result:
             return False
@@ -95,7 +100,7 @@ class Progress:
         return max((passed for _, passed in self.tries), default=0)
 
     def stuck_since(self, opened: float) -> float | None:
-        """When its student was stuck at the exercise, in seconds since 1970; None if that isn't so.
+        """Return since when the student is stuck at the exercise, in seconds since 1970; None if the student isn't stuck.
 
         opened: when the exercise was opened
         """
@@ -105,7 +110,7 @@ class Progress:
         return since if since <= time.time() else None
 
     def result(self) -> SeatResult:
-        """The row of a teacher's table."""
+        """Return the seat's results for the teacher's table. There has to be a try."""
         which = self.first or len(self.tries)
         return {"tries": len(self.tries), "passed": self.first, "best": self.best, "time": self.tries[which - 1][0]}
 
@@ -113,10 +118,10 @@ class Progress:
 class Exercises:
     """Exercises by name, the sources that each may start with, and the progress of each seat.
 
-    by_name: those that students have, in their order; known: the names of these, and of those that they have had
-    titles: of these exercises, and of those that the teacher may turn on, by name
-    busy: the exercise by seat whose answer is checked, or made a lesson of
-    failures: the last checks that failed on the server's side, in order; for the teacher alone
+    by_name: the exercises that students have, in order; known: the names of all exercises that students have or had
+    titles: the titles of these exercises, and of those that the teacher may turn on, by name
+    busy: by seat, the exercise whose answer is being checked; "" while a lesson is built from an answer of the seat
+    failures: the last checks that failed on the server's side, in order; only the teacher sees them
     """
 
     def __init__(self, exercises: Mapping[str, Exercise], starts: Mapping[str, list[Start]]) -> None:
@@ -126,7 +131,7 @@ class Exercises:
         self.failures: list[CheckFailure] = []
 
     def choose(self, exercises: Mapping[str, Exercise], starts: Mapping[str, list[Start]]) -> None:
-        """Set the exercises that students have, and their starts. The progress in others is preserved."""
+        """Set the exercises that students have, and the sources to start with. The progress in other exercises is preserved."""
         self.by_name, self._starts = exercises, starts
         self._numbers = {name: number for number, name in enumerate(exercises, 1)}
         self._cases = {name: [_case_view(each, case) for case in each.cases] for name, each in exercises.items()}
@@ -134,7 +139,7 @@ class Exercises:
         self.titles |= {name: each.title for name, each in exercises.items()}
 
     def exercise(self, name: str) -> Exercise:
-        """The exercise of a name. Raises BadRequest."""
+        """Return the exercise of this name. Raises BadRequest if students don't have it."""
         if name not in self.by_name:
             raise BadRequest(
                 "the teacher has turned this exercise off" if name in self.known else "there is no such exercise"
@@ -142,20 +147,20 @@ class Exercises:
         return self.by_name[name]
 
     def progress(self, seat: str, name: str) -> Progress:
-        """The progress of a seat in an exercise."""
+        """Return the progress of a seat in an exercise, which is new if there is none."""
         return self._progress.setdefault((seat, name), Progress())
 
     def of(self, name: str) -> dict[str, Progress]:
-        """The progress of each seat that has tried an exercise."""
+        """Return the progress in an exercise of each seat that has tried it, by seat."""
         return {seat: it for (seat, exercise), it in self._progress.items() if exercise == name and it.tries}
 
     def stuck_since(self, seat: str, name: str, opened: float) -> float | None:
-        """As `Progress.stuck_since`, of a seat at an exercise; None without one."""
+        """Return since when a seat is stuck at an exercise, as `Progress.stuck_since` does; None if students don't have the exercise."""
         progress = self._progress.get((seat, name)) if name in self.by_name else None
         return progress.stuck_since(opened) if progress else None
 
     def check_may_start(self, seat: str, name: str) -> None:
-        """Raises BadRequest where no answer of the seat to this exercise may be checked now."""
+        """Raise BadRequest if no answer of the seat to this exercise may be checked now."""
         self.exercise(name)
         if seat in self.busy:
             raise BadRequest("a check of this seat is under way")
@@ -163,32 +168,32 @@ class Exercises:
             raise BadRequest(f"this seat has tried it {MAX_TRIES} times")
 
     def take(self, seat: str, name: str, done: Try) -> bool:
-        """Takes up the result of a check; returns whether it counts as a try. The cause of a failed check is the teacher's."""
+        """Take up the result of a check; return whether it counts as a try. Only the teacher sees the cause of a failed check."""
         if cause := done["told"].pop("failure", ""):
             failure = CheckFailure(seat=seat, exercise=name, time=done["time"], cause=cause)
             self.failures = [*self.failures, failure][-MAX_FAILURES:]
         return self.progress(seat, name).add(done)
 
     def restore(self, seat: str, name: str, done: Try) -> None:
-        """Takes up a saved try."""
+        """Take up a saved try."""
         self.progress(seat, name).add(self.with_case_names(name, done))
 
     def forget(self, seat: str, name: str) -> None:
-        """Forgets the progress of a seat in an exercise, before its tries are taken up in another order."""
+        """Delete the progress of a seat in an exercise, so that its tries can be taken up again in another order."""
         self._progress.pop((seat, name), None)
 
     def with_case_names(self, name: str, done: Try) -> Try:
-        """A saved try. Where its cases have no names, as those of version 1.0, they get those of the exercise."""
+        """Return a saved try with the names of its cases, which version 1.0 didn't save."""
         cases = self.by_name[name].cases if name in self.by_name else []
         for case, result in zip(cases, done["told"].get("cases", [])):
             result["name"] = result["name"] or case.name
         return done
 
     def case(self, seat: str, name: str, number: int | None, source: SourceText) -> TriedCase:
-        """Return a case, with the commands that set it up for a source.
+        """Return a case of an exercise, with the commands that set it up for a source.
 
-        number: its place among the cases, from 0 on; None for the one that failed first. Raises BadRequest for a hidden case,
-        and where there is none.
+        number: the place of the case, from 0 on; None for the case that failed first in the seat's last check
+        Raises BadRequest if the case is hidden, or if there is no such case.
         """
         exercise, result = self.exercise(name), self.progress(seat, name).last_result
         if number is None and "number" not in result:
@@ -200,12 +205,12 @@ class Exercises:
         return TriedCase(name, number, lambda start: inputs(exercise, case, start))
 
     def answered(self, ticket: str) -> tuple[str, str, Progress] | None:
-        """The seat and the exercise of the answer whose lesson a ticket opens, and the progress there."""
+        """Return the seat, the exercise and the progress of the answer whose lesson a ticket opens; None for an unknown ticket."""
         found = ((*key, it) for key, it in self._progress.items() if it.ticket and it.ticket == ticket)
         return next(found, None)
 
     def views(self, seat: str) -> dict[str, ExerciseView]:
-        """The student's view."""
+        """Return the exercises on a seat's page, by name."""
         return {name: self._view(seat, name, exercise) for name, exercise in self.by_name.items()}
 
     def _view(self, seat: str, name: str, exercise: Exercise) -> ExerciseView:
@@ -236,17 +241,17 @@ def _case_view(exercise: Exercise, case: Case) -> CaseView:
 
 
 def is_unsigned(exercise: Exercise) -> bool:
-    """Whether the cases of an exercise have numbers in memory, and all of them are unsigned."""
+    """Return whether the cases of an exercise have numbers in memory, and all of them are unsigned."""
     types = {numbers.type for case in exercise.cases for numbers in case.memory}
     return bool(types) and all(it.startswith("u") for it in types)
 
 
 def source_of(done: Try) -> SourceText:
-    """The source of a try."""
+    """Return the source of a try."""
     return SourceText(done.get("text", ""), NUMBERS.get(done.get("suffix", ""), 0))
 
 
 def starts_of(exercise: Exercise) -> list[Start]:
-    """The sources that a student may start with."""
+    """Return the sources that a student may start with, the preferred one first."""
     files = [exercise.files[key] for key in ("start", "start_c") if key in exercise.files]
     return [Start(text=file.read_text("utf-8"), language=C if file.suffix == C_SUFFIX else 0) for file in files]

@@ -49,7 +49,7 @@ class Request:
 
 
 class SeatsRequest(Request):
-    """A request that a seat and its machine execute; lines are another one."""
+    """A request that `Student.execute` executes. `LinesRequest` isn't one, since the operator sends lines as well."""
 
 
 OneRequest = TypeVar("OneRequest", bound=Request)
@@ -64,8 +64,8 @@ class Kind:
     """The name of the request."""
     example: Mapping[str, object]
     """The fields of an example."""
-    answer: str
-    """The answer's fields, in the notation of Markdown."""
+    response: str
+    """The response's fields, in the notation of Markdown."""
     check: Callable[[Any], None] | None
     """A check of several fields."""
 
@@ -78,13 +78,13 @@ def _request(
     sender: Sender,
     ask: str,
     example: Mapping[str, object],
-    answer: str = "",
+    response: str = "",
     check: Callable[[Any], None] | None = None,
 ) -> Callable[[type[OneRequest]], type[OneRequest]]:
     """Return a decorator that makes a class a kind of request."""
 
     def add(request: type[OneRequest]) -> type[OneRequest]:
-        KINDS[request] = Kind(sender, ask, example, answer, check)
+        KINDS[request] = Kind(sender, ask, example, response, check)
         return request
 
     return add
@@ -250,7 +250,7 @@ class LastInstructionRequest(SeatsRequest):
 class WhyRequest(SeatsRequest):
     """Explain why a register or an element has its value after the last single step.
 
-    `form` is that of numbers in the answer, by default `signed`. With `abi` scalar registers have names such as `a0` in place of `x10`.
+    `form` is that of numbers in the sentence, by default `signed`. With `abi` scalar registers have names such as `a0` in place of `x10`.
     """
 
     name: Name
@@ -273,7 +273,7 @@ class ListingsRequest(Request):
 )
 @dataclass(frozen=True)
 class DraftRequest(SeatsRequest):
-    """Store the source that a student types. It becomes the seat's source if number and exercise are still those of the seat, else a version."""
+    """Store the source that a student types: as the seat's source if number and exercise are still the seat's, else as a version."""
 
     source: SourceFields
     number: Whole
@@ -346,8 +346,8 @@ class CaseRequest(SeatsRequest):
     '`"text": "...", "language": 1`, and `"told"`: the result of its check',
 )
 @dataclass(frozen=True, kw_only=True)
-class AnswerRequest(Request):
-    """Return an answer of a seat to an exercise."""
+class TryRequest(Request):
+    """Return a try of a seat at an exercise."""
 
     seat: Name = ""
     """The seat. A student's own seat without it."""

@@ -1,5 +1,7 @@
-"""The status of a seat's program, for the teacher's table: its kind, the parts of that, and a few words."""
+"""The status of a seat's program, for the teacher's table: its kind, numbers that belong to it, and a text."""
 
+import time
+from dataclasses import dataclass, field
 from typing import Literal, NotRequired, TypedDict
 
 from ...instructions.reasons import has_elements
@@ -15,13 +17,13 @@ StatusKind = Literal[
 class SeatStatus(TypedDict):
     """The status of a seat's program.
 
-    kind: `none` without a program; `problems`: of the last source, which isn't in the machine; `paused` before an instruction;
-        `breakpoint`, `ebreak`, `ended`, `fault`: its last stop; `output`: it waits, since its output is full; `limit`: the server
+    kind: `none` without a program; `problems` if the last source has some and isn't in the machine; `paused` before an instruction;
+        `breakpoint`, `ebreak`, `ended` or `fault` after a stop; `output` while its output buffer is full; `limit` if the server
         stopped it, since it ran too long, or nobody looked at it
     text: the same in a few words
     count: of problems; exit: the status with which the program ended
     instruction: the mnemonic of the instruction at the program counter, if it is known
-    element: at which a vector access has its fault
+    element: the index of the element at which a vector access faults
     """
 
     kind: StatusKind
@@ -32,7 +34,7 @@ class SeatStatus(TypedDict):
     element: NotRequired[int]
 
 
-STUCK_KINDS = ("problems", "fault", "limit")  # of programs whose student may need somebody
+STUCK_KINDS = ("problems", "fault", "limit")  # a student whose program has such a status may need somebody
 _KINDS: dict[str, StatusKind] = {
     "break": "breakpoint",
     "ebreak": "ebreak",
@@ -53,14 +55,31 @@ NO_STATUS: SeatStatus = {"kind": "none", "text": _WORDS["none"]}
 LIMIT_STATUS: SeatStatus = {"kind": "limit", "text": _WORDS["limit"]}
 
 
+@dataclass(eq=False)
+class CurrentStatus:
+    """The present status of a seat's program. since: when the status began, in seconds since 1970"""
+
+    value: SeatStatus = field(default_factory=NO_STATUS.copy)
+    since: float = field(default_factory=time.time)
+
+    def set(self, value: SeatStatus) -> None:
+        """Set the status from now on."""
+        self.value, self.since = value, time.time()
+
+    @property
+    def is_stuck(self) -> bool:
+        """Whether the student may need somebody."""
+        return self.value["kind"] in STUCK_KINDS
+
+
 def problems_status(count: int) -> SeatStatus:
-    """The status after a source with this number of mistakes."""
+    """Return the status after a source with this number of mistakes."""
     form = "one" if count == 1 else "other"
     return {"kind": "problems", "text": page_text(f"status.problems.{form}", count=count), "count": count}
 
 
 def status_of(state: State, last: str) -> SeatStatus:
-    """The status of a program in a state. last: its last stop line, without the digit"""
+    """Return the status of a program in a state. last: its last stop line, without the digit"""
     if state["run"] != "stopped":
         return {"kind": "running", "text": _WORDS["running"]} if state["run"] == "running" else NO_STATUS
     line = state["code"].get(state["pc"], "")
@@ -76,7 +95,7 @@ def status_of(state: State, last: str) -> SeatStatus:
 
 
 def _stop_status(stop: Stop, word: int | None, vstart: int, name: str) -> SeatStatus:
-    """The status after a stop. word, name: the instruction at the program counter, and its mnemonic"""
+    """Return the status after a stop. word, name: the encoding of the instruction at the program counter, and its mnemonic"""
     if stop.kind == "exit":
         number = [page_text("status.exit", exit=stop.number)] if stop.number else []
         return {"kind": "ended", "text": " ".join([_WORDS["ended"], *number]), "exit": stop.number}
@@ -90,5 +109,5 @@ def _stop_status(stop: Stop, word: int | None, vstart: int, name: str) -> SeatSt
 
 
 def _status(kind: StatusKind, place: str) -> SeatStatus:
-    """The status of a program that is at a place, or "" where that is unknown."""
+    """Return the status of a program. place: describes the instruction at the program counter; "" if it is unknown"""
     return {"kind": kind, "text": ": ".join(filter(None, [_WORDS[kind], place]))}

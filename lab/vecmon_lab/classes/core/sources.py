@@ -1,12 +1,14 @@
-"""The source of a seat: its text as it is, and the last versions of it, which the class's folder keeps.
+"""The source of a seat: its present text, and the last versions of it. The folder of a class has them in these files:
 
-A3.s: the text, a second or two after it was typed; A3.written.s: the source in the machine, or nothing;
-A3.written.json: its compiled form; A3.case: the case of an exercise that is tried with it, as `doubles 1`, or nothing
-A3.exercise: the name of the exercise that is open, and when its student opened it, in seconds since 1970; version 1.0 wrote no time
-drafts/A3.doubles.s: the source of an exercise; A3.s is a copy while it is open
-sources/A3.17.typed.s: version 17, and why it is one: it was typed, written into memory, or given; its time is the file's
+A3.s: the present text, a second or two after it was typed
+A3.written.s: the source in the machine, or an empty text; A3.written.json: its compiled form
+A3.case: the case of an exercise that is tried with it, such as `doubles 1`, or an empty text
+A3.exercise: the name of the open exercise, and when its student opened it, in seconds since 1970; version 1.0 wrote no time
+drafts/A3.doubles.s: the source of an exercise; A3.s is a copy while the exercise is open
+sources/A3.17.typed.s: version 17, with its reason: it was typed, written into memory, or given; its time is the file's
 sources/A3.18.typed@doubles.s: version 18, of the exercise `doubles`
-A source that is compiled has the suffix .O2.c, which names its options, or .stock.s, in place of .s.
+
+The file of a compiled source has the suffix .O2.c, which names its options, or .stock.s, in place of .s.
 """
 
 import re
@@ -24,22 +26,23 @@ from .text_store import TextStore
 
 MADE, CASE, OPEN, DRAFTS = "written.json", "case", "exercise", "drafts"
 MAX_VERSIONS, MAX_WINDOWS = 50, 8
-TYPING_SECONDS = 30.0  # after which what is typed becomes a version
+TYPING_SECONDS = 30.0  # after which typed text becomes a version
 
 Version = TypedDict("Version", {"number": int, "time": int, "why": str, "language": int, "exercise": str})
-"""A version: its time in seconds since 1970, why there is one, `typed`, `written` or `given`, its language, and its exercise,
-or "" for none."""
+"""A version of a source: its number, its time in seconds since 1970, its reason (`typed`, `written` or `given`), the number of its
+language, and its exercise, which is "" for a source without one."""
 
 
 class SeatSource:
     """The source of one seat, for all its tabs.
 
-    own, number: as it is, and how often it has changed since the server began; versions: the last ones, in order
-    exercise: the one that is open, whose source is `own`; "" for none. Each exercise has a source.
-    case: the exercise and the number of the case that is tried with the source in the machine; None without one
-    opened: when its student opened it, in seconds since 1970; 0 before, and where it is unknown
+    own: the present source; number: how often it has changed since the server began
+    versions: the last versions, the oldest first
+    exercise: the open exercise, whose source is `own`; "" for none. Each exercise has its own source.
+    case: the exercise and the number of the case that is tried with the source in the machine; None without a case
+    opened: when the student opened the exercise, in seconds since 1970; 0 before that, and if the time is unknown
     caret: the number of the line in which the student typed last; 0 if it is unknown
-    is_given: whether the teacher has put the source there
+    is_given: whether the source is the teacher's
     has_free_program: whether a program without an exercise can be opened next to the exercises
     """
 
@@ -49,16 +52,18 @@ class SeatSource:
         self._name, self._store, self.number = name, store, 0
         self.caret = 0
         self.is_given = False
-        self._windows: dict[str, int] = {}  # versions by names of windows whose text isn't the source
+        self._windows: dict[str, int] = {}  # numbers of versions, by windows whose text differs from the source
         self._unsaved: dict[int, SourceText] = {}  # versions by number
-        self._left: dict[str, SourceText] = {}  # sources of exercises that aren't open, unless they are saved
-        self.versions = self._found()
+        self._left: dict[str, SourceText] = {}  # unsaved sources of exercises that aren't open
+        self.versions = kept_versions(store, name)
         self.exercise, self.opened = kept_exercise(store, name)
         self.own = kept_source(store, self._place(self.exercise))
         self._saved = (self.exercise, self.opened, self.own)
         self.written = self._saved_written = kept_source(store, f"{name}.written")
         self.case = self._saved_case = kept_case(store, name)
-        self._gift: tuple[SourceText, SourceText] | None = None  # the teacher's last one, and the own before it
+        self._gift: tuple[
+            SourceText, SourceText
+        ] | None = None  # the teacher's last source, and the student's before it
         self._newest = self._newest_of(self.exercise)
         self._since = time.monotonic()  # when the text began to differ from the newest version
 
@@ -73,7 +78,10 @@ class SeatSource:
         return self.own if not self.exercise else SourceText()
 
     def settle(self, exercises: Sequence[str]) -> None:
-        """Opens the first of a class's exercises where none of them is open; a source without an exercise becomes its source."""
+        """Open the first of a class's exercises, unless one of them is open already.
+
+        exercises: their names. If no exercise is open and the first one has no source, the present source becomes its source.
+        """
         if not exercises or self.exercise in exercises:
             return
         if self.exercise or kept_source(self._store, self._place(exercises[0])).text:
@@ -82,9 +90,10 @@ class SeatSource:
             self.exercise = exercises[0]
 
     def open(self, exercise: str, is_students: bool = True) -> None:
-        """Opens an exercise with its source as it was left, or an empty one; that of the exercise before stays with it.
+        """Open an exercise with its last source, or an empty one. The exercise that was open before keeps its source.
 
-        is_students: whether the student opens it; otherwise it counts as opened if the one before does
+        exercise: its name; "" for the program without an exercise
+        is_students: whether the student opens it. Otherwise `opened` is set only if the student had opened the previous exercise.
         """
         is_other = exercise != self.exercise
         if self.opened and is_other or not self.opened and is_students:
@@ -103,10 +112,11 @@ class SeatSource:
     def draft(
         self, source: SourceText, number: int, exercise: str = "", is_kept: bool = False, window: str = ""
     ) -> None:
-        """Takes up one that was typed where the source had this number; it is a version alone where it has another.
+        """Take up a typed source. It becomes the seat's source, or only a version if the seat's source has changed meanwhile.
 
-        exercise: the one that it was typed for, "" for the open one; is_kept: whether it becomes a version, since the page
-        replaces it next; window: a name of one that shows another text than the source, which has one version; "" of others
+        number: the number of the seat's source when this one was typed
+        exercise: the exercise for which it was typed, or "" for the open one; is_kept: whether it becomes a version in any case
+        window: the name of its window if the window's text differs from the seat's source, else "". Such a window has one version.
         """
         exercise = exercise or self.exercise
         is_current = number == self.number and exercise == self.exercise
@@ -121,7 +131,7 @@ class SeatSource:
             self._add_version(source, "typed", exercise)
 
     def _keep_apart(self, source: SourceText, exercise: str, window: str) -> None:
-        """Make a version of a window's text, in place of the one that it had before."""
+        """Make a window's text a version, which replaces the window's earlier version."""
         number = self._windows.get(window)
         for place, version in enumerate(self.versions):
             if (version["number"], version["exercise"], version["language"]) == (number, exercise, source.language):
@@ -139,28 +149,37 @@ class SeatSource:
             del self._windows[next(iter(self._windows))]
 
     def write(self, source: SourceText, number: int = -1) -> None:
-        """Takes up one that is written into memory. What is there becomes a version where it has another number than this."""
+        """Take up a source that is written into memory. The seat's source becomes a version first, if it has changed meanwhile.
+
+        number: the number of the seat's source when this one was typed; -1 if it is unknown
+        """
         if number != self.number and self.own != source and self.own.text:
             self._add_version(self.own, "typed")
         self._change(source)
         self._add_version(source, "written")
 
     def give(self, source: SourceText) -> bool:
-        """Take up the teacher's; the student's own becomes a version. Return whether it replaces another text."""
+        """Replace the source by one of the teacher; the student's source becomes a version.
+
+        Return whether the student's source had another text that wasn't empty.
+        """
         before = self.own
         self.take_up(source)
         self._gift, self.is_given = (source, before), True
         return before.text not in ("", source.text)
 
     def take_up(self, source: SourceText) -> None:
-        """Take up one that the teacher offered; the student's own becomes a version. The teacher can't take it back."""
+        """Replace the source by one that the teacher offered; the student's source becomes a version.
+
+        The teacher can't take such a source back.
+        """
         self._add_version(self.own, "typed")
         self._change(source)
         self._add_version(source, "given")
         self._gift = None
 
     def take_back(self) -> bool:
-        """Takes back what the teacher gave last, unless it was changed since; returns whether the own source is back."""
+        """Take the teacher's last source back, unless the student has changed it; return whether the student's earlier source is restored."""
         gift, self._gift = self._gift, None
         if gift is None or self.own != gift[0] or gift[0] == gift[1]:
             return False
@@ -171,7 +190,7 @@ class SeatSource:
         return True
 
     def version(self, number: int) -> SourceText:
-        """A version. Raises BadRequest."""
+        """Return the source of a version. Raises BadRequest if there is none of this number."""
         for version in self.versions:
             if version["number"] == number:
                 text = self._store.read_text(self._file(version))
@@ -179,14 +198,14 @@ class SeatSource:
         raise BadRequest("there is no such version")
 
     def save(self, program: Program | None = None) -> bool:
-        """Brings the folder up to date, as far as the disk takes it; whether there is a new version.
+        """Save all changes, as far as the disk takes them; return whether there is a new version.
 
-        program: of the source in the machine
+        program: the program of the source in the machine; None without one
         """
         before = self.versions
         if self.own != self._newest and time.monotonic() - self._since >= TYPING_SECONDS:
             self._add_version(self.own, "typed")
-        for exercise in [each for each, source in self._left.items() if self._write(self._place(each), source)]:
+        for exercise in [each for each, source in self._left.items() if write_source(self._store, self._place(each), source)]:
             del self._left[exercise]
         own = (self.exercise, self.opened, self.own)
         if own != self._saved and self._write_own():
@@ -196,7 +215,7 @@ class SeatSource:
         if self.written != self._saved_written:
             reply = program.reply.decode("utf-8", "replace") if isinstance(program, CompiledProgram) else ""
             is_saved = self._store.write_text(f"{self._name}.{MADE}", reply)
-            if is_saved and self._write(f"{self._name}.written", self.written):
+            if is_saved and write_source(self._store, f"{self._name}.written", self.written):
                 self._saved_written = self.written
         for version in self.versions:
             number = version["number"]
@@ -205,30 +224,22 @@ class SeatSource:
         return self.versions is not before
 
     def _write_own(self) -> bool:
-        """Save the source, and its exercise, which is the last file; return whether that succeeded."""
-        is_written = self._write(self._place(self.exercise), self.own)
+        """Save the source, and then the name of its exercise; return whether both succeeded."""
+        is_written = write_source(self._store, self._place(self.exercise), self.own)
         if is_written and self.exercise:
-            is_written = self._write(self._name, self.own)
+            is_written = write_source(self._store, self._name, self.own)
             opened = f" {int(self.opened)}" if self.opened else ""
             return is_written and self._store.write_text(f"{self._name}.{OPEN}", f"{self.exercise}{opened}")
         return is_written
 
     def _place(self, exercise: str) -> str:
-        """The name of an exercise's source in the folder, without its suffix."""
+        """Return the name of the file of an exercise's source, without its suffix. exercise: "" for the source without an exercise"""
         return f"{DRAFTS}/{self._name}.{exercise}" if exercise else self._name
 
     def _newest_of(self, exercise: str) -> SourceText:
-        """The newest version of an exercise; an empty source if there is none."""
+        """Return the newest version of an exercise; an empty source if there is none."""
         numbers = [version["number"] for version in self.versions if version["exercise"] == exercise]
         return self.version(numbers[-1]) if numbers else SourceText()
-
-    def _write(self, name: str, source: SourceText) -> bool:
-        """Keeps a source by a name in place of the one that was kept by it; whether that went well."""
-        is_written = self._store.write_text(f"{name}.{source.suffix}", source.text)
-        for language in LANGUAGES if is_written else ():
-            if language.suffix != source.suffix:
-                self._store.remove(f"{name}.{language.suffix}")
-        return is_written
 
     def _change(self, source: SourceText) -> None:
         self.is_given = False
@@ -237,7 +248,10 @@ class SeatSource:
             self.own, self.number = source, self.number + 1
 
     def _add_version(self, source: SourceText, why: str, exercise: str | None = None) -> None:
-        """Adds a version of the open exercise, or of another, unless it is as its newest one; drops the oldest of too many."""
+        """Add a version of an exercise, unless it equals the newest one; drop the oldest versions if there are too many.
+
+        exercise: None for the open one
+        """
         exercise = self.exercise if exercise is None else exercise
         if source == (self._newest if exercise == self.exercise else self._newest_of(exercise)):
             return
@@ -255,19 +269,12 @@ class SeatSource:
         why = f"{version['why']}@{version['exercise']}" if version["exercise"] else version["why"]
         return f"sources/{self._name}.{version['number']}.{why}.{LANGUAGES[version['language']].suffix}"
 
-    def _found(self) -> list[Version]:
-        """The versions that the folder has."""
-        found = []
-        for file, when in self._store.files(f"sources/{self._name}.*"):
-            parts = re.fullmatch(r"sources/\w+\.(\d{1,9})\.(typed|written|given)(?:@([\w-]+))?\.(.+)", file)
-            if parts and parts[4] in NUMBERS:
-                number, language, exercise = int(parts[1]), NUMBERS[parts[4]], parts[3] or ""
-                found.append(Version(number=number, time=int(when), why=parts[2], language=language, exercise=exercise))
-        return sorted(found, key=lambda version: version["number"])[-MAX_VERSIONS:]
-
 
 def kept_source(store: TextStore, name: str) -> SourceText:
-    """The source that was kept last by a name; an empty one if there is none."""
+    """Return the source that was saved last under a name, in any language; an empty source if there is none.
+
+    name: the name of the file without its suffix
+    """
     numbers = {f"{name}.{language.suffix}": number for number, language in enumerate(LANGUAGES)}
     found = [(when, numbers[file], file) for file, when in store.files(f"{name}.*") if file in numbers]
     if not found:
@@ -276,25 +283,51 @@ def kept_source(store: TextStore, name: str) -> SourceText:
     return SourceText(store.read_text(file), language)
 
 
+def write_source(store: TextStore, name: str, source: SourceText) -> bool:
+    """Save a source under a name, and remove files of this name in other languages; return whether the source was saved.
+
+    name: the name of the file without its suffix
+    """
+    is_written = store.write_text(f"{name}.{source.suffix}", source.text)
+    for language in LANGUAGES if is_written else ():
+        if language.suffix != source.suffix:
+            store.remove(f"{name}.{language.suffix}")
+    return is_written
+
+
+def kept_versions(store: TextStore, seat: str) -> list[Version]:
+    """Return the versions of a seat's source that were saved, the oldest first."""
+    found = []
+    for file, when in store.files(f"sources/{seat}.*"):
+        parts = re.fullmatch(r"sources/\w+\.(\d{1,9})\.(typed|written|given)(?:@([\w-]+))?\.(.+)", file)
+        if parts and parts[4] in NUMBERS:
+            number, language, exercise = int(parts[1]), NUMBERS[parts[4]], parts[3] or ""
+            found.append(Version(number=number, time=int(when), why=parts[2], language=language, exercise=exercise))
+    return sorted(found, key=lambda version: version["number"])[-MAX_VERSIONS:]
+
+
 def kept_exercise(store: TextStore, seat: str) -> tuple[str, float]:
-    """The exercise that was open at a seat, "" for none; and when its student opened it, 0 if that is unknown."""
+    """Return the exercise that was open at a seat, or "", and when the student opened it, in seconds since 1970; 0 if that is unknown."""
     parts = re.fullmatch(r"([\w-]{1,40})(?: (\d{1,12}))?", store.read_text(f"{seat}.{OPEN}"), re.ASCII)
     return (parts[1], float(parts[2] or 0)) if parts else ("", 0.0)
 
 
 def kept_case(store: TextStore, seat: str) -> tuple[str, int] | None:
-    """The exercise and the number of the case that was tried last at a seat; None without one."""
+    """Return the case that was tried at a seat, as its exercise and its number; None if no case was tried."""
     parts = re.fullmatch(r"([\w-]{1,40}) ([0-9]{1,4})", store.read_text(f"{seat}.{CASE}"), re.ASCII)
     return (parts[1], int(parts[2])) if parts else None
 
 
 def _case_text(case: tuple[str, int] | None) -> str:
-    """A case as the folder has it."""
+    """Return a case as the text of its file; "" without a case."""
     return f"{case[0]} {case[1]}" if case else ""
 
 
 def kept_program(store: TextStore, seat: str) -> tuple[SourceText, Program]:
-    """The source in a seat's machine, perhaps an empty one, and its program. Raises LabError."""
+    """Return the saved source in a seat's machine, perhaps an empty one, and its program.
+
+    Raises LabError if the program can't be read or assembled again.
+    """
     source = kept_source(store, f"{seat}.written")
     try:
         if source.choice is None:

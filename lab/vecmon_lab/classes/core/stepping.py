@@ -1,6 +1,6 @@
-"""A seat's program runs, or is stepped: by instructions or lines, into calls, over them, or out of a function.
+"""Run or step a seat's program: by instructions or lines of the source, into calls, over them, or out of a function.
 
-The last one of several instructions is a single step, so that the state before it is known.
+The last instruction is executed by a single step, so that the state before it is known.
 """
 
 from collections.abc import Callable, Sequence
@@ -14,12 +14,13 @@ from .bad_request import BadRequest
 from .request_fields import StepKind
 from .requests import LinesRequest
 from .seats import Seat
-from .shared_machine import Answers, SharedMachine, Steps, Turn
+from .shared_machine import Answers, SharedMachine
+from .steps import Steps, Turn
 
-# Blocks of code that a step executes at most: of a line, and over calls or out of a function.
+# The most blocks of code that one step executes: within a line, and over calls or out of a function.
 LINE_BLOCKS, CALL_BLOCKS = 256, 1024
 BLOCK_WORDS = 16  # a block's instructions at most
-MAX_LINES = 1000  # that a program is stepped through up to a line
+MAX_LINES = 1000  # through which `step_until` steps at most
 LEAVES = "bje"  # first letters of scalar instructions that may branch, jump or call: bne, jal, ecall
 
 _SP = 2  # the number of the stack pointer
@@ -28,19 +29,21 @@ _SP = 2  # the number of the stack pointer
 def run(machine: SharedMachine, seat: Seat) -> Steps[None]:
     """Let a seat's program run. Raises BadRequest if there is none, or it runs already.
 
-    `go` passes a breakpoint at the program counter, so a program that hasn't executed anything isn't started if it has one there.
+    `go` passes a breakpoint at the program counter. So a program that hasn't executed anything, and has a breakpoint there, isn't
+    started: it is shown as stopped by the breakpoint.
     """
     _check_stopped(seat)
-    if seat.condition == "Ready" and int(seat.state["pc"], 16) in seat.watch_set.breaks:
+    if seat.condition == "Ready" and int(seat.state["pc"], 16) in seat.display.watch_set.breaks:
         seat.stop_at_breakpoint()
         return
     yield from execute_line(machine, seat, "go")
 
 
 def step(machine: SharedMachine, seat: Seat, kind: StepKind, by_lines: bool, count: int) -> Steps[None]:
-    """Step a seat's program `count` times, or to a stop or a breakpoint.
+    """Step a seat's program `count` times, or up to a stop or a breakpoint.
 
-    Raises BadRequest where there is no stopped program, or no line to step, or no room in the seat's share of the script.
+    kind: into calls, over calls, or out of the function; by_lines: whether to step by lines of the source
+    Raises BadRequest if there is no stopped program, no line to step, or no room in the seat's share of the script.
     """
     _check_stopped(seat)
     if kind == "into" and not by_lines:
@@ -58,22 +61,22 @@ def step(machine: SharedMachine, seat: Seat, kind: StepKind, by_lines: bool, cou
 
 
 def step_until(machine: SharedMachine, seat: Seat, line: int) -> Steps[None]:
-    """Step a seat's program by lines, into calls, until a line is next, or to a stop or a breakpoint.
+    """Step a seat's program by lines, into calls, until the program counter is in a line, or up to a stop or a breakpoint.
 
-    Raises BadRequest as `step` does, and where MAX_LINES lines don't come to that line.
+    line: the number of the line. Raises BadRequest as `step` does, and if MAX_LINES steps don't reach the line.
     """
     _check_stopped(seat)
     for _ in range(MAX_LINES):
         if not (yield from _walk(machine, seat, "into", by_lines=True)):
             return
-        if seat.program and seat.program.line_at(int(seat.state["pc"], 16)) == line:
+        if seat.loaded.program and seat.loaded.program.line_at(int(seat.state["pc"], 16)) == line:
             return
     advice = "set a breakpoint (F9), and run"
     raise BadRequest(f"The program went through {MAX_LINES:,} lines, but not through line {line}: {advice}.")
 
 
 def _check_stopped(seat: Seat) -> None:
-    """Raises BadRequest where a seat has no stopped program."""
+    """Raise BadRequest if a seat has no stopped program."""
     if seat.state["run"] == "absent":
         raise BadRequest("there is no program: assemble or compile a source first")
     if seat.state["run"] == "running":
@@ -81,7 +84,10 @@ def _check_stopped(seat: Seat) -> None:
 
 
 def execute_line(machine: SharedMachine, seat: Seat, line: str) -> Steps[bool]:
-    """Execute a line; return whether the program goes on from there. Raises BadRequest where the machine refuses it."""
+    """Execute a line of a seat's user; return whether more steps may follow. Raises BadRequest if the machine refuses the line.
+
+    line: without the user's digit
+    """
     answers: Answers = []
     yield from machine.lines(seat, LinesRequest([line]), answers)
     parts = [f"{seat.digit} {part}" for part in answers[0]]
@@ -91,20 +97,20 @@ def execute_line(machine: SharedMachine, seat: Seat, line: str) -> Steps[bool]:
 
 
 def _goes_on(machine: SharedMachine, seat: Seat, answer: Sequence[str]) -> bool:
-    """Whether an answer to a step shows neither a stop nor a breakpoint's address."""
+    """Return whether an answer to a step shows neither a stop nor the address of a breakpoint."""
     place = read(answer)
-    return isinstance(place, Position) and place.pc not in seat.watch_set.breaks
+    return isinstance(place, Position) and place.pc not in seat.display.watch_set.breaks
 
 
 def _calls_at_pc(seat: Seat) -> bool:
-    """Whether the next instruction calls a function."""
+    """Return whether the next instruction calls a function."""
     line = seat.state["code"].get(seat.state["pc"], "")
     return bool(line) and is_call(int(line[:8], 16))
 
 
 def _walk(machine: SharedMachine, seat: Seat, kind: StepKind, by_lines: bool) -> Steps[bool]:
-    """Walk to the next line, over a call, or out of a function; return whether the program can be stepped on."""
-    if by_lines and seat.program is None:
+    """Step to the next line, over a call, or out of a function; return whether more steps may follow."""
+    if by_lines and seat.loaded.program is None:
         raise BadRequest("only a program of a source can step a line")
     blocks = LINE_BLOCKS if kind == "into" else CALL_BLOCKS
     machine.check_share(seat, [f"{seat.digit} step {BLOCK_WORDS}"] * blocks)
@@ -116,30 +122,32 @@ def _walk(machine: SharedMachine, seat: Seat, kind: StepKind, by_lines: bool) ->
 
 
 def _line_finder(seat: Seat) -> Callable[[int], int]:
-    """Return a function from an address to the number of its line, 0 for none."""
-    if seat.program is None or isinstance(seat.program, CompiledProgram):
-        return seat.program.line_at if seat.program else lambda address: 0
-    lines = {statement.address: statement.line for statement in seat.program.statements}
+    """Return a function that returns the number of an address's line in the source, or 0 if it has none."""
+    if seat.loaded.program is None or isinstance(seat.loaded.program, CompiledProgram):
+        return seat.loaded.program.line_at if seat.loaded.program else lambda address: 0
+    lines = {statement.address: statement.line for statement in seat.loaded.program.statements}
     return lambda address: lines.get(address, 0)
 
 
 class _Walk:
-    """Steps of a program, block by block.
+    """Steps of a program, block by block, to the next line, over a call, or out of a function.
 
-    has_last: whether the last instruction is left, for a single step
-    is_complete: whether the program arrived, and wasn't stopped before
+    has_last: whether only the last instruction remains, which a single step executes
+    is_complete: whether the program has reached the end of the walk without a stop or a breakpoint
     """
 
     def __init__(
         self, machine: SharedMachine, seat: Seat, kind: StepKind, line_at: Callable[[int], int] | None
     ) -> None:
-        """line_at: the number of an address's line; None where the walk ends behind a call, or out of a function"""
+        """line_at: returns the number of an address's line; None for a walk by instructions, which ends after a call or a return"""
         self._machine, self._seat, self._kind, self._line_at = machine, seat, kind, line_at
         self.has_last, self.is_complete, self._started = False, False, 0
-        self._behind: tuple[int, int] | None = None  # where a call returns to, and the stack pointer there at least
+        self._behind: tuple[
+            int, int
+        ] | None = None  # the call to step over: its return address, and the least stack pointer there
 
     def execute(self, blocks: int, turn: Turn) -> None:
-        """Walk through at most this number of blocks."""
+        """Execute at most `blocks` blocks in a turn at the machine, up to the end of the walk."""
         pc = int(self._seat.state["pc"], 16)
         self._started = self._line_at(pc) if self._line_at else 0
         for _ in range(blocks):
@@ -160,7 +168,7 @@ class _Walk:
             pc = place
 
     def _block(self, pc: int) -> Sequence[Word]:
-        """Instructions from one on, up to the first that may go elsewhere, or whose next one ends the walk."""
+        """Return the instructions from `pc` on, up to the first one that may jump, or after which the walk may end."""
         listing = read(self._machine.session.look(f"{self._seat.digit} dis {pc:x} {BLOCK_WORDS}"))
         words = listing.words if isinstance(listing, Listing) and listing.words else [Word(pc, 0, "none")]
         ends = (
@@ -169,8 +177,8 @@ class _Walk:
         return words[: next(ends, len(words))]
 
     def _stops_at(self, address: int) -> bool:
-        """Whether the walk ends at an address, or perhaps: at a breakpoint, at another line, or behind a call."""
-        if address in self._seat.watch_set.breaks or self._behind and address == self._behind[0]:
+        """Return whether the walk may end at an address: at a breakpoint, at another line, or after a call."""
+        if address in self._seat.display.watch_set.breaks or self._behind and address == self._behind[0]:
             return True
         return self._is_other_line(address)
 
@@ -180,16 +188,18 @@ class _Walk:
         return self._line_at(address) not in (0, self._started)
 
     def _is_last(self, word: Word) -> bool:
-        """Whether the walk surely ends behind an instruction, which goes nowhere else."""
+        """Return whether an instruction can't jump, and is the last one of the walk."""
         behind = word.address + 4
-        return word.text[0] not in LEAVES and (self._is_other_line(behind) or behind in self._seat.watch_set.breaks)
+        return word.text[0] not in LEAVES and (
+            self._is_other_line(behind) or behind in self._seat.display.watch_set.breaks
+        )
 
     def _passes(self, word: Word) -> bool:
-        """Whether an instruction is a call that the walk passes over as a whole."""
+        """Return whether an instruction is a call to step over."""
         return self._behind is None and self._kind != "into" and is_call(word.word)
 
     def _is_end(self, last: Word, place: int) -> bool:
-        """Whether the walk ends at a place, behind this instruction."""
+        """Return whether the walk ends at the address `place`, after the instruction `last`."""
         if self._behind:
             if place != self._behind[0] or self._stack() < self._behind[1]:
                 return False
@@ -200,12 +210,12 @@ class _Walk:
         return self._is_other_line(place)
 
     def _stack(self) -> int:
-        """The stack pointer."""
+        """Return the stack pointer; 0 if it can't be read."""
         registers = read(self._machine.session.look(f"{self._seat.digit} regs"))
         return registers.x[_SP] if isinstance(registers, ScalarRegisters) else 0
 
     def _step(self, turn: Turn, count: int) -> int | None:
-        """Step this number of instructions; return the program counter, or None at a stop or a breakpoint."""
+        """Step `count` instructions; return the program counter, or None at a stop or a breakpoint."""
         (answer,) = self._machine.do(turn, f"{self._seat.digit} step {count}")
         place = read(answer)
         return place.pc if isinstance(place, Position) and _goes_on(self._machine, self._seat, answer) else None

@@ -12,7 +12,18 @@ from ...page.build.texts import page_text
 from .edits import breakpoint_lines, edit_line, setting_lines
 from .example_sources import ExampleSource
 from .languages import LANGUAGES, SourceText
-from .messages import Hand, Notice, Result, SourceResult, SourceView, TextResult, TryResult, shown, source_view
+from .messages import (
+    Hand,
+    Notice,
+    ProblemsResult,
+    Result,
+    SourceResult,
+    SourceView,
+    TextResult,
+    TryResult,
+    shown,
+    source_view,
+)
 from .moments import HistoryView, PastResult
 from .progress import Exercises, ExerciseView, Try, source_of
 from .bad_request import BadRequest
@@ -36,28 +47,32 @@ from .requests import (
     WhyRequest,
 )
 from .seat_status import problems_status
-from .seats import Condition, Seat, TriedCase
-from .shared_machine import SEAT_BYTES, MakeProgram, Mistakes, SharedMachine, Steps
+from .execution import Condition
+from .explanations import complete_last_instruction, why
+from .loaded import TriedCase
+from .seats import Seat
+from .shared_machine import SEAT_BYTES, Mistakes, SharedMachine
 from .sources import SeatSource, kept_program
 from .stepping import execute_line, run, step, step_until
+from .steps import MakeProgram, Steps
 from .text_store import TextStore
 
 
 WARNING_PERCENT = 90  # of a seat's share of the script
 
 Checker = Callable[[str, str, SourceText], None]
-"""Starts to check an answer of a seat to an exercise. Raises BadRequest."""
+"""A function that starts the check of an answer, given the seat, the exercise and the source. It may raise BadRequest."""
 
 
 class Share(TypedDict):
-    """Bytes of the script: those that the seat has used, and its share."""
+    """Bytes of the script: `used` by the seat, `of` its share."""
 
     used: int
     of: int
 
 
 class SeatPart(TypedDict):
-    """The fields of a student's view that are the seat's own.
+    """The fields of a student's view that belong to the seat.
 
     stop: the last stop line without the digit; "" since `enter` or `go`
     quantum: ticks of a slice; again: whether a loaded source can be started again
@@ -82,7 +97,7 @@ class ClassView(TypedDict):
     """The other fields of a student's view.
 
     title: of a page without a class, such as its file's name; "" in a class
-    class_title: the class's; "" without one
+    class_title: the title of the class; "" without one
     name: the student's, or ""; messages: the teacher's last ones by number, oldest first; images: names for `load`
     clock: whether it is on; own_slices: whether the student may grant slices
     windows: how many windows the seat is open in, if there are two or more
@@ -115,7 +130,7 @@ class StudentView(SeatPart, ClassView):
 class Student:
     """A seat, its source, and the exercises.
 
-    problems: of the source that was assembled, or whose problems the page asked for, last
+    problems: the problems of the last source that was built, or whose problems the page asked for
     """
 
     def __init__(
@@ -127,7 +142,7 @@ class Student:
         check: Checker,
         source: SeatSource | None = None,
     ) -> None:
-        """texts: keeps the seat's source and its versions; source: None for that of a class"""
+        """texts: the store of the seat's source and versions; check: starts checks; source: None for the seat's source in `texts`"""
         self.machine, self.seat, self.exercises = machine, seat, exercises
         self.source = source or SeatSource(seat.name, texts)
         self.problems: SourceResult = {"mistakes": [], "warnings": []}
@@ -135,35 +150,35 @@ class Student:
         self.source.settle([*exercises.by_name])
 
     def open_first(self) -> None:
-        """Open the first exercise, if the open one isn't among those that students have; none without any."""
+        """Open the first exercise if students no longer have the open one. If they have no exercises, open none."""
         names = [*self.exercises.by_name]
         if self.source.exercise not in names:
             self.source.open(names[0] if names else "", is_students=False)
 
     def restore(self) -> str:
-        """Brings back which source is in the seat's machine, and which case is tried; why that fails, else an empty text."""
+        """Restore the source in the seat's machine, and the case that is tried; return the reason if that fails, or ""."""
         try:
             source, program = kept_program(self._texts, self.seat.name)
         except LabError as error:
             return str(error)
         if source.text:
-            self.seat.take(source, program)
-            self.seat.list_program(program)
+            self.seat.loaded.take(source, program)
+            self.seat.display.list_program(program)
         if source.text and self.source.case:
             with suppress(BadRequest):  # of an exercise that is off now
-                self.seat.case = self.exercises.case(self.seat.name, *self.source.case, source)
+                self.seat.loaded.case = self.exercises.case(self.seat.name, *self.source.case, source)
         return ""
 
     def save(self) -> bool:
-        """Keeps the source where it has changed; whether there is a new version."""
-        self.source.written, case = self.seat.written, self.seat.case
+        """Save the source if it has changed; return whether there is a new version."""
+        self.source.written, case = self.seat.loaded.source, self.seat.loaded.case
         self.source.case = (case.exercise, case.number) if case else None
-        return self.source.save(self.seat.program)
+        return self.source.save(self.seat.loaded.program)
 
     def execute(self, request: SeatsRequest) -> Steps[Result]:
         """Execute a request; return its result. Raises BadRequest.
 
-        Lines are the operator's as well: `SharedMachine.lines`.
+        Requests with lines aren't executed here, since the operator sends them as well: see `SharedMachine.lines`.
         """
         match request:
             case SourceRequest(source, number, breaks):
@@ -182,11 +197,11 @@ class Student:
             case BreakpointRequest(number, is_only_set):
                 yield from self._toggle_breakpoints(number, is_only_set)
             case LastInstructionRequest():
-                yield from self.machine.find_last_read(self.seat)
+                yield from complete_last_instruction(self.machine, self.seat)
             case PastRequest(at, to_break):
                 return (yield from self._read_past(at, to_break))
             case WhyRequest(name, notation):
-                return {"why": (yield from self.machine.why(self.seat, name, notation))}
+                return {"why": (yield from why(self.machine, self.seat, name, notation))}
             case DraftRequest():
                 self._draft(request)
             case OpenRequest(name):
@@ -203,24 +218,24 @@ class Student:
                 return (yield from self._try(request))
         return {}
 
-    def _find_problems(self, source: SourceText) -> Steps[SourceResult]:
-        """The problems of a source, which stays out of the machine."""
-        program = yield MakeProgram(source, is_tried=True)
+    def _find_problems(self, source: SourceText) -> Steps[ProblemsResult]:
+        """Return the problems and the vector types of a source, without loading it."""
+        program = yield MakeProgram(source, is_typed=True)
         assert program is not None
-        self.problems = problems_of(program, source)
-        return self.problems
+        self.problems = found = problems_of(program, source)
+        return {"mistakes": found["mistakes"], "warnings": found["warnings"], "types": program.types}
 
     def _run(self, source: SourceText | None, number: int, breaks: Sequence[int]) -> Steps[SourceResult]:
-        """Runs a source, from its start if the program has ended; the problems that the source has."""
+        """Run a source; return its problems. If its program has ended, restart it. source: None for the source in the machine"""
         problems = yield from self._build(source, number, breaks)
-        if not problems["mistakes"] and self.seat.condition == "Ended" and self.seat.program:
+        if not problems["mistakes"] and self.seat.condition == "Ended" and self.seat.loaded.program:
             problems = yield from self._write(None)
         if not problems["mistakes"]:
             yield from run(self.machine, self.seat)
         return problems
 
     def _step(self, request: StepRequest) -> Steps[SourceResult]:
-        """Steps a source, up to an instruction or by a count; the problems that the source has."""
+        """Step the program of a source, up to a line or by a number of steps; return the source's problems."""
         problems = yield from self._build(request.source, request.number, request.breaks)
         if not problems["mistakes"] and request.until:
             yield from step_until(self.machine, self.seat, request.until)
@@ -229,22 +244,31 @@ class Student:
         return problems
 
     def _read_past(self, at: int, to_break: bool) -> Steps[PastResult]:
-        """An earlier state of the program, with the source in the machine if the seat's is another one. Raises BadRequest."""
-        result = yield from self.machine.moment(self.seat, at, to_break)
-        if self.seat.program and self.source.own != self.seat.written:
-            text = text_of(self.seat.written)
+        """Return an earlier state of the program, as `Past.moment` does. Raises BadRequest.
+
+        If the seat's source differs from the source in the machine, the result also has the source in the machine.
+        """
+        result = yield from self.machine.past.moment(self.seat, at, to_break)
+        if self.seat.loaded.program and self.source.own != self.seat.loaded.source:
+            text = text_of(self.seat.loaded.source)
             result["text"], result["language"] = text["text"], text["language"]
         return result
 
     def _toggle_breakpoints(self, number: int, is_only_set: bool) -> Steps[None]:
-        """Sets the breakpoints of a line of the source, or deletes those that are there, unless they are only set."""
-        stops, breaks = self.seat.named.get("stops", {}), self.seat.state.get("breaks", [])
+        """Set the breakpoints of a line of the source, or remove them if any is set.
+
+        number: the number of the line; is_only_set: whether breakpoints that are set stay
+        """
+        stops, breaks = self.seat.loaded.names.get("stops", {}), self.seat.state.get("breaks", [])
         for line in breakpoint_lines(stops, breaks, number, is_only_set):
             yield from execute_line(self.machine, self.seat, line)
 
     def _set_breakpoints(self, lines: Sequence[int]) -> Steps[None]:
-        """Sets the breakpoints of lines of the source in the machine. Raises BadRequest if any can't be set; all others are."""
-        stops, breaks = self.seat.named.get("stops", {}), self.seat.state.get("breaks", [])
+        """Set the breakpoints of lines of the source in the machine. lines: the numbers of the lines
+
+        Raises BadRequest if a breakpoint can't be set, but only once all others are set.
+        """
+        stops, breaks = self.seat.loaded.names.get("stops", {}), self.seat.state.get("breaks", [])
         commands, refusals = setting_lines(stops, breaks, lines)
         for line in commands:
             yield from execute_line(self.machine, self.seat, line)
@@ -252,20 +276,23 @@ class Student:
             raise BadRequest(" ".join([*refusals, page_text("breakpoints.loaded")]))
 
     def _draft(self, draft: DraftRequest) -> None:
-        """Keeps the text in the editor, and its caret's line. Raises BadRequest for an unknown exercise."""
+        """Take up the text in the editor, and its caret's line. Raises BadRequest for an unknown exercise."""
         if draft.exercise and draft.exercise not in self.exercises.known:
             raise BadRequest("there is no such exercise")
         self.source.draft(draft.source, draft.number, draft.exercise, draft.keep, draft.window)
         self.source.caret = draft.line
 
     def _try(self, tried: CaseRequest) -> Steps[SourceResult]:
-        """Starts the machine anew with a case of an exercise, at its call; the problems that the source has."""
+        """Start the machine anew with a case of an exercise, at the call of its function; return the problems of the source."""
         case = self.exercises.case(self.seat.name, tried.exercise, tried.case, tried.source)
         return (yield from self._write(tried.source, breaks=tried.breaks, case=case))
 
     def _build(self, source: SourceText | None, number: int, breaks: Sequence[int]) -> Steps[SourceResult]:
-        """Starts the machine anew with a source that isn't in it; the mistakes that the source has."""
-        if source is None or source == self.seat.written and self.seat.program:
+        """Start the machine anew with a source, unless the source is loaded; return its problems.
+
+        source: None for the loaded source; breaks: the numbers of lines that get breakpoints
+        """
+        if source is None or source == self.seat.loaded.source and self.seat.loaded.program:
             yield from self._set_breakpoints(breaks)
             return {"mistakes": [], "warnings": []}
         return (yield from self._write(source, number, breaks, is_tried=True))
@@ -278,57 +305,58 @@ class Student:
         case: TriedCase | None = None,
         is_tried: bool = False,
     ) -> Steps[SourceResult]:
-        """Starts the machine anew with a source, or with the one that is there and its case; the mistakes that it has.
+        """Start the machine anew with a source; return its problems.
 
-        breaks: the lines that get breakpoints, in addition to those that the machine has; is_tried: as in SharedMachine.write
+        source: None for the loaded source, with its case; number: as in SourceRequest; case: sets the inputs of the program
+        breaks: numbers of lines that get breakpoints, in addition to the machine's; is_tried: as in SharedMachine.write
         Raises BadRequest if the machine refuses the source, or any breakpoint.
         """
         if source:
             self.source.write(source, number)
-        case = case if source else self.seat.case
+        case = case if source else self.seat.loaded.case
         mistakes, warnings = yield from self.machine.write(self.seat, source, case is not None, is_tried)
         if mistakes:
-            self.seat.set_status(problems_status(len(mistakes)))
+            self.seat.status.set(problems_status(len(mistakes)))
         elif case:
-            self.seat.case = case
+            self.seat.loaded.case = case
             entry = int(self.seat.state["pc"], 16)
             yield from self.machine.lines(self.seat, LinesRequest(case.commands(entry)), [])
-        self.problems = problems_json(source or self.seat.written, mistakes, warnings)
+        self.problems = problems_json(source or self.seat.loaded.source, mistakes, warnings)
         if not mistakes:
             yield from self._set_breakpoints(breaks)
         return self.problems
 
     def view(self, others: ClassView) -> StudentView:
-        """The student's view, with the fields that aren't the seat's own."""
+        """Return the student's view. others: its fields that don't belong to the seat"""
         own: SeatPart = {
             "seat": self.seat.name,
             "state": shown(self.seat),
             "condition": self.seat.condition,
-            "stop": self.seat.stop,
+            "stop": self.seat.execution.stop,
             "quantum": self.machine.session.quantum,
             "share": {"used": self.seat.used, "of": SEAT_BYTES},
             "languages": [language.name for language in LANGUAGES],
             "source": source_view(self.source, self.seat, self.exercises.titles),
             "exercises": self.exercises.views(self.seat.name),
-            "again": self.seat.program is not None,
-            "history": self.machine.history_view(self.seat),
+            "again": self.seat.loaded.program is not None,
+            "history": self.machine.past.view(self.seat),
         }
         return cast(StudentView, {**own, **others})
 
 
 def problems_of(program: Program, source: SourceText) -> SourceResult:
-    """The mistakes and warnings of a program with this source, as a message has them."""
+    """Return the mistakes and warnings of a program with this source, in the form of messages."""
     return problems_json(source, program.mistakes, program.warnings)
 
 
 def share_warning(seat: Seat) -> str:
-    """A sentence on the part of its share of the script that a seat has used; "" below 90 %."""
+    """Return a warning if a seat has used at least 90 % of its share of the script; "" otherwise."""
     percent = 100 * seat.used // SEAT_BYTES
     return page_text("student.share", share=percent) if percent >= WARNING_PERCENT else ""
 
 
 def problems_json(source: SourceText, mistakes: Mistakes, warnings: Mistakes) -> SourceResult:
-    """Mistakes and warnings of a source, as a message has them."""
+    """Return mistakes and warnings of a source in the form of messages."""
     text, is_c = source.text, source.suffix.endswith(".c")
     return {
         "mistakes": mistakes_json(mistakes, text, is_c),
@@ -337,11 +365,11 @@ def problems_json(source: SourceText, mistakes: Mistakes, warnings: Mistakes) ->
 
 
 def try_result(done: Try) -> TryResult:
-    """A try as a message has it."""
+    """Return a try in the form of messages."""
     source = source_of(done)
     return {"text": source.text, "language": source.language, "told": done["told"]}
 
 
 def text_of(source: SourceText) -> TextResult:
-    """A source as a message has it."""
+    """Return a source in the form of messages."""
     return {"text": source.text, "language": source.language}

@@ -5,16 +5,16 @@ from typing import Protocol
 
 
 class TextStore(Protocol):
-    """Texts by name, each with the time when it was kept, in seconds since 1970."""
+    """Texts by name, each with the time when it was saved, in seconds since 1970."""
 
     def files(self, pattern: str) -> Iterator[tuple[str, float]]:
-        """The names that match a pattern, as `A1.*`, and their times."""
+        """Return the names that match a pattern such as `A1.*`, each with the time when its text was saved."""
 
     def read_text(self, name: str) -> str:
-        """A text that was kept; empty if there is none."""
+        """Return the text that has this name; "" if there is none."""
 
     def write_text(self, name: str, text: str) -> bool:
-        """Keeps a text; whether that went well."""
+        """Save a text; return whether that succeeded."""
 
     def remove(self, name: str) -> None:
-        """Keeps it no more."""
+        """Remove a text, if there is one of this name."""

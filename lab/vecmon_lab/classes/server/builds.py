@@ -21,8 +21,8 @@ from ..core.bad_request import BadRequest
 class Builds:
     """Compiles as many sources at once as there are cores; later ones wait.
 
-    no_c: why no C is taken; "" where it is
-    compiler, others: of sources, and those whose listings may be compared with its own
+    no_c: the reason why the class takes no C; "" if it does
+    compiler: compiles the sources; None without one; others: compilers whose listings may be compared with those of `compiler`
     """
 
     def __init__(
@@ -32,7 +32,7 @@ class Builds:
         limit: int = IMAGE_BYTES,
         account: Account = OWN,
     ) -> None:
-        """limit: bytes of an image that aren't zeros; account: the user who compiles"""
+        """limit: the maximum of bytes in an image that aren't zeros; account: the system user that runs the compiler"""
         self.compiler, self._limit, self._account = compiler, limit, account
         self.others: Sequence[Compiler] = ()
         self.no_c = "" if compiler else no_c
@@ -42,9 +42,11 @@ class Builds:
     async def compile(
         self, seat: str, text: str, choice: int, other: Compiler | None = None, is_answer: bool = False
     ) -> CompiledProgram:
-        """The program of a seat's source, with its mistakes, by the compiler or another one. Raises LabError.
+        """Compile a seat's source; return the program, which has the source's mistakes.
 
-        is_answer: whether it is to answer an exercise
+        choice: the number of the compiler's options; other: a compiler to use in place of `compiler`
+        is_answer: whether the source answers an exercise
+        Raises BadRequest without a compiler, or if a source of the seat is being compiled, and LabError if the compiler fails.
         """
         compiler = other or self.compiler
         if compiler is None:
@@ -58,7 +60,7 @@ class Builds:
 
 
 def lesson_lines(text: str) -> list[SourceError]:
-    """A warning for each line of a compiled source that only a lesson executes: `//> step 5`, or `#> step 5`."""
+    """Return a warning for each line of a compiled source that only a lesson executes: `//> step 5`, or `#> step 5`."""
     found = [(number, line, line.lstrip()[:3]) for number, line in enumerate(text.split("\n"), 1)]
     return [
         SourceError(
@@ -71,9 +73,10 @@ def lesson_lines(text: str) -> list[SourceError]:
 
 
 def builds_by(name: str | None, limit: int = IMAGE_BYTES, is_needed: bool = False, account: Account = OWN) -> Builds:
-    """Return what compiles C sources, perhaps nothing. Raises LabError for a named or needed compiler that can't.
+    """Return the builds of a class, without a compiler if none is available.
 
-    account: the user who compiles
+    name: the compiler's name; None for the first one that is found; limit, account: as for `Builds`
+    Raises LabError if the compiler is unavailable, and is named or needed.
     """
     try:
         return Builds(sandboxed_compiler(name, account), limit=limit, account=account)

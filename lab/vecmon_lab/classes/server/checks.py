@@ -1,10 +1,10 @@
-"""The exercises of a class: seats' answers are checked in separate processes, and saved.
+"""The exercises of a class. Answers are checked in separate processes, and saved in these files:
 
 exercises.json: the folder of each exercise that students have, by its name
 offered.json: the folders of all exercises that the teacher may turn on, in their order; version 1.0 wrote none of the course
 answers/A3.doubles.2.json: the second answer of seat A3 to `doubles`: its time, its text and the suffix of its language, and
 the result of its check
-checking/A3.json: the answer of seat A3 whose check is under way: after the server has ended, the next one checks it again
+checking/A3.json: the answer of seat A3 that is being checked. If the server ends meanwhile, the next one checks it again.
 """
 
 import asyncio
@@ -32,7 +32,8 @@ from .stored_files import attempt, pending_check, texts
 from ..core.languages import SourceText
 from ..core.names import local_time
 from ..core.bad_request import BadRequest
-from .store import BadFolder, Store
+from .folder_lock import BadFolder
+from .store import Store
 from ..core.progress import MAX_TRIES, Exercises, PendingCheck, SeatResult, Try, source_of, starts_of
 from ...tables.table import read_table
 
@@ -40,14 +41,18 @@ EXERCISES, OFFERED, ANSWERS, CHECKING = "exercises.json", "offered.json", "answe
 LOST = "this answer is lost, and counts as a try in which nothing passes"
 WITHOUT = "the class has no exercises but those that --exercise and --course name"
 _COURSE = dict(read_table("course"))
-PLACES, SECONDS = 16, 60.0  # checks at once; how long one may take from when it has its place, on a busy host too
-RUNS = 2  # of a check that fails on the server's side
+PLACES, SECONDS = 16, 60.0  # checks at once; the time limit of a check once it has started, enough on a busy host
+RUNS = 2  # the number of runs of a check that fails on the server's side
 
 ExerciseTable = TypedDict("ExerciseTable", {"title": str, "of": int, "seats": dict[str, SeatResult]})
 
 
 class OfferedExercise(TypedDict):
-    """An exercise that the teacher may turn on. minutes: that it takes, about; 0 if that is unknown; on: whether students have it"""
+    """An exercise that the teacher may turn on.
+
+    minutes: the approximate time that it takes; 0 if that is unknown
+    on: whether students have it
+    """
 
     name: str
     title: str
@@ -56,19 +61,21 @@ class OfferedExercise(TypedDict):
 
 
 class Checks:
-    """Checks of answers, in separate processes; `exercises` has the exercises, and each seat's progress."""
+    """The checks of a class. `exercises` has its exercises, and each seat's progress."""
 
     def __init__(
         self, store: Store, folders: Iterable[pathlib.Path], notify: Callable[[Iterable[str]], object], builds: Builds
     ) -> None:
-        """folders: of exercises, or names of those that come with the lab; none for those that the class had before.
+        """folders: folders of exercises, or names of exercises of the course; without any, the class has the exercises that it had before
 
-        `notify` is called with the names of seats that have news. Raises LabError and OSError for a bad exercise.
+        notify: is called with the names of seats that have news. Raises LabError and OSError for a bad exercise.
         """
         self._store, self._notify, self._workers, self._builds = store, notify, WorkerPool(PLACES, SECONDS), builds
-        stored, chosen = [pathlib.Path(path) for path in store.read(EXERCISES, texts, WITHOUT).values()], list(folders)
+        stored, chosen = [pathlib.Path(path) for path in store.texts.read(EXERCISES, texts, WITHOUT).values()], list(
+            folders
+        )
         self._offered: dict[str, Exercise] = {}
-        self._settled: dict[str, Exercise] = {}  # with what they expect; those that students have had
+        self._settled: dict[str, Exercise] = {}  # with expected results: the exercises that students have or had
         for folder in chosen or stored:
             exercise = read_exercise(folder)
             name = exercise.folder.name
@@ -78,7 +85,7 @@ class Checks:
         before = [path.name for path in stored]
         if chosen and stored and {*self._offered} != {*before}:
             names = ", ".join(before)
-            store.lose(f"the choice of exercises ({names}) is lost, since --exercise and --course replace it")
+            store.damage.report(f"the choice of exercises ({names}) is lost, since --exercise and --course replace it")
         found = self._settle([*self._offered])  # so that a mistake is reported now
         self._offer_others(keeps_order=not chosen)
         self.exercises = Exercises(found, {name: starts_of(exercise) for name, exercise in found.items()})
@@ -88,24 +95,28 @@ class Checks:
             self._save_choice()
         self._tasks: set[asyncio.Task[None]] = set()
         self._unsaved: dict[str, Try] = {}
-        self._lessons: dict[str, bytes] = {}  # before exercises, by name
+        self._lessons: dict[str, bytes] = {}  # the lessons before exercises, by the exercise's name
         self._good: dict[str, AnswerCost] = {}  # the instructions and work of good answers, if known
         self._making, self._choosing = asyncio.Lock(), asyncio.Lock()
         for seat, name, number, done in sorted(found_answers(store), key=itemgetter(0, 1, 2)):
             progress = self.exercises.progress(seat, name)
             while len(progress.tries) < number - 1:
-                progress.add(attempt())  # one that was lost: the others keep their numbers
+                progress.add(attempt())  # in place of a lost try, so that later tries keep their numbers
             self.exercises.restore(seat, name, done)
 
     def begin(self, seat: str, name: str, source: SourceText) -> None:
-        """Begins to check an answer. Raises BadRequest where there is no such exercise, or a check is under way."""
+        """Start to check an answer.
+
+        Raises BadRequest if students don't have the exercise, if a check of the seat is under way, if the seat has no more tries, and
+        for a source in C without a compiler.
+        """
         self.exercises.exercise(name)
         if source.choice is not None and self._builds.no_c:
             raise BadRequest(f"this class takes no C: {self._builds.no_c}")
         self.exercises.check_may_start(seat, name)
         number = len(self.exercises.progress(seat, name).tries) + 1
         pending = PendingCheck(exercise=name, number=number, text=source.text, language=source.language)
-        self._store.write(_pending_file(seat), pending)
+        self._store.texts.write(_pending_file(seat), pending)
         self.exercises.busy[seat] = name
         task = asyncio.get_running_loop().create_task(self._check(seat, name, source))
         self._tasks.add(task)
@@ -113,12 +124,14 @@ class Checks:
         self._notify([seat])
 
     def resume(self) -> None:
-        """Begin the checks again that were under way when the last server ended; in a running event loop.
+        """Start the checks again that were under way when the last server ended. Called in a running event loop.
 
-        One whose try is saved has ended; one whose exercise is off, or in C where there is no compiler any more, is dropped.
+        A check is dropped if its try is saved, if its exercise is off, or if it needs a compiler that is missing now.
         """
-        for file, _ in list(self._store.files(f"{CHECKING}/*.json")):
-            seat, pending = pathlib.PurePath(file).stem, self._store.read(file, pending_check, "this check is lost")
+        for file, _ in list(self._store.texts.files(f"{CHECKING}/*.json")):
+            seat, pending = pathlib.PurePath(file).stem, self._store.texts.read(
+                file, pending_check, "this check is lost"
+            )
             name, source = pending["exercise"], SourceText(pending["text"], pending["language"])
             is_seat = re.fullmatch("[A-L][1-8]", seat) and seat[0] in self._store.machines
             try:
@@ -126,10 +139,10 @@ class Checks:
                     raise BadRequest("nothing is left to check")
                 self.begin(seat, name, source)
             except BadRequest:
-                self._store.remove(file)
+                self._store.texts.remove(file)
 
     async def choose(self, names: Sequence[str]) -> None:
-        """Set the exercises that students have, in this order. Raises BadRequest for one that the class doesn't offer, or a bad one."""
+        """Set the exercises that students have, in this order. Raises BadRequest if an exercise is bad or isn't offered."""
         if unknown := [name for name in names if name not in self._offered]:
             raise BadRequest(f"this class offers no exercise '{unknown[0]}'")
         async with self._choosing:
@@ -143,7 +156,10 @@ class Checks:
         self._save_choice()
 
     def offered(self) -> list[OfferedExercise]:
-        """The exercises that the teacher may turn on: first those the class was started with. The order stays while it runs."""
+        """Return the exercises that the teacher may turn on, first those with which the class was started.
+
+        Their order doesn't change while the class runs.
+        """
         on = self.exercises.by_name
         return [
             {"name": name, "title": exercise.title, "minutes": self._minutes(name), "on": name in on}
@@ -151,7 +167,10 @@ class Checks:
         ]
 
     async def lesson(self, ticket: str) -> bytes:
-        """The lesson that a ticket opens, or the one before the exercise of this name, as a page in HTML. Raises LabError."""
+        """Return a lesson as a page in HTML. Raises LabError if there is no such lesson, or if it can't be made now.
+
+        ticket: the ticket of a lesson on an answer; or the name of an exercise, for the lesson before it
+        """
         exercise, busy = self.exercises.by_name.get(ticket), self.exercises.busy
         if exercise and "lesson" in exercise.files:
             async with self._making:
@@ -170,21 +189,24 @@ class Checks:
         finally:
             del busy[seat]
 
-    def answer(self, seat: str, name: str, number: int) -> Try:
-        """A seat's try; the first is 1. Raises BadRequest."""
+    def try_of(self, seat: str, name: str, number: int) -> Try:
+        """Return a try of a seat at an exercise; the first has number 1. Raises BadRequest."""
         if not 1 <= number <= len(self.exercises.progress(seat, name).tries):
             raise BadRequest("there is no such answer")
         file = _file(seat, name, number)
-        done = self._unsaved.get(file) or self._store.read(file, attempt, LOST)
+        done = self._unsaved.get(file) or self._store.texts.read(file, attempt, LOST)
         return self.exercises.with_case_names(name, done)
 
     def save(self) -> None:
-        """Brings the folder up to date, as far as the disk takes it."""
-        for file in [file for file, done in self._unsaved.items() if self._store.write(file, done)]:
+        """Save tries that couldn't be saved before."""
+        for file in [file for file, done in self._unsaved.items() if self._store.texts.write(file, done)]:
             del self._unsaved[file]
 
     def table(self) -> dict[str, ExerciseTable]:
-        """The teacher's view: for each exercise the seats that have tried it. Of those that are off, the tried ones."""
+        """Return the results for the teacher: for each exercise, by name, the seats that have tried it.
+
+        An exercise that is off is in the table only if a seat has tried it.
+        """
         tables = {}
         for name in dict.fromkeys([*self.exercises.by_name, *self._offered]):
             exercise = self._offered[name]
@@ -194,7 +216,7 @@ class Checks:
         return tables
 
     def rows(self, names: Mapping[str, str]) -> Iterator[Sequence[object]]:
-        """The rows of a table to take away, by the names of those who sit at seats."""
+        """Return the rows of the table of results, the headings first. names: the names of students, by seat"""
         yield "seat", "name", "exercise", "tries", "passed at try", "cases passed", "of", "time"
         for name, exercise in self.table().items():
             for seat, it in sorted(exercise["seats"].items()):
@@ -202,47 +224,47 @@ class Checks:
                 yield seat, names.get(seat, ""), name, it["tries"], passed, it["best"], exercise["of"], when
 
     def _settle(self, names: Sequence[str]) -> dict[str, Exercise]:
-        """The exercises of these names with what they expect. Raises LabError."""
+        """Return the exercises of these names with their expected results. Raises LabError."""
         for name in names:
             if name not in self._settled:
                 self._settled[name] = settled(self._store.program, self._offered[name])
         return {name: self._settled[name] for name in names}
 
     async def _settle_apart(self, name: str) -> Exercise:
-        """The exercise of a name with what it expects, from a process that the end of the server ends. Raises LabError."""
+        """Return an exercise with its expected results, which a separate process determines. Raises LabError."""
         given = pickle.dumps((self._offered[name], "", None, None))
         found = await self._workers.run("exercises.check", str(self._store.program), "settle", script=given)
         exercise: Exercise = pickle.loads(found)
         return exercise
 
     def _minutes(self, name: str) -> int:
-        """The minutes that an exercise of the course takes; 0 for another one."""
+        """Return the minutes that an exercise of the course takes; 0 for other exercises."""
         return int(_COURSE.get(name, 0)) if self._offered[name].folder.parent == OURS else 0
 
     def _offer_others(self, keeps_order: bool) -> None:
-        """Take up the exercises that were offered before, and those of the course. Unreadable data is reported as lost.
+        """Also offer the exercises that were offered before, and those of the course. Unreadable ones are reported as lost.
 
-        keeps_order: whether all are in the order of before, which the choice of exercises doesn't change
+        keeps_order: whether to sort all exercises in the saved order
         """
-        stored = self._store.read(OFFERED, texts, "exercises that were off aren't offered any more")
+        stored = self._store.texts.read(OFFERED, texts, "exercises that were off aren't offered any more")
         for folder in [*map(pathlib.Path, stored.values()), *with_course([])]:
             if folder.name in self._offered:
                 continue
             try:
                 self._offered[folder.name] = read_exercise(folder)
             except (LabError, OSError) as error:
-                self._store.lose(f"the exercise {folder.name} isn't offered any more: {error}")
+                self._store.damage.report(f"the exercise {folder.name} isn't offered any more: {error}")
         if keeps_order:
             names = dict.fromkeys([*stored, *self._offered])
             self._offered = {name: self._offered[name] for name in names if name in self._offered}
 
     def _save_choice(self) -> None:
         """Save which exercises students have, and which others are offered."""
-        self._store.write(EXERCISES, {name: str(each.folder) for name, each in self.exercises.by_name.items()})
-        self._store.write(OFFERED, {name: str(each.folder) for name, each in self._offered.items()})
+        self._store.texts.write(EXERCISES, {name: str(each.folder) for name, each in self.exercises.by_name.items()})
+        self._store.texts.write(OFFERED, {name: str(each.folder) for name, each in self._offered.items()})
 
     async def _check(self, seat: str, name: str, source: SourceText) -> None:
-        """Checks an answer, saves it if it counts as a try, and wakes the tabs."""
+        """Check an answer, save it if it counts as a try, and wake the tabs."""
         try:
             result = await self._check_result(seat, name, source)
         finally:
@@ -255,11 +277,11 @@ class Checks:
         if self.exercises.take(seat, name, done):
             self._unsaved[_file(seat, name, len(self.exercises.progress(seat, name).tries))] = done
             self.save()
-        self._store.remove(_pending_file(seat))
+        self._store.texts.remove(_pending_file(seat))
         self._notify([seat])
 
     async def _check_result(self, seat: str, name: str, source: SourceText) -> CheckResult:
-        """The result of a check. If the server's side fails, it runs once more, and a second failure is the result."""
+        """Return the result of a check. If it fails on the server's side, it runs once more; a second failure is the result."""
         cause = ""
         for _ in range(RUNS):
             try:
@@ -271,7 +293,10 @@ class Checks:
         return failed_check(cause)
 
     async def _compiled(self, seat: str, source: SourceText) -> CompiledProgram | None:
-        """The program of a seat's source, if that is in C. A source that the compiler can't take has a mistake. Raises ToolError."""
+        """Compile a seat's source in C; return its program, or None for a source in assembler. Raises ToolError if a tool fails.
+
+        If the compiler refuses the source, the program has a mistake that says so.
+        """
         if source.choice is None:
             return None
         try:
@@ -282,13 +307,13 @@ class Checks:
             return CompiledProgram([], {}, [], 0, [SourceError(0, 0, f"{error}")])
 
     async def _run(self, name: str, what: str, text: str = "", compiled: CompiledProgram | None = None) -> bytes:
-        """The output of the process that checks a text, or makes a lesson. Raises LabError."""
+        """Return the output of a process that checks a text, or makes a lesson. what: the task in `exercises/check.py`. Raises LabError."""
         given = pickle.dumps((self._settled[name], text, compiled, self._good.get(name)))
         return await self._workers.run("exercises.check", str(self._store.program), what, script=given)
 
 
 def kept_answers(store: Store, seat: str) -> dict[str, SourceText]:
-    """A seat's answers by exercise, from the folder: the last attempt that passed; else the last one."""
+    """Return a seat's saved answers by exercise: the last one that passed, or else the last one."""
     answers, passed = dict[str, SourceText](), set[str]()
     for of, name, _, done in sorted(found_answers(store), key=itemgetter(0, 1, 2)):
         cases, is_passed = done["told"].get("cases", []), passes_all(done["told"])
@@ -299,11 +324,11 @@ def kept_answers(store: Store, seat: str) -> dict[str, SourceText]:
 
 
 def found_answers(store: Store) -> Iterator[tuple[str, str, int, Try]]:
-    """The tries that the folder has: the seat, the exercise, the number of the try, and the try itself."""
+    """Return the saved tries, each with its seat, its exercise and its number."""
     for path in (store.folder / ANSWERS).glob("*.json"):
         parts = re.fullmatch(r"([A-L][1-8])\.([\w-]+)\.([1-9]\d{0,3})\.json", path.name, re.ASCII)
         if parts and int(parts[3]) <= MAX_TRIES:
-            yield parts[1], parts[2], int(parts[3]), store.read(f"{ANSWERS}/{path.name}", attempt, LOST)
+            yield parts[1], parts[2], int(parts[3]), store.texts.read(f"{ANSWERS}/{path.name}", attempt, LOST)
 
 
 def _file(seat: str, name: str, number: int) -> str:

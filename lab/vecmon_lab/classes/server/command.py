@@ -18,8 +18,10 @@ from ..core.codes import LETTERS
 from .folder_report import folder_report
 from .machine_thread import rebuilding
 from ..core.names import NAMES
-from .store import SHOWN, Store, forget, renew_teacher
-from .view import Class
+from .damage import SHOWN
+from .store import Store
+from .unserved_class import forget, renew_teacher
+from .served_class import Class
 
 MAX_TITLE = 80
 
@@ -105,7 +107,7 @@ def _add_actions(parser: argparse.ArgumentParser) -> None:
 
 
 def run(arguments: argparse.Namespace) -> int:
-    """Serves a class until SIGINT or SIGTERM, or does what an option asks for instead; returns the exit status.
+    """Serve a class until SIGINT or SIGTERM, or do what an option asks for instead; return the exit status.
 
     Raises LabError and OSError for a bad folder, image, certificate or address.
     """
@@ -124,7 +126,7 @@ def run(arguments: argparse.Namespace) -> int:
 
 
 def _serve(arguments: argparse.Namespace) -> None:
-    """Serves a class until SIGINT or SIGTERM. Raises as `run` does, and LabError if the disk doesn't take all at the end."""
+    """Serve a class until SIGINT or SIGTERM. Raises as `run` does, and LabError if something can't be saved at the end."""
     from .server import listening, serve  # these need aiohttp; --help doesn't
     from .tls import key_warning, tls_context
 
@@ -135,7 +137,7 @@ def _serve(arguments: argparse.Namespace) -> None:
         raise LabError(f"--tls serves HTTPS, so the address of the class begins with https://: {arguments.address}")
     if tls and (warning := key_warning(arguments.tls[1])):
         print(f"vecmon-lab: warning: {warning}", file=sys.stderr)
-    codemirror.folder()  # which the page needs: before a new folder is made
+    codemirror.folder()  # fails, before a new folder is made, if this part of the page is missing
     store = Store(arguments.folder, find_program(), images, arguments.quantum, arguments.machines)
     try:
         listeners = listening(host, arguments.port)  # before the class is replayed, which may take a while
@@ -150,7 +152,7 @@ def _serve(arguments: argparse.Namespace) -> None:
     if store.has_new_program:
         news = "isn't the program that served this class before; its answers are the same"
         print(f"vecmon-lab: {store.program} {news}", file=sys.stderr)
-    for sentence in store.lost:
+    for sentence in store.damage.sentences:
         print(f"vecmon-lab: warning: {sentence}", file=sys.stderr)
     members.address = arguments.address or ""
     members.class_title = members.class_title if arguments.title is None else arguments.title
@@ -162,7 +164,7 @@ def _serve(arguments: argparse.Namespace) -> None:
 
 
 def _address(text: str) -> str:
-    """An address of the class, with a slash at its end. Raises ArgumentTypeError."""
+    """Parse the address of the class; return it with a slash at its end. Raises ArgumentTypeError."""
     from .server import HOST
 
     scheme, _, host = text.removesuffix("/").partition("://")
@@ -172,7 +174,7 @@ def _address(text: str) -> str:
 
 
 def _title(text: str) -> str:
-    """The title of a class. Raises ArgumentTypeError."""
+    """Check the title of a class, and return it. Raises ArgumentTypeError."""
     if not 0 < len(text) <= MAX_TITLE or not text.isprintable():
         raise argparse.ArgumentTypeError(f"a title has 1 to {MAX_TITLE} printable characters")
     return text

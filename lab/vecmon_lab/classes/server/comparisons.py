@@ -1,4 +1,4 @@
-"""Two listings of a C source side by side: it is compiled in the sandbox, and runs in a separate process."""
+"""Two listings of a C source side by side. Compilers run in the sandbox, and a separate process makes the page."""
 
 import json
 import pathlib
@@ -11,13 +11,13 @@ from ..core.codes import new_code
 from ..core.languages import SourceText
 from ..core.bad_request import BadRequest
 
-MOST = 20  # that are kept of those that were asked for
+MOST = 20  # requests that are remembered
 
 
 class Comparisons:
-    """The last request for listings; a page is made when it is fetched.
+    """The last requests for listings. A page is made when it is fetched.
 
-    names: compilers with their options, chosen by number, to compare a source with; none in a class
+    names: the compilers, each with its options, whose listings can be compared with a source's own; none in a class
     """
 
     def __init__(self, builds: Builds, program: pathlib.Path) -> None:
@@ -28,7 +28,10 @@ class Comparisons:
         self._asked: dict[str, tuple[str, SourceText, int]] = {}
 
     def ask(self, seat: str, source: SourceText, other: int) -> str:
-        """Return the ticket for the page of a source by its own options and by others. Raises BadRequest."""
+        """Return the ticket of a page with two listings of a source: with its own options, and with others.
+
+        other: the place of the other options in `names`. Raises BadRequest if the source isn't in C, or there are no such options.
+        """
         if not source.suffix.endswith(".c") or not 0 <= other < len(self._others):
             raise BadRequest("side-by-side listings need a source in C, and options from the page's list")
         ticket = new_code()
@@ -36,7 +39,7 @@ class Comparisons:
         return ticket
 
     async def page(self, ticket: str) -> bytes:
-        """The page that was asked for, in HTML. Raises LabError where it wasn't, or the source has mistakes."""
+        """Return a ticket's page in HTML. Raises LabError if the ticket is unknown, or the source has mistakes."""
         if ticket not in self._asked:
             raise LabError("there is no such page, or not any more: ask once more")
         (seat, source, other), listings = self._asked[ticket], list[tuple[str, str]]()

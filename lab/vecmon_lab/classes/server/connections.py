@@ -1,6 +1,6 @@
-"""Connections to the server of a class: those that take up room and make no use of it are ended.
+"""Connections to the server of a class. The server ends connections that hold resources without need.
 
-A client may send nothing, take no answer, or send requests without end before it takes the first answer; aiohttp limits none of this.
+A client may send nothing, take no response, or send requests without end before it takes the first response. aiohttp limits none of this.
 """
 
 import asyncio
@@ -14,21 +14,21 @@ from aiohttp import web
 
 SWEEP_SECONDS = 0.5
 V6_PREFIX = 64  # bits of an address by IPv6 that a client can't choose
-AHEAD = 16  # requests of a connection that wait for the answer to an earlier one; browsers send none ahead
+AHEAD = 16  # requests of a connection that wait for the response to an earlier one; browsers send none ahead
 
 
 Connection = TypeVar("Connection")
 
 
 def address_of(transport: asyncio.BaseTransport | None) -> str:
-    """The address at the other end of a connection, for limits; of IPv6 its network; "" if the connection has ended."""
+    """Return the address of a client, as limits count it; "" if the connection has ended."""
     peer = transport.get_extra_info("peername") if transport else None
     return network_of(peer[0]) if peer else ""
 
 
 @lru_cache(1024)
 def network_of(address: str) -> str:
-    """An address as limits count it: of IPv6 the network, since a client has all addresses of one."""
+    """Return an address as limits count it: for IPv6 the network, since a client can use all addresses of its network."""
     host = ipaddress.ip_address(address.partition("%")[0])
     if host.version == 4 or host.ipv4_mapped:
         return str(host)
@@ -36,9 +36,9 @@ def network_of(address: str) -> str:
 
 
 def excess(connections: Iterable[Connection], address: Callable[[Connection], str], limit: int) -> set[Connection]:
-    """The connections to end, of those given, the oldest first, so that there are `limit`.
+    """Return the connections to end so that `limit` remain. connections: the oldest first; address: returns a connection's address
 
-    The oldest of the address that has the most ends, so that other addresses keep theirs.
+    The oldest connection of the address with the most connections ends first, so that other addresses keep theirs.
     """
     by_address, ended = _by_address(connections, address), set[Connection]()
     for _ in range(sum(map(len, by_address)) - limit):
@@ -47,7 +47,7 @@ def excess(connections: Iterable[Connection], address: Callable[[Connection], st
 
 
 def _by_address(connections: Iterable[Connection], address: Callable[[Connection], str]) -> list[deque[Connection]]:
-    """Connections by their addresses, in the order of the first one of each."""
+    """Return the connections of each address, the oldest first. Addresses are in the order of their first connections."""
     found: dict[str, deque[Connection]] = {}
     for each in connections:
         found.setdefault(address(each), deque()).append(each)
@@ -55,10 +55,10 @@ def _by_address(connections: Iterable[Connection], address: Callable[[Connection
 
 
 class Crowd(Generic[Connection]):
-    """Connections by their addresses. Of too many the oldest one of the address that has the most is ended."""
+    """Connections by their addresses. If there are too many, the oldest one of the address with the most is ended."""
 
     def __init__(self, limit: int, end: Callable[[Connection], object]) -> None:
-        """end: ends a connection, which is no longer in the crowd"""
+        """limit: the number of connections that may stay; end: ends a connection, which is no longer in the crowd then"""
         self._limit, self._end = limit, end
         self._addresses: dict[Connection, str] = {}
         self._by_address: OrderedDict[str, OrderedDict[Connection, None]] = OrderedDict()  # the oldest first
@@ -68,11 +68,11 @@ class Crowd(Generic[Connection]):
         return len(self._addresses)
 
     def __iter__(self) -> Iterator[Connection]:
-        """The connections that are there now."""
+        """Iterate over the present connections. Later changes don't matter."""
         return iter(list(self._addresses))
 
     def add(self, connection: Connection, address: str) -> None:
-        """Add a connection, and end one if that is too many."""
+        """Add a connection, and end one if there are too many then."""
         self._addresses[connection] = address
         self._by_address.setdefault(address, OrderedDict())[connection] = None
         if len(self) > self._limit:
@@ -90,9 +90,9 @@ class Crowd(Generic[Connection]):
                 del self._by_address[address]
 
     def pop_newest(self) -> tuple[Connection, str]:
-        """Remove a connection, and return it with its address: addresses take turns, and the newest one of each is first.
+        """Remove a connection; return it and its address. Addresses take turns, and each gives its newest connection.
 
-        Raises StopIteration if there is none.
+        Raises StopIteration if there is no connection.
         """
         address, of_address = next(iter(self._by_address.items()))
         self._by_address.move_to_end(address)
@@ -102,28 +102,31 @@ class Crowd(Generic[Connection]):
 
 
 class Connections:
-    """The connections of a server, and what is known of them.
+    """The connections of a server, with their times and unread bytes.
 
-    spoken: those that have made a whole request; tabs: those of tabs, which have sent a code
+    spoken: connections that have made a whole request; tabs: connections of tabs, which have sent a code
     """
 
     def __init__(self, limit: int, silent_seconds: float, unread_seconds: float) -> None:
-        """limit: number of connections without a whole request, of those between two requests, and of those that leave answers
-        unread
+        """limit: the maximum for each of three groups: connections without a whole request, between two requests, with unread responses
 
-        silent_seconds, unread_seconds: how long a connection may send nothing, and how long it may take nothing
+        silent_seconds: how long a connection may take for its first request
+        unread_seconds: how long a client may take no part of a response
         """
         self.spoken, self.tabs = set[web.RequestHandler](), set[web.RequestHandler]()
         self._limit, self._silent_seconds, self._unread_seconds = limit, silent_seconds, unread_seconds
-        self._silent: dict[web.RequestHandler, float] = {}  # since when
+        self._silent: dict[web.RequestHandler, float] = {}  # since when they are open without a whole request
         self._idle: dict[web.RequestHandler, float] = {}  # since when they are between two requests
         self._unread: dict[web.RequestHandler, int] = {}  # bytes that wait to be sent
-        self._unread_since: dict[web.RequestHandler, float] = {}  # since when there are some
-        self._stalled_since: dict[web.RequestHandler, float] = {}  # and since when the same number
+        self._unread_since: dict[web.RequestHandler, float] = {}  # since when bytes wait
+        self._stalled_since: dict[web.RequestHandler, float] = {}  # since when the number of these bytes is the same
 
     async def sweep(self, runner: web.AppRunner) -> None:
-        """Ends connections that make no request, or take no answer, in time, the oldest ones of too many, and those that send too
-        many requests ahead."""
+        """End connections that exceed a limit, at intervals. Never returns.
+
+        These connections make no request in time, take no response in time, or send too many requests ahead. If there are too many
+        connections, the oldest ones end as well.
+        """
         loop = asyncio.get_running_loop()
         while True:
             await asyncio.sleep(SWEEP_SECONDS)
@@ -138,18 +141,21 @@ class Connections:
                     handler.transport.abort()
 
     def _silent_too_long(self, there: Sequence[web.RequestHandler], now: float) -> set[web.RequestHandler]:
-        """Connections that have made no request in time, and the oldest such if there are too many."""
+        """Return the connections that have made no request in time. If too many have made none yet, return the oldest ones as well."""
         self._silent = {it: self._silent.get(it, now) for it in there if it not in self.spoken}
         return _before(self._silent, now - self._silent_seconds) | _excess(self._silent, self._limit)
 
     def _idle_too_many(self, there: Sequence[web.RequestHandler], now: float) -> set[web.RequestHandler]:
-        """The oldest connections between two requests if there are too many; clients connect again for the next one."""
+        """Return the oldest connections between two requests, if there are too many. Their clients can connect again."""
         idle = (it for it in there if it in self.spoken and it not in self.tabs and it._current_request is None)
         self._idle = {it: self._idle.get(it, now) for it in idle}
         return _excess(self._idle, self._limit)
 
     def _unread_too_long(self, there: Sequence[web.RequestHandler], now: float) -> set[web.RequestHandler]:
-        """Connections that have taken no part of an answer in time, and the oldest ones with unread answers if there are too many."""
+        """Return the connections whose clients took no part of a response in time.
+
+        If too many connections without a code have unread responses, return the oldest ones as well.
+        """
         sizes = {it: it.transport.get_write_buffer_size() for it in there if it.transport}
         unread = {it: size for it, size in sizes.items() if size}
         stalled = {it for it, size in unread.items() if self._unread.get(it) == size}
@@ -161,12 +167,12 @@ class Connections:
 
 
 def _before(since: Mapping[web.RequestHandler, float], time: float) -> set[web.RequestHandler]:
-    """Those since before a time."""
+    """Return the connections whose time in `since` is before `time`."""
     return {it for it, start in since.items() if start < time}
 
 
 def _excess(since: Mapping[web.RequestHandler, float], limit: int) -> set[web.RequestHandler]:
-    """The oldest ones of the addresses that have too many, by their times; of those since the same time the first ones."""
+    """Return the connections to end so that `limit` remain, as `excess` does. since: since when each connection is in this state"""
     if len(since) <= limit:
         return set()
     return excess(sorted(since, key=since.__getitem__), lambda it: address_of(it.transport), limit)

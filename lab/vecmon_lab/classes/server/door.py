@@ -17,29 +17,31 @@ from .connections import Crowd, network_of
 from .frame_limits import Rate
 
 A_SECOND, AT_ONCE = 100, 1000  # connections that are served; a class of 96 opens some 200 after a restart of the server
-BREATH = 0.001  # seconds between two, in which other work is done
-BACKLOG = 4096  # connections that the kernel holds until they are accepted; a client whose is dropped waits for seconds
-ACCEPTED = 256  # connections in a row, at most
+BREATH = 0.001  # seconds between two connections, in which other work is done
+BACKLOG = 4096  # connections that the kernel holds until they are accepted; the client of a dropped connection waits for seconds
+ACCEPTED = 256  # the most connections that are accepted in a row
 OF_CODE_A_SECOND, OF_CODE_AT_ONCE = 4, 32  # connections with a seat's code that go ahead of others
-HEAD_BYTES = 4096  # of a request, in which a code is looked for
-ACCEPT_PAUSE = 1.0  # seconds, if the process may have no more files
-LAST_SECONDS = 2.0  # of connections once the server ends
+HEAD_BYTES = 4096  # of a request, in which the door looks for a code
+ACCEPT_PAUSE = 1.0  # seconds until the next attempt, as when the process may open no more files
+LAST_SECONDS = 2.0  # that connections have once the server ends
 
 Serve = Callable[[socket.socket], Coroutine[Any, Any, object]]
 Recognize = Callable[[bytes], tuple[str | None, str]]
-"""The owner of the code in the first bytes of a client, or None; and the kind of the connection: kinds take turns."""
+"""A function from the first bytes of a client to the owner of the code in them, or None, and the kind of the connection. Connections of
+different kinds take turns."""
 
 
 class Door:
-    """Accepts connections at a socket, and has them served; to aiohttp it is the server of a site."""
+    """Accepts connections at a socket, and serves them at a limited rate. For aiohttp it is the server of a site."""
 
     def __init__(
         self, listener: socket.socket, serve: Serve, recognize: Recognize, waiting: int, beginning: int
     ) -> None:
-        """serve: makes a connection the transport of a protocol, perhaps after a handshake
+        """listener: the socket; serve: makes a connection the transport of a protocol, perhaps after a handshake
 
-        waiting, beginning: number of connections that wait, and of those that `serve` hasn't returned from; of too many
-        the oldest one of the address that has the most is closed
+        recognize: finds the owner of a code in the first bytes
+        waiting: the limit of waiting connections; beginning: the limit of connections in `serve`. If there are too many, the oldest
+            connection of the address with the most is closed.
         """
         self.sockets = (listener,)
         self._listener, self._serve, self._recognize = listener, serve, recognize
@@ -54,7 +56,7 @@ class Door:
         self._admitting = asyncio.create_task(self._admit())
 
     def close(self) -> None:
-        """Accept nothing more, and give up the connections that wait or begin."""
+        """Accept no more connections. Close those that wait, and cancel those in `serve`."""
         self._loop.remove_reader(self._listener)
         for task in (self._admitting, *self._beginning):
             task.cancel()
@@ -62,12 +64,12 @@ class Door:
             self._close(connection)
 
     async def wait_closed(self) -> None:
-        """Return when all of that has ended, and close the socket."""
+        """Wait until no connection is in `serve`, and close the socket."""
         await asyncio.gather(self._admitting, *self._beginning, return_exceptions=True)
         self._listener.close()
 
     def _accept(self) -> None:
-        """Accept what the kernel holds, up to a number, so that other work is done between two calls."""
+        """Accept some of the connections that the kernel holds. Other work is done between two calls."""
         for _ in range(ACCEPTED):
             try:
                 connection, peer = self._listener.accept()
@@ -84,7 +86,7 @@ class Door:
             self._has_come.set()
 
     def _look(self, connection: socket.socket, address: str) -> None:
-        """Look once at what a client has sent: a connection with the code of a seat is served at once."""
+        """Look once at the first bytes of a client. A connection with the code of a seat is served at once; others wait."""
         self._loop.remove_reader(connection)
         try:
             head = connection.recv(HEAD_BYTES, socket.MSG_PEEK)
@@ -105,12 +107,12 @@ class Door:
         connection.close()
 
     def _accept_again(self) -> None:
-        """Accept connections, after a pause, unless the server ends meanwhile."""
+        """Accept connections again after a pause, unless the server has ended meanwhile."""
         if not self._admitting.done():
             self._loop.add_reader(self._listener, self._accept)
 
     async def _admit(self) -> None:
-        """Have connections served at the limited rate, for ever."""
+        """Serve waiting connections at the limited rate. Never returns."""
         while True:
             await self._has_come.wait()
             if (missing := 1 - self._rate.take(0)) > 0:
@@ -135,13 +137,13 @@ class Door:
         task.add_done_callback(self._beginning.discard)
 
     async def _begin(self, connection: socket.socket) -> None:
-        """Have a connection served, unless its client does something wrong, or goes away."""
+        """Serve a connection. Errors of the client end it."""
         with contextlib.suppress(OSError):
             await self._serve(connection)
 
 
 def _has_ended(connection: socket.socket) -> bool:
-    """Whether a client has closed its connection without having sent anything."""
+    """Return whether a client has closed its connection before it sent anything."""
     try:
         return not connection.recv(1, socket.MSG_PEEK)
     except BlockingIOError:
@@ -158,7 +160,9 @@ class DoorSite(web.SockSite):
     def __init__(
         self, runner: web.BaseRunner, listener: socket.socket, make_door: Callable[[web.Server, socket.socket], Door]
     ) -> None:
-        """make_door: is called with aiohttp's server, which makes the protocol of each connection, once the site starts"""
+        """make_door: returns the door. When the site starts, it is called with aiohttp's server, which makes the protocol of each
+        connection, and with the listening socket.
+        """
         super().__init__(runner, listener, shutdown_timeout=LAST_SECONDS)
         self._make_door = make_door
 

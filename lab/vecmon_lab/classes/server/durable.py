@@ -1,8 +1,8 @@
-"""Files that survive a power cut: a thread replaces them as a whole, and flushes what was appended, in batches.
+"""Files that survive a power cut: a thread replaces files as a whole, and flushes files that lines are appended to, in batches.
 
-Callers never wait for the disk. A batch first flushes appended files, and then one record of a journal, which has the new
-contents of all files (`journal.py`): so a batch takes a few syncs, however many files change, and notes never count lines that
-aren't on the disk. After that it replaces and removes files. Another thread flushes these, and removes the journal.
+Callers never wait for the disk. A batch first flushes appended files. Then it writes the new contents of all other files in one
+record of a journal (`journal.py`). So a batch takes a few syncs, however many files change, and notes never count lines that
+aren't on the disk. Finally the batch replaces and removes files. Another thread flushes these files, and removes the journal.
 """
 
 import contextlib
@@ -16,23 +16,24 @@ from .disk_files import replace_file, sync_folder
 from .journal import Changes, Journal, put_file
 
 FLUSH_SECONDS = 0.3  # between a change and the batch that has it
-JOURNAL_SECONDS, JOURNAL_BYTES = 30.0, 8 << 20  # after which a journal's files are flushed, and it is removed
+JOURNAL_SECONDS, JOURNAL_BYTES = 30.0, 8 << 20  # age or size after which journals are flushed and removed
 RETRY_SECONDS = 1.0  # after a batch that failed in part
 
 
 class Appended(Protocol):
-    """A file that lines are appended to. notes: the name of the file that counts them, and waits for them"""
+    """A file that lines are appended to. notes: the name of the file that counts these lines, and is written after them"""
 
     notes: str
 
     def sync(self) -> None:
-        """Flushes to the disk all that was appended. Raises OSError."""
+        """Flush all appended lines to the disk. Raises OSError."""
 
 
 class Flusher:
-    """Replaces files of a folder, by names relative to it, in a thread of its own; the last text of a name counts.
+    """Replaces files of a folder in a separate thread. File names are relative to the folder.
 
-    failures: by name, why a file isn't saved; each batch tries it again
+    If a file is replaced again before a batch, only its last contents are saved.
+    failures: by file name, the reason why the file isn't saved; the next batch tries again
     """
 
     def __init__(self, folder: pathlib.Path) -> None:
@@ -41,45 +42,45 @@ class Flusher:
         self._waiting: dict[str, bytes | None] = {}  # None for a file that will be removed
         self._appended: set[Appended] = set()
         self._journal = Journal(folder)
-        self._lock, self._turn = threading.Lock(), threading.Lock()  # of what waits, and of a batch
+        self._lock, self._turn = threading.Lock(), threading.Lock()  # protects the waiting changes; held during a batch
         self._has_work, self._is_ending, self._is_long = threading.Event(), threading.Event(), threading.Event()
         self._threads = [threading.Thread(target=run, daemon=True) for run in (self._run, self._shorten)]
         for thread in self._threads:
             thread.start()
 
     def replace(self, name: str, data: bytes) -> None:
-        """Replaces a file soon."""
+        """Replace a file soon."""
         self._put(name, data)
 
     def remove(self, name: str) -> None:
-        """Removes a file soon, which needn't be there."""
+        """Remove a file soon, if it is there then."""
         self._put(name, None)
 
     def flush_soon(self, file: Appended) -> None:
-        """Flushes a file soon that was appended to."""
+        """Flush a file soon, since lines were appended to it."""
         with self._lock:
             self._appended.add(file)
         self._has_work.set()
 
     def waiting(self, name: str) -> bytes | None:
-        """The new contents of a file; None if nothing waits. Raises FileNotFoundError if it will be removed."""
+        """Return the contents that a file will get; None if no change of it waits. Raises FileNotFoundError if it will be removed."""
         with self._lock:
             if name in self._waiting and self._waiting[name] is None:
                 raise FileNotFoundError(name)
             return self._waiting.get(name)
 
     def all_waiting(self) -> dict[str, bool]:
-        """The names that wait, and whether a file is there then: one may be removed."""
+        """Return by name the files with waiting changes: True for new contents, False for files that will be removed."""
         with self._lock:
             return {name: data is not None for name, data in self._waiting.items()}
 
     def is_saved(self, name: str) -> bool:
-        """Whether nothing of this name waits."""
+        """Return whether a file is saved: no change of it waits."""
         with self._lock:
             return name not in self._waiting
 
     def flush(self) -> None:
-        """Brings to the disk now what waits, as far as the disk takes it: `failures` has the rest."""
+        """Write all waiting changes now, as far as the disk takes them. `failures` has the files of the other changes."""
         with self._turn:
             with self._lock:
                 waiting, appended = dict(self._waiting), self._appended
@@ -99,7 +100,7 @@ class Flusher:
                         del self._waiting[name]
 
     def shorten(self) -> None:
-        """Flush the files that journals have, and remove these journals; batches go on meanwhile. Raises OSError."""
+        """Flush the files that are named in journals, and remove these journals. Batches go on meanwhile. Raises OSError."""
         with self._turn:
             self._journal.switch()
             generations = list(self._journal.generations)
@@ -113,18 +114,18 @@ class Flusher:
                 self._journal.drop(generation)
 
     def unsaved(self) -> list[str]:
-        """Sentences on files whose contents aren't saved."""
+        """Return sentences on files whose contents aren't saved."""
         with self._lock:
             names = [name for name, data in self._waiting.items() if data is not None]
         return [self.failures.get(name, f"{name} isn't saved") for name in names]
 
     def check_folder(self) -> None:
-        """Raise OSError if another folder has the path now, or none: files by that path aren't the class's."""
+        """Raise OSError if the class's folder is no longer at its path, since files there aren't files of the class."""
         if _identity_of(self._folder) != self._identity:
             raise FileNotFoundError(errno.ENOENT, "the class's folder was moved or removed")
 
     def end(self) -> None:
-        """Flushes, and ends the threads. A journal is left where the disk takes no more."""
+        """Write all waiting changes, and end the threads. A journal remains if the disk fails."""
         self._is_ending.set()
         self._has_work.set()
         self._is_long.set()
@@ -164,7 +165,10 @@ class Flusher:
             self._is_long.set()
 
     def _save_each(self, changes: Changes) -> None:
-        """Replace and remove files, flushing each: after their journals, which would replace them by older ones at a start."""
+        """Replace and remove files, and flush each of them. First flush and remove the journals.
+
+        Otherwise a journal would replace the files by older ones at the next start.
+        """
         self._journal.switch()
         try:
             for generation in list(self._journal.generations):
@@ -178,7 +182,7 @@ class Flusher:
         self._remove([name for name, data in changes.items() if data is None])
 
     def _replace(self, files: dict[str, bytes]) -> None:
-        """Replaces files, and then flushes their folders."""
+        """Replace files, and then flush their folders."""
         written: dict[pathlib.Path, list[str]] = {}
         for name, data in files.items():
             try:
@@ -191,7 +195,7 @@ class Flusher:
             self._sync(folder, names)
 
     def _remove(self, names: list[str]) -> None:
-        """Removes files. The next flush of the folder brings that to the disk: until then an older file is there, too."""
+        """Remove files. The next flush of their folders makes that durable. After a power cut before this flush, the files are back."""
         for name in names:
             try:
                 os.unlink(self._folder / name)
@@ -200,7 +204,7 @@ class Flusher:
             self.failures.pop(name, None)
 
     def _sync(self, folder: pathlib.Path, names: list[str]) -> None:
-        """Flushes a folder in which files of these names were replaced."""
+        """Flush a folder in which files of these names were replaced."""
         try:
             sync_folder(folder)
         except OSError as error:
@@ -210,7 +214,7 @@ class Flusher:
             self.failures.pop(name, None)
 
     def _shorten(self) -> None:
-        """Removes journals that are old or long, until the end."""
+        """Remove journals that are old or long, until `end`."""
         while not self._is_ending.is_set():
             self._is_long.wait(JOURNAL_SECONDS)
             self._is_long.clear()
@@ -219,7 +223,7 @@ class Flusher:
                     self.shorten()
 
     def _run(self) -> None:
-        """Flushes in batches until the end."""
+        """Write changes in batches until `end`."""
         while not self._is_ending.is_set():
             self._has_work.wait()
             self._is_ending.wait(RETRY_SECONDS if self.failures else FLUSH_SECONDS)
@@ -231,7 +235,7 @@ class Flusher:
 
 
 def _identity_of(folder: pathlib.Path) -> tuple[int, int] | None:
-    """The device and the number of a folder; None if there is none."""
+    """Return the numbers of a folder's device and inode; None if there is no folder."""
     try:
         found = os.stat(folder)
     except FileNotFoundError:

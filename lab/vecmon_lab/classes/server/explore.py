@@ -1,4 +1,4 @@
-"""Serves an author's page: a source is written, compiled and stepped there, at a private machine."""
+"""The command `explore`: an author writes, compiles and steps a source on a page, at a private machine."""
 
 import argparse
 import asyncio
@@ -18,14 +18,14 @@ from .builds import builds_by
 from ..core.example_sources import example_sources
 from ..core.languages import LANGUAGES, SourceText
 from .store import Store
-from .view import Class
+from .served_class import Class
 
 HOST, SEAT = "127.0.0.1", "A1"
 PATIENCE = 10.0  # seconds of silence
 
 
 def add_arguments(parser: argparse.ArgumentParser) -> None:
-    """The words of `vecmon-lab explore`."""
+    """Add the arguments of `vecmon-lab explore`."""
     help_text = "a source in C (.c) or assembler (.s); without it the page offers examples"
     parser.add_argument("source", metavar="FILE", type=pathlib.Path, nargs="?", help=help_text)
     parser.add_argument(
@@ -37,7 +37,10 @@ def add_arguments(parser: argparse.ArgumentParser) -> None:
 
 
 def run(arguments: argparse.Namespace) -> int:
-    """Serve until a signal. Raises LabError and OSError for a bad source, or without a compiler."""
+    """Serve the page until a signal arrives; return the exit status.
+
+    Raises LabError and OSError if the source is bad, or if it is in C and there is no compiler.
+    """
     from .server import listening, serve  # which needs aiohttp; --help doesn't
 
     os.umask(0o077)
@@ -60,7 +63,10 @@ def run(arguments: argparse.Namespace) -> int:
 
 
 def read(path: pathlib.Path, options: str | None) -> SourceText:
-    """The source of a file, with these options if any. Raises LabError where they don't fit, or it is none."""
+    """Read the source in a file. options: the name of the compiler's options; None for the default
+
+    Raises LabError if the options don't exist, or if the file isn't in C or assembler, or needs a preprocessor.
+    """
     refuse_cxx(path)
     if path.suffix not in (".c", ".s", ".S"):
         raise LabError(f"{path}: the name of a source ends in .c or .s")

@@ -15,21 +15,21 @@ from .store import Store
 
 
 def folder_report(folder: pathlib.Path, program: pathlib.Path) -> tuple[Sequence[str], bool]:
-    """Lines on a folder, which may be served now, and whether something is damaged. Raises BadFolder and OSError.
+    """Return a report on a class's folder as lines, and whether a file is damaged. Raises BadFolder and OSError.
 
-    No script is executed.
+    A server may serve the folder meanwhile. No script is executed. program: the program that would serve the class
     """
     store = Store(folder, program, is_reading=True)
     machines = [_machine(store, letter) for letter in store.machines]
-    names, exercises = store.read(NAMES, texts), store.read(EXERCISES, texts)
-    unread = sum(len(sent["to"]) - len(sent["read"]) for sent in store.read(NOTICES, sent_notices).values())
-    store.read(HANDS, raised_hands)  # which reports damage
+    names, exercises = store.texts.read(NAMES, texts), store.texts.read(EXERCISES, texts)
+    unread = sum(len(sent["to"]) - len(sent["read"]) for sent in store.texts.read(NOTICES, sent_notices).values())
+    store.texts.read(HANDS, raised_hands)  # which reports damage
     for seat in (f"{letter}{digit}" for letter in store.machines for digit in DIGITS):
         try:
-            kept_program(store, seat)
+            kept_program(store.texts, seat)
         except LabError as error:
-            store.lose(str(error))
-    answers, versions = len(list(found_answers(store))), len(list(store.files("sources/*")))
+            store.damage.report(str(error))
+    answers, versions = len(list(found_answers(store))), len(list(store.texts.files("sources/*")))
     changed = f"program: {program} isn't the one that served the class before: the next start compares its answers"
     changes = [changed] if store.has_new_program else []
     lines = [
@@ -38,18 +38,18 @@ def folder_report(folder: pathlib.Path, program: pathlib.Path) -> tuple[Sequence
         *changes,
         f"exercises: {', '.join(exercises) or 'none'}; {ANSWERS}: {answers}; versions of sources: {versions}; names: {len(names)}; "
         f"unread messages: {unread}",
-        *(f"lost: {sentence}" for sentence in store.lost),
-        *(f"set aside before: {name}" for name, _ in sorted(store.files("**/*.damaged*"))),
+        *(f"lost: {sentence}" for sentence in store.damage.sentences),
+        *(f"set aside before: {name}" for name, _ in sorted(store.texts.files("**/*.damaged*"))),
     ]
-    return lines, bool(store.lost)
+    return lines, bool(store.damage.sentences)
 
 
 def _machine(store: Store, letter: str) -> str:
-    """A line on a machine."""
-    notes = store.notes(letter)
+    """Return the report's line on a machine. Damage to its scripts is reported to the store."""
+    notes = store.scripts.notes(letter)
     for number in range(1, len(notes.scripts) + 1):
-        store.check_script(letter, number)
-    lines = store.count_lines(letter, len(notes.scripts))
+        store.scripts.check(letter, number)
+    lines = store.scripts.count_lines(letter, len(notes.scripts))
     if lines < notes.lines:
-        store.lose(f"{letter}: the last script has {lines:,} lines, and had {notes.lines:,}")
+        store.damage.report(f"{letter}: the last script has {lines:,} lines, and had {notes.lines:,}")
     return f"machine {letter}: {len(notes.scripts)} scripts, {lines:,} lines in the last one"

@@ -15,7 +15,7 @@ FRAMES_A_SECOND, FRAMES_AT_ONCE = 500, 1000  # of a tab; a page sends fewer than
 CONTROLS_A_SECOND, CONTROLS_AT_ONCE = 20, 60  # pings, pongs and closes; a browser answers a ping each 10 s
 CODE_BYTES, CONTROLS_BEFORE_CODE = 1024, 16  # of the message with the code; control frames before it
 MASKED, LENGTH = 0x80, 0x7F  # bits of a header's second byte
-FINAL, OPCODE = 0x80, 0x0F  # bits of its first byte
+FINAL, OPCODE = 0x80, 0x0F  # bits of a header's first byte
 CONTROL = 8  # the first opcode of control frames
 PIECE = 4096  # bytes that aiohttp gets at once
 
@@ -23,14 +23,14 @@ Clock = Callable[[], float]
 
 
 class Rate:
-    """A number of events in a second, and how many may come at once (a token bucket)."""
+    """A limit on events (a token bucket): `a_second` events each second on average, and `at_once` events at once."""
 
     def __init__(self, a_second: float, at_once: float, clock: Clock = time.monotonic) -> None:
         self._a_second, self._at_once, self._clock = a_second, at_once, clock
         self._left, self._since = at_once, clock()
 
     def take(self, amount: float = 1) -> float:
-        """Take an amount; return what is left then, which is negative if it is too much."""
+        """Count `amount` events; return how many more may come at once. A negative number shows that the limit is exceeded."""
         now = self._clock()
         self._left = min(self._at_once, self._left + (now - self._since) * self._a_second) - amount
         self._since = now
@@ -49,7 +49,7 @@ class FrameLimits:
         self._header, self._payload_left = bytearray(), 0
 
     def follow(self, data: bytes) -> None:
-        """Follow bytes of a client. Raises WebSocketError at the first frame beyond a limit."""
+        """Follow the next bytes of a client. Raises WebSocketError at the first frame beyond a limit."""
         place = 0
         while place < len(data):
             if self._payload_left:
@@ -64,7 +64,7 @@ class FrameLimits:
                 self._header.clear()
 
     def _check_frame(self, first: int, second: int) -> None:
-        """Raise WebSocketError if a frame with these bytes at its start isn't allowed."""
+        """Raise WebSocketError if a frame isn't allowed. first, second: the first two bytes of its header"""
         if not second & MASKED:
             raise WebSocketError(WSCloseCode.PROTOCOL_ERROR, "a client's frames are masked")
         is_control = first & OPCODE >= CONTROL
@@ -74,7 +74,7 @@ class FrameLimits:
             self._check_before_code(first, is_control)
 
     def _check_before_code(self, first: int, is_control: bool) -> None:
-        """Raise WebSocketError unless a frame is the one small text before a code, or one of a few control frames."""
+        """Raise WebSocketError unless a frame may come before the code is accepted: one small text, and a few control frames."""
         if is_control:
             self._controls_before_code += 1
             if self._controls_before_code > CONTROLS_BEFORE_CODE:
@@ -87,14 +87,14 @@ class FrameLimits:
 
 
 def _header_size(header: bytearray) -> int:
-    """The bytes of a header of which these are the first ones; at least 2."""
+    """Return the size in bytes of the header that starts with these bytes. Two bytes determine it; for fewer bytes, return 2."""
     if len(header) < 2:
         return 2
     return 2 + {126: 2, 127: 8}.get(header[1] & LENGTH, 0) + (4 if header[1] & MASKED else 0)
 
 
 def _payload_size(header: bytearray) -> int:
-    """The bytes of the payload after a whole header."""
+    """Return the size of the payload after a whole header."""
     length = header[1] & LENGTH
     size = {126: 2, 127: 8}.get(length, 0)
     return int.from_bytes(header[2 : 2 + size], "big") if size else length
@@ -104,22 +104,22 @@ class _Parser(Protocol):
     """A parser of a connection's bytes, as aiohttp calls it."""
 
     def feed_data(self, data: bytes) -> tuple[bool, bytes]:
-        """Parse bytes; return whether the connection has ended, and the bytes after that."""
+        """Parse bytes; return whether the connection has ended, and the bytes after its end."""
 
     def feed_eof(self) -> None:
-        """The client sends no more."""
+        """Take up that the client sends no more bytes."""
 
 
 class _LimitedParser:
-    """Passes bytes on to aiohttp's parser as long as their frames are within the limits."""
+    """Passes bytes to aiohttp's parser as long as their frames are within the limits."""
 
     def __init__(self, parser: _Parser, limits: FrameLimits, refuse: Callable[[WebSocketError], object]) -> None:
-        """refuse: is called with the first frame's error"""
+        """refuse: is called with the error of the first frame beyond a limit"""
         self._parser, self._limits, self._refuse = parser, limits, refuse
         self._is_over = False
 
     def feed_data(self, data: bytes) -> tuple[bool, bytes]:
-        """As `_Parser.feed_data`; bytes after a frame that isn't allowed are dropped."""
+        """Parse bytes as `_Parser.feed_data` does, but drop all bytes after a frame that isn't allowed."""
         for start in range(0, len(data), PIECE):
             if self._is_over:
                 return False, b""
@@ -136,12 +136,12 @@ class _LimitedParser:
         return False, b""
 
     def feed_eof(self) -> None:
-        """As `_Parser.feed_eof`."""
+        """Pass the end of the client's bytes on."""
         self._parser.feed_eof()
 
 
 class LimitedSocket(web.WebSocketResponse):
-    """A server's WebSocket with limits of the frames that a client sends, also of those behind its request."""
+    """A server's WebSocket with limits for a client's frames, also for frames that arrive together with the request."""
 
     limits: FrameLimits
 

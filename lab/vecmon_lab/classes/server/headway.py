@@ -1,6 +1,6 @@
-"""Since when a student makes no headway at an exercise: no new line, no new stop of the program, no more cases that pass.
+"""The headway of a student at an exercise: a new line, a new place where the program stops, or more cases that pass.
 
-A student who never presses *Check* shows nothing else by which a teacher could know.
+A teacher can't know otherwise that a student who never presses *Check* is stuck.
 """
 
 import time
@@ -13,7 +13,7 @@ MAX_KNOWN = 20_000  # lines and stops; a student who has had more is at work
 class Headway:
     """The headway of a student at the open exercise.
 
-    since: when the last headway was, in seconds since 1970: what a student didn't have before at this exercise
+    since: when the student last had something new at this exercise, in seconds since 1970
     """
 
     def __init__(self, clock: Callable[[], float] = time.time) -> None:
@@ -24,9 +24,10 @@ class Headway:
         self._last: tuple[str, str, str, int] | None = None
 
     def follow(self, exercise: str, text: str, pc: str, best: int) -> None:
-        """Take up what the student has now.
+        """Take up the present state of the student's work.
 
-        text: of the source; pc: of the stopped program, or ""; best: the most cases that passed in one try
+        exercise: the open exercise; text: the text of its source; pc: the program counter of the stopped program, or ""
+        best: the most cases that passed in one try
         """
         now = exercise, text, pc, best
         if now == self._last:
@@ -42,11 +43,14 @@ class Headway:
             self._known |= found
 
     def restart(self) -> None:
-        """Count from now on: another exercise is open, or the student wasn't there."""
+        """Forget the headway, since another exercise is open, or the student wasn't there."""
         self.since = self._clock()
         self._known.clear()
 
     def stuck_since(self) -> float | None:
-        """When the time without headway was over, in seconds since 1970; None if it isn't yet."""
+        """Return since when the student is stuck, in seconds since 1970; None if the student isn't stuck.
+
+        A student is stuck NO_HEADWAY_SECONDS after the last headway.
+        """
         over = self.since + NO_HEADWAY_SECONDS
         return over if over <= self._clock() else None

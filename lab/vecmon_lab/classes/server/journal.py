@@ -1,8 +1,8 @@
 """The journal of a class's folder: new contents of small files, on the disk after one sync for a whole batch.
 
-journal.1, journal.2 ..: records, each with changes of files by name; a file is replaced after its record is on the disk, without a sync.
-    So after a power cut any of these files may be missing or torn, and `recover` writes them again, from the records in their
-    order. A journal is removed once all files that it names are flushed to the disk; before the next one is.
+journal.1, journal.2 ..: records, each with changes of files by name. A file is replaced without a sync once its record is on the disk.
+    After a power cut any replaced file may be missing or torn, and `recover` writes the files again from the records, in order.
+    A journal is removed once all files that it names are flushed to the disk, the oldest journal first.
 
 A record is a line with the length and the CRC-32 of its text, the text, which is JSON, and a newline. Only the last record
 can be torn, since each is flushed before the next one.
@@ -26,12 +26,15 @@ HEADER_BYTES = 18
 MANY, AT_ONCE = 64, 16  # files of a journal that are flushed in threads, and how many at a time
 
 Changes = Mapping[str, bytes | None]
-"""New contents of files by name relative to the folder; None for a file that is removed."""
+"""New contents of files, by their names relative to the folder; None for a file that is removed."""
 
 
 @dataclass
 class Generation:
-    """A journal, the names of the files in its records, and its bytes. doubtful: of files whose flush failed"""
+    """A journal.
+
+    names: the names of the files in its records; size: its size in bytes; doubtful: the names of files whose flush failed
+    """
 
     path: pathlib.Path
     names: set[str] = field(default_factory=set)
@@ -40,7 +43,7 @@ class Generation:
 
 
 class Journal:
-    """The journals of a folder that is served. For one thread at a time, except `flush_files`."""
+    """The journals of a folder that is served. Only one thread at a time may call its methods, except `flush_files`."""
 
     def __init__(self, folder: pathlib.Path) -> None:
         self.generations: list[Generation] = []  # the oldest first
@@ -54,7 +57,7 @@ class Journal:
         return sum(each.size for each in self.generations)
 
     def append(self, changes: Changes) -> None:
-        """Write a record, which is on the disk on return. Raises OSError; then the journal is as before."""
+        """Write a record, and wait until it is on the disk. Raises OSError; then the journal is as before."""
         if self._file is None:
             self._begin()
         assert self._file is not None
@@ -76,14 +79,14 @@ class Journal:
         if file is not None:
             with contextlib.suppress(OSError):
                 os.ftruncate(file, self.generations[-1].size)
-            with contextlib.suppress(OSError):  # which reports what an earlier sync has reported
+            with contextlib.suppress(OSError):  # the error is one that an earlier sync has raised
                 os.close(file)
 
     def flush_files(self, generation: Generation) -> None:
-        """Flush the files of a journal to which no record is appended any more. Raises OSError.
+        """Flush the files that a journal names. No more records are appended to this journal. Raises OSError.
 
-        After a flush that failed the system counts the data as flushed, though it isn't: `write_again` is called before
-        the next flush.
+        After a failed flush the system counts the data as flushed, though it isn't. So `write_again` is called before the next
+        flush.
         """
         by_folder: dict[pathlib.Path, set[str]] = {}
         failure: OSError | None = None
@@ -104,7 +107,7 @@ class Journal:
             raise failure
 
     def _flushed_together(self, names: list[str]) -> list[tuple[str, OSError | None]]:
-        """Flush files; return their names with what failed. Of many some at a time, since a disk takes these together."""
+        """Flush files; return each name with its error, or None. Many files are flushed several at a time, which is faster on a disk."""
         paths = [self._folder / name for name in names]
         if len(names) < MANY:
             return [*zip(names, map(_flush_error, paths))]
@@ -112,7 +115,7 @@ class Journal:
             return [*zip(names, pool.map(_flush_error, paths))]
 
     def write_again(self, generation: Generation) -> None:
-        """Replace and flush the files of a journal whose flush failed, by what the journals have. Raises OSError."""
+        """Write the files of a journal whose flush failed once more, with the contents in the journals, and flush them. Raises OSError."""
         if generation.doubtful:
             changes, damaged = journaled(self._folder)
             if damaged:
@@ -124,7 +127,7 @@ class Journal:
             generation.doubtful.clear()
 
     def drop(self, generation: Generation) -> None:
-        """Remove a journal whose files are flushed, as is the removal of earlier ones. Raises OSError."""
+        """Remove a journal whose files are flushed. Raises OSError."""
         sync_folder(self._folder)
         with contextlib.suppress(FileNotFoundError):
             os.unlink(generation.path)
@@ -141,14 +144,14 @@ class Journal:
 
 
 def record_of(changes: Changes) -> bytes:
-    """A record."""
+    """Return the record of changes."""
     texts = {name: None if data is None else data.decode("utf-8", "surrogateescape") for name, data in changes.items()}
     text = json.dumps(texts).encode("ascii")
     return b"%08x %08x\n%s\n" % (len(text), crc32(text), text)
 
 
 def records(data: bytes) -> Iterator[tuple[int, Changes]]:
-    """The records of a journal, each with the number of bytes up to its end; up to one that is torn, damaged or of another form."""
+    """Return the records of a journal, each with the offset of its end, up to one that is torn, damaged or of another form."""
     place = 0
     while (text := _text_at(data, place)) is not None and (changes := _changes_of(text)) is not None:
         place += HEADER_BYTES + len(text) + 1
@@ -156,7 +159,7 @@ def records(data: bytes) -> Iterator[tuple[int, Changes]]:
 
 
 def _text_at(data: bytes, place: int) -> bytes | None:
-    """The text of the record at a place of a journal; None if there is none, or if it is torn or damaged."""
+    """Return the text of the record at an offset; None if there is none, or if it is torn or damaged."""
     header = re.match(rb"([0-9a-f]{8}) ([0-9a-f]{8})\n", data[place : place + HEADER_BYTES])
     if header is None:
         return None
@@ -166,7 +169,7 @@ def _text_at(data: bytes, place: int) -> bytes | None:
 
 
 def _changes_of(text: bytes) -> Changes | None:
-    """The changes of a record's text; None for a text of another form, as a later version may write."""
+    """Return the changes in a record's text; None for a text of another form, as a later version may write."""
     try:
         values = json.loads(text)
         if not isinstance(values, dict) or not all(isinstance(value, str | None) for value in values.values()):
@@ -182,13 +185,16 @@ def _changes_of(text: bytes) -> Changes | None:
 
 
 def journals(folder: pathlib.Path) -> list[pathlib.Path]:
-    """The journals of a folder, the oldest first."""
+    """Return the journals of a folder, the oldest first."""
     found = [path for path in folder.glob("journal.*") if JOURNAL.fullmatch(path.name)]
     return sorted(found, key=lambda path: int(path.name.partition(".")[2]))
 
 
 def journaled(folder: pathlib.Path) -> tuple[dict[str, bytes | None], dict[pathlib.Path, str]]:
-    """The last contents by name that the journals of a folder have, and by journal a sentence on its damage. Raises OSError."""
+    """Read the journals of a folder. Raises OSError.
+
+    Return the last contents of each file in them, by name, with None for a removed file; and a sentence on each damaged journal.
+    """
     changes, damaged = dict[str, bytes | None](), dict[pathlib.Path, str]()
     for path in journals(folder):
         data, end = path.read_bytes(), 0
@@ -200,9 +206,9 @@ def journaled(folder: pathlib.Path) -> tuple[dict[str, bytes | None], dict[pathl
 
 
 def recover(folder: pathlib.Path) -> list[str]:
-    """Bring files to the state of the journals, which end then, and set damaged ones aside.
+    """Write the files whose contents are in the journals of a folder, and remove the journals. Damaged journals are renamed.
 
-    Returns sentences on what is lost. Raises OSError.
+    Return a sentence on each damaged journal. Raises OSError.
     """
     changes, damaged = journaled(folder)
     for name, data in changes.items():
@@ -223,7 +229,7 @@ def recover(folder: pathlib.Path) -> list[str]:
 
 
 def put_file(path: pathlib.Path, data: bytes) -> None:
-    """Replace a file that a journal has, without a sync. Raises OSError."""
+    """Replace a file without a sync, since a journal has its contents. Raises OSError."""
     make_folder(path.parent)
     new = path.with_name(f"{path.name}.new")
     file = os.open(new, os.O_WRONLY | os.O_CREAT | os.O_TRUNC, 0o600)
@@ -235,7 +241,7 @@ def put_file(path: pathlib.Path, data: bytes) -> None:
 
 
 def _flush_error(path: pathlib.Path) -> OSError | None:
-    """Flush a file, unless it was removed; return what failed."""
+    """Flush a file, unless it was removed; return the error, or None."""
     try:
         file = os.open(path, os.O_RDONLY)
     except FileNotFoundError:
@@ -252,12 +258,12 @@ def _flush_error(path: pathlib.Path) -> OSError | None:
 
 
 def _is_inside(name: str) -> bool:
-    """Whether a name is one of the folder."""
+    """Return whether a name is relative and stays inside the folder."""
     return not pathlib.PurePath(name).is_absolute() and ".." not in pathlib.PurePath(name).parts
 
 
 def _has_later_record(rest: bytes) -> bool:
-    """Whether bytes behind the last good record have more than one torn record."""
+    """Return whether more than one torn record follows the last good record. rest: the bytes after the good record"""
     header = re.match(rb"([0-9a-f]{8}) [0-9a-f]{8}\n", rest)
     return len(rest) > HEADER_BYTES + (int(header[1], 16) + 1 if header else 0) and bool(
         re.search(rb"\n[0-9a-f]{8} [0-9a-f]{8}\n", rest)

@@ -1,4 +1,4 @@
-"""The thread of a machine: turns at it are executed there one at a time, first come, first served, for an event loop."""
+"""The thread of a machine, which executes turns for an event loop, one at a time, first come, first served."""
 
 import asyncio
 import concurrent.futures
@@ -8,23 +8,25 @@ from functools import partial
 from ... import LabError
 from ...machine.answers import OutOfStep
 from ...machine.session import ProgramGone, ReplayDiffers
-from ..core.shared_machine import SharedMachine, Turn
+from ..core.shared_machine import SharedMachine
+from ..core.steps import Turn
 
 
 class Stopped(LabError):
-    """The machine was stopped for good, since a replay differs."""
+    """The machine was stopped for good, since a replay gave other answers."""
 
 
 def rebuilding(letter: str, percent: int) -> str:
-    """The message on how much of a machine's script a new process has executed."""
+    """Return the message on the part of a machine's script that a new process has executed."""
     return f"machine {letter} is being rebuilt: {percent} %"
 
 
 class MachineThread:
-    """A machine that blocks in a thread of its own. The event loop's thread alone reports to seats.
+    """Runs a machine, which blocks, in a separate thread. Only the event loop's thread changes seats.
 
     lock: held during a turn
-    stopped, down, rebuilding: why the machine answers no more, or not now; "" where it does
+    stopped: why the machine was stopped for good, or ""; down: why its process doesn't run, or ""
+    rebuilding: a message on the progress of a new process that executes the script again; "" if there is none
     """
 
     def __init__(self, machine: SharedMachine, changed: Callable[[], None], replay_differs: Callable[[], None]) -> None:
@@ -35,7 +37,7 @@ class MachineThread:
         self._thread = concurrent.futures.ThreadPoolExecutor(1)
 
     async def execute(self, turn: Turn) -> None:
-        """Executes a turn in the machine's thread, and reports it. Raises LabError where the machine is down."""
+        """Execute a turn in the machine's thread, and pass the results to the seats. Raises LabError if the machine doesn't run."""
         if self.stopped:
             raise Stopped(self.stopped)
         letter = self.machine.letter
@@ -56,7 +58,10 @@ class MachineThread:
             self.changed()
 
     async def call(self, call: Callable[[], None]) -> None:
-        """Calls in the machine's thread. A caller who is cancelled waits for it, so that no notes are made meanwhile."""
+        """Call a function in the machine's thread, and wait for its end.
+
+        Even a cancelled caller waits, so that no notes are made while the function runs.
+        """
         started = asyncio.get_running_loop().run_in_executor(self._thread, call)
         try:
             await asyncio.shield(started)
@@ -66,12 +71,12 @@ class MachineThread:
             raise
 
     def end(self) -> None:
-        """Ends the machine's process, whatever it does, and the thread."""
+        """End the machine's process, even while it executes lines, and end the thread."""
         self.stopped = self.stopped or "the server ends"
         self.machine.session.end()
         self._thread.shutdown()
 
     def _follow_rebuilding(self, loop: asyncio.AbstractEventLoop, percent: int) -> None:
-        """Reports how far a new process has come; called in the machine's thread."""
+        """Report the part of the script that a new process has executed. Called in the machine's thread."""
         self.rebuilding = "" if percent == 100 else rebuilding(self.machine.letter, percent)
         loop.call_soon_threadsafe(self.changed)

@@ -7,33 +7,36 @@ from collections import OrderedDict
 from collections.abc import Awaitable, Callable
 from typing import cast
 
-from ..core.messages import Answer
+from ..core.messages import Response
 
-MAX_ANSWERS = 8  # of a page that are kept; a page waits for an answer before its next request
-MAX_PAGES = 32  # of a seat that are kept; those used last
+MAX_RESPONSES = 8  # of a page that are remembered; a page waits for a response before its next request
+MAX_PAGES = 32  # of a seat that are remembered; those used last
 _NAME = re.compile("[0-9a-f]{32}")
 
 
 class OpenPage:
-    """The last answers to a page, by the numbers of their requests, without changes of its view."""
+    """The last responses to a page, by the numbers of their requests, without changes of its view."""
 
     def __init__(self) -> None:
-        self._answers: OrderedDict[int, asyncio.Future[Answer]] = OrderedDict()
+        self._responses: OrderedDict[int, asyncio.Future[Response]] = OrderedDict()
 
-    async def answer(self, text: str, execute: Callable[[], Awaitable[Answer]]) -> Answer:
-        """Execute a request; return its answer. For one that was sent before, the answer that it had or will have."""
+    async def respond(self, text: str, execute: Callable[[], Awaitable[Response]]) -> Response:
+        """Execute a request; return its response. If the page sent it before, return the same response without executing it again.
+
+        text: the message; execute: executes the request
+        """
         number = _number_of(text)
         if number is None:
             return await execute()
-        if number in self._answers:
-            return await asyncio.shield(self._answers[number])
-        first = self._answers[number] = asyncio.get_running_loop().create_future()
-        while len(self._answers) > MAX_ANSWERS:
-            self._answers.popitem(last=False)
+        if number in self._responses:
+            return await asyncio.shield(self._responses[number])
+        first = self._responses[number] = asyncio.get_running_loop().create_future()
+        while len(self._responses) > MAX_RESPONSES:
+            self._responses.popitem(last=False)
         try:
-            answer = await execute()
-            first.set_result(_without_changes(answer))
-            return answer
+            response = await execute()
+            first.set_result(_without_changes(response))
+            return response
         finally:
             first.cancel()  # unless it has a result
 
@@ -45,7 +48,10 @@ class OpenPages:
         self._pages: dict[str, OrderedDict[str, OpenPage]] = {}
 
     def open(self, who: str, name: object) -> tuple[OpenPage, bool]:
-        """Return the page of a name, and whether it was open before; a new page without a proper name."""
+        """Return the page of this name, and whether it was open before. If the name isn't valid, return a new page.
+
+        who: the owner of the page: a seat, the teacher or the wall
+        """
         if not isinstance(name, str) or not _NAME.fullmatch(name):
             return OpenPage(), False
         pages = self._pages.setdefault(who, OrderedDict())
@@ -58,7 +64,7 @@ class OpenPages:
 
 
 def _number_of(text: str) -> int | None:
-    """The number of a request; None of what is none."""
+    """Return the number of a request; None for another message."""
     try:
         message = json.loads(text)
     except (ValueError, RecursionError):
@@ -67,6 +73,6 @@ def _number_of(text: str) -> int | None:
     return number if type(number) is int else None
 
 
-def _without_changes(answer: Answer) -> Answer:
-    """An answer without changes, which the greeting of a new connection has."""
-    return cast(Answer, {key: value for key, value in answer.items() if key not in ("patch", "logs")})
+def _without_changes(response: Response) -> Response:
+    """Return a response without its changes of the view. The greeting of a new connection has them."""
+    return cast(Response, {key: value for key, value in response.items() if key not in ("patch", "logs")})

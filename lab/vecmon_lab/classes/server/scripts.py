@@ -1,4 +1,5 @@
-"""The scripts of a machine: checkpoints make them short for a new process, a spare process follows, and a long one is succeeded."""
+"""The scripts of a machine. Checkpoints shorten the part that a new process executes. A spare process follows the machine. After a long
+script the next one starts."""
 
 import asyncio
 import concurrent.futures
@@ -10,40 +11,49 @@ from ... import LabError
 from ...machine.session import Checkpoint, Session
 from .worker_pool import WorkerPool
 from .machine_thread import MachineThread
-from .store import ScriptFile
+from .script_file import ScriptFile
 
-FOLLOW_SECONDS, SHORTEN_SECONDS = 0.2, 0.5  # between a spare's parts; and between looks at how long a script has become
-NEXT_SCRIPT_BYTES, NEXT_SCRIPT_SECONDS = 12_000_000, 300.0  # after which another one starts: a server starts with it
-MAX_SET_UP_BYTES = 9_000_000  # of lines that set the machine up in another one
-MAX_BEHIND = 3.0  # times the weight at which a checkpoint is due: until it is made, no slices are granted
+FOLLOW_SECONDS, SHORTEN_SECONDS = (
+    0.2,
+    0.5,
+)  # between updates of the spare process; between looks at the length of the script
+NEXT_SCRIPT_BYTES, NEXT_SCRIPT_SECONDS = (
+    12_000_000,
+    300.0,
+)  # of a script, after which the next one starts; a server executes the last one when it starts
+MAX_SET_UP_BYTES = 9_000_000  # of the lines with which the next script sets the machine up
+MAX_BEHIND = (
+    3.0  # times the weight at which a checkpoint is due; above it, no slices are granted until there is a checkpoint
+)
 
 
 Saver = Callable[[Session, Sequence[int], Mapping[str, str]], bool]
-"""Saves notes of a session, of these scripts, and of the last stops when the last one started; whether that went well."""
+"""A function that saves notes on a session, and returns whether that succeeded. Its other arguments are the number of set-up lines of each
+script, and the users' last stops, by digit, when the last script started."""
 
 
 class Scripts:
     """The scripts of a machine, and the file of the last one.
 
-    set_up: of each script, how many lines at its beginning set the machine up
+    set_up: for each script, the number of lines at its start that set the machine up
     stops: the last stops of users when the last script started, by digit (`Seats.stops`)
     """
 
     def __init__(self, thread: MachineThread, file: ScriptFile, makers: WorkerPool, save: Saver) -> None:
-        """makers: places where checkpoints are made"""
+        """makers: processes that make checkpoints; save: saves notes"""
         self.file = file
         self.set_up: Sequence[int] = [0]
         self.stops: Mapping[str, str] = {}
         self._machine, self._thread, self._makers, self._save = thread.machine, thread, makers, save
-        self._minimum = math.inf  # the weight of a script that gets a checkpoint; more where there was none
-        self._follower = concurrent.futures.ThreadPoolExecutor(1)  # of the spare process
+        self._minimum = math.inf  # the weight at which a script gets a checkpoint; more after a failure
+        self._follower = concurrent.futures.ThreadPoolExecutor(1)  # a thread that updates the spare process
 
     def is_behind(self) -> bool:
-        """Whether a new process would be busy for so long that slices wait for a checkpoint."""
+        """Return whether slices have to wait for a checkpoint, since a new process would take too long to catch up."""
         return self._machine.session.weight > MAX_BEHIND * self._minimum
 
     async def shorten(self) -> None:
-        """Makes checkpoints, so that a new process catches up fast; runs for ever."""
+        """Make checkpoints when they are due, so that a new process catches up fast, and start the next script. Never returns."""
         self._minimum = max(1.0, self._machine.session.weight)
         while True:
             await asyncio.sleep(SHORTEN_SECONDS)
@@ -58,14 +68,14 @@ class Scripts:
                     self._minimum = max(1.0, 1.5 * self._machine.session.weight)
 
     async def follow(self) -> None:
-        """Brings the spare process up to the machine, again and again; runs for ever."""
+        """Execute the machine's new lines in the spare process, at intervals. Never returns."""
         while True:
             with contextlib.suppress(LabError):  # the next request reports it
                 await asyncio.get_running_loop().run_in_executor(self._follower, self._machine.session.follow)
             await asyncio.sleep(FOLLOW_SECONDS)
 
     async def make_checkpoint(self) -> None:
-        """Makes a checkpoint in a process of its own, of this moment or shortly before. Raises LabError where that fails."""
+        """Make a checkpoint of the present state, or of a state shortly before, in a separate process. Raises LabError if that fails."""
         async with self._thread.lock:
             session = self._machine.session
             script, spent = session.short_script, session.recorded.spent
@@ -76,9 +86,9 @@ class Scripts:
             session.recorded.shorten(Checkpoint(int(number), lines), spent)
 
     async def start_next(self) -> None:
-        """Continues in another script, which starts with the last checkpoint.
+        """Continue in the next script, which starts with the last checkpoint.
 
-        Raises LabError and OSError where that fails; then the script continues.
+        Raises LabError and OSError if that fails; then the present script continues.
         """
         async with self._thread.lock:
             await self._thread.call(self._begin_next)
@@ -87,7 +97,7 @@ class Scripts:
         self._thread.changed()
 
     def _begin_next(self) -> None:
-        """Starts another script; called in the machine's thread."""
+        """Start the next script. Called in the machine's thread."""
         replacement = self._machine.session.renewed()
         set_up, stops = [*self.set_up, replacement.lines], self._machine.seats.stops()
         try:
@@ -108,7 +118,7 @@ class Scripts:
         self.set_up, self.stops = set_up, stops
 
     def end(self) -> None:
-        """Ends the spare's thread, and closes the file; the machine has ended."""
+        """End the thread of the spare process, and close the file. The machine has ended before."""
         self._follower.shutdown()
         self._machine.session.close()
         self.file.close()

@@ -1,6 +1,6 @@
-"""A budget of processor for each seat: requests of a seat that has spent more than its share wait, and the others go on.
+"""A budget of processor time for each seat. Requests of a seat that has spent more than its share wait; others aren't delayed.
 
-Only the time of the event loop's thread counts, which all seats share. Time in which a request waits costs nothing.
+Only time of the event loop's thread counts, which all seats share. A waiting request costs nothing.
 """
 
 import asyncio
@@ -10,14 +10,14 @@ from typing import Any, Generic, TypeVar
 
 from .frame_limits import Rate
 
-SHARE = 0.25  # of a core; a class of 30 takes 0.23 together at 76 requests a second
-SECONDS_AT_ONCE = 5.0  # of processor, before a seat waits
+SHARE = 0.25  # of a core; a class of 30 takes 0.23 of one at 76 requests a second
+SECONDS_AT_ONCE = 5.0  # of processor time that a seat may spend at once
 
 Returned = TypeVar("Returned")
 
 
 class SeatBudget:
-    """The processor time that a seat's tabs have together."""
+    """The processor time that all tabs of a seat share."""
 
     def __init__(
         self,
@@ -25,13 +25,16 @@ class SeatBudget:
         clock: Callable[[], float] = time.monotonic,
         spent: Callable[[], float] = time.thread_time,
     ) -> None:
-        """share: of a core; spent: the processor time of this thread in seconds"""
+        """share: the part of a core that the seat may use; clock: returns the time in seconds
+
+        spent: returns the processor time of this thread in seconds
+        """
         self._share, self._spent = share, spent
         self._rate = Rate(share, SECONDS_AT_ONCE, clock)
 
     @property
     def delay(self) -> float:
-        """How many seconds the seat's next request waits."""
+        """The seconds for which the seat's next request has to wait."""
         return max(0.0, -self._rate.take(0) / self._share)
 
     async def ready(self) -> None:
@@ -40,12 +43,12 @@ class SeatBudget:
             await asyncio.sleep(delay)
 
     def metered(self, work: Coroutine[Any, Any, Returned]) -> "_Metered[Returned]":
-        """An awaitable that does the work, whose processor time the seat pays for."""
+        """Return an awaitable that does the work and charges the seat for its processor time."""
         return _Metered(work, self._spent, self._rate.take)
 
 
 class _Metered(Generic[Returned]):
-    """Work whose steps are measured: a step ends where the work waits."""
+    """Work whose processor time is measured between its waits, and passed to `pay`, in seconds."""
 
     def __init__(
         self, work: Coroutine[Any, Any, Returned], spent: Callable[[], float], pay: Callable[[float], object]
@@ -66,5 +69,5 @@ class _Metered(Generic[Returned]):
             try:
                 yield step
                 error = None
-            except BaseException as thrown:  # as a cancellation, which is for the work
+            except BaseException as thrown:  # such as a cancellation: the work gets it
                 error = thrown

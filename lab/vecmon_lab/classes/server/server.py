@@ -35,48 +35,52 @@ from .frame_limits import LimitedSocket, Rate
 from .resumed_pages import OpenPages
 from .room import Room
 from .seat_budget import SeatBudget
-from .store import BadFolder, script_name
+from .folder_lock import BadFolder
+from .script_file import script_name
 from .tab_requests import TabRequests
 from .tab_socket import CLOSED, READ_SECONDS, TabSocket
 from .tls import Handshake, kind_of_start
-from .view import Class, Tab
+from .served_class import Class
+from .student_view import exercise_table, seat_table
+from .tab import Tab
 
 MESSAGE_BYTES = 400_000
 SOCKET = "/socket"  # the path of the WebSocket; requests to upgrade at other paths are ignored
 PATIENCE = 10.0  # seconds for a first request
-CODE_SECONDS = 60.0  # for a tab's code; of a flood of sockets few are closed in a second, whose clients connect again
-LATER_A_SECOND, LATER_AT_ONCE = 100, 1000  # requests that aren't the first ones of their connections; others wait
+CODE_SECONDS = 60.0  # for a tab's code; so long that few sockets of a flood are closed each second, since their clients connect again
+LATER_A_SECOND, LATER_AT_ONCE = 100, 1000  # later requests of a connection than the first; above this rate they wait
 IDLE_SECONDS = 15.0  # of a connection between two requests
-UNKNOWN = 1500  # connections without a whole request, connections between two requests, and sockets without a code
-WAITING = 8000  # connections at the door
-FILES = 20_000  # that a process has for all of these limits; with fewer, they are smaller
+# The most connections without a whole request, connections between two requests, and sockets without a code.
+UNKNOWN = 1500
+WAITING = 8000  # the most connections that wait at the door
+FILES = 20_000  # that a process needs for these limits; with fewer files, the limits are smaller
 TEACHERS_SHARE = 1.0  # of a core; a seat's is smaller
-SOCKETS = 8  # of a seat; of the teacher twice as many
+SOCKETS = 8  # the most sockets of a seat; the teacher may have twice this number
 WRONG_CODE_SECONDS = 0.5
-KEEP_SECONDS = 0.3  # between saves; the disk has the data that long afterwards, so within a second
+KEEP_SECONDS = 0.3  # between saves; a save takes about as long to reach the disk, so a change is there within a second
 HEADERS = {
     "Cache-Control": "no-store",
     "Referrer-Policy": "no-referrer",
     "X-Content-Type-Options": "nosniff",
     "Cross-Origin-Opener-Policy": "same-origin",
 }
-SHOWN_PROTOCOL = "vecmon"  # of a WebSocket; a page asks for it, and for one that is its code, which the door recognizes
+SHOWN_PROTOCOL = "vecmon"  # the subprotocol of a WebSocket; a page also requests one that contains its code, which the door recognizes
 SHOWN_CODE = re.compile(rb"\r\nSec-WebSocket-Protocol:[^\r\n]*\bvecmon-code\.([a-z0-9]{1,64})\b", re.IGNORECASE)
 HOST = re.compile(r"(?:\[([0-9a-fA-F:.]+)\]|([A-Za-z0-9.-]+))(?::[0-9]+)?")
 # the header `Server` without versions, also in answers that have no hook
 vars(web_response)["SERVER_SOFTWARE"] = "vecmon-lab"
-CROWDED = 4429  # why a socket is closed: the seat has too many
+CROWDED = 4429  # the status of a socket that is closed since its seat has too many
 
 
 class Server:
-    """The doors of a class: who may come in, and what is handed out."""
+    """The requests to a class by HTTP: who may make them, and the responses."""
 
     def __init__(self, members: Class, names: set[str]) -> None:
-        """names: hosts that the page may be opened under, besides all numeric addresses."""
+        """names: of this host, by which pages may be opened, in addition to all numeric addresses"""
         self.members, self.names = members, {"localhost", *names}
         self._requests, self._pages = TabRequests(members), OpenPages()
         self._page, self._lesson, self._listings = Page("class"), Page("lesson"), Page("listings")
-        self._page_data = b""  # of the class's page, once it was asked for
+        self._page_data = b""  # the class's page, once a client has requested it
         self.connections = Connections(_share_of_files(UNKNOWN), PATIENCE, READ_SECONDS)
         self._budgets = defaultdict[str, SeatBudget](SeatBudget)
         self._budgets[TEACHER] = SeatBudget(TEACHERS_SHARE)
@@ -86,7 +90,7 @@ class Server:
         self._sockets: weakref.WeakSet[web.WebSocketResponse] = weakref.WeakSet()
 
     def application(self) -> web.Application:
-        """The application, to be served by one runner."""
+        """Return the application, which one runner serves."""
         application = web.Application(middlewares=[self._check], client_max_size=MESSAGE_BYTES)
         application.on_response_prepare.append(self._add_headers)
         application.router.add_get("/", self._get_page)
@@ -100,9 +104,10 @@ class Server:
         return application
 
     def is_ours(self, host: str, origin: str | None) -> bool:
-        """Whether a request names this site, and comes from a page of it or from no page.
+        """Return whether a request is for this site, and comes from one of its pages or from no page.
 
-        A site's name can be made to lead here, and a page of another site can ask: both name themselves.
+        host, origin: the request's headers `Host` and `Origin`. They show if the name of another site leads to this host, and if a page
+        of another site sends requests here.
         """
         parts = HOST.fullmatch(host)
         if parts is None or origin not in (None, f"http://{host}", f"https://{host}"):
@@ -114,13 +119,13 @@ class Server:
         return True
 
     def recognize(self, head: bytes) -> tuple[str | None, str]:
-        """The owner of the code that the first bytes of a request show, if they show one; and whether it is for the page."""
+        """Return the owner of the code in the first bytes of a request, or None; and the kind of the connection, for the door."""
         found = SHOWN_CODE.search(head)
         owner = self.members.codes.owner(found[1].decode("ascii")) if found else None
         return owner, "page" if head.startswith(b"GET / ") else "other"
 
     async def close(self) -> None:
-        """Tells all tabs that the server ends."""
+        """Close the sockets of all tabs, since the server ends."""
         self._is_ending, sockets = True, list(self._sockets)
         await asyncio.gather(*(each.close(code=1001, message=b"the server ends") for each in sockets))
 
@@ -150,7 +155,10 @@ class Server:
         return web.Response(body=self._page_data, content_type="text/html", charset="utf-8")
 
     async def _room(self, request: web.Request, *names: str) -> Room:
-        """The machine that a request names, or the first one. Raises HTTPNotFound unless it has somebody's code of these."""
+        """Return the room of the machine that a request names, or of machine A.
+
+        Raises HTTPNotFound unless the request has a code of one of the owners in `names`.
+        """
         code, place = request.headers.get("Authorization", "").removeprefix("Bearer "), request.match_info
         room = self.members.rooms.get(place.get("machine", place.get("seat", "A"))[0])
         if self.members.codes.owner(code) not in names or room is None:
@@ -160,13 +168,13 @@ class Server:
 
     async def _get_table(self, request: web.Request) -> web.Response:
         await self._room(request, TEACHER)
-        table = self.members.table if request.match_info["table"] == "seats" else self.members.exercise_table
-        return web.Response(body=table(), content_type="text/csv", charset="utf-8")
+        table = seat_table if request.match_info["table"] == "seats" else exercise_table
+        return web.Response(body=table(self.members), content_type="text/csv", charset="utf-8")
 
     async def _get_ticket(self, kind: Page, request: web.Request) -> web.Response:
-        """A lesson of an answer, or listings, with its own content policy, for a seat that knows the ticket.
+        """Return a lesson or listings, if the request has the ticket. The response has the content policy of this kind of page.
 
-        Status 404 without such a page, and 503 if a process that makes it fails, or takes too long.
+        The status is 404 if there is no such page, and 503 if the process that makes it fails or takes too long.
         """
         make = self.members.checks.lesson if kind is self._lesson else self.members.comparisons.page
         try:
@@ -224,9 +232,10 @@ class Server:
         return own
 
     async def _who(self, request: web.Request, own: web.WebSocketResponse) -> tuple[str | None, object]:
-        """The owner of the code in the first message, and the page's name there; a wrong code is refused after a while.
+        """Return the owner of the code in the first message, and the page's name in this message.
 
-        Of too many sockets without a code the oldest of the address that has the most is closed, so that new ones are served.
+        For a wrong code, the owner is None, after a delay. If too many sockets have no code, the oldest one of the address with the most
+        is closed, so that new sockets are served.
         """
         self._nameless.add(request.protocol, address_of(request.transport))
         try:
@@ -244,7 +253,7 @@ class Server:
 
 
 def listening(host: str, port: int) -> list[socket.socket]:
-    """Sockets that listen, one at each address of a host. Raises LabError if one is unavailable."""
+    """Return listening sockets, one for each address of a host. Raises LabError if an address or the port is unavailable."""
     try:
         found = dict.fromkeys(socket.getaddrinfo(host, port, type=socket.SOCK_STREAM, flags=socket.AI_PASSIVE))
         return [socket.create_server(address, family=family) for family, _, _, _, address in found]
@@ -256,7 +265,7 @@ def listening(host: str, port: int) -> list[socket.socket]:
 
 
 def is_loopback(host: str) -> bool:
-    """Whether only this computer reaches a host."""
+    """Return whether a host can be reached only from this computer."""
     try:
         return ipaddress.ip_address(host).is_loopback
     except ValueError:
@@ -264,7 +273,7 @@ def is_loopback(host: str) -> bool:
 
 
 def _report(loop: asyncio.AbstractEventLoop, context: dict[str, Any]) -> None:
-    """Logs an exception that no task took, except for a lost connection: aiohttp leaves that of a cancelled write."""
+    """Log an exception that no task retrieved. Lost connections are left out: aiohttp leaves their exceptions after a cancelled write."""
     if not isinstance(context.get("exception"), ConnectionError):
         loop.default_exception_handler(context)
 
@@ -273,7 +282,10 @@ def _report(loop: asyncio.AbstractEventLoop, context: dict[str, Any]) -> None:
 async def served(
     members: Class, listeners: Iterable[socket.socket], names: set[str], tls: ssl.SSLContext | None = None
 ) -> AsyncIterator[int]:
-    """Serves a class at sockets that listen, by HTTPS if there is a context for it; the port of the first. Ends it behind."""
+    """Serve a class at listening sockets within the context, and end the class afterwards. Yield the port of the first socket.
+
+    names: as in `Server`; tls: None to serve HTTP
+    """
     logging.getLogger("aiohttp.server").addFilter(_is_ours)
     logging.getLogger("aiohttp.websocket").setLevel(logging.ERROR)  # its warning quotes what a client asks for
     asyncio.get_running_loop().set_exception_handler(_report)
@@ -311,12 +323,15 @@ async def served(
 
 
 def _share_of_files(most: int) -> int:
-    """How many connections of a kind there may be: each needs a file, of which the process has a limited number."""
+    """Return the limit for a kind of connections. Each connection needs a file, and a process may open a limited number of files.
+
+    most: the limit for a process that may open FILES files
+    """
     return min(most, resource.getrlimit(resource.RLIMIT_NOFILE)[0] * most // FILES)
 
 
 def _door(server: Server, tls: ssl.SSLContext | None, make: web.Server, listener: socket.socket) -> Door:
-    """The door at a socket that listens, by HTTPS if there is a context for it. make: returns a connection's protocol"""
+    """Return the door at a listening socket. tls: None to serve HTTP; make: returns the protocol of a connection"""
     limits = _share_of_files(WAITING), _share_of_files(UNKNOWN)
     if tls:
         return Door(listener, Handshake(make, tls, PATIENCE), kind_of_start, *limits)
@@ -324,7 +339,10 @@ def _door(server: Server, tls: ssl.SSLContext | None, make: web.Server, listener
 
 
 def end_signals() -> list[signal.Signals]:
-    """The signals that end a server in order: also SIGHUP, of a terminal that was closed, unless `nohup` has it ignored."""
+    """Return the signals on which a server saves all and ends.
+
+    A closed terminal sends SIGHUP, which is one of them unless it is ignored, as by `nohup`.
+    """
     is_ignored = signal.getsignal(signal.SIGHUP) is signal.SIG_IGN
     return [signal.SIGINT, signal.SIGTERM, *([] if is_ignored else [signal.SIGHUP])]
 
@@ -337,11 +355,12 @@ async def serve(
     role: str = TEACHER,
     tls: ssl.SSLContext | None = None,
 ) -> None:
-    """Serves a class at a host's sockets until one of `end_signals` arrives, and prints the address of somebody's page.
+    """Serve a class at a host's sockets until one of `end_signals` arrives, and print the address of a page.
 
-    Raises BadFolder once the program was replaced or taken away, as with its package.
+    listeners, names, tls: as in `served`; role: the owner of the page: the teacher or a seat
+    Raises BadFolder if the program is replaced or removed, as by an upgrade of its package.
     """
-    sys.setswitchinterval(0.0005)  # so long a machine's thread waits for the event loop's, which may be busy
+    sys.setswitchinterval(0.0005)  # seconds that a machine's thread waits for the event loop's thread if that is busy
     limit = resource.getrlimit(resource.RLIMIT_NOFILE)[1]
     resource.setrlimit(resource.RLIMIT_NOFILE, (limit, limit))
     ended, loop = asyncio.Event(), asyncio.get_running_loop()
@@ -350,13 +369,13 @@ async def serve(
     members.is_unencrypted = tls is None and not is_loopback(host)
     async with served(members, listeners, {host, *names}, tls) as port:
         whose = "page" if role != TEACHER else role
-        named = members.address if tls else ""  # which its certificate has
+        named = members.address if tls else ""  # with a name that the certificate has
         address = named or _address(host, port, "https" if tls else "http")
         print(f"{whose}: {address}#{members.codes.codes[role]}", flush=True)
         if members.is_unencrypted:
             warning = f"codes travel unencrypted, and all computers that reach {host} can use them: use a network that you trust"
             print(f"vecmon-lab: warning: {warning}, or --tls (docs/CLASS_ADMIN.md)", file=sys.stderr)
-        missed = 0  # looks that found no program; after one, it may just be installed anew
+        missed = 0  # looks that found no program; it may be missing for a moment while it is installed again
         while not ended.is_set():
             missed = 0 if members.store.check_program() else missed + 1
             if missed > 1:
@@ -366,13 +385,13 @@ async def serve(
 
 
 def _abort(connection: web.RequestHandler) -> None:
-    """Ends a connection without a word."""
+    """End a connection at once."""
     if connection.transport:
         connection.transport.abort()
 
 
 def _is_ours(record: logging.LogRecord) -> bool:
-    """Whether a log is about a fault of the server, not a malformed request, such as TLS here, or a lost connection."""
+    """Return whether a log record is about a fault of the server, and not about a malformed request or a lost connection."""
     return not (record.exc_info and isinstance(record.exc_info[1], (HttpProcessingError, ConnectionError)))
 
 
@@ -383,11 +402,11 @@ async def _keep(members: Class) -> None:
 
 
 def _address(host: str, port: int, scheme: str) -> str:
-    """The address of the class, with a slash at its end."""
+    """Return the address of the class, with a slash at its end."""
     shown = f"[{host}]" if ":" in host else host
     return f"{scheme}://{socket.gethostname() if host in ('0.0.0.0', '::') else shown}:{port}/"
 
 
 def _transcript(command: list[str], script: bytes) -> bytes:
-    """The transcript of a plain run of the program."""
+    """Return the transcript of a script, from a run of the program."""
     return subprocess.run(command, input=script, stdout=subprocess.PIPE, check=True).stdout

@@ -1,4 +1,4 @@
-"""One student's part of a class: a script that gives the same lines again, alone on a machine."""
+"""One student's part of a class: a script that gives the student the same answers on a private machine."""
 
 import argparse
 import pathlib
@@ -18,29 +18,32 @@ PATIENCE = 30.0
 
 
 def add_arguments(parser: argparse.ArgumentParser) -> None:
-    """The words of `vecmon-lab solo`."""
+    """Add the arguments of `vecmon-lab solo`."""
     help_text = "the folder of a class, which may be running"
     parser.add_argument("folder", metavar="DIR", type=pathlib.Path, help=help_text)
     parser.add_argument("seat", metavar="SEAT", help="A1 to L8")
 
 
 def run(arguments: argparse.Namespace) -> int:
-    """Prints the script, when it has given the same lines. Raises LabError where there is none."""
+    """Print a student's script; return the exit status. Raises LabError as `solo` does."""
     store = Store(arguments.folder, find_program(), is_reading=True)
     script = solo(store, arguments.seat)
-    for sentence in store.lost:
+    for sentence in store.damage.sentences:
         print(f"vecmon-lab: warning: {sentence}", file=sys.stderr)
     sys.stdout.writelines(f"{line}\n" for line in script)
     return 0
 
 
 def solo(store: Store, seat: str) -> list[str]:
-    """A student's script of all that was answered, when it has given the same lines. Raises LabError where there is none."""
+    """Return a script with only one student's lines, which gives the student the same answers as in the class.
+
+    Raises LabError if there is no such seat, or if the script's answers differ.
+    """
     machine, digit = seat[:-1], seat[-1:]
     if not machine or machine not in list(store.machines) or digit not in list(DIGITS):
         raise LabError(f"there is no seat {seat}; A1 is one")
     part = OwnScript(digit)
-    for set_up, script in store.scripts(machine):
+    for set_up, script in store.scripts.parts(machine):
         with store.session(PATIENCE) as whole, store.session(PATIENCE) as single:
             for session in (whole, single):
                 deque(session.do_script(set_up), 0)
@@ -52,26 +55,28 @@ def solo(store: Store, seat: str) -> list[str]:
 
 
 def own_lines(session: Session, lines: Sequence[str], digit: str) -> list[str]:
-    """The answers to a user's lines."""
+    """Execute lines; return the parts of their answers that are for one user. digit: the user's"""
     script = "".join(f"{line}\n" for line in lines).encode("ascii")
     return [part for _, answer in session.do_script(script) for part in answer if part[0] == digit]
 
 
 class OwnScript:
-    """A user's part of a class, whose scripts follow each other.
+    """A user's part of the scripts of a machine.
 
-    script, answers: the user's own lines, with the slices that the user was granted; and what the user was answered
+    script: the user's lines, with lines that grant the slices that the user received; answers: the answers to the user
     """
 
     def __init__(self, digit: str) -> None:
         self.script, self.answers = list[str](), list[str]()
-        self._digit, self._running, self._last = digit, set[str](), DIGITS[-1]  # slices go round among those who run
+        self._digit, self._running, self._last = digit, set[str](), DIGITS[-1]  # programs that run take slices in turn
         self._granted = 0  # since the user's last line
 
     def follow(self, whole: Session, single: Session, script: bytes) -> None:
-        """Replay a script, on two machines as it begins: one executes its lines.
+        """Execute a script on two machines that are in the state in which the script starts.
 
-        The other one follows as far as the place of a stop among slices has to be found: there they are granted singly.
+        whole: executes all lines
+        single: executes only what is needed to find a stop: if a program stops in one of a line's slices, it executes the lines before
+            this line, and then the slices one at a time
         """
         waiting = bytearray()
         for line, answer in whole.do_script(script):
@@ -92,14 +97,14 @@ class OwnScript:
         self.script += self._slices()
 
     def _slices(self) -> Iterator[str]:
-        """Lines that grant the user's slices; none are left then."""
+        """Yield lines that grant the slices that the user received since the user's last line."""
         while self._granted:
             number = min(self._granted, MAX_SLICES)
             self._granted -= number
             yield f"* slices {number}"
 
     def _grant(self, line: str, answer: Sequence[str]) -> None:
-        """Takes up the slices of an operator's line, in which nobody stops but with the last one."""
+        """Take up the slices of an operator's line. Programs may stop only in its last slice."""
         granted, words = read(answer), words_of(line)
         if not isinstance(granted, Granted) or not granted.slices:
             return
@@ -114,7 +119,7 @@ class OwnScript:
         self._running -= {digit for digit, _ in granted.stops}
 
     def _follow_running(self, line: str, answer: Sequence[str]) -> None:
-        """Takes up a user's line."""
+        """Update the set of running programs after a line of any user."""
         match words_of(line):
             case ["go"] if line[0] != "*" and not is_refusal(answer):
                 self._running.add(line[0])

@@ -17,7 +17,7 @@ SCRIPT_NAME = re.compile(r"([A-L])(?:\.([2-9]|[1-9][0-9]+))?\.script")
 
 @dataclass(frozen=True)
 class Facts:
-    """The start of a class: the digest of the program, and those of the images by name."""
+    """The facts with which a class started: the digests of the program and of the images, the quantum, and the number of machines."""
 
     program: str = ""
     quantum: int = 100
@@ -33,11 +33,13 @@ class Facts:
 
 @dataclass(frozen=True)
 class Notes:
-    """The notes with a machine's last script: the number of lines whose answers have the digest, the clock, rights.
+    """The notes on a machine and its last script.
 
-    scripts: of each script how many lines at its beginning set the machine up, as the one before left it
-    stops: the last stops of users when the last one of them started, by digit
-    script: digest of the last script's lines that were answered; "" in notes of version 2.0 and earlier
+    lines: the number of answered lines of the last script; answers: the digest of their answers
+    clock, own_slices: the clock's settings by name, and whether students may grant slices; the teacher sets them
+    scripts: for each script, the number of lines at its start that set the machine up as the script before left it
+    stops: the last stops of users when the last script started, by digit
+    script: the digest of the answered lines; "" in notes of version 2.0 and earlier
     """
 
     lines: int = 0
@@ -64,22 +66,25 @@ class Notes:
 
 
 def texts(**values: str) -> dict[str, str]:
-    """Texts by name."""
+    """Check texts by name, and return them. Raises ValueError if a value isn't a text, or has a null character or a single surrogate."""
     if not all(isinstance(value, str) and "\0" not in value for value in values.values()):
         raise ValueError("not all are texts")
-    "".join(values.values()).encode("utf-8")  # which a surrogate alone has none of
+    "".join(values.values()).encode("utf-8")  # which fails for a single surrogate
     return values
 
 
 def codes(**values: str) -> dict[str, str]:
-    """Codes by the seats that they open."""
+    """Check codes by the names of their owners, and return them. Raises ValueError if a value isn't a code."""
     if not all(re.fullmatch("[!-~]{8,64}", code) for code in texts(**values).values()):
         raise ValueError("not all are codes")
     return values
 
 
 def attempt(**values: object) -> Try:
-    """A try; without values one that was lost, in which nothing passes. Cases that version 1.0 wrote have the name ""."""
+    """Check a saved try, and return it. Raises ValueError if the values aren't a try.
+
+    Without values, return a lost try, in which nothing passes. Cases that version 1.0 wrote get the name "".
+    """
     if not values:
         return Try(time=0, text="", told={"cases": [], "reason": "the answer was lost"})
     time, text, suffix, result = (values.get(key) for key in ("time", "text", "suffix", "told"))
@@ -92,7 +97,10 @@ def attempt(**values: object) -> Try:
 
 
 def pending_check(**values: object) -> PendingCheck:
-    """A check that was under way; without values one of no exercise."""
+    """Check the saved data of a check that was under way, and return it. Raises ValueError if the values aren't such data.
+
+    Without values, return a check of the exercise "".
+    """
     exercise, number, text, language = (values.get(key) for key in ("exercise", "number", "text", "language"))
     if not values:
         return PendingCheck(exercise="", number=0, text="", language=0)
@@ -102,7 +110,7 @@ def pending_check(**values: object) -> PendingCheck:
 
 
 def _cases(cases: object) -> list[CaseResult]:
-    """The results of cases. Version 1.0 wrote for each only whether the answer passed it. Raises ValueError."""
+    """Return the results of cases. Version 1.0 wrote only whether each case passed. Raises ValueError for other values."""
     found = list[CaseResult]()
     for case in cases if isinstance(cases, list) else [None]:
         match case:
@@ -116,5 +124,5 @@ def _cases(cases: object) -> list[CaseResult]:
 
 
 def _is_count(value: object) -> bool:
-    """Whether it is a number that counts something."""
+    """Return whether a value is an integer from 0 to MOST - 1."""
     return type(value) is int and 0 <= value < MOST

@@ -1,4 +1,4 @@
-"""Requests of a class's tabs are answered, and news of the class collected for them (docs/CLASS_PROTOCOL.md)."""
+"""The requests of a class's tabs, and news for them (docs/CLASS_PROTOCOL.md)."""
 
 import logging
 import time
@@ -7,12 +7,12 @@ from collections.abc import Mapping
 
 from ... import LabError
 from ..core.codes import TEACHER, WALL
-from ..core.messages import Answer, Changes, Hello, Result, answer_to, explain_refusals, request_of, with_changes
+from ..core.messages import Response, Changes, Hello, Result, response_to, explain_refusals, request_of, with_changes
 from ..core.names import checked_name, checked_text
 from ..core.bad_request import BadRequest
 from ..core.request_fields import JsonObject
 from ..core.requests import (
-    AnswerRequest,
+    TryRequest,
     HandRequest,
     LinesRequest,
     ListingsRequest,
@@ -29,8 +29,10 @@ from ..core.seats import Seat
 from ..core.shared_machine import Answers
 from ..core.student import try_result
 from .teacher import execute_teachers
+from .student_view import student_view
 from .teacher_view import teacher_view, wall_view
-from .view import Class, Tab
+from .served_class import Class
+from .tab import Tab
 
 LOGGER = logging.getLogger("vecmon_lab")
 
@@ -40,22 +42,22 @@ class TabRequests:
 
     def __init__(self, members: Class) -> None:
         self._members = members
-        self._faults = set[tuple[str, int | None]]()  # where exceptions were raised that the log has
+        self._faults = set[tuple[str, int | None]]()  # places of exceptions that were logged
 
     def hello(self, tab: Tab) -> Hello:
-        """The first message to a tab, which joins the class; news follow it."""
+        """Add a tab to the class; return the first message to it."""
         self._members.tabs.add(tab)
         self._members.tell([tab.who])
         hello: Hello = {"kind": "hello", "who": tab.who, "time": time.time()}
         return with_changes(hello, self.news(tab))
 
     def leave(self, tab: Tab) -> None:
-        """The tab is gone."""
+        """Remove a tab from the class."""
         self._members.tabs.discard(tab)
         self._members.tell([tab.who])
 
-    async def answer(self, tab: Tab, text: str, refusal: str = "") -> Answer:
-        """The answer to a request, with what is new. With a refusal, which is a sentence, nothing is done."""
+    async def respond(self, tab: Tab, text: str, refusal: str = "") -> Response:
+        """Execute a request; return the response, with news. refusal: a sentence on why it isn't executed; "" to execute it"""
         number, done = 0, Answers()
         message: JsonObject = {}
         result: Result
@@ -74,30 +76,30 @@ class TabRequests:
             self._log_fault(error)
             result = {"error": f"this is a fault of the lab: {type(error).__name__}: {error}", "done": done}
         result = explain_refusals(result, "*" if tab.who == TEACHER else tab.who[-1], message, done)
-        return answer_to(number, result, self.news(tab))
+        return response_to(number, result, self.news(tab))
 
     def _log_fault(self, error: Exception) -> None:
-        """Log an exception that is a fault of the lab with its traceback: once for each place, since clients may repeat it."""
+        """Log an exception that is a fault of the lab, with its traceback, once for each place, since clients may repeat the request."""
         place = [(frame.filename, frame.lineno) for frame in traceback.extract_tb(error.__traceback__)][-1]
         if place not in self._faults:
             self._faults.add(place)
             LOGGER.error("a request of a tab failed, which is a fault of the lab", exc_info=error)
 
     def news(self, tab: Tab) -> Changes:
-        """The changes for a tab: a patch of its view, and entries of logs."""
+        """Return the changes for a tab: a patch of its view, and entries of logs."""
         tab.changed.clear()
         return tab.sent.news(self._view(tab), self._logs(tab))
 
     def _view(self, tab: Tab) -> Mapping[str, object]:
-        """All that a tab shows, but logs."""
+        """Return all that a tab shows except logs."""
         if tab.who == TEACHER:
             return teacher_view(self._members, tab)
         if tab.who == WALL:
             return wall_view(self._members)
-        return self._members.student_view(self._members.student(tab.who))
+        return student_view(self._members, self._members.student(tab.who))
 
     def _logs(self, tab: Tab) -> list[Seat]:
-        """The seats whose logs a tab shows."""
+        """Return the seats whose logs a tab shows."""
         if tab.who == WALL:
             return []
         if tab.who != TEACHER:
@@ -125,9 +127,9 @@ class TabRequests:
                 members.open_offer(tab.who, number)
             case ListingsRequest(source, other):
                 return {"listings": members.comparisons.ask(tab.who, source, other)}
-            case AnswerRequest(seat=seat_name, exercise=name, number=number):
+            case TryRequest(seat=seat_name, exercise=name, number=number):
                 seat = members.seat(seat_name if is_teacher else tab.who)
-                return try_result(members.checks.answer(seat.name, name, number))
+                return try_result(members.checks.try_of(seat.name, name, number))
             case SeatsRequest():
                 return await self._execute_for_seat(tab, request)
             case _:

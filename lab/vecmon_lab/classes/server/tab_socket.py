@@ -1,4 +1,4 @@
-"""A tab's socket: requests are read, and executed in turn; answers and news go to it (docs/CLASS_PROTOCOL.md)."""
+"""The WebSocket of a tab: it brings requests, which are executed in turn, and takes responses and news (docs/CLASS_PROTOCOL.md)."""
 
 import asyncio
 import contextlib
@@ -14,17 +14,17 @@ from ..core.messages import Beat, Message, News, with_changes
 from .resumed_pages import OpenPage
 from .seat_budget import SeatBudget
 from .tab_requests import TabRequests
-from .view import Tab
+from .tab import Tab
 
-READ_SECONDS = 20.0  # in which a tab has to take a message
-MAX_WAITING, WAITING_BYTES = 64, 2_000_000  # requests of a tab that wait, besides the one that executes
+READ_SECONDS = 20.0  # the time in which a tab has to read a message
+MAX_WAITING, WAITING_BYTES = 64, 2_000_000  # the most requests of a tab that wait, and their bytes
 TOO_MANY_WAIT = f"{MAX_WAITING} requests of this tab wait already, or they are too long: nothing was done"
 BEAT = '{"ask":"beat"}'  # asks whether the connection works
-CLOSED = 4403  # why a socket is closed: its code is none, or none any more
+CLOSED = 4403  # the status of a socket whose code isn't valid, or no longer
 
 
 class TabSocket:
-    """The messages through the socket of a tab that has sent its code.
+    """The messages on the socket of a tab that has sent its code.
 
     Requests are read while others wait, so that pings are answered however long the machine takes. Requests that wait
     when the tab goes away are still executed, unless its code no longer opens the seat.
@@ -39,25 +39,28 @@ class TabSocket:
         abort: Callable[[], object],
         budget: SeatBudget,
     ) -> None:
-        """page: with whether it was open before; abort: ends the connection without a word; budget: of all tabs of the seat"""
+        """page: the open page, and whether it was open before; abort: ends the connection at once; budget: is shared by all tabs of the seat"""
         self._tabs, self._socket, self._tab, self._abort = tabs, socket, tab, abort
         self._budget = budget
         self._page, self._is_resumed = page
         self._waiting: deque[str] = deque()
-        self._has_come = asyncio.Event()  # set where there is one, or no more will come
+        self._has_come = asyncio.Event()  # set if a request waits, or no more will come
         self._is_read = False
 
     async def serve(self, is_ending: Callable[[], bool]) -> None:
-        """Greets the tab, and serves it until its socket is closed and nothing waits, or the server ends."""
+        """Greet the tab, and serve it until its socket is closed and no request waits, or until the server ends.
+
+        is_ending: returns whether the server ends
+        """
         try:
             await self._budget.ready()
             await self._budget.metered(self._greet())
             async with asyncio.TaskGroup() as tasks:
-                pusher, _ = tasks.create_task(self._push()), tasks.create_task(self._answer())
+                pusher, _ = tasks.create_task(self._push()), tasks.create_task(self._respond())
                 with contextlib.suppress(ConnectionError):
                     await self._read()
                     code = 1001 if is_ending() else 1000 if self._tab.is_open else CLOSED
-                    await self._socket.close(code=code)  # as another task may close it, perhaps later
+                    await self._socket.close(code=code)  # another task may close it as well, perhaps later
                 pusher.cancel()
                 if is_ending():
                     self._waiting.clear()
@@ -67,14 +70,14 @@ class TabSocket:
             self._tabs.leave(self._tab)
 
     async def _greet(self) -> None:
-        """Send the tab all that it shows."""
+        """Send the first message, with all that the tab shows."""
         hello = self._tabs.hello(self._tab)
         if self._is_resumed:
             hello["resumed"] = True
         await self._send(hello)
 
     async def _read(self) -> None:
-        """Takes up requests until the socket is closed."""
+        """Read requests until the socket is closed."""
         async for message in self._socket:
             if message.type is not WSMsgType.TEXT or not self._tab.is_open:
                 return
@@ -87,8 +90,8 @@ class TabSocket:
             else:
                 await self._budget.metered(self._refuse(message.data))
 
-    async def _answer(self) -> None:
-        """Carries out what waits, in turn."""
+    async def _respond(self) -> None:
+        """Execute waiting requests in turn, until no more will come."""
         while self._waiting or not self._is_read:
             await self._has_come.wait()
             while self._waiting:
@@ -99,20 +102,20 @@ class TabSocket:
             self._has_come.clear()
 
     async def _execute(self, text: str) -> None:
-        """Execute a request, and send its answer."""
-        await self._send(await self._page.answer(text, partial(self._tabs.answer, self._tab, text)))
+        """Execute a request, and send its response."""
+        await self._send(await self._page.respond(text, partial(self._tabs.respond, self._tab, text)))
 
     async def _refuse(self, text: str) -> None:
         """Refuse a request, since too many wait."""
-        await self._send(await self._tabs.answer(self._tab, text, TOO_MANY_WAIT))
+        await self._send(await self._tabs.respond(self._tab, text, TOO_MANY_WAIT))
 
     async def _push(self) -> None:
-        """Send news as they come; changes meanwhile go together."""
+        """Send news at intervals, until the tab is closed."""
         while self._tab.is_open:
             await self._tab.changed.wait()
             if self._tab.is_open:
                 await self._budget.ready()
-            # an answer may have sent all of it meanwhile
+            # a response may have sent all of it meanwhile
             if self._tab.is_open and self._tab.changed.is_set():
                 await self._budget.metered(self._send_news())
             await asyncio.sleep(0.1 if self._tab.who == TEACHER else 0.02)
@@ -125,7 +128,7 @@ class TabSocket:
             await self._send(with_changes(News(kind="news"), changes))
 
     async def _send(self, message: Message) -> None:
-        """Sends a message to the tab, which may be gone. The connection of one that doesn't take it is ended."""
+        """Send a message to the tab, which may be gone. If it doesn't take the message in time, the connection is ended."""
         try:
             async with asyncio.timeout(READ_SECONDS):
                 await self._socket.send_str(json.dumps(message, separators=(",", ":")))

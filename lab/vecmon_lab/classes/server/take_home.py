@@ -1,5 +1,5 @@
-"""An archive to take home: the source, the script, its images, a lesson of it for any browser, answers, and a file that the
-playground opens."""
+"""The archive that a student takes home: the source, the script with its images, a lesson of it, answers to exercises, and a file
+for the playground."""
 
 import contextlib
 import io
@@ -33,7 +33,7 @@ FIRST_DATE, LAST_DATE = (1980, 1, 1, 0, 0, 0), (2107, 12, 31, 23, 59, 58)  # of 
 
 
 def steps_of(lines: Sequence[str]) -> list[Step]:
-    """The last steps of a student's script, at most 500 frames; the first has all lines before them."""
+    """Return a student's script as steps of a lesson with at most MAX_FRAMES frames. If it has more, its first lines become one step."""
     steps, left = list[Step](), MAX_FRAMES - 1
     for line in lines:
         joins = line[0] == "*" or is_servers(line)  # the program runs on, or its output is taken
@@ -49,14 +49,14 @@ def steps_of(lines: Sequence[str]) -> list[Step]:
 
 
 def _frames(step: Step) -> int:
-    """How many frames a step makes at most that steps the program; 0 for another one."""
+    """Return the most frames that a step makes if its first line is `step N`; 0 for other lines."""
     words = words_of(step.lines[0])
     return int(words[1]) if words[0] == "step" and words[1:] and words[1].isdecimal() and len(words[1]) < 4 else 0
 
 
 def archive(store: Store, seat: str) -> bytes:
-    """The archive of a seat. Raises LabError where it has done nothing."""
-    lines, own = solo(store, seat), kept_source(store, seat)
+    """Return the archive of a seat. Raises LabError if nothing was done there."""
+    lines, own = solo(store, seat), kept_source(store.texts, seat)
     files = _played(store, seat, lines, own) if lines else {}
     files |= {f"{seat}.{own.suffix}": own.text} if own.text else {}
     answers = kept_answers(store, seat)
@@ -68,7 +68,7 @@ def archive(store: Store, seat: str) -> bytes:
 
 
 def zipped(files: Mapping[str, str | bytes], seconds: float) -> bytes:
-    """A ZIP archive of files by name, of a time in seconds since 1970. A clock that isn't set may say what no archive can have."""
+    """Return a ZIP archive of files by name. seconds: the time of all files since 1970, limited to the years that an archive can have"""
     date = time.localtime(seconds)[:6]
     data = io.BytesIO()
     with zipfile.ZipFile(data, "w") as packed:
@@ -80,11 +80,14 @@ def zipped(files: Mapping[str, str | bytes], seconds: float) -> bytes:
 
 
 def _played(store: Store, seat: str, lines: Sequence[str], own: SourceText) -> dict[str, str | bytes]:
-    """Of what was done at a machine: the script, the lesson of it, and the images that it loads, by name."""
-    name = store.read(NAMES, texts).get(seat)
+    """Return files on a student's work at the machine, by name: the script, a lesson of it, and the images that it loads.
+
+    lines: the lines of the script that `solo` returns; own: the present source
+    """
+    name = store.texts.read(NAMES, texts).get(seat)
     script = Script(f"Seat {seat}, {name}" if name else f"Seat {seat}", steps_of(lines))
-    with contextlib.suppress(LabError):  # a source that isn't finished
-        written, program = kept_program(store, seat)
+    with contextlib.suppress(LabError):  # the source may be unfinished
+        written, program = kept_program(store.texts, seat)
         if isinstance(program, CompiledProgram):
             named = read_compiled(written.text, seat, program, written.suffix.endswith(".c"))
         else:

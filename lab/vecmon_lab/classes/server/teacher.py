@@ -22,7 +22,8 @@ from ..core.requests import (
     WriteRequest,
 )
 from .sheet import pictures
-from .view import Class, Tab
+from .served_class import Class
+from .tab import Tab
 
 
 async def execute_teachers(members: Class, tab: Tab, request: Request) -> Result:
@@ -66,7 +67,10 @@ async def execute_teachers(members: Class, tab: Tab, request: Request) -> Result
 
 
 def _hand_out(members: Class, request: GiveRequest | TakeBackRequest) -> int:
-    """Give or offer a source to seats, or take it back; return how many sources that replaced. Raises BadRequest."""
+    """Give or offer a source to seats, or take it back; return how many nonempty sources were replaced or restored.
+
+    Raises BadRequest if there is no such seat.
+    """
     seats, students = members.seats(request.seats), members.students
     match request:
         case GiveRequest(source=source, how="offer", title=title):
@@ -86,7 +90,10 @@ def _hand_out(members: Class, request: GiveRequest | TakeBackRequest) -> int:
 
 
 async def _shown_codes(members: Class, name: str, with_pictures: bool) -> CodesResult:
-    """The codes of a seat, or of all for "". Raises BadRequest."""
+    """Return the code of a seat or the wall, or all codes if `name` is "". Raises BadRequest for an unknown name.
+
+    with_pictures: whether to add QR codes, if the class has an address
+    """
     if not (codes := members.codes.shown(name)):
         raise BadRequest("there is no such seat")
     if not with_pictures or not members.address:

@@ -16,11 +16,15 @@ from ..core.seat_status import SeatStatus
 from ..core.seats import Seat
 from ..core.shared_machine import SEAT_BYTES
 from ..core.student import Student
-from .view import Class, Given, Tab
+from .served_class import Class, Given
+from .tab import Tab
 
 
 class WallView(TypedDict):
-    """The wall's view: the seat that it shows, or "", its state and its last stop line; and a text for a banner, or ""."""
+    """The wall's view.
+
+    seat: that it shows, or ""; stop: the seat's last stop line; trouble: a text for a banner, or ""
+    """
 
     seat: str
     state: NotRequired[State]
@@ -32,11 +36,11 @@ class SeatView(TypedDict):
     """The teacher's view of a seat.
 
     tabs: the number of open ones; active: when one of them made its last request; 0 without one
-    status, since: of its program, and since when it is so
-    exercise, exercise_since: the first one or the one that the student opened, or "", and since when it is open; 0 if it isn't yet
-    stuck, stuck_since: whether its student may need somebody, and since when, which is missing otherwise: the program has problems, a
-        fault, or ran too long, the exercise has been open for 10 minutes, with 3 tries that failed, or there was no headway at it for 10
-        minutes
+    status: of its program; since: when that began
+    line, answer: the last command, and the last line of an answer
+    exercise: the first one or the one that the student opened, or ""; exercise_since: when it was opened; 0 before
+    stuck: whether the student may need somebody: the program has problems, a fault, or ran too long; the exercise has been open for
+        10 minutes with 3 failed tries; or there was no headway for 10 minutes. stuck_since: when that began; missing otherwise
     changed: whether its source differs from the newest version
     used: bytes of the script; hand: while it is up. Times are in seconds since 1970.
     """
@@ -70,8 +74,8 @@ class ClockView(TypedDict):
 class MachineView(TypedDict):
     """The teacher's view of a machine.
 
-    seats: by digit; script, of: bytes of the script, and their limit; scripts: how many there were; lines: of all scripts
-    digest: the SHA-256 of all answers; restarts, loss: the number of restarts, and the reason of the last one, or ""
+    seats: by digit; script, lines: the bytes and lines of the last script; of: the limit of bytes; scripts: their number
+    digest: the SHA-256 of all answers; restarts: of the process; loss: the reason of the last restart, or ""
     """
 
     seats: dict[str, SeatView]
@@ -100,8 +104,8 @@ class TeacherView(TypedDict):
     """The teacher's view.
 
     class_title: the title of the class; machines: by letter; share: a seat's bytes of the script
-    shoulder: the observed seat, or "". Of that alone: its state, history and source; caret: the number of the line in which it typed last, or 0;
-        problems: those of its last assembly; outcome: if an exercise is open
+    shoulder: the observed seat, or ""; state, history, source: of that seat
+    caret: the number of the line in which its student typed last, or 0; problems: of its last source; outcome: of its open exercise
     wall: the seat on the wall, or ""; address: where students reach the class, or ""
     course: the exercises that may be turned on; exercises: the results by name
     sent: the last messages by number, oldest first; given: the last given source, while it can be taken back
@@ -134,22 +138,27 @@ class TeacherView(TypedDict):
 
 
 def wall_view(members: Class) -> WallView:
-    """The wall's view: no code, and nothing of other seats."""
+    """Return the wall's view, which has no codes, and nothing of other seats."""
     if members.wall is None:
         return {"seat": "", "stop": "", "trouble": ""}
     warning = members.rooms[members.wall.name[0]].warning
-    return {"seat": members.wall.name, "state": shown(members.wall), "stop": members.wall.stop, "trouble": warning}
+    return {
+        "seat": members.wall.name,
+        "state": shown(members.wall),
+        "stop": members.wall.execution.stop,
+        "trouble": warning,
+    }
 
 
 def teacher_view(members: Class, tab: Tab) -> TeacherView:
-    """The teacher's view in a tab."""
+    """Return the teacher's view in a tab."""
     view: TeacherView = {
         "class_title": members.class_title,
         "machines": {letter: _machine_view(members, room) for letter, room in members.rooms.items()},
         "share": SEAT_BYTES,
         "images": list(members.store.images),
         "quantum": members.store.quantum,
-        "trouble": " ".join(filter(None, [members.warning, members.store.loss])),
+        "trouble": " ".join(filter(None, [members.saving.warning, members.store.damage.summary])),
         "shoulder": tab.shoulder.name if tab.shoulder else "",
         "wall": members.wall.name if members.wall else "",
         "address": members.address,
@@ -166,7 +175,7 @@ def teacher_view(members: Class, tab: Tab) -> TeacherView:
         view["state"], view["source"] = shown(tab.shoulder), source_view(
             student.source, tab.shoulder, student.exercises.titles
         )
-        view["history"] = student.machine.history_view(tab.shoulder)
+        view["history"] = student.machine.past.view(tab.shoulder)
         view["caret"], view["problems"] = student.source.caret, student.problems
         if student.source.exercise in student.exercises.by_name:
             view["outcome"] = _outcome(student)
@@ -176,7 +185,7 @@ def teacher_view(members: Class, tab: Tab) -> TeacherView:
 
 
 def _outcome(student: Student) -> Outcome:
-    """The work of a student at the open exercise."""
+    """Return the work of a student at the open exercise."""
     seat, exercise = student.seat.name, student.source.exercise
     progress = student.exercises.progress(seat, exercise)
     is_checked = student.exercises.busy.get(seat) == exercise
@@ -201,20 +210,20 @@ def _machine_view(members: Class, room: Room) -> MachineView:
 
 
 def _seat_view(members: Class, seat: Seat) -> SeatView:
-    source, stuck_since = members.students[seat.name].source, members.stuck_since(seat)
+    source, stuck_since = members.students[seat.name].source, members.stuck.since(seat.name)
     view: SeatView = {
         "name": members.names.get(seat.name, ""),
         "tabs": sum(tab.who == seat.name for tab in members.tabs),
         "active": int(seat.active),
         "run": seat.state["run"],
-        "status": seat.status,
-        "since": int(seat.since),
+        "status": seat.status.value,
+        "since": int(seat.status.since),
         "exercise": source.exercise,
         "exercise_since": int(source.opened),
         "changed": source.has_changed,
         "stuck": stuck_since is not None,
-        "line": seat.line,
-        "answer": seat.answer,
+        "line": seat.log.command,
+        "answer": seat.log.answer,
         "used": seat.used,
     }
     if stuck_since is not None:

@@ -1,4 +1,4 @@
-"""HTTPS for a class: its certificate and key are checked before anything is served, and the time of handshakes is limited."""
+"""HTTPS for a class. The certificate and key are checked before anything is served, and the time of handshakes is limited."""
 
 import asyncio
 import contextlib
@@ -11,9 +11,9 @@ from collections.abc import Callable
 
 from ... import LabError
 
-FLIGHTS = 20  # more than a handshake has, of both sides
+FLIGHTS = 20  # more than the two sides of a handshake send
 PEM_BYTES = 1 << 20  # of a certificate with its issuers', or a key
-PLAIN_BYTES = 1 << 16  # of a plain request that are read before its connection is closed
+PLAIN_BYTES = 1 << 16  # of a plain request that are read at most before its connection is closed
 HANDSHAKE = b"\x16"  # the first byte of TLS
 METHOD_STARTS = [bytes([letter]) for letter in b"ABCDEFGHIJKLMNOPQRSTUVWXYZ"]  # of plain requests
 NOT_HTTPS = b"This class is served by HTTPS: open the same address with https:// at its beginning.\n"
@@ -27,8 +27,8 @@ WRONG_KEY = ("KEY_VALUES_MISMATCH", "KEY_TYPE_MISMATCH", "NO_CERTIFICATE_ASSIGNE
 def tls_context(certificate: pathlib.Path, key: pathlib.Path) -> ssl.SSLContext:
     """Return the context of a server with this certificate and its private key, both in PEM form.
 
-    The certificate's file may have the certificates of its issuers behind it. Raises OSError where a file isn't readable, and
-    LabError where the key is another certificate's, or the certificate isn't valid now.
+    The certificate's file may have the certificates of its issuers after it. Raises OSError if a file isn't readable, and
+    LabError if the key is another certificate's, or the certificate isn't valid now.
     """
     context = ssl.create_default_context(ssl.Purpose.CLIENT_AUTH)
 
@@ -49,7 +49,7 @@ def tls_context(certificate: pathlib.Path, key: pathlib.Path) -> ssl.SSLContext:
 
 
 def _check_file(path: pathlib.Path) -> None:
-    """Raise OSError, which names the file, if it isn't readable, and LabError if it is no regular file of a fit size."""
+    """Check a file. Raises OSError, which names it, if it isn't readable, and LabError if it isn't a regular file or is too large."""
     with open(path, "rb", opener=_open_at_once) as file:
         status = os.fstat(file.fileno())
     if not stat.S_ISREG(status.st_mode):
@@ -59,18 +59,18 @@ def _check_file(path: pathlib.Path) -> None:
 
 
 def _open_at_once(name: str, flags: int) -> int:
-    """Open a file, or a pipe without waiting for its writer."""
+    """Open a file without waiting, even if it is a pipe without a writer."""
     return os.open(name, flags | os.O_NONBLOCK)
 
 
 def key_warning(key: pathlib.Path) -> str:
-    """A sentence where all users of this computer can read a private key; else an empty text. Raises OSError."""
+    """Return a warning if all users of this computer can read a private key; "" otherwise. Raises OSError."""
     is_open = key.stat().st_mode & stat.S_IROTH
     return f"all users of this computer can read the private key: chmod 600 {key}" if is_open else ""
 
 
 def _check_validity(context: ssl.SSLContext, certificate: pathlib.Path) -> None:
-    """Connects a client in memory that trusts this certificate. Raises LabError where the client refuses it."""
+    """Connect a client, in memory, that trusts this certificate. Raises LabError if the client refuses it."""
     client = ssl.create_default_context(cafile=certificate)
     client.verify_flags |= ssl.VERIFY_X509_PARTIAL_CHAIN  # the certificate itself is trusted, regardless of its issuer
     client.check_hostname = False
@@ -94,9 +94,9 @@ class Handshake:
         self._make, self._context, self._seconds = make, context, seconds
 
     async def __call__(self, connection: socket.socket) -> None:
-        """Have a connection served after its handshake, for which memory is allocated once the client has sent something.
+        """Serve a connection after its handshake. Memory for the handshake is allocated only once the client has sent something.
 
-        Raises OSError if the client sends nothing, speaks no TLS, or goes away.
+        Raises OSError if the client sends nothing, doesn't use TLS, or goes away.
         """
         async with asyncio.timeout(self._seconds):
             await _readable(connection)
@@ -107,12 +107,12 @@ class Handshake:
 
 
 def kind_of_start(head: bytes) -> tuple[None, str]:
-    """The kind of a connection by its first bytes, of which no code can be read: a TLS handshake, or something else."""
+    """Return None and the kind of a connection, `TLS` or `other`. None takes the place of a code's owner: codes are encrypted here."""
     return None, "TLS" if head[:1] == HANDSHAKE else "other"
 
 
 async def _readable(connection: socket.socket) -> None:
-    """Returns when a connection has something to read; one that is waited for in vain is closed."""
+    """Wait until a connection has data. Close it if none arrives in time."""
     loop, is_readable = asyncio.get_running_loop(), asyncio.Event()
     loop.add_reader(connection, is_readable.set)
     try:
@@ -125,15 +125,18 @@ async def _readable(connection: socket.socket) -> None:
 
 
 def _is_plain(connection: socket.socket) -> bool:
-    """Whether a client has begun a request without TLS."""
+    """Return whether a client has begun a request without TLS."""
     try:
         return connection.recv(1, socket.MSG_PEEK) in METHOD_STARTS
-    except OSError:  # which the handshake meets as well
+    except OSError:  # the handshake raises it as well
         return False
 
 
 async def _refuse_plain(connection: socket.socket) -> None:
-    """Answer a request without TLS, and close its connection once the client has read that: a reset could discard the answer."""
+    """Respond to a request without TLS. Close the connection once the client does so, or has sent PLAIN_BYTES.
+
+    An earlier close could reset the connection, and discard the response.
+    """
     loop, left = asyncio.get_running_loop(), PLAIN_BYTES
     with connection:
         await loop.sock_sendall(connection, PLAIN_REFUSAL)

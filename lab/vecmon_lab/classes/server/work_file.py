@@ -1,4 +1,4 @@
-"""The work of a seat as a file that the playground opens (docs/PLAYGROUND.md): texts by the names that they have at its only seat."""
+"""The work of a seat as a file that the playground opens (docs/PLAYGROUND.md). Its texts have the names of the playground's only seat."""
 
 import base64
 import json
@@ -16,17 +16,17 @@ PLACES = ("", "drafts/", "sources/")  # where a class's folder has texts of a se
 
 
 def work_file(store: Store, seat: str, lines: Sequence[str]) -> str:
-    """The file of a seat's sources, versions, tries, images and machine; lines: of the seat alone (`solo`)."""
+    """Return the text of a file with a seat's sources, versions, tries, images and script. lines: the script that `solo` returns"""
     entries = [{"name": name, "text": text, "time": when} for name, text, when in _texts(store, seat, lines)]
     return json.dumps({"format": FORMAT, "version": VERSION, "texts": entries}, indent=1)
 
 
 def _texts(store: Store, seat: str, lines: Sequence[str]) -> Iterator[tuple[str, str, float]]:
-    """The texts with their names and times."""
+    """Yield the name, the text and the time of each text; times are in seconds since 1970."""
     now = time.time()
     for place in PLACES:
-        for file, when in sorted(store.files(f"{place}{seat}.*")):
-            yield file.replace(f"{place}{seat}.", f"{place}{SEAT}.", 1), store.read_text(file), when
+        for file, when in sorted(store.texts.files(f"{place}{seat}.*")):
+            yield file.replace(f"{place}{seat}.", f"{place}{SEAT}.", 1), store.texts.read_text(file), when
     for of, exercise, number, done in found_answers(store):
         if of == seat:
             yield f"{ANSWERS}/{SEAT}.{exercise}.{number}.json", json.dumps(done), float(done["time"])
@@ -38,7 +38,7 @@ def _texts(store: Store, seat: str, lines: Sequence[str]) -> Iterator[tuple[str,
 
 
 def _own(line: str, digit: str) -> str:
-    """A line of a seat's digit as one of the playground's."""
+    """Return a seat's line with the digit of the playground's seat."""
     if line[0] == digit:
         return f"{DIGIT}{line[1:]}"
     return f"* run {DIGIT}" if line == f"* run {digit}" else line

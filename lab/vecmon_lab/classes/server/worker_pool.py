@@ -1,4 +1,4 @@
-"""Modules of the lab that run next to a class, in separate processes."""
+"""Processes next to a class, which run modules of the lab."""
 
 import asyncio
 import contextlib
@@ -16,12 +16,12 @@ LAB = pathlib.Path(__file__).resolve().parents[3]
 
 
 class WorkerEnded(ToolError):
-    """A process was ended by a signal, as beyond a limit of its own, or took too long."""
+    """A process was ended by a signal, for example since it exceeded its memory limit, or it took too long."""
 
 
 @contextlib.contextmanager
 def exclusive(seat: str, busy: set[str], refusal: LabError) -> Iterator[None]:
-    """A seat is busy as long as its context lasts. Raises the refusal where it is already."""
+    """Mark a seat as busy within the context. Raises the refusal if it is busy already."""
     if seat in busy:
         raise refusal
     busy.add(seat)
@@ -32,18 +32,18 @@ def exclusive(seat: str, busy: set[str], refusal: LabError) -> Iterator[None]:
 
 
 class WorkerPool:
-    """Room for this number of processes at once: later ones wait."""
+    """Runs a limited number of processes at once; others wait."""
 
     def __init__(self, places: int, seconds: float | None = None) -> None:
-        """seconds: how long a process may take, counted from when it gets its place; None for no limit"""
+        """places: the number of processes; seconds: the time limit of each after its start; None for no limit"""
         self._places, self._seconds = asyncio.Semaphore(places), seconds
 
     async def run(self, module: str, *words: str, script: bytes = b"") -> bytes:
-        """The output of a module, given arguments and its input.
+        """Run a module of the lab in a process; return the output. module: its name in `vecmon_lab`; words: arguments; script: the input
 
-        Raises LabError where it fails, and ToolError where it can't start, is killed, or takes too long.
+        Raises LabError if the process fails, and ToolError if it can't start, is killed, or takes too long.
         """
-        command = (sys.executable, "-PB", "-m", f"vecmon_lab.{module}", *words)  # nothing of the folder it is called in
+        command = (sys.executable, "-PB", "-m", f"vecmon_lab.{module}", *words)  # no module from the present folder
         environment = os.environ | {"PYTHONPATH": str(LAB)}
         async with self._places:
             try:

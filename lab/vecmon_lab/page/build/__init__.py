@@ -1,1 +1,1 @@
-"""Pages from their files: modules joined to one script, texts in place of keys, and elements of HTML."""
+"""Build pages from their files: join modules to one script, replace keys by texts, and make elements of HTML."""

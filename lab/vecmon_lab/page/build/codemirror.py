@@ -1,6 +1,6 @@
-"""CodeMirror 5, the library of the pages' editor: its script and its style from the files of Debian's libjs-codemirror.
+"""CodeMirror 5, the library of the pages' editor: its script and its style, from the files of Debian's libjs-codemirror.
 
-`python -m vecmon_lab.page.build.codemirror` prints the names of the files, for tools/site.
+`python -m vecmon_lab.page.build.codemirror` prints the paths of the files, for tools/site.
 """
 
 import functools
@@ -27,9 +27,10 @@ STYLES = ("lib/codemirror.css", "addon/dialog/dialog.css", "addon/hint/show-hint
 
 
 def folder() -> pathlib.Path:
-    """The folder of CodeMirror 5: the one that the variable CODEMIRROR names, else that of a Python package, else Debian's.
+    """Return the folder of CodeMirror 5: that of the variable CODEMIRROR, or else the one in a Python package, or else Debian's.
 
-    Raises LabError if it isn't there."""
+    Raises LabError if it doesn't exist.
+    """
     path = pathlib.Path(os.environ.get("CODEMIRROR") or (CODEMIRROR if CODEMIRROR.is_dir() else DEBIAN))
     if missing := [name for name in (LIBRARY, *ADDONS, *STYLES) if not (path / name).is_file()]:
         raise LabError(
@@ -40,19 +41,19 @@ def folder() -> pathlib.Path:
 
 
 def style() -> str:
-    """The styles of the editor. Raises LabError."""
+    """Return the styles of the editor. Raises LabError if CodeMirror isn't found."""
     return _joined(folder(), STYLES)
 
 
 def module() -> str:
-    """The script as a module of the pages, which exports CodeMirror. Raises LabError."""
+    """Return CodeMirror's script as a module that exports `CodeMirror`. Raises LabError if CodeMirror isn't found."""
     path = folder()
     return f"{_joined(path, (LIBRARY,))}export const CodeMirror = globalThis.CodeMirror;\n{_joined(path, ADDONS)}"
 
 
 @functools.cache
 def _joined(path: pathlib.Path, names: tuple[str, ...]) -> str:
-    """Files of a folder, one behind the other."""
+    """Return the joined contents of files of a folder, in the order of their names in `names`."""
     return "".join(f"{(path / name).read_text('utf-8').rstrip()}\n" for name in names)
 
 

@@ -1,4 +1,4 @@
-"""Elements of HTML for pages that are made once, and bars of shares, which `bars.js` draws."""
+"""Functions that make elements of HTML for pages, and bars of shares, whose widths `bars.js` sets."""
 
 import html
 from collections.abc import Mapping, Sequence
@@ -9,51 +9,57 @@ KINDS = ("active", "masked", "tail")
 
 
 class Html(str):
-    """A text in HTML."""
+    """A text in HTML, which isn't escaped again."""
 
 
 def joined(contents: Sequence[str]) -> Html:
-    """Elements and texts one after another; a text that is no HTML is escaped."""
+    """Join elements and texts. A text that isn't `Html` is escaped."""
     return Html("".join(it if isinstance(it, Html) else html.escape(it) for it in contents))
 
 
 def element(tag: str, *contents: str, **attributes: object) -> Html:
-    """An element. The name of an attribute may end with `_`, as `class_`; one whose value is "" is left out."""
+    """Return an element with contents and attributes.
+
+    The name of an attribute may end with `_`, as in `class_`. Other `_` become `-`. Attributes with the value "" are left out.
+    """
     values = {name.rstrip("_").replace("_", "-"): f"{value}" for name, value in attributes.items()}
     words = "".join(f' {name}="{html.escape(value)}"' for name, value in values.items() if value)
     return Html(f"<{tag}{words}>{joined(contents)}</{tag}>")
 
 
 def prose(text: str) -> Html:
-    """A text of an author's, with backquotes around code."""
+    """Return an author's text in HTML. Text between backquotes becomes code."""
     return Html(html_text(text))
 
 
 def content_of(key: str, **values: str) -> Html:
-    """A text for a page with elements in its places. Raises KeyError without one."""
+    """Return the page text of a key in HTML, with values in its places. Raises KeyError for an unknown key."""
     text = page_text(key, **{name: f"{{{name}}}" for name in values})
     return Html(html_text(text).format(**{name: joined([value]) for name, value in values.items()}))
 
 
 def cell(value: str | int, kind: str = "", tag: str = "td") -> Html:
-    """A cell of a table; kind: its class, which by default is that of a number or none."""
+    """Return a cell of a table. kind: its class, by default `number` for a number and none for a text"""
     text, own_kind = (f"{value:,}", "number") if isinstance(value, int) else (value, "")
     return element(tag, text, class_=kind or own_kind)
 
 
 def share_text(share: float) -> str:
-    """A share of a whole in percent, for `data-share`, from which `bars.js` sets a width."""
+    """Return a share of a whole, 0 to 1, as a percentage without the sign, for `data-share`. `bars.js` sets a width from it."""
     return f"{100 * share:.5g}"
 
 
 def bar(shares: Mapping[str, float], kind: str = "", title: str = "") -> Html:
-    """A cell with a bar of parts, each a class and its share of the whole cell."""
+    """Return a cell with a bar of parts. shares: the share of each part, 0 to 1, by its class; kind: the bar's class"""
     parts = [element("span", class_=name, data_share=share_text(share)) for name, share in shares.items()]
     return element("td", element("div", *parts, class_=kind), class_="bar", title=title)
 
 
 def elements_bar(numbers: Sequence[int]) -> Html:
-    """A cell with the numbers of active, masked-off and tail elements as a bar; an empty one without any."""
+    """Return a cell with a bar of active, masked-off and tail elements.
+
+    numbers: how many elements there are of each kind; if all are 0, the cell is empty
+    """
     whole = sum(numbers)
     if not whole:
         return element("td")
@@ -62,6 +68,6 @@ def elements_bar(numbers: Sequence[int]) -> Html:
 
 
 def legend() -> Html:
-    """The meanings of the parts of bars of elements."""
+    """Return the explanation of the colours in bars of elements."""
     kinds = [element("small", element("span", class_=kind), page_text(f"outcome.{kind}")) for kind in KINDS]
     return element("p", *kinds, class_="kinds")

@@ -1,4 +1,4 @@
-"""JavaScript modules as one script: a page on a disk can't import, and a content policy names a script by its hash."""
+"""Join JavaScript modules to one script, since a page in a file can't import, and a content security policy names a script by its hash."""
 
 import os.path
 import pathlib
@@ -7,22 +7,25 @@ from collections.abc import Callable, Mapping, Sequence
 from types import MappingProxyType
 
 _IMPORT = re.compile(r'^import \{ (.+) \} from "(\.{1,2}/[^"]+\.js)";\n', re.MULTILINE)
-# Lines that have only a comment: neither casts within code nor copyright notices.
+# Matches lines that have only a comment, but no casts within code and no copyright notices.
 _COMMENTS = re.compile(
     r"^ *(?:/\*\*(?:(?!\*/).)*\*/|//(?![^\n]*(?:copyright|license))[^\n]*)\n", re.MULTILINE | re.DOTALL
 )
-_TYPE = re.compile(r"/\*\* @(?:type|param) (?:(?!\*/).)*\*/ ?")  # within a line of code
+_TYPE = re.compile(r"/\*\* @(?:type|param) (?:(?!\*/).)*\*/ ?")  # matches a type within a line of code
 _EXPORT = re.compile(r"^export (?=(?:class|const|function) (\w+))", re.MULTILINE)
 
 
 def join_modules(entry: str, read: Callable[[str], str], replaced: Mapping[str, str] = MappingProxyType({})) -> str:
-    """One script of a module and of all that it imports, in the order of imports.
+    """Return one script with a module and all modules that it imports, in the order of imports.
 
-    Each is a function of its own, and what it exports is `$NAME`, by the name of its file. Lines of comments and types are left out but
-    for notices.
-    entry: the path of the module; read: the text of a file by its path
-    replaced: paths of modules, each with that of the module in its place
-    Raises ValueError where modules import each other, or what isn't exported, or where two have the same name.
+    Each module becomes a function, whose exports are in the constant `$NAME`, where NAME is the name of the file without its suffix.
+    Comments on their own lines and types are removed; copyright notices stay.
+
+    entry: the path of the module
+    read: returns the text of a file by its path
+    replaced: for paths of modules, the path of the module to import instead
+
+    Raises ValueError if modules import each other, if a module imports something that isn't exported, or if two have the same name.
     """
     exported: dict[str, list[str]] = {}
     functions: list[str] = []
@@ -35,7 +38,7 @@ def join_modules(entry: str, read: Callable[[str], str], replaced: Mapping[str, 
         text = _TYPE.sub("", _COMMENTS.sub("", read(path)))
 
         def use(found: re.Match[str]) -> str:
-            """The exports of an imported module as constants."""
+            """Return the line that replaces an import: it sets constants from the exports of the imported module."""
             names, other = found[1], _resolved(path, found[2])
             other = replaced.get(other, other)
             add(other, [*importers, path])
@@ -57,10 +60,10 @@ def join_modules(entry: str, read: Callable[[str], str], replaced: Mapping[str, 
 
 
 def _name(path: str) -> str:
-    """The name of a module."""
+    """Return the name of a module: that of its file without the suffix."""
     return pathlib.PurePath(path).stem
 
 
 def _resolved(importer: str, specifier: str) -> str:
-    """The path of an imported module."""
+    """Return the path of an imported module. specifier: the relative path in the import"""
     return os.path.normpath(os.path.join(os.path.dirname(importer), specifier))

@@ -1,4 +1,4 @@
-"""Pages, each with a style and a script in line, which are allowed by their hashes alone; and what is new to a page."""
+"""Pages with one inline style and one inline script, which their content security policy allows by hashes; and merge patches."""
 
 import base64
 import functools
@@ -15,19 +15,21 @@ from . import codemirror
 from .modules import join_modules
 from .texts import fill
 
-LAB = pathlib.Path(__file__).resolve().parents[2]  # as modules.py resolves paths
-WEB = LAB / "page" / "web"  # what browsers get
+LAB = pathlib.Path(__file__).resolve().parents[2]  # resolved, since modules.py resolves paths too
+WEB = LAB / "page" / "web"  # files for browsers
 PAGES, STYLES = WEB / "pages", WEB / "styles"
-CODEMIRROR = WEB / "editor" / "codemirror.js"  # which is made from CodeMirror's files
-CONNECTION = WEB / "common" / "connection.js"  # to a server, which the playground replaces
-_COMMENTS = re.compile(r" */\*.*?\*/\n*", re.DOTALL)  # of styles
-PIECES = ("bench", "start_page", "teacher", "vectors")  # files of HTML that are parts of pages
+CODEMIRROR = WEB / "editor" / "codemirror.js"  # a module that is made from CodeMirror's files
+CONNECTION = WEB / "common" / "connection.js"  # the connection to a server, which the playground replaces
+_COMMENTS = re.compile(r" */\*.*?\*/\n*", re.DOTALL)  # matches comments in styles
+PIECES = ("bench", "start_page", "teacher", "vectors")  # HTML files that several pages include
 
 
 class Page:
-    """A page by its name, with which its styles begin; only its inline style and script are allowed.
+    """A page by its name. Its content security policy allows only its inline style and script.
 
-    style_source, script_source: their sources in a content security policy
+    The files of the page's own styles start with its name.
+
+    style_source, script_source: the hashes of style and script, as sources in a content security policy
     """
 
     def __init__(
@@ -36,9 +38,9 @@ class Page:
         folder: pathlib.Path = PAGES,
         replaced: Mapping[pathlib.Path, pathlib.Path] = MappingProxyType({}),
     ) -> None:
-        """folder: of the page's HTML and script, and of styles that aren't in STYLES
+        """folder: has the page's HTML and script, and its styles unless they are in STYLES
 
-        replaced: modules, each with the one in its place
+        replaced: for paths of modules, the path of the module to use instead
         """
         text = page_file(PAGES / "page.html").replace("$body", page_file(folder / f"{name}.html"))
         for piece in PIECES:
@@ -59,9 +61,12 @@ class Page:
         self.policy = f"default-src 'none'; img-src data:; {sources}; base-uri 'none'; form-action 'none'"
 
     def text(self, title: str, data: str = "", policy: str = "", **contents: str) -> str:
-        """The page in HTML, with what its script shows, and with its policy where no server sends it.
+        """Return the page in HTML.
 
-        contents: HTML for the other places of the page; a place without any is empty
+        title: the title, in HTML
+        data: JSON that the page's script shows
+        policy: a `meta` element with the content security policy, if no server sends it
+        contents: HTML for the other places of the page; other places are empty
         """
         given = {"title": title, "style": self._style, "script": self._script, "data": data, "policy": policy}
         return self._template.substitute(dict.fromkeys(self._template.get_identifiers(), "") | given | contents)
@@ -69,25 +74,28 @@ class Page:
 
 @functools.cache
 def _page(name: str) -> Page:
-    """A page of this folder, whose files are read once."""
+    """Return a page of the folder PAGES. Its files are read only once."""
     return Page(name)
 
 
 def page_with_data(name: str, title: str, data: object, **contents: str) -> str:
-    """A page that loads nothing, with what its script shows, and with HTML for its other places."""
+    """Return a page that loads no files. data: the data that its script shows; contents: HTML for its other places"""
     return filled_page(name, title, **contents, data=json.dumps(data, separators=(",", ":")).replace("<", "\\u003c"))
 
 
 def filled_page(name: str, title: str, **contents: str) -> str:
-    """A page that loads nothing, with HTML for its places."""
+    """Return a page that loads no files. contents: HTML for its places"""
     policy = f'<meta http-equiv="Content-Security-Policy" content="{_page(name).policy}">'
     return _page(name).text(html.escape(title), policy=policy, **contents)
 
 
 def write_pages(folder: pathlib.Path, pages: Iterable[tuple[str, str, str]]) -> None:
-    """Write pages, each a name, a title and its HTML, into a folder, and then print the path and title of each.
+    """Write pages into a folder, and then print the path and the title of each.
 
-    All files are written before anything is printed, so a reader that closes the pipe, as `head` does, loses none."""
+    pages: the name, the title and the HTML of each
+
+    All files are written before the first line is printed, so that none is missing if a reader such as `head` closes the pipe.
+    """
     written = []
     for name, title, page in pages:
         path = folder / f"{name}.html"
@@ -97,7 +105,7 @@ def write_pages(folder: pathlib.Path, pages: Iterable[tuple[str, str, str]]) -> 
 
 
 def merge_patch(old: Mapping[str, object], new: Mapping[str, object]) -> dict[str, object]:
-    """The merge patch (RFC 7396) that makes the new object from the old one; no value is None."""
+    """Return the merge patch (RFC 7396) that changes the old object to the new one. Their values mustn't be None."""
     patch: dict[str, object] = {key: None for key in old if key not in new}
     for key, value in new.items():
         before = old.get(key)
@@ -107,13 +115,14 @@ def merge_patch(old: Mapping[str, object], new: Mapping[str, object]) -> dict[st
 
 
 def _digest(text: str) -> str:
-    """The hash of an inline text for a content policy."""
+    """Return the hash of an inline text as a source in a content security policy."""
     return f"'sha256-{base64.b64encode(hashlib.sha256(text.encode('utf-8')).digest()).decode('ascii')}'"
 
 
 def page_file(path: pathlib.Path | str) -> str:
-    """The text of a file, with texts in place of keys.
+    """Return the text of a page's file, with texts in place of keys.
 
-    The module of CodeMirror is made from its files. Raises ValueError where a text isn't found."""
+    The module of CodeMirror is made from the files of the library. Raises ValueError if there is no text for a key.
+    """
     file = pathlib.Path(path)
     return codemirror.module() if file == CODEMIRROR else fill(file.name, file.read_text("utf-8"))

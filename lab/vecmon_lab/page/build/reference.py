@@ -1,4 +1,4 @@
-"""The explanations of names on a page: commands, instructions and refusals, from the manuals' tables and the records."""
+"""The reference of a page: explanations of commands, instructions and refusals, from the manuals' tables and the records."""
 
 import json
 from collections.abc import Iterator
@@ -8,12 +8,15 @@ from ...instructions.table import Row, instruction_table
 from ...meanings.describe import expansions, sample, scalar_note
 from ...meanings.record import BY_ELEMENT, Record, record_of, records
 
-NOT_HERE = "Not supported"  # the section whose entries have a pattern of names after the name, as reference.js reads it
-TERMS = "Terms"  # the section of words that a source or a command doesn't have, as reference.js reads it
+NOT_HERE = "Not supported"  # the section whose entries have a pattern of names after the name; reference.js uses it
+TERMS = "Terms"  # the section of terms that aren't in sources or commands; reference.js uses it
 
 
 def reference() -> dict[str, list[list[str]]]:
-    """Entries by section: the name, its form, what it does or means, and of an instruction more words that find it."""
+    """Return the entries of the reference by section.
+
+    Each entry has a name, its form, and its effect or meaning. An instruction's entry may also have words by which a search finds it.
+    """
     commands = [[name, it.form, it.does] for name, it in COMMANDS.items() if name not in OF_THE_CONSOLE]
     return {
         "Commands": commands,
@@ -33,12 +36,12 @@ def reference() -> dict[str, list[list[str]]]:
 
 
 def reference_text() -> str:
-    """The reference in JSON, in a form for a page."""
+    """Return the reference in JSON, escaped for a script in a page."""
     return json.dumps(reference(), separators=(",", ":")).replace("<", "\\u003c")
 
 
 def _description(row: Row) -> str:
-    """The effect of an instruction, with its formula as code, and the operand in place of vs1."""
+    """Return the effect of an instruction, followed by its formula as code, if it has one."""
     record = record_of(row.name)
     formula = record.formula_of(row.name)
     note = f" `{formula.text}`{scalar_note(row, formula.text)}" if formula else ""
@@ -46,7 +49,10 @@ def _description(row: Row) -> str:
 
 
 def _found_by(row: Row) -> list[str]:
-    """Words that its sentence may lack: how a vector instruction changes the width of elements, and how it moves them."""
+    """Return words by which a search finds a vector instruction, in a list with one text; empty if there are none.
+
+    The words say how it changes the width of elements, and how it moves them.
+    """
     instruction = sample(row)
     parts = [it.part for it in instruction.operands if it.part] if instruction else []
     width = "" if len(set(parts)) < 2 else "widening" if parts[0] == max(parts) else "narrowing"
@@ -60,7 +66,7 @@ def _entries(kind: str) -> list[list[str]]:
 
 
 def _sentences(record: Record) -> str:
-    """What a name means; for a term also the names to look up next, as code."""
+    """Return the meaning of a name; for a term also the names to look up next, as code."""
     related = ", ".join(f"`{name}`" for name in record.see) if record.kind == "term" else ""
     return f"{record.does} See {related}." if related else record.does
 

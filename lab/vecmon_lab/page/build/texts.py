@@ -1,4 +1,4 @@
-"""The texts of pages: a page's files name keys, and the builder puts in the texts of the table for the pages' language."""
+"""The texts of pages. Files of pages have keys, which the builder replaces by texts of the table for the pages' language."""
 
 import functools
 import html
@@ -9,8 +9,8 @@ from collections.abc import Mapping
 
 from ...tables.table import read_table
 
-LANGUAGE = "en"  # of all pages; its table is tables/texts.LANGUAGE.txt
-# Plural categories of Unicode CLDR; keys of plural forms end with one.
+LANGUAGE = "en"  # the language of all pages; its table is tables/texts.LANGUAGE.txt
+# Plural categories of Unicode CLDR. The key of a plural form ends with one of them.
 NUMBERS = ("zero", "one", "two", "few", "many", "other")
 IN_HTML = re.compile(r"\{\{([\w.-]+)\}\}")
 IN_SCRIPT = re.compile(r'\b(textOf|contentOf)\(\s*"([\w.-]+)"(\))?')
@@ -29,13 +29,13 @@ _MARKUP = re.compile(r"&lt;(/?(?:em|kbd|strong))&gt;")
 
 @functools.cache
 def read_texts(language: str) -> Mapping[str, str]:
-    """The texts of a language by key; those that its table lacks are English."""
+    """Return the texts of a language by key. A text that its table lacks is in English."""
     texts = {key: text for key, text in read_table(f"texts.{language}")}
     return texts if language == "en" else {**read_texts("en"), **texts}
 
 
 def forms_of(key: str, language: str) -> str | dict[str, str]:
-    """The text of a key, or its plural forms by category. Raises ValueError without one."""
+    """Return the text of a key, or its plural forms by category. Raises ValueError if there is none."""
     texts = read_texts(language)
     forms = {each: texts[f"{key}.{each}"] for each in NUMBERS if f"{key}.{each}" in texts}
     if key not in texts and not forms:
@@ -44,14 +44,15 @@ def forms_of(key: str, language: str) -> str | dict[str, str]:
 
 
 def page_text(key: str, **values: object) -> str:
-    """A text for a page, with values in its places. Raises KeyError without one."""
+    """Return the text of a key for a page, with values in its places. Raises KeyError for an unknown key."""
     return read_texts(LANGUAGE)[key].format(**values)
 
 
 def fill(name: str, text: str) -> str:
-    """A page's file with texts in place of keys: `{{KEY}}` in HTML, and in scripts `textOf("KEY")`, or the key if there are values.
+    """Return the content of a page's file with texts in place of keys. name: of the file
 
-    In HTML, backquotes are around code, and <em>, <kbd> and <strong> are elements. Raises ValueError where a text isn't found.
+    In HTML, a key is `{{KEY}}`. In its text, backquotes mark code, and <em>, <kbd> and <strong> are elements. In a script, a text replaces
+    the call `textOf("KEY")`, or only the key if the call has values. Raises ValueError if there is no text for a key.
     """
     if pathlib.PurePath(name).suffix == ".html":
         return IN_HTML.sub(lambda found: _as_html(forms_of(found[1], LANGUAGE)), text)
@@ -59,7 +60,7 @@ def fill(name: str, text: str) -> str:
 
 
 def declarations() -> str:
-    """The TypeScript declaration of the keys, each with the names of the places in its text."""
+    """Return the TypeScript declaration of the keys, each with the names of the places in its text."""
     places = dict[str, set[str]]()
     for key, text in read_texts("en").items():
         name, _, category = key.rpartition(".")
@@ -71,19 +72,19 @@ def declarations() -> str:
 
 
 def html_text(text: str) -> str:
-    """A text in HTML, with backquotes around code."""
+    """Return a text in HTML. Text between backquotes becomes code."""
     return re.sub("`([^`]*)`", r"<code>\1</code>", html.escape(text))
 
 
 def _as_html(text: str | dict[str, str]) -> str:
-    """A text in HTML. Raises ValueError for plural forms."""
+    """Return a text in HTML, where <em>, <kbd> and <strong> stay elements. Raises ValueError for plural forms."""
     if isinstance(text, dict):
         raise ValueError(f"'{text['other']}' depends on a number: let a script show it")
     return _MARKUP.sub(r"<\1>", html_text(text))
 
 
 def _in_script(found: re.Match[str]) -> str:
-    """A text in a script, in place of its key, or of a call that has no values."""
+    """Return the text that replaces the match of a key in a script: the whole call, or only the key if the call has values."""
     call, key, end = found.groups()
     text = json.dumps(forms_of(key, LANGUAGE), ensure_ascii=False).replace("<", "\\u003c")
     return text if call == "textOf" and end else f"{call}({text}{end or ''}"

@@ -18,18 +18,7 @@ export interface AnswerCost {
   work: number;
 }
 
-/** Return an answer of a seat to an exercise. */
-export interface AnswerRequest {
-  id: number;
-  ask: "answer";
-  /** The seat. A student's own seat without it. */
-  seat?: string;
-  exercise: string;
-  /** The number of the try, from 1 on. */
-  number: number;
-}
-
-/** The answer to `{"ask":"beat"}`. */
+/** The response to `{"ask":"beat"}`. */
 export interface Beat {
   kind: "beat";
 }
@@ -63,7 +52,7 @@ export interface CaseResult {
   passed: boolean;
 }
 
-/** Rows of what a case gives and expects, and notes on the state before it. */
+/** Rows of a case's inputs and expected results, and notes on the state before it. */
 export interface CaseRows {
   given: NumberRow[];
   expected: NumberRow[];
@@ -143,16 +132,6 @@ export interface ClockView {
   limit: number;
 }
 
-/** The answer to `codes` and `renew`. */
-export interface CodesAnswer {
-  patch?: { [name: string]: unknown };
-  logs?: { [name: string]: string[] };
-  kind: "answer";
-  id: number;
-  codes: { [name: string]: string };
-  pictures?: { [name: string]: string };
-}
-
 /** Return the code of a seat or of `wall`. */
 export interface CodesRequest {
   id: number;
@@ -163,7 +142,17 @@ export interface CodesRequest {
   pictures?: boolean;
 }
 
-/** Store the source that a student types. It becomes the seat's source if number and exercise are still those of the seat, else a version. */
+/** The response to `codes` and `renew`. */
+export interface CodesResponse {
+  patch?: { [name: string]: unknown };
+  logs?: { [name: string]: string[] };
+  kind: "answer";
+  id: number;
+  codes: { [name: string]: string };
+  pictures?: { [name: string]: string };
+}
+
+/** Store the source that a student types: as the seat's source if number and exercise are still the seat's, else as a version. */
 export interface DraftRequest {
   id: number;
   ask: "draft";
@@ -196,8 +185,8 @@ export interface EditRequest {
   decimal?: boolean;
 }
 
-/** The answer to a request that returns nothing. */
-export interface EmptyAnswer {
+/** The response to a request that returns nothing. */
+export interface EmptyResponse {
   patch?: { [name: string]: unknown };
   logs?: { [name: string]: string[] };
   kind: "answer";
@@ -205,7 +194,7 @@ export interface EmptyAnswer {
 }
 
 /**
- * A source to begin with.
+ * A source that the start page offers.
  *
  * group: the heading that it is below; name: of its file; about: a sentence, with backquotes around code
  * language: its number
@@ -226,12 +215,13 @@ export interface ExerciseTable {
 }
 
 /**
- * An exercise on a student's page: of a hidden case the name, and whether it passes; the hints that are due.
+ * An exercise on a student's page.
  *
  * number: its place among the exercises, from 1 on
- * starts: sources to start with, the preferred one first; of two one is in C
+ * starts: sources to start with, the preferred one first: one in assembler, one in C, or both
  * unsigned: whether all numbers in the memory of its cases are unsigned, and so those that the page shows
- * hint_count: of those that are due and others; best: the most cases that passed in one try
+ * hints: those that are due; hint_count: the number of all hints; best: the most cases that passed in one try
+ * told: the result of the last check; checking: whether an answer is being checked
  * before: the path of the lesson before it; "" for none
  * lesson: the path of a lesson of the case that failed first; "" for none
  */
@@ -285,7 +275,7 @@ export interface GiveRequest {
   title?: string;
 }
 
-/** The source that was given last and can be taken back: to which seats, none for all, and how many had another text. */
+/** The last source that was given and can be taken back: the seats, none for all, and how many of them had another text. */
 export interface Given {
   seats: string[];
   replaced: number;
@@ -321,10 +311,10 @@ export interface Hello {
 }
 
 /**
- * What is known of a seat's history.
+ * The history of a seat's program, as far as it is known.
  *
- * number: how often it began anew: moments of another number belong to another program
- * end: how many instructions the program has executed, if they are counted
+ * number: how often the history has begun: moments of another number are of another program
+ * end: the number of instructions that the program has executed, once they are counted
  */
 export interface HistoryView {
   number: number;
@@ -343,6 +333,7 @@ export interface LastInstructionRequest {
  * text: of the source, as it was written
  * name: the name of a series with that of the lesson, by which the browser stores that it was read
  * used: the registers that the lesson uses, by user
+ * types: the vector types at the lines of an assembler source
  */
 export interface LessonData {
   labels: { [name: string]: string[] };
@@ -356,18 +347,21 @@ export interface LessonData {
   frames: FrameData[];
   used?: { [name: string]: UsedRegisters };
   text?: string;
+  types?: LineType[];
   name?: string;
 }
 
-/** The answer to lines. */
-export interface LinesAnswer {
-  patch?: { [name: string]: unknown };
-  logs?: { [name: string]: string[] };
-  kind: "answer";
-  id: number;
-  do: string[][];
-  look: string[][];
-  words?: string[];
+/**
+ * The vector types that may be in force from a line of a source on, until another line has some.
+ *
+ * line: its number; it sets them itself, or its first instruction is reached with them
+ * types: as vtype, in hexadecimal digits; none if any may be in force
+ * vl: missing if it is unknown
+ */
+export interface LineType {
+  line: number;
+  types: string[];
+  vl?: number;
 }
 
 /** Execute lines, grant slices to the student's own program, then execute read-only lines. */
@@ -382,13 +376,15 @@ export interface LinesRequest {
   slices?: number;
 }
 
-/** The answer to `listings`. */
-export interface ListingsAnswer {
+/** The response to lines. */
+export interface LinesResponse {
   patch?: { [name: string]: unknown };
   logs?: { [name: string]: string[] };
   kind: "answer";
   id: number;
-  listings: string;
+  do: string[][];
+  look: string[][];
+  words?: string[];
 }
 
 /** Compare the listing of a C source with that of another compiler. */
@@ -399,6 +395,15 @@ export interface ListingsRequest {
   language?: number;
   /** The other compiler by its number in `against`. */
   other: number;
+}
+
+/** The response to `listings`. */
+export interface ListingsResponse {
+  patch?: { [name: string]: unknown };
+  logs?: { [name: string]: string[] };
+  kind: "answer";
+  id: number;
+  listings: string;
 }
 
 /** Lower a seat's hand. */
@@ -424,8 +429,8 @@ export interface MachineLinesRequest {
 /**
  * The teacher's view of a machine.
  *
- * seats: by digit; script, of: bytes of the script, and their limit; scripts: how many there were; lines: of all scripts
- * digest: the SHA-256 of all answers; restarts, loss: the number of restarts, and the reason of the last one, or ""
+ * seats: by digit; script, lines: the bytes and lines of the last script; of: the limit of bytes; scripts: their number
+ * digest: the SHA-256 of all answers; restarts: of the process; loss: the reason of the last restart, or ""
  */
 export interface MachineView {
   seats: { [name: string]: SeatView };
@@ -460,11 +465,11 @@ export interface Mistake {
 }
 
 /**
- * A state of the past.
+ * An earlier state.
  *
- * at: after this number of instructions; end: how many there are up to the present
- * state, before: without the names of the source and the breakpoints; and the state before the last instruction
- * condition: of the machine there
+ * at: the number of instructions before it; end: their number up to the present
+ * state, before: this state, and the one before its last instruction, both without names of the source and breakpoints
+ * condition: of the machine in this state
  */
 export interface Moment {
   at: number;
@@ -521,7 +526,12 @@ export interface Offer {
   language: number;
 }
 
-/** An exercise that the teacher may turn on. minutes: that it takes, about; 0 if that is unknown; on: whether students have it */
+/**
+ * An exercise that the teacher may turn on.
+ *
+ * minutes: the approximate time that it takes; 0 if that is unknown
+ * on: whether students have it
+ */
 export interface OfferedExercise {
   name: string;
   title: string;
@@ -578,8 +588,18 @@ export interface PairRun {
   step: number;
 }
 
-/** The answer to `past`. */
-export interface PastAnswer {
+/** Find an earlier state of the program. */
+export interface PastRequest {
+  id: number;
+  ask: "past";
+  /** The number of instructions since the machine began. A negative number counts from the present. */
+  at: number;
+  /** Whether to find the next state after that one at a breakpoint. */
+  to_break?: boolean;
+}
+
+/** The response to `past`. */
+export interface PastResponse {
   patch?: { [name: string]: unknown };
   logs?: { [name: string]: string[] };
   kind: "answer";
@@ -591,22 +611,23 @@ export interface PastAnswer {
   language?: number;
 }
 
-/** Find an earlier state of the program. */
-export interface PastRequest {
-  id: number;
-  ask: "past";
-  /** The number of instructions since the machine began. A negative number counts from the present. */
-  at: number;
-  /** Whether to find the next state after that one at a breakpoint. */
-  to_break?: boolean;
-}
-
 /** Find the problems of a source. Nothing changes. */
 export interface ProblemsRequest {
   id: number;
   ask: "problems";
   text: string;
   language?: number;
+}
+
+/** The response to `problems`. */
+export interface ProblemsResponse {
+  patch?: { [name: string]: unknown };
+  logs?: { [name: string]: string[] };
+  kind: "answer";
+  id: number;
+  mistakes: Mistake[];
+  warnings: Mistake[];
+  types: LineType[];
 }
 
 /**
@@ -632,8 +653,8 @@ export interface ReadRequest {
   number: number;
 }
 
-/** The answer to a request that was refused. */
-export interface RefusedAnswer {
+/** The response to a request that was refused. */
+export interface RefusedResponse {
   patch?: { [name: string]: unknown };
   logs?: { [name: string]: string[] };
   kind: "answer";
@@ -650,8 +671,8 @@ export interface RenewRequest {
   seat: string;
 }
 
-/** The answer to `give` and `take-back`. */
-export interface ReplacedAnswer {
+/** The response to `give` and `take-back`. */
+export interface ReplacedResponse {
   patch?: { [name: string]: unknown };
   logs?: { [name: string]: string[] };
   kind: "answer";
@@ -702,13 +723,13 @@ export interface SeatResult {
 /**
  * The status of a seat's program.
  *
- * kind: `none` without a program; `problems`: of the last source, which isn't in the machine; `paused` before an instruction;
- *     `breakpoint`, `ebreak`, `ended`, `fault`: its last stop; `output`: it waits, since its output is full; `limit`: the server
+ * kind: `none` without a program; `problems` if the last source has some and isn't in the machine; `paused` before an instruction;
+ *     `breakpoint`, `ebreak`, `ended` or `fault` after a stop; `output` while its output buffer is full; `limit` if the server
  *     stopped it, since it ran too long, or nobody looked at it
  * text: the same in a few words
  * count: of problems; exit: the status with which the program ended
  * instruction: the mnemonic of the instruction at the program counter, if it is known
- * element: at which a vector access has its fault
+ * element: the index of the element at which a vector access faults
  */
 export interface SeatStatus {
   kind: "none" | "problems" | "running" | "paused" | "breakpoint" | "ebreak" | "ended" | "output" | "fault" | "limit";
@@ -723,11 +744,11 @@ export interface SeatStatus {
  * The teacher's view of a seat.
  *
  * tabs: the number of open ones; active: when one of them made its last request; 0 without one
- * status, since: of its program, and since when it is so
- * exercise, exercise_since: the first one or the one that the student opened, or "", and since when it is open; 0 if it isn't yet
- * stuck, stuck_since: whether its student may need somebody, and since when, which is missing otherwise: the program has problems, a
- *     fault, or ran too long, the exercise has been open for 10 minutes, with 3 tries that failed, or there was no headway at it for 10
- *     minutes
+ * status: of its program; since: when that began
+ * line, answer: the last command, and the last line of an answer
+ * exercise: the first one or the one that the student opened, or ""; exercise_since: when it was opened; 0 before
+ * stuck: whether the student may need somebody: the program has problems, a fault, or ran too long; the exercise has been open for
+ *     10 minutes with 3 failed tries; or there was no headway for 10 minutes. stuck_since: when that began; missing otherwise
  * changed: whether its source differs from the newest version
  * used: bytes of the script; hand: while it is up. Times are in seconds since 1970.
  */
@@ -763,7 +784,7 @@ export interface SentNotice {
   opened: string[];
 }
 
-/** Bytes of the script: those that the seat has used, and its share. */
+/** Bytes of the script: `used` by the seat, `of` its share. */
 export interface Share {
   used: number;
   of: number;
@@ -904,7 +925,7 @@ export interface ShownRegisterGroup {
  * value: in decimal digits, of a scalar register or a number with a name
  * name: as `sew`; not of registers, and of the number of the element
  * scalar: the number of a scalar register
- * register: the first vector register of a group, of which it is an element; width: in bits, 1 of a bit of a mask
+ * register: the first vector register of the group that has the element; width: in bits, 1 for a bit of a mask
  * sign: how the number is taken: signed or unsigned; without it as the reader's form of numbers says
  * function: around its name, as `signed`
  * index: of the element; where `by` is `element`, the distance from the element of the result; 0 is left out
@@ -928,8 +949,8 @@ export interface ShownTerm {
  * declaration: in C's syntax, as `int32_t x[37]`
  * element: the kind of its numbers with their bits, as `i32`, or "" where it has none; counts: an array's dimensions
  * function: the function that has the variable, also an inlined one; "" for a variable of all functions
- * scopes: where it is known; none for everywhere
- * locations: where none of them has the program counter, the compiler optimized the variable out
+ * scopes: the addresses at which it is known; none for everywhere
+ * locations: if none of them has the program counter, the compiler optimized the variable out
  */
 export interface ShownVariable {
   name: string;
@@ -939,16 +960,6 @@ export interface ShownVariable {
   function: string;
   scopes: Scope[];
   locations: ShownLocation[];
-}
-
-/** The answer to `source`, `again`, `case`, `problems`, `run` and `step`. */
-export interface SourceAnswer {
-  patch?: { [name: string]: unknown };
-  logs?: { [name: string]: string[] };
-  kind: "answer";
-  id: number;
-  mistakes: Mistake[];
-  warnings: Mistake[];
 }
 
 /** Write a source into a new machine. */
@@ -961,6 +972,16 @@ export interface SourceRequest {
   number?: number;
   /** The numbers of lines that get breakpoints once the program is loaded. */
   breaks?: number[];
+}
+
+/** The response to `source`, `again`, `case`, `run` and `step`. */
+export interface SourceResponse {
+  patch?: { [name: string]: unknown };
+  logs?: { [name: string]: string[] };
+  kind: "answer";
+  id: number;
+  mistakes: Mistake[];
+  warnings: Mistake[];
 }
 
 /** The mistakes of a source that goes into a new machine, and a compiler's warnings. */
@@ -1013,7 +1034,7 @@ export interface Start {
  * output: the bytes that answers to `out` have shown
  * outputs: in a class in place of it, the last 64 KB of them, in blocks by number
  * began, image: in a class, how often the user's machine began anew, and whether it began with an image
- * prepared: whether lines of what was just done set the program counter, and nothing was executed after them, as before a case
+ * prepared: whether the last lines set the program counter, and nothing was executed after them, as before a case
  * labels, lines, line_numbers, aliases, starts, stops, variables, data: in a class, those of `SourceNames`
  */
 export interface State {
@@ -1117,8 +1138,8 @@ export interface TakeBackRequest {
  * The teacher's view.
  *
  * class_title: the title of the class; machines: by letter; share: a seat's bytes of the script
- * shoulder: the observed seat, or "". Of that alone: its state, history and source; caret: the number of the line in which it typed last, or 0;
- *     problems: those of its last assembly; outcome: if an exercise is open
+ * shoulder: the observed seat, or ""; state, history, source: of that seat
+ * caret: the number of the line in which its student typed last, or 0; problems: of its last source; outcome: of its open exercise
  * wall: the seat on the wall, or ""; address: where students reach the class, or ""
  * course: the exercises that may be turned on; exercises: the results by name
  * sent: the last messages by number, oldest first; given: the last given source, while it can be taken back
@@ -1150,8 +1171,8 @@ export interface TeacherView {
   trouble: string;
 }
 
-/** The answer to `version`. */
-export interface TextAnswer {
+/** The response to `version`. */
+export interface TextResponse {
   patch?: { [name: string]: unknown };
   logs?: { [name: string]: string[] };
   kind: "answer";
@@ -1160,8 +1181,19 @@ export interface TextAnswer {
   language: number;
 }
 
-/** The answer to `answer`. */
-export interface TryAnswer {
+/** Return a try of a seat at an exercise. */
+export interface TryRequest {
+  id: number;
+  ask: "answer";
+  /** The seat. A student's own seat without it. */
+  seat?: string;
+  exercise: string;
+  /** The number of the try, from 1 on. */
+  number: number;
+}
+
+/** The response to `answer`. */
+export interface TryResponse {
   patch?: { [name: string]: unknown };
   logs?: { [name: string]: string[] };
   kind: "answer";
@@ -1178,8 +1210,8 @@ export interface UnsendRequest {
   number: number;
 }
 
-/** The answer to `unsend`. */
-export interface UnsentAnswer {
+/** The response to `unsend`. */
+export interface UnsentResponse {
   patch?: { [name: string]: unknown };
   logs?: { [name: string]: string[] };
   kind: "answer";
@@ -1218,7 +1250,11 @@ export interface WallRequest {
   seat: string;
 }
 
-/** The wall's view: the seat that it shows, or "", its state and its last stop line; and a text for a banner, or "". */
+/**
+ * The wall's view.
+ *
+ * seat: that it shows, or ""; stop: the seat's last stop line; trouble: a text for a banner, or ""
+ */
 export interface WallView {
   seat: string;
   state?: State;
@@ -1226,19 +1262,10 @@ export interface WallView {
   trouble: string;
 }
 
-/** The answer to `why`. */
-export interface WhyAnswer {
-  patch?: { [name: string]: unknown };
-  logs?: { [name: string]: string[] };
-  kind: "answer";
-  id: number;
-  why: string;
-}
-
 /**
  * Explain why a register or an element has its value after the last single step.
  *
- * `form` is that of numbers in the answer, by default `signed`. With `abi` scalar registers have names such as `a0` in place of `x10`.
+ * `form` is that of numbers in the sentence, by default `signed`. With `abi` scalar registers have names such as `a0` in place of `x10`.
  */
 export interface WhyRequest {
   id: number;
@@ -1247,6 +1274,15 @@ export interface WhyRequest {
   name: string;
   form?: "signed" | "unsigned" | "hexadecimal";
   abi?: boolean;
+}
+
+/** The response to `why`. */
+export interface WhyResponse {
+  patch?: { [name: string]: unknown };
+  logs?: { [name: string]: string[] };
+  kind: "answer";
+  id: number;
+  why: string;
 }
 
 /** Send a message to seats, which are named as in `give`. */
@@ -1278,7 +1314,7 @@ export type StudentRequest =
   | VersionRequest
   | CheckRequest
   | CaseRequest
-  | AnswerRequest
+  | TryRequest
   | NameRequest
   | HandRequest
   | ReadRequest;
@@ -1287,7 +1323,7 @@ export type TeacherRequest =
   | MachineLinesRequest
   | PastRequest
   | VersionRequest
-  | AnswerRequest
+  | TryRequest
   | NameRequest
   | LowerHandRequest
   | GiveRequest
@@ -1303,33 +1339,35 @@ export type TeacherRequest =
   | WallRequest
   | CodesRequest;
 
-export type Answer =
-  | EmptyAnswer
-  | LinesAnswer
-  | SourceAnswer
-  | TextAnswer
-  | TryAnswer
-  | ListingsAnswer
-  | ReplacedAnswer
-  | UnsentAnswer
-  | WhyAnswer
-  | PastAnswer
-  | CodesAnswer
-  | RefusedAnswer;
+export type Response =
+  | EmptyResponse
+  | LinesResponse
+  | SourceResponse
+  | ProblemsResponse
+  | TextResponse
+  | TryResponse
+  | ListingsResponse
+  | ReplacedResponse
+  | UnsentResponse
+  | WhyResponse
+  | PastResponse
+  | CodesResponse
+  | RefusedResponse;
 
 export type Message =
   | Hello
   | News
   | Beat
-  | EmptyAnswer
-  | LinesAnswer
-  | SourceAnswer
-  | TextAnswer
-  | TryAnswer
-  | ListingsAnswer
-  | ReplacedAnswer
-  | UnsentAnswer
-  | WhyAnswer
-  | PastAnswer
-  | CodesAnswer
-  | RefusedAnswer;
+  | EmptyResponse
+  | LinesResponse
+  | SourceResponse
+  | ProblemsResponse
+  | TextResponse
+  | TryResponse
+  | ListingsResponse
+  | ReplacedResponse
+  | UnsentResponse
+  | WhyResponse
+  | PastResponse
+  | CodesResponse
+  | RefusedResponse;

@@ -22,9 +22,9 @@ export type Parts =
   Ids<HTMLFormElement, "clocks" | "command" | "join" | "operate" | "sending" | "steps" | "until"> &
   Ids<
     HTMLInputElement,
-    | "called" | "code" | "copied" | "find" | "gift-title" | "letters" | "memory-address" | "moment" | "name" | "number" | "open" | "place" | "until-line" | "value"
+    | "called" | "code" | "copied" | "find" | "gift-title" | "letters" | "line-types" | "memory-address" | "moment" | "name" | "number" | "open" | "place" | "until-line" | "value"
   > &
-  Ids<HTMLLabelElement, "copied-name" | "edit-name"> &
+  Ids<HTMLLabelElement, "copied-name" | "edit-name" | "of-types"> &
   Ids<HTMLOListElement, "course-list" | "lessons" | "log" | "mistakes" | "operator-log" | "progress" | "slips"> &
   Ids<HTMLOutputElement, "count" | "moment-count"> &
   Ids<HTMLPreElement, "answer" | "c-start" | "output"> &

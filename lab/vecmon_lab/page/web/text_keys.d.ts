@@ -278,6 +278,12 @@ export interface Places {
   "source.copy.title": never;
   "source.not-sent": "most" | "size";
   "source.side-by-side": never;
+  "types.label": never;
+  "types.title": never;
+  "types.length": "type" | "vl";
+  "types.most": "type" | "vl";
+  "types.differ": "types";
+  "types.unknown": never;
   "editor.search": never;
   "editor.search.help": never;
   "editor.replace": never;
@@ -368,7 +374,7 @@ export interface Places {
   "lanes.none": never;
   "lanes.element": never;
   "lanes.cell": "element" | "head";
-  "lanes.cell.label": "fate" | "value" | "where";
+  "lanes.cell.label": "outcome" | "value" | "where";
   "lanes.folded": "first" | "last";
   "detail.change": never;
   "detail.change.title": never;

@@ -241,7 +241,7 @@ export class KeptWork {
     return this.writing;
   }
 
-  /** Writes what is due, one transaction after the other; what the storage doesn't take stays due, and is tried again. */
+  /** Writes the due changes, one transaction after the other. A change that the storage refuses stays due, and is tried again. */
   async write() {
     clearTimeout(this.timer);
     await null; // so that what is kept together is written together

@@ -1,10 +1,10 @@
-// vecmon.wasm as a process that is asked synchronously: where it would wait for input, its stack is unwound into its memory
+// vecmon.wasm as a process that is asked synchronously: when it would wait for input, its stack is unwound into its memory
 // (binaryen's Asyncify), and wound up again with the next lines (docs/WEBASSEMBLY.md).
 
 /** @typedef {Record<string, Uint8Array>} Files contents by path */
 /** @typedef {{ content: Uint8Array, place: number }} OpenFile */
 
-const STACK_BYTES = 65536; // of what is unwound
+const STACK_BYTES = 65536; // of the unwound stack
 const PAGE_BYTES = 65536;
 // States of Asyncify
 const UNWINDING = 1;
@@ -59,7 +59,7 @@ export class Machine {
   bytes = (/** @type {number} */ address, /** @type {number} */ size) =>
     new Uint8Array(this.program.memory.buffer, address >>> 0, size >>> 0);
 
-  /** The place of what is unwound, in pages of its own. */
+  /** The place of the unwound stack, in pages of its own. */
   get stack() {
     if (!this.place) {
       this.place = this.program.memory.grow(1 + STACK_BYTES / PAGE_BYTES) * PAGE_BYTES;

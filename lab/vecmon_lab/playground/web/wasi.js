@@ -70,7 +70,7 @@ export class Wasi {
   /** @type {(path: string) => number | null} */
   kind = (path) => (this.files[path] ? FILE : this.names(path) && FOLDER);
 
-  /** The kind of what is open; undefined for a descriptor of nothing. */
+  /** The kind of the open file or folder; undefined if the descriptor isn't open. */
   openKind = (/** @type {number} */ descriptor) =>
     descriptor < ROOT ? DEVICE : this.opened.has(descriptor) && this.kind(this.pathOf(descriptor));
 

@@ -1,9 +1,10 @@
-// The reader's preferences, which the browser stores as JSON. Where it refuses to, a choice holds for the page alone.
+// The reader's preferences, which the browser stores as JSON. If it refuses to, a choice holds only for the page.
 
 const TEXT_SIZE = "vecmon-text-size";
+const LINE_TYPES = "vecmon-line-types";
 
-/** The stored value of a key; null without one, or where it is damaged. */
-/** @type {(key: string) => any} of what was stored */
+/** The stored value of a key; null without one, or if it is damaged. */
+/** @type {(key: string) => any} */
 export function stored(key) {
   try {
     return JSON.parse(localStorage.getItem(key) ?? "null");
@@ -26,6 +27,17 @@ export function offerTextSizes(/** @type {HTMLSelectElement} */ list) {
   list.value = stored(TEXT_SIZE) ?? list.value;
   list.addEventListener("change", () => {
     store(TEXT_SIZE, list.value);
+    apply();
+  });
+  apply();
+}
+
+/** Offers vector types beside the lines of a source by a box, and applies the stored choice. */
+export function offerLineTypes(/** @type {HTMLInputElement} */ box) {
+  const apply = () => document.documentElement.classList.toggle("untyped", !box.checked);
+  box.checked = stored(LINE_TYPES) ?? true;
+  box.addEventListener("change", () => {
+    store(LINE_TYPES, box.checked);
     apply();
   });
   apply();

@@ -19,11 +19,15 @@ export function vectorType(vtype) {
   return { vill, sew, lmul, most: (256 / sew) * lmul, tail: (bits >> 6n) & 1n, mask: (bits >> 7n) & 1n };
 }
 
+const groupName = (/** @type {number} */ lmul) => (lmul < 1 ? `mf${1 / lmul}` : `m${lmul}`);
+
+/** A vector type without its policies, as `e32 m1`. */
+export const typeName = (/** @type {VectorType} */ { vill, sew, lmul }) => (vill ? "vill" : `e${sew} ${groupName(lmul)}`);
+
 /** A vector type as the assembler writes it. */
 export function typeText(/** @type {VectorType} */ type) {
   if (type.vill) return "vill";
-  const group = type.lmul < 1 ? `mf${1 / type.lmul}` : `m${type.lmul}`;
-  return `e${type.sew}, ${group}, ${type.tail ? "ta" : "tu"}, ${type.mask ? "ma" : "mu"}`;
+  return `e${type.sew}, ${groupName(type.lmul)}, ${type.tail ? "ta" : "tu"}, ${type.mask ? "ma" : "mu"}`;
 }
 
 /** A vector type in a sentence. */
@@ -47,7 +51,7 @@ export const scalarName = (number, abi) => (abi ? ABI_NAMES[number] : `x${number
 /** @type {(text: string, abi: boolean) => string} */
 export const withNames = (text, abi) => (abi ? text.replace(/\bx(\d+)\b/g, (_, number) => ABI_NAMES[number]) : text);
 
-/** The text of a source's line next to its instruction, whose text is the machine's: all of it, or its comment alone. */
+/** The text of a source's line next to its instruction, whose text is the machine's: all of it, or only its comment. */
 export function saysMore(/** @type {string} */ line, /** @type {string} */ text) {
   const [own] = line.split(/\s*(?:#|\/\/)/);
   const numbered = own.replace(/\b[a-z]+\d*\b/g, (name) => (ABI_NAMES.includes(name) ? `x${ABI_NAMES.indexOf(name)}` : name));

@@ -61,10 +61,15 @@ export interface Clearable {
   clear(): void;
 }
 
+export interface Mark extends Clearable {
+  find(): { from: Position; to: Position } | undefined; // undefined: the text is gone, or the mark is cleared
+}
+
 export interface Editor {
   lineAtHeight(height: number, mode: "window" | "page" | "local"): number;
   addLineClass(line: number, where: "text" | "background" | "wrap" | "gutter", kind: string): LineHandle;
   addLineWidget(line: number, node: HTMLElement, options?: object): Clearable;
+  defaultCharWidth(): number; // px
   changeGeneration(ends?: boolean): number; // ends: whether the next change is undone apart
   clearHistory(): void;
   closeHint(): void;
@@ -72,11 +77,13 @@ export interface Editor {
   focus(): void;
   hasFocus(): boolean;
   getCursor(): Position;
+  getGutterElement(): HTMLElement;
   getInputField(): HTMLElement;
   getLine(line: number): string;
   getLineHandle(line: number): LineHandle | null;
   getLineNumber(line: LineHandle): number | null; // null: the line isn't in the text anymore
   getOption(name: string): unknown;
+  getScrollInfo(): { clientWidth: number };
   getRange(from: Position, to: Position): string;
   getValue(): string;
   getWrapperElement(): HTMLElement;
@@ -84,7 +91,7 @@ export interface Editor {
   indentSelection(how: "add" | "subtract"): void;
   lastLine(): number;
   lineCount(): number;
-  markText(from: Position, to: Position, options: object): Clearable;
+  markText(from: Position, to: Position, options: object): Mark;
   on(event: "beforeChange", heard: (editor: Editor, change: Change) => unknown): void;
   on(event: "change", heard: (editor: Editor, change: Change) => unknown): void;
   on(event: "changes", heard: (editor: Editor, changes: Change[]) => unknown): void;

@@ -6,6 +6,7 @@ import { CodeMirror } from "./codemirror.js";
 import { elementsIn, make } from "../common/dom.js";
 import { LineMarks } from "./line_marks.js";
 import { textOf } from "../common/texts.js";
+import { TypeMarks } from "./type_marks.js";
 
 export const MARGIN = 60; // px around a line that is scrolled into sight
 const INDENT = 8; // columns
@@ -72,6 +73,7 @@ export class Editor {
     const ariaReadOnly = field.readOnly ? "true" : null;
     Object.assign(this.code.getInputField(), { role: "textbox", ariaMultiLine: "true", ariaReadOnly });
     this.machineMarks = new LineMarks(this.code);
+    this.types = new TypeMarks(this.code);
     this.languages.set(this.code.changeGeneration(), this.source.language);
     this.listen();
   }
@@ -108,6 +110,7 @@ export class Editor {
     box.addEventListener("pointerup", () => (this.isLeaving = false));
     const resized = new ResizeObserver(() => { // it has another size, or is shown
       code.refresh();
+      this.types.measure();
       this.bringIntoSight();
     });
     resized.observe(box);
@@ -144,7 +147,7 @@ export class Editor {
     this.code.setCursor(caret);
   }
 
-  /** Indents the lines that are selected, which is undone apart from what is typed before and behind it. */
+  /** Indents the lines that are selected, as a change of its own for undo, apart from typed text before and after it. */
   indent(/** @type {"add" | "subtract"} */ how) {
     this.code.changeGeneration(true);
     this.code.indentSelection(how);

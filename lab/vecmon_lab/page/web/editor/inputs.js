@@ -51,7 +51,7 @@ export class Inputs {
     if (field instanceof HTMLElement) field.focus();
   }
 
-  /** The row of an input: where it goes, its type, its values, and a button that removes it. */
+  /** The row of an input: its argument register, its type, its values, and a button that removes it. */
   row(/** @type {Input} */ input) {
     const labels = { place: textOf("inputs.place"), type: textOf("inputs.type"), values: textOf("inputs.values") };
     /** @type {(name: "place" | "type" | "values") => HTMLInputElement} */

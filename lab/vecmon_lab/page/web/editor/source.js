@@ -26,13 +26,13 @@ const versionText = (/** @type {Version} */ { time, why, title }) => `${timeText
 export class Source {
   seat = "";
   /** @type {SourceView | null} */ told = null;
-  /** @type {Set<string>} */ sent = new Set(); // keys of what is under way
+  /** @type {Set<string>} */ sent = new Set(); // keys of requests under way
   /** @type {Map<number, number>} */ held = new Map(); // lines with breakpoints of the loaded program, by their numbers in the changed text
   isTyped = false; // whether the text was changed since the page was opened
   timer = 0;
   /** @type {import("./source_state").Apart | null} */ apart = null;
   windows = 1; // that the seat is open in
-  /** @type {() => Promise<unknown>} */ openFree = async () => undefined; // opens the program without an exercise, where there is one
+  /** @type {() => Promise<unknown>} */ openFree = async () => undefined; // opens the program without an exercise, if there is one
   /** @type {{ of: number, used: number } | undefined} */ share; // the seat's, of the script
 
   /**
@@ -61,7 +61,7 @@ export class Source {
     this.file.addEventListener("change", () => this.open(this.file.files?.[0]));
   }
 
-  /** Where the editor's text is. What the page shows and does by it is derived from this state. */
+  /** Where the editor's text is. The page derives its displays and actions from this state. */
   get state() {
     const { told, sent, isTyped, apart } = this;
     return sourceState({ told, here: this.editor.source, sent, isTyped, apart });

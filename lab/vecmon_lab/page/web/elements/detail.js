@@ -1,4 +1,4 @@
-// The line of the chosen element: where it is, how it took part, and the line that can change it.
+// The line of the chosen element: its place, how it took part, and the line that can change it.
 
 import { OUTCOMES } from "./element_words.js";
 import { addressOf } from "./instruction.js";

@@ -19,7 +19,7 @@ import { vectorType, withNames } from "../common/words.js";
 /** Shows the elements of a machine's state in its root. */
 export class Lanes {
   chosen = 0;
-  register = -1; // the chosen row's, where there are several results
+  register = -1; // the chosen row's, if there are several results
   room = { width: 0, unit: 1 }; // px: as `fit` takes it
   isOpen = false; // whether the tail is unfolded
   /** @type {View | undefined} */ view;
@@ -119,8 +119,8 @@ export class Lanes {
       const cell = cells[element];
       const where = [textOf("lanes.cell", { element, head }), words].filter(Boolean).join(", ");
       const title = [where, cell.words].filter(Boolean).join(": ");
-      const fate = cell.words || (cell.classes.includes("active") ? textOf("outcome.active") : "");
-      const ariaLabel = textOf("lanes.cell.label", { where, value: cell.text, fate }).replace(/, $/, "");
+      const outcome = cell.words || (cell.classes.includes("active") ? textOf("outcome.active") : "");
+      const ariaLabel = textOf("lanes.cell.label", { where, value: cell.text, outcome }).replace(/, $/, "");
       const shown = Object.assign(make("td", cell.classes.join(" "), cell.text), { role: "gridcell", title, ariaLabel });
       shown.dataset.element = `${element}`;
       if (cell.words) shown.append(unseen(` ${cell.words}`));

@@ -4,13 +4,13 @@ import { Connection } from "../common/connection.js";
 import { ask, byId, put, say } from "../common/dom.js";
 import { isLink } from "../editor/links.js";
 import { patched } from "../common/patches.js";
-import { offerTextSizes } from "../common/preferences.js";
+import { offerLineTypes, offerTextSizes } from "../common/preferences.js";
 import { Student } from "../seat/student.js";
 import { Teacher } from "../teacher/teacher.js";
 import { textOf } from "../common/texts.js";
 import { Wall } from "../teacher/wall.js";
 
-/** Begins anew with a code, or with none, that is kept for this tab's session alone, and not in the address. */
+/** Starts again with a code, or with none. The code is stored only for this tab's session, and not in the address. */
 function sitDown(/** @type {string} */ code) {
   if (![code, null].includes(sessionStorage.getItem("code"))) sessionStorage.clear(); // it was somebody else's
   if (code) sessionStorage.setItem("code", code);
@@ -42,6 +42,7 @@ function begin(role = "") {
   document.body.classList.add({ teacher: "teaching", wall: "watching" }[role] ?? "studying");
   document.body.classList.toggle("alone", Boolean(view.title));
   if (role !== "wall") offerTextSizes(byId("text-size"));
+  offerLineTypes(byId("line-types"));
   const Page = { teacher: Teacher, wall: Wall }[role] ?? Student;
   return new Page(document.body, connection);
 }

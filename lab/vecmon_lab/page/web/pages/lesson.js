@@ -4,6 +4,7 @@ import { byId, elementsIn, make, prose, put } from "../common/dom.js";
 import { Panes } from "../panels/panes.js";
 import { afterEach } from "../common/patches.js";
 import { keepRead, markRead } from "./progress.js";
+import { offerLineTypes } from "../common/preferences.js";
 import { lineBegins } from "../panels/source_lines.js";
 import { textOf } from "../common/texts.js";
 import { STOP, entryParts, logEntry } from "../panels/transcript.js";
@@ -29,7 +30,7 @@ class Lesson {
   place = 0;
   address = 0; // a timer
 
-  constructor(/** @type {import("../messages").LessonData} */ { frames, name, text = "", used = {}, ...source }) {
+  constructor(/** @type {import("../messages").LessonData} */ { frames, name, text = "", types = [], used = {}, ...source }) {
     this.frames = frames;
     this.source = source;
     this.name = name;
@@ -37,6 +38,9 @@ class Lesson {
     this.view = new MachineView(document);
     const panes = new Panes(document.body, "lesson");
     this.written = new WrittenSource(document, text);
+    this.written.showTypes(types);
+    byId("of-types").hidden = !types.length;
+    offerLineTypes(byId("line-types"));
     byId("sides").hidden = !text;
     if (!text) byId("listing").setAttribute("role", "region"); // it is the panel of no tab
     byId("program-title").hidden = Boolean(text);

@@ -1,4 +1,4 @@
-// What a step did in words, for readers who hear the page: the instruction, and what it changed.
+// The effect of a step in words, for readers who hear the page: the instruction and its changes.
 
 import { textOf } from "../common/texts.js";
 import { ABI_NAMES, scalarName, signedText, withNames } from "../common/words.js";

@@ -7,7 +7,7 @@ import { store, stored } from "../common/preferences.js";
 /** @typedef {import("../parts").Parts} Parts */
 /** @typedef {{ sizes: Record<string, number | undefined>, folded: Record<string, boolean> }} Arrangement sizes in rem, by the pane's id */
 
-const VERSION = 1; // of what the browser keeps
+const VERSION = 1; // of the sizes that the browser stores
 const STEP = 16; // px that an arrow key moves a splitter
 // In a window of less px, panes fold to make room for the elements.
 const LOW = 860;

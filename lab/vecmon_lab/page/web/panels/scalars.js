@@ -8,7 +8,7 @@ import { ABI_NAMES, signedText } from "../common/words.js";
 /** @typedef {import("../types").MachineState} MachineState */
 
 const COLUMN = 9; // characters of a register besides its value
-const WIDEST = 14; // characters of a number with the same number as an address; a longer one is shown as an address alone
+const WIDEST = 14; // characters of a number with the same number as an address; a longer one is shown only as an address
 const POINTERS = ["ra", "sp", "gp"]; // registers that have addresses
 const PAGE_DIGITS = 3; // hexadecimal digits of a place in a page of memory
 const ROW_DIGITS = 1; // and in a row of a state's memory

@@ -7,10 +7,10 @@ const SHORT = ["with", "a", "an", "the", "of", "to", "in"]; // words that a sear
 /** A word without the ending that others of its kind have: `shifting` finds `Shifts`, and `multiplying` finds `Multiplies`. */
 const stem = (/** @type {string} */ word) => word.replace(/(?<=\w{4})(ing|ed|es|s)$/, "").replace(/(?<=\w{4})[yi]$/, "");
 
-/** The words of a search. */
+/** The search words of a text. */
 const wordsOf = (/** @type {string} */ text) => text.split(/\s+/).filter((word) => word && !SHORT.includes(word)).map(stem);
 
-/** Whether a word of a text begins with this one. */
+/** Whether a text has a word that starts with this one. */
 /** @type {(text: string, word: string) => boolean} */
 const hasBeginning = (text, word) => text.split(/[^\w.]+/).some((each) => each.startsWith(word));
 

@@ -1,5 +1,5 @@
 // Lines of a source: the one of an instruction. `starts` has the numbers of lines by the addresses where their
-// instructions begin, and 0 where those of none do.
+// instructions begin, and 0 at the other addresses.
 
 import { inOrder } from "./rows.js";
 
@@ -23,7 +23,7 @@ export function startOf(starts, pc) {
 export const stoppedLines = (stops, breaks) =>
   Object.keys(stops).filter((line) => stops[line].some((address) => breaks.includes(address))).map(Number);
 
-/** The line of the source that an instruction is of; 0 of none. */
+/** The number of the source line of an instruction; 0 without one. */
 /** @type {(state: State, address: string | undefined) => number} */
 export function lineOf({ starts, line_numbers: numbers }, address = "") {
   return numbers?.[address] ?? (starts && starts[startOf(starts, address) ?? ""]) ?? 0;

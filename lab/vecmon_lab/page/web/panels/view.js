@@ -17,7 +17,7 @@ import { saysMore, withNames } from "../common/words.js";
 export const usedIn = (/** @type {State | undefined} */ { v = {} } = { run: "absent" }) =>
   Object.keys(v).filter((number) => /[^0]/.test(v[number])).map(Number);
 
-/** The state of a machine; null of none, or of one that runs and was never looked at. */
+/** The state of a machine; null without a machine, or if it runs and was never looked at. */
 /** @type {(state: State | undefined) => MachineState | null} */
 const machineOf = (state) => (state && state.run !== "absent" && state.x ? /** @type {MachineState} */ (state) : null);
 

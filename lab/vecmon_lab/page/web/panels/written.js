@@ -2,6 +2,7 @@
 
 import { elementsIn, make, part, unseen } from "../common/dom.js";
 import { lineOf } from "./source_lines.js";
+import { lineTypeText } from "./line_types.js";
 import { textOf } from "../common/texts.js";
 
 const MARGIN = 60; // px above a line that is scrolled into sight
@@ -17,12 +18,35 @@ function signs(/** @type {boolean} */ isStop, /** @type {boolean} */ isExecuted,
 
 export class WrittenSource {
   next = 0; // the number of the line that was brought into sight
+  width = 0; // px that the types have been placed for
+  /** @type {HTMLElement[]} */ typed = []; // texts of lines with vector types
 
   /** @param {ParentNode} root has the box of the lines @param {string} text of the source */
   constructor(root, text) {
     this.box = part(root, "written");
     this.lines = text.replace(/\n$/, "").split("\n").map((line) => make("li", "", make("span", "marks"), make("span", "text", line)));
     elementsIn(this.box, "ol")[0].replaceChildren(...this.lines);
+    new ResizeObserver(() => this.placeTypes()).observe(this.box);
+  }
+
+  /** Shows the vector types at the lines of the source. */
+  showTypes(/** @type {import("../messages").LineType[]} */ types) {
+    this.typed = types.map((each) => {
+      const text = /** @type {HTMLElement} */ (this.lines[each.line - 1].children[1]);
+      text.dataset.type = lineTypeText(each);
+      return text;
+    });
+    this.placeTypes();
+  }
+
+  /** Places the types at the ends of their lines, or below those that leave no room. */
+  placeTypes() {
+    const { typed, box: { clientWidth } } = this;
+    if (!clientWidth || clientWidth === this.width) return;
+    this.width = clientWidth;
+    typed.forEach((text) => text.classList.remove("below"));
+    const long = typed.filter((text) => text.offsetLeft + text.offsetWidth > clientWidth);
+    long.forEach((text) => text.classList.add("below"));
   }
 
   /** Marks the lines of a state, and brings the next one into sight. */

@@ -1,7 +1,7 @@
 // One person's work at a machine: buttons, the command line, values to change, the source and the reference become requests.
 
 import { WaitingBreakpoints, keepLines, takeKeptLines } from "../editor/breakpoints.js";
-import { Desk } from "./desk.js";
+import { LiveMachine } from "./live_machine.js";
 import { editDialog, followCursor } from "../panels/edits.js";
 import { Editor } from "../editor/editor.js";
 import { ask, copy, make, offerCopy, part, parts, put } from "../common/dom.js";
@@ -45,6 +45,8 @@ function refusals(/** @type {Request} */ request, /** @type {Message | null} */ 
 export class Bench {
   timer = 0; // until problems are asked for
   isEdited = false; // whether the source was changed since the machine began
+  hasTypes = false; // whether the vector types of the text are shown
+  isListed = false; // whether the problems of the text are listed
   isImage = false; // whether the machine began with an image
   /** @type {number[]} */ due = []; // lines whose breakpoints are set once nothing is being built
   /** @type {State["read"]} */ askedRead; // that lacked registers, which were asked for
@@ -56,16 +58,16 @@ export class Bench {
   constructor(root, connection) {
     this.root = root;
     this.connection = connection;
-    this.desk = new Desk(root, (request) => connection.ask(request));
+    this.live = new LiveMachine(root, (request) => connection.ask(request));
     this.bar = new RunBar(root, this);
-    this.desk.painted = (state) => this.painted(state);
+    this.live.painted = (state) => this.painted(state);
     this.parts = parts(root, "images", "against", "find", "entries", "entry", "hint", "run-place", "by", "numbers");
     const { numbers } = this.parts;
     this.panes = new Panes(root, root.matches(".alone") ? "author" : "student");
     this.editor = new Editor(part(root, "source"), () => this.typed(), part(root, "language"));
     this.source = new Source(root, this.editor, connection);
-    this.desk.past.built = () => this.source.built;
-    this.desk.view.memory.look = (address) => this.isAtPresent && this.send([`peek ${address} ${LOOKED_AT}`]);
+    this.live.past.built = () => this.source.built;
+    this.live.view.memory.look = (address) => this.isAtPresent && this.send([`peek ${address} ${LOOKED_AT}`]);
     this.waiting = new WaitingBreakpoints(this.editor.code);
     this.links = new LineLinks(root, this.editor);
     this.inputs = new Inputs(root, this.editor);
@@ -75,7 +77,7 @@ export class Bench {
     this.listen();
   }
 
-  /** Shows a state that the desk has painted in the editor and on the run bar. */
+  /** Shows a state that the live machine has painted in the editor and on the run bar. */
   painted(/** @type {State} */ state) {
     this.showText();
     this.mark(state);
@@ -85,25 +87,30 @@ export class Bench {
   /** Takes up what was typed. */
   typed() {
     this.isEdited = true;
-    this.desk.past.showNow(); // the past has the text that was built
+    this.live.past.showNow(); // the past has the text that was built
     this.source.typed();
+    this.hasTypes = false;
     this.showMistakes([]);
+    this.isListed = false;
     this.bar.paint();
-    this.mark(this.desk.past.moment?.state ?? this.desk.state);
-    this.timer = setTimeout(() => this.findProblems(), PAUSE);
+    this.mark(this.live.past.moment?.state ?? this.live.state);
   }
 
   /**
-   * Asks for the problems of an assembler source, and lists them unless it has changed or others have come meanwhile.
-   * Not of C: a compiler that is at work would refuse the next source.
+   * Asks for the problems of an assembler source and its vector types, and shows them unless it has changed meanwhile, or its problems are
+   * listed. Not of C: a compiler that is at work would refuse the next source.
    */
   async findProblems() {
     const { text, language } = this.editor.source;
+    if (language > 0) this.editor.types.show([]);
     if (language > 0 || !text.trim() || text.length > MOST_LETTERS || !this.connection.isReady) return;
     const { timer } = this;
-    const { mistakes, warnings } = (await this.connection.ask({ ask: "problems", text, language })) ?? {};
+    const { mistakes, warnings, types } = (await this.connection.ask({ ask: "problems", text, language })) ?? {};
     if (!mistakes || this.timer !== timer) return;
     this.timer = 0;
+    this.hasTypes = true;
+    this.editor.types.show(types ?? []);
+    if (this.isListed) return;
     this.problems.showTyped([...mistakes.filter(({ line }) => line), ...(warnings ?? [])]); // those of a linker may be of text to come
   }
 
@@ -132,9 +139,10 @@ export class Bench {
     on("assemble", "click", () => this.write());
     on("against", "change", () => this.write({ ask: "listings", other: against.selectedIndex - 1 }));
     on("link", "click", () => this.link());
+    on("line-types", "change", () => this.editor.code.refresh());
     on("show-reference", "click", () => this.refer(this.nameAtCaret));
     on("find", "input", () => showReference(this.parts.entries, find.value));
-    this.desk.view.machine.addEventListener("click", ({ target }) => this.edit(/** @type {Element} */ (target)));
+    this.live.view.machine.addEventListener("click", ({ target }) => this.edit(/** @type {Element} */ (target)));
     this.editor.toggleBreakpoint = (line) => this.breakAt(line);
     this.editor.caretMoved = (text, place) => {
       tellName(entry, text, place);
@@ -149,11 +157,11 @@ export class Bench {
   show(view, entries, isAnew) {
     const { state: { run, instruction, began, image = false }, source: { stands, text } } = view;
     const wasAbsent = (this.bar.view?.state.run ?? "absent") === "absent";
-    const isNew = run !== "absent" && began !== this.desk.state.began;
+    const isNew = run !== "absent" && began !== this.live.state.began;
     if (isNew) this.isEdited = false;
     this.isImage = image;
     if (instruction) this.panes.makeRoom();
-    this.desk.show(view.seat, view.state, view.history, entries, isAnew);
+    this.live.show(view.seat, view.state, view.history, entries, isAnew);
     if (run === "stopped" && view.history.end === undefined) this.countSteps(view.state);
     this.askForRead(view.state);
     if (run === "absent" && !wasAbsent) this.panes.select(part(this.root, "show-source")); // in a pane that may be out of sight
@@ -182,7 +190,7 @@ export class Bench {
    */
   get contents() {
     if (this.bar.view?.again && !this.isImage) return "source";
-    return Object.keys(this.desk.state.code ?? {}).length ? "other" : "nothing";
+    return Object.keys(this.live.state.code ?? {}).length ? "other" : "nothing";
   }
 
   /**
@@ -195,22 +203,22 @@ export class Bench {
   countSteps(/** @type {State} */ state) {
     if (state === this.counted) return;
     this.counted = state;
-    this.desk.past.count();
+    this.live.past.count();
   }
 
   /** Runs the program. In the past it goes on to the next breakpoint or the last stop, and then on from the present. */
   async run() {
-    const { past } = this.desk;
+    const { past } = this.live;
     if (!past.moment) return this.execute({ ask: "run" });
     await past.forthToBreak();
-    const { stop, pc = "", breaks = [] } = this.desk.state;
+    const { stop, pc = "", breaks = [] } = this.live.state;
     const isAtEnd = past.moment !== undefined || past.why !== "" || stop || breaks.includes(pc);
     return isAtEnd ? undefined : this.execute({ ask: "run" });
   }
 
   /** Steps the program: into calls, over them, or out of a function. In the past it goes forth by instructions. */
   step(/** @type {"into" | "over" | "out"} */ kind, count = 1) {
-    if (this.desk.past.moment) return this.desk.past.forth(count).then(() => undefined);
+    if (this.live.past.moment) return this.live.past.forth(count).then(() => undefined);
     const by = /** @type {"" | "instruction" | "line"} */ (this.parts.by.value) || (this.editor.isC ? "line" : "instruction");
     return this.execute({ ask: "step", kind, by, count });
   }
@@ -232,13 +240,13 @@ export class Bench {
     const request = /** @type {Request} */ ({ ...action, ...source, ...breaks });
     const answer = await this.source.bring(source, () => this.bar.building(this.request(request)));
     if (source.text === this.editor.source.text) this.showMistakes(answer?.mistakes, answer?.warnings);
-    this.mark(this.desk.past.moment?.state ?? this.desk.state);
+    this.mark(this.live.past.moment?.state ?? this.live.state);
     return answer;
   }
 
   /** Sends requests one after the other; reports refusals in words. Returns the answer to the first one. */
   async request(/** @type {Request[]} */ ...requests) {
-    this.desk.past.showNow();
+    this.live.past.showNow();
     const answers = await Promise.all(requests.map((request) => this.connection.ask(request)));
     this.refuse(requests.flatMap((request, place) => refusals(request, answers[place])).filter(Boolean).join(" "));
     return answers[0];
@@ -258,7 +266,7 @@ export class Bench {
   async sendLine(/** @type {string} */ line) {
     const answer = await this.send([line]);
     const label = line.trim();
-    const address = addressOfLabel(line.trim(), this.desk.state.labels ?? {});
+    const address = addressOfLabel(line.trim(), this.live.state.labels ?? {});
     if (address && answer?.do?.[0]?.[0] === NO_COMMAND) this.refuse(textOf("lines.label", { label, address: `0x${address}` }));
   }
 
@@ -267,44 +275,44 @@ export class Bench {
     const [, way, number = "1"] = /^(back|forth)(?: +([1-9][0-9]{0,8}))?$/.exec(lines.join("\n").trim()) ?? [];
     if (way) return this.go(/** @type {"back" | "forth"} */ (way), Number(number));
     const unfit = unfitLines(lines);
-    if (!unfit) return this.request(...requestsOf(withAddresses(lines, this.desk.state.labels ?? {})));
-    this.desk.past.showNow();
+    if (!unfit) return this.request(...requestsOf(withAddresses(lines, this.live.state.labels ?? {})));
+    this.live.past.showNow();
     return this.refuse(unfit);
   }
 
   /** Goes a number of instructions back or forth, as `back 3` says. */
   async go(/** @type {"back" | "forth"} */ way, /** @type {number} */ number) {
-    const { past } = this.desk;
+    const { past } = this.live;
     if (way === "back" && past.isStill && past.place !== 0) return void (await past.back(number));
     if (way === "forth" && past.moment) return void (await past.forth(number));
     return this.refuse(way === "back" ? textOf("past.no-back") : textOf("past.no-forth"));
   }
 
   /** Whether the machine is stopped, and shown as it is now. */
-  get isAtPresent() { return this.desk.state.run === "stopped" && !this.desk.past.moment; }
+  get isAtPresent() { return this.live.state.run === "stopped" && !this.live.past.moment; }
 
   /** Leaves the machine. */
-  leave = () => this.send(LEAVING[this.desk.state.run]);
+  leave = () => this.send(LEAVING[this.live.state.run]);
 
   /** Leaves a machine that has another source than the editor, and so values that aren't those of the editor's program. */
   leaveOther = () => this.hasOther && this.leave();
 
   refuse(/** @type {string} */ words) {
-    Object.assign(this.desk, { refusal: words, notice: "" });
-    this.desk.showStage();
+    Object.assign(this.live, { refusal: words, notice: "" });
+    this.live.showStage();
   }
 
   /** Shows a sentence that isn't about the machine, in place of why the program stopped, until the next request or stop. */
   tell(/** @type {string} */ words) {
-    Object.assign(this.desk, { refusal: "", notice: words });
-    this.desk.showStage();
+    Object.assign(this.live, { refusal: "", notice: words });
+    this.live.showStage();
   }
 
   /** Begins a new machine with lines, and asks before where something would be lost. */
   beginAnew(/** @type {string} */ name, /** @type {string[]} */ lines) {
-    const begin = () => this.send([...LEAVING[this.desk.state.run], "enter", ...lines]);
+    const begin = () => this.send([...LEAVING[this.live.state.run], "enter", ...lines]);
     this.parts.images.selectedIndex = 0;
-    if (isBlank(this.desk.state)) begin();
+    if (isBlank(this.live.state)) begin();
     else ask(textOf("machine.loss"), name, begin);
   }
 
@@ -312,8 +320,8 @@ export class Bench {
   edit(/** @type {Element} */ place) {
     const shown = /** @type {HTMLElement | null} */ (place.closest("[data-edit]"));
     const { edit, value = shown?.firstChild?.nodeValue ?? "" } = shown?.dataset ?? {};
-    const { run, breaks = [] } = this.desk.state;
-    if (!edit || run !== "stopped" || this.desk.past.moment) return undefined;
+    const { run, breaks = [] } = this.live.state;
+    if (!edit || run !== "stopped" || this.live.past.moment) return undefined;
     const [command, address] = edit.split(" ");
     if (command === "break") return this.send([breaks.includes(address) ? `un${edit}` : edit]);
     return this.askValue(edit, value.replace("−", "-"));
@@ -359,9 +367,9 @@ export class Bench {
     this.source.show(seat, source);
     this.source.showWindows(windows);
     if (!told) takeKeptLines(this.waiting, this.source.loaded); // as before a reload
-    const { moment } = this.desk.past;
-    if (moment && !moment.source && !source.stands) this.desk.past.showNow();
-    this.mark(this.desk.past.moment?.state ?? state);
+    const { moment } = this.live.past;
+    if (moment && !moment.source && !source.stands) this.live.past.showNow();
+    this.mark(this.live.past.moment?.state ?? state);
     this.source.showLanguage(share);
     this.takeLinked();
     if (!isGiven || source.text !== this.editor.source.text) return;
@@ -371,7 +379,7 @@ export class Bench {
 
   /** In the past, shows the source that was built in place of one that has changed since; its problems are none. */
   showText() {
-    const source = this.desk.past.moment?.source;
+    const source = this.live.past.moment?.source;
     const box = this.editor.box;
     if (source && !this.built) {
       const field = Object.assign(make("textarea", ""), { readOnly: true, ariaLabel: textOf("past.built") });
@@ -389,7 +397,7 @@ export class Bench {
   /** Marks a state's lines in the source, and names them in the status line. */
   mark(/** @type {State} */ state) {
     this.setWaiting();
-    const isOther = this.desk.past.moment?.source !== undefined;
+    const isOther = this.live.past.moment?.source !== undefined;
     const { last, next } = isOther && this.built ? this.source.markIn(this.built, state) : this.source.mark(state);
     this.links.show(this.source.stands ? state.starts : undefined);
     const done = state.faulted ? textOf("run.at-line", { line: last }) : textOf("run.after-line", { line: last });
@@ -432,7 +440,8 @@ export class Bench {
   /** Lists the problems of the source, and shows them at its lines, until it changes. isAsked: whether the list comes into sight */
   showMistakes(/** @type {Mistake[]} */ mistakes = [], /** @type {Mistake[]} */ warnings = [], isAsked = true) {
     clearTimeout(this.timer);
-    this.timer = 0; // asks for no others until it changes
+    this.timer = this.hasTypes ? 0 : setTimeout(() => this.findProblems(), PAUSE); // also if a build was faster
+    this.isListed = true;
     this.problems.show([...mistakes, ...warnings]);
     if (isAsked && mistakes.length) this.panes.show("problems");
   }

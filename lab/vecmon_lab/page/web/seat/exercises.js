@@ -62,7 +62,7 @@ export class Exercises {
     document.body.classList.toggle("exercising", names.length > 0);
     if (!names.length) return;
     if (isOther) byId("reading").scrollTop = 0;
-    if (isOpen) this.bench.desk.view.suggestForm(all[name].unsigned ? "unsigned" : "signed");
+    if (isOpen) this.bench.live.view.suggestForm(all[name].unsigned ? "unsigned" : "signed");
     this.paint();
     if (isOpen && !source.text && this.all[name].starts.length && (isOther || !this.bench.editor.hasPast)) this.takeStart();
   }

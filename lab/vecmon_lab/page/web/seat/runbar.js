@@ -38,7 +38,7 @@ export class RunBar {
   building(work) {
     const paint = (/** @type {boolean} */ isBuilding) => {
       Object.assign(this, { isBuilding }).paint();
-      Object.assign(this.bench.desk, { isBuilding }).showStage();
+      Object.assign(this.bench.live, { isBuilding }).showStage();
     };
     paint(true);
     return work.finally(() => paint(false));
@@ -47,13 +47,13 @@ export class RunBar {
   paint(view = this.view) {
     this.view = view;
     if (!view) return;
-    const present = this.isBuilding ? "Assembling" : this.bench.desk.past.moment?.condition ?? view.condition;
+    const present = this.isBuilding ? "Assembling" : this.bench.live.past.moment?.condition ?? view.condition;
     const { isReady, isStarting } = this.bench.connection;
     const absent = isStarting ? "Starting" : "No connection";
     this.condition = isReady ? present : absent;
     put(part(this.root, "run"), CONDITIONS[this.condition]);
     part(this.root, "run").dataset.condition = this.condition;
-    const isGoingOn = Boolean(this.bench.desk.past.moment) || (this.condition === "Paused" && !this.bench.hasChanged);
+    const isGoingOn = Boolean(this.bench.live.past.moment) || (this.condition === "Paused" && !this.bench.hasChanged);
     put(part(this.root, "go"), isGoingOn ? textOf("run.continue") : textOf("run"));
     part(this.root, "slice").hidden = !view.own_slices;
     for (const id of NAMES) {
@@ -67,7 +67,7 @@ export class RunBar {
 
   /** Why a button is off; "" where it is on. */
   whyOff(/** @type {Name} */ id, /** @type {View} */ { state, ready, again }) {
-    const { moment, wanted } = this.bench.desk.past;
+    const { moment, wanted } = this.bench.live.past;
     if (wanted) return textOf("off.replay");
     if (moment) return IN_PAST.includes(id) ? "" : textOf("off.past");
     if (this.condition === "No connection") return textOf("off.no-connection");

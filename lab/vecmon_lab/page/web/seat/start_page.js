@@ -30,7 +30,7 @@ export class StartPage {
     /** @type {(name: string, text: string | null) => () => unknown} */
     const beginner = (name, text) => async () => {
       await this.begin({ name, text: text ?? "", language: languageOf(name, editor.language) });
-      editor.code.focus(); // where one writes
+      editor.code.focus(); // to write at once
     };
     part(root, "new-program").addEventListener("click", beginner("program.s", part(root, "source").defaultValue));
     part(root, "new-in-c").addEventListener("click", beginner("program.c", part(root, "c-start").textContent));

@@ -37,7 +37,7 @@ function rowsOf(rows = [], most = Infinity) {
   return registers.length ? [make("p", "", registers.join(", ")), ...strips] : strips;
 }
 
-/** The rows of a table of cases; those that are hidden have a number alone. The button that starts a case has its place. */
+/** The rows of a table of cases; hidden ones have only a number. The button that starts a case has its place. */
 export function caseRows(/** @type {ExerciseView} */ { cases, told }) {
   return cases.map(({ name, shown }, place) => {
     const passed = told.cases?.[place]?.passed;

@@ -9,7 +9,7 @@ import { textOf } from "../common/texts.js";
 /** @typedef {import("../messages").TeacherView} TeacherView */
 
 const SHOWN = 3; // names in a sentence, and messages in the list of those sent
-/** The button and the preview of what is sent, for its receivers. */
+/** The button and the preview of a message, for its receivers. */
 /** @type {Record<"message" | "offer" | "replace", [button: (to: string) => string, preview: (to: string) => string]>} */
 const KINDS = {
   message: [(to) => textOf("send.message", { to }), (to) => textOf("send.message.preview", { to })],
@@ -138,7 +138,7 @@ export class Send {
     return make("li", "", words, read.length < to.length ? backButton(what, number) : "");
   }
 
-  /** Takes back a message; or without a number the source that was given last, where no student has changed it since. */
+  /** Takes back a message; or without a number the source that was given last, if no student has changed it since. */
   async takeBack(/** @type {number} */ number) {
     const seats = this.teacher.view.given?.seats ?? [];
     const receivers = seats.length ? { seats } : { seat: "" };

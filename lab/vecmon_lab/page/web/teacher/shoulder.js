@@ -1,6 +1,6 @@
 // The seat over whose shoulder the teacher looks: its source, its machine, and its answers to exercises.
 
-import { Desk } from "../seat/desk.js";
+import { LiveMachine } from "../seat/live_machine.js";
 import { Editor } from "../editor/editor.js";
 import { ask, byId, elementsIn, put } from "../common/dom.js";
 import { offerTries } from "../seat/exercises.js";
@@ -24,7 +24,7 @@ export class Shoulder {
     byId("tab-dock").after(byId("tab-answers"));
     byId("vectors-title").after(byId("past"));
     for (const each of elementsIn(root, ".missing")) put(each, textOf("shoulder.no-program"));
-    this.desk = new Desk(root, (request) => teacher.connection.ask(request));
+    this.live = new LiveMachine(root, (request) => teacher.connection.ask(request));
     byId("source").readOnly = true;
     byId("language").disabled = true;
     this.editor = new Editor(byId("source"), undefined, byId("language"));
@@ -54,7 +54,7 @@ export class Shoulder {
     put(byId("shoulder-says"), `${statusOf(told)[1]}${work}`);
     byId("lower-hand").hidden = !told.hand;
     byId("on-wall").ariaPressed = `${view.wall === seat}`;
-    this.desk.show(seat, state, history, log, isOther);
+    this.live.show(seat, state, history, log, isOther);
     this.source.show(seat, source);
     this.source.mark(state);
     const found = problems ? [...problems.mistakes, ...problems.warnings] : []; // by the last assembly

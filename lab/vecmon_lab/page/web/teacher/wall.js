@@ -1,6 +1,6 @@
 // A page for a projector: the vectors and the program of the seat that the teacher has put there.
 
-import { Desk } from "../seat/desk.js";
+import { LiveMachine } from "../seat/live_machine.js";
 import { elementsIn, part, put } from "../common/dom.js";
 import { Panes } from "../panels/panes.js";
 import { textOf } from "../common/texts.js";
@@ -10,7 +10,7 @@ export class Wall {
 
   constructor(/** @type {HTMLElement} */ root) {
     this.root = root;
-    this.desk = new Desk(root, async () => null);
+    this.live = new LiveMachine(root, async () => null);
     new Panes(root, "wall").show("listing");
     for (const each of elementsIn(root, ".missing")) put(each, each.closest(".vectors") ? textOf("wall.no-machine") : "");
     document.title = textOf("page.named", { name: textOf("wall.name") });
@@ -21,7 +21,7 @@ export class Wall {
     const seatText = state?.run === "running" ? textOf("wall.running", { seat }) : textOf("wall.seat", { seat });
     put(part(this.root, "who"), seat ? seatText : textOf("wall.none"));
     part(this.root, "desk").hidden = !seat;
-    if (seat) this.desk.show(seat, state, { number: 0 }, [], isAnew || seat !== this.seat);
+    if (seat) this.live.show(seat, state, { number: 0 }, [], isAnew || seat !== this.seat);
     this.seat = seat;
   }
 }

@@ -15,13 +15,14 @@ from collections.abc import Callable
 from dataclasses import replace
 
 from .. import LabError
-from .blocks import MAX_CHARACTERS, TooMuchMade
-from .source import Program, SourceError, read_source
-from .statements import without_comments
-from .trial import read_tried_source, read_whole_source
+from ..assembler.blocks import MAX_CHARACTERS, TooMuchMade
+from ..assembler.source import Program, SourceError, read_source
+from ..assembler.statements import without_comments
+from ..assembler.trial import read_tried_source, read_whole_source
+from .line_types import read_typed_source
 
 LAB = pathlib.Path(__file__).resolve().parents[2]
-MODULE = "assembler.apart"
+MODULE = "language.apart"
 SMALL = 4096  # characters of a source without comments and blanks, and characters that its macros may make
 CPU_SECONDS, MEMORY_BYTES = 10, 1 << 30
 TOO_LONG = f"assembling this source takes more than {CPU_SECONDS} s of processor: shorten its repetitions and lists"
@@ -36,6 +37,7 @@ READERS: dict[str, Reader] = {
     "source": lambda text, vecmon, most: read_source(text, most_made=most),
     "whole": lambda text, vecmon, most: read_whole_source(text, vecmon, most_made=most),
     "tried": lambda text, vecmon, most: read_tried_source(text, vecmon, most_made=most),
+    "typed": lambda text, vecmon, most: read_typed_source(text, vecmon, most_made=most),
 }
 
 

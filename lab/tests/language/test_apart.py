@@ -6,9 +6,9 @@ from dataclasses import replace
 import pytest
 
 from vecmon_lab import LabError
-from vecmon_lab.assembler import apart
-from vecmon_lab.assembler.apart import read_limited, read_small
 from vecmon_lab.assembler.line import SourceError
+from vecmon_lab.language import apart
+from vecmon_lab.language.apart import read_limited, read_small
 
 ADD = "add a0, a0, a1\n"
 REPEATED = f".rept 300\n{ADD}.endr\n"
@@ -57,7 +57,7 @@ def test_processor_is_limited(program: pathlib.Path, tmp_path: pathlib.Path, mon
 def test_memory_is_limited(program: pathlib.Path, tmp_path: pathlib.Path, monkeypatch: pytest.MonkeyPatch) -> None:
     limited(monkeypatch, tmp_path, "MEMORY_BYTES = 60 << 20")
     with pytest.raises(LabError, match="^assembling this source takes more than 60 MB of memory: shorten its "):
-        read_limited("source", LARGE * 50, program)
+        read_limited("source", LARGE * 300, program)
 
 
 def limited(monkeypatch: pytest.MonkeyPatch, folder: pathlib.Path, limit: str) -> None:
@@ -71,11 +71,11 @@ def limited(monkeypatch: pytest.MonkeyPatch, folder: pathlib.Path, limit: str) -
     package.mkdir()
     source = apart.LAB / "vecmon_lab"
     for path in source.iterdir():
-        if path.name != "assembler":
+        if path.name != "language":
             (package / path.name).symlink_to(path)
-    (package / "assembler").mkdir()
-    for path in (source / "assembler").iterdir():
-        (package / "assembler" / path.name).symlink_to(path)
-    (package / "assembler" / "apart.py").unlink()
-    (package / "assembler" / "apart.py").write_text("\n".join(lines), "utf-8")
+    (package / "language").mkdir()
+    for path in (source / "language").iterdir():
+        (package / "language" / path.name).symlink_to(path)
+    (package / "language" / "apart.py").unlink()
+    (package / "language" / "apart.py").write_text("\n".join(lines), "utf-8")
     monkeypatch.setattr(apart, "LAB", folder)

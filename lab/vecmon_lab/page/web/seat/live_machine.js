@@ -22,12 +22,12 @@ const newMachine = (state) =>
   state.x ? { ...state, ...BLANK, x: { ...of32("0"), 2: state.x[2] }, v: of32("0".repeat(64)) } : state;
 
 /** A machine's state, painted where it changed: at its seat, and for a teacher who looks over the shoulder. */
-export class Desk {
+export class LiveMachine {
   seat = "";
   /** @type {State} */ state = { run: "absent" };
   before = this.state;
   /** @type {Set<number>} */ used = new Set(); // vector registers that weren't zero since the machine began
-  refusal = ""; // of what was sent last, until a program stops
+  refusal = ""; // of the last request, until a program stops
   notice = ""; // in place of a refusal, until the state changes
   isBuilding = false; // whether another program is being built, which the reason for the stop isn't about
   frame = 0; // in which it is painted

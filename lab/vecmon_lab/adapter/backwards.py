@@ -1,0 +1,105 @@
+"""A program goes back: by instructions or lines, or to a breakpoint."""
+
+from collections.abc import Callable
+from dataclasses import dataclass
+
+from ..guest.jumps import is_call, is_return
+from ..machine.answers import Addresses
+from .halts import START, Halt, Halts, Paused
+from .program import Line
+
+TRACE_LENGTH = 16  # of the addresses that the machine's `trace` shows
+
+
+@dataclass(frozen=True)
+class _Passed:
+    """Instructions on the way back. count: how many; line: that they are of
+
+    is_complete: whether the line's start is before them; is_behind_call: whether a call has returned before them
+    """
+
+    count: int
+    line: Line | None
+    is_complete: bool
+    is_behind_call: bool = False
+
+
+class Backwards:
+    """Moves a program back. Each movement returns the halt that ended it, or None if it is complete."""
+
+    def __init__(self, halts: Halts, last: Callable[[], Halt]) -> None:
+        """last: returns the halt of the last movement, forwards or back"""
+        self._halts, self._last = halts, last
+
+    def by_instructions(self, number: int) -> Halt | None:
+        """Go back by instructions; the halt, if there were fewer. Raises Paused and LabError."""
+        with self._halts.unwatched():
+            is_there = self._halts.timeline.back(number, self._halts.client.wants_stop)
+        if is_there is None:
+            raise Paused
+        return None if is_there else Halt("entry", text=START)
+
+    def by_line(self) -> Halt | None:
+        """Go back to the first instruction of the line that was executed before, over calls."""
+        if self._halts.line() is None:
+            return self.by_instructions(1)
+        target: Line | None = None
+        while True:
+            passed = self._count_back(target)
+            if passed.count and (halt := self.by_instructions(passed.count)):
+                return halt
+            if passed.is_complete:
+                return None if passed.line else Halt("entry", text=START)
+            if passed.is_behind_call and (halt := self._back_over_call()):
+                return halt
+            target = passed.line or self._halts.line()
+
+    def _count_back(self, target: Line | None) -> _Passed:
+        """Count those of the last instructions that are of one line: back to the line's start, or to a call.
+
+        target: the line, if a part of it was passed
+        """
+        trace = self._halts.guest.query("trace", Addresses).addresses
+        words = self._halts.program.words({*trace, *(address - 4 for address in (*trace, self._halts.guest.pc))})
+        next_one = self._halts.guest.pc
+        for count, address in enumerate(reversed(trace)):
+            line = self._halts.program.line(address)
+            before = words.get(next_one - 4)
+            if before and is_call(before.word) and address in words and is_return(words[address].word):
+                is_other = target is not None and self._halts.program.line(next_one - 4) not in (None, target)
+                return _Passed(count, target, is_other, True)
+            if target is not None and line not in (None, target):
+                return _Passed(count, target, True)
+            target, next_one = target or line, address
+            if line and address in self._halts.program.stops.get(line.file, {}).get(line.number, ()):
+                return _Passed(count + 1, target, True)
+        return _Passed(len(trace), target, len(trace) < TRACE_LENGTH)
+
+    def _back_over_call(self) -> Halt | None:
+        """Go back from behind a call to the call; the halt, if there is another one on the way."""
+        call, stack = self._halts.guest.pc - 4, self._halts.stack()
+        while True:
+            if halt := self.to_halt(frozenset({call})):
+                return halt
+            if self._halts.stack() == stack:
+                return None
+
+    def to_halt(self, addresses: frozenset[int]) -> Halt | None:
+        """Go back to a halt, or to one of these addresses; None there, or at the start if there are none of them."""
+        if self._last().reason == "data breakpoint" and not addresses:
+            if halt := self.by_instructions(1):  # which has done what is watched for
+                return halt
+        while True:
+            breaks = sorted(self._halts.breakpoints.addresses | addresses)
+            is_there = self._halts.timeline.back_to_halt(breaks, self._halts.client.wants_stop)
+            if is_there is None:
+                raise Paused
+            if not is_there:
+                return Halt("entry", text=START)
+            hit = self._halts.timeline.hit
+            if halt := self._halts.after_access(hit) if hit else self._halts.here():
+                return halt
+            if not hit and self._halts.guest.pc in addresses:
+                return None
+            if hit and (halt := self.by_instructions(1)):
+                return halt

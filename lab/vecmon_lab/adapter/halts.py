@@ -1,0 +1,125 @@
+"""The halts of a moving program: at stops, at breakpoints whose condition holds, and after accesses to watched data."""
+
+import contextlib
+from collections.abc import Callable, Iterator, Sequence
+from dataclasses import dataclass
+from typing import Protocol
+
+from ..machine.answers import Stop
+from ..replay.watches import Watch
+from .breakpoints import Breakpoint, Breakpoints
+from .program import Line, Program
+from .unwinding import SP
+
+START = "This is the start: nothing was executed before."
+
+
+class Paused(Exception):
+    """The client wants the program to stop."""
+
+
+class Client(Protocol):
+    """Questions of a moving program to its client."""
+
+    def has_requests(self) -> bool:
+        """Whether the client has sent something that isn't answered, or has gone."""
+
+    def is_stopping(self) -> bool:
+        """Answer what a running program can; return whether the client wants it to stop, or has gone."""
+
+    def wants_stop(self) -> bool:
+        """Whether the client wants long work to end, or has gone; nothing is answered."""
+
+
+@dataclass(frozen=True)
+class Halt:
+    """Where a movement ended.
+
+    reason: as the protocol calls it
+    stop: why the program stopped by itself; text: a sentence; numbers: of the breakpoints that were met
+    """
+
+    reason: str
+    stop: Stop | None = None
+    text: str = ""
+    numbers: Sequence[int] = ()
+
+
+class Halts:
+    """Decides where a program that moves halts.
+
+    program, breakpoints, client: those of the debugger; guest, timeline: those of the program
+    """
+
+    def __init__(
+        self,
+        program: Program,
+        breakpoints: Breakpoints,
+        client: Client,
+        holds: Callable[[Breakpoint], bool],
+        holds_text: Callable[[str], bool],
+    ) -> None:
+        """holds: whether a breakpoint that was met stops the program; holds_text: the same of a condition alone"""
+        self.program, self.breakpoints, self.client = program, breakpoints, client
+        self.guest, self.timeline = program.guest, program.timeline
+        self._holds, self._holds_text = holds, holds_text
+
+    def line(self) -> Line | None:
+        """The source line of the program counter."""
+        return self.program.line(self.guest.pc)
+
+    def stack(self) -> int:
+        """The stack pointer."""
+        return self.program.scalars()[SP]
+
+    def attend(self) -> None:
+        """Answer the client. Raises Paused if it wants the program to stop, or has gone."""
+        if self.client.has_requests() and self.client.is_stopping():
+            raise Paused
+
+    def at_stop(self, stop: Stop) -> Halt | None:
+        """The halt at a stop; None if the program goes on from there, as a condition doesn't hold."""
+        if stop.kind == "break":
+            return self._pass_access(self.timeline.hit) if self.timeline.hit else self.here()
+        if stop.kind == "exit":
+            return Halt("exit", stop, f"The program exits with status {stop.number}.")
+        if self.guest.has_ended(stop):
+            return Halt("exit", stop, self.guest.explain(stop))
+        return Halt("exception" if stop.kind == "fault" else "breakpoint", stop, self.guest.explain(stop))
+
+    def here(self) -> Halt | None:
+        """The halt at breakpoints of the program counter; None if there are none that stop the program."""
+        if self.guest.pc not in self.breakpoints.addresses:
+            return None
+        there = [each for each in self.breakpoints.at(self.guest.pc) if self._holds(each)]
+        if not there:
+            return None
+        reasons = {"functions": "function breakpoint", "instructions": "instruction breakpoint"}
+        return Halt(reasons.get(there[0].kind, "breakpoint"), numbers=[each.number for each in there])
+
+    def _pass_access(self, hit: Watch) -> Halt | None:
+        """Execute the instruction that accesses watched data; None if it doesn't change what is watched for changes."""
+        before = self.guest.peek(hit.address, hit.length)
+        with self.unwatched():
+            stop = self.timeline.step()
+        if stop:
+            return self.at_stop(stop)
+        if hit.kind == "watch" and self.guest.peek(hit.address, hit.length) == before:
+            return self.here()
+        return self.after_access(hit) or self.here()
+
+    def after_access(self, hit: Watch) -> Halt | None:
+        """The halt after an access to watched data; None if a condition doesn't hold."""
+        there = [each for each in self.breakpoints.data if each.watch == hit and not each.problem]
+        met = [each.number for each in there if not each.condition or self._holds_text(each.condition)]
+        verb = {"watch": "changed", "rwatch": "was loaded"}.get(hit.kind, "was accessed")
+        return Halt("data breakpoint", text=f"{self.program.place(hit.address)} {verb}.", numbers=met) if met else None
+
+    @contextlib.contextmanager
+    def unwatched(self) -> Iterator[None]:
+        """No data is watched meanwhile."""
+        saved, self.timeline.watches = self.timeline.watches, []
+        try:
+            yield
+        finally:
+            self.timeline.watches, self.timeline.hit = saved, None

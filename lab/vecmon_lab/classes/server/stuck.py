@@ -1,0 +1,47 @@
+"""Students of a class who may need somebody, and since when, as their programs, tries and headway show."""
+
+from collections import defaultdict
+from collections.abc import Collection, Mapping
+
+from ..core.progress import Exercises
+from ..core.student import Student
+from .headway import Headway
+from .tab import Tab
+
+
+class StuckStudents:
+    """Finds students who may need somebody."""
+
+    def __init__(self, students: Mapping[str, Student], exercises: Exercises, tabs: Collection[Tab]) -> None:
+        """students: by seat; tabs: the open ones"""
+        self._students, self._exercises, self._tabs = students, exercises, tabs
+        self._headway = defaultdict[str, Headway](Headway)
+        self._stuck: list[str] = []  # the seats at the last look
+
+    def since(self, seat: str) -> float | None:
+        """Return since when a seat's student may need somebody, in seconds since 1970; None if the student doesn't."""
+        student = self._students[seat]
+        status, source = student.seat.status, student.source
+        by_exercise = self._exercises.stuck_since(seat, source.exercise, source.opened)
+        by_headway = self._headway[seat].stuck_since() if self._is_at_work(seat) else None
+        times = (status.since if status.is_stuck else None, by_exercise, by_headway)
+        return min((since for since in times if since is not None), default=None)
+
+    def look(self) -> bool:
+        """Take up the headway of all students at their exercises; return whether the list of stuck students has changed."""
+        for name, student in self._students.items():
+            if not self._is_at_work(name):
+                self._headway[name].restart()
+                continue
+            source = student.source
+            best = self._exercises.progress(name, source.exercise).best
+            pc = student.seat.state.get("pc", "")
+            self._headway[name].follow(source.exercise, source.own.text, pc, best)
+        before, self._stuck = self._stuck, [name for name in self._students if self.since(name)]
+        return self._stuck != before
+
+    def _is_at_work(self, seat: str) -> bool:
+        """Return whether a seat has a tab, and its open exercise isn't solved."""
+        exercise = self._students[seat].source.exercise
+        is_open = exercise in self._exercises.by_name and not self._exercises.progress(seat, exercise).first
+        return is_open and any(tab.who == seat for tab in self._tabs)
