@@ -54,7 +54,7 @@ def run(program: pathlib.Path, arguments: Sequence[str], script: str, folder: pa
 
 
 def lines_of(text: str) -> list[str]:
-    """The lines of a text; a newline alone ends one."""
+    """Return the lines of a text; only a newline ends one."""
     return text.removesuffix("\n").split("\n") if text else []
 
 

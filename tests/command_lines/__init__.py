@@ -14,7 +14,7 @@ texts of instructions and what a line means as a command; then the output of pro
 refused, and a pool that eight users fill; then values of scalar instructions, vector lengths and types, and the
 manual's rules for registers that may be named together, at small examples; and then single instructions as QEMU
 executes them at VLEN 256, and small programs with answers worked out by hand; then programs that run in slices, with
-breakpoints, output and an instruction that is cut, side by side and each alone; and last vector instructions under the
+breakpoints, output and an instruction that is cut, side by side and each by itself; and last vector instructions under the
 policy that makes agnostic elements ones, as QEMU executes them.
 
 `data/accesses_in_parts` has each kind of vector load and store, whole and cut into slices of a few ticks: where the

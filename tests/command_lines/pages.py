@@ -3,8 +3,8 @@
 A template is Markdown. A line `## TITLE` begins a section, with a machine of its own. Some lines are replaced by
 answers:
 
-- `> LINE`: a line of a script for the section's machine; its answer comes behind it;
-- `$ vecmon WORDS`: a run of the program; both of its outputs come behind it as one, and then its status. With
+- `> LINE`: a line of a script for the section's machine; its answer follows it;
+- `$ vecmon WORDS`: a run of the program; both of its outputs follow it as one, and then its status. With
   ` > /dev/full` behind the words its standard output takes nothing;
 - `@steps NAME`: the script NAME of the lab's tour next to the answers, in the steps that NAME.steps has: the number
   of lines of the script that a step takes, and a sentence;

@@ -1,4 +1,4 @@
-"""The scripts of the loops, and the checksums of what they leave."""
+"""The scripts of the loops, and the checksums of their final states."""
 
 import pathlib
 from collections.abc import Iterator
@@ -25,9 +25,9 @@ def script(name: str, count: int) -> str:
 
 
 def checksums(program: pathlib.Path, count: int) -> str:
-    """The name of each loop and the checksum of what it leaves on one machine, a line each.
+    """Return a line for each loop: its name, and the checksum of its final state on one machine.
 
-    Raises ValueError where one doesn't end.
+    Raises ValueError if one doesn't end.
     """
     output = run(program, ["--quantum", QUANTUM], "".join(script(name, count) for name in LOOPS), DATA).stdout
     visits = output.split("1 left\n")

@@ -28,6 +28,12 @@ def count(*lines: str, allowed: str = "") -> check_prose.Count:
         ("Who reads it sees the words of a command.", 2),
         ("The retold standards", 0),
         ("beside the mask, of which so many are carried out", 4),
+        ("Where it fails, where no row is, and where nothing was written.", 2),
+        ("It is printed where the table is.", 0),
+        ("the lines behind it, behind them, and behind a wall", 2),
+        ("for tests alone; a lone alonest", 1),
+        ("The number of what was sent; None of none, with whether it waited in vain.", 4),
+        ("of course; none of them", 0),
     ],
 )
 def test_forms_are_counted(line: str, forms: int) -> None:

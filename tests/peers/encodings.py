@@ -26,10 +26,10 @@ JUMPS = ("jal ", "beq ", "bne ", "blt ", "bge ", "bltu ", "bgeu ")
 
 OVERLAP = "llvm-mc refuses operands that overlap, which vecmon refuses when it executes them"
 OTHER_FENCE = "a fence other than fence iorw, iorw is .word in vecmon"
-ODD_REGISTERS = "llvm-mc takes whole-register loads, stores and moves of aligned registers alone"
+ODD_REGISTERS = "llvm-mc takes whole-register loads, stores and moves only of aligned registers"
 LACKED = "binutils 2.40 lacks the extension of the instruction"
 NO_INSTRUCTION = "another instruction of an extension that vecmon has in part"
-OTHER_NAME = "the name of a control register that vecmon takes by its number alone"
+OTHER_NAME = "the name of a control register that vecmon takes only by its number"
 _OVERLAPS = re.compile(r"the destination vector register group cannot (overlap|be V0)")
 _WHOLE = re.compile(r"v(?:l|s|mv)([248])r")
 _VECTOR_CONTROL = ("vstart", "vxsat", "vxrm", "vcsr", "vl", "vtype", "vlenb")

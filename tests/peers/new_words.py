@@ -29,7 +29,7 @@ def is_installed(tool: str) -> bool:
 
 
 def drawn_words(row: Row) -> list[tuple[int, str]]:
-    """Words of a name with their texts, half of them masked if it may be masked. They depend on the name alone."""
+    """Return encodings of a name with their texts, half of them masked if it may be masked. They depend only on the name."""
     draws = random.Random(f"words of {row.name}")
     words = [row.word(draws.getrandbits(32)) for _ in range(TRIES)]
     texts = [plain(text, False, 0) for text in llvm_disassembled(words)]
@@ -82,7 +82,7 @@ class StoredWords:
         self.words[place:place] = words
 
     def _print_instruction(self, name: str) -> None:
-        """Let words of a name that were stored as no instruction be one."""
+        """Store encodings of a name as instructions that were stored as none."""
         for at, word in enumerate(self.words):
             if self._name_of(int(word, 16)) == name:
                 self.output[self._first_word + at] = f"{word} yes {word}"

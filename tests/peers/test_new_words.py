@@ -1,4 +1,4 @@
-"""`new_words` adds the words of a name to the files of `test_assembler`; here of a name whose words were taken out."""
+"""`new_words` adds the encodings of a name to the files of `test_assembler`; here of a name that was taken out of them."""
 
 import pathlib
 import re

@@ -166,7 +166,7 @@ def after(case: instructions.Case) -> dict[str, Any]:
 
 
 def both(words: Sequence[int]) -> list[int]:
-    """Words of each name, and random words behind them."""
+    """Encodings of each name, and then random words."""
     return [*words, *encodings.random_words(RANDOM_COUNT, 1)]
 
 

@@ -23,7 +23,7 @@ def watched(folder: pathlib.Path, places: list[str], *arguments: object) -> tupl
 
 
 def write_inputs(folder: pathlib.Path, arguments: tuple[int, ...], registers: str) -> list[str]:
-    """Files of a program at 1000, where it begins, and of two pages from 2000 on; and the recorder's words."""
+    """Write a program that starts at 1000, and two pages from 2000 on. Return the recorder's arguments for them."""
     (folder / "code").write_bytes(code(*arguments))
     (folder / "pages").write_bytes(bytes(8192))
     (folder / "registers").write_text(f"pc 1000\n{registers}", "ascii")

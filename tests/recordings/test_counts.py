@@ -29,7 +29,7 @@ li x17, 93; ecall. Of the mask's bits 0 to 4 those of elements 0 and 2 are set."
 
 
 def write_inputs(folder: pathlib.Path, arguments: tuple[int, ...]) -> list[str]:
-    """Files of a program at 1000, where it begins, and of a page at 2000, to which x11 leads; and the recorder's words."""
+    """Write a program that starts at 1000, and a page at 2000, whose address x11 has. Return the recorder's arguments for them."""
     (folder / "code").write_bytes(b"".join(word.to_bytes(4, "little") for word in arguments))
     (folder / "page").write_bytes(bytes(4096))
     (folder / "registers").write_text("pc 1000\nx11 2000\n", "ascii")

@@ -83,7 +83,7 @@ def test_memory_file_preserves_mapped_pages(tmp_path: pathlib.Path) -> None:
     files = ["--memory", "1000:x:code", "--memory", "2000:r:read", "--memory", "2ffb:rw:both"]
     completed = record(tmp_path, *files, "--registers", "registers")
     assert (completed.status, completed.stdout) == (0, b"...0123456789" + bytes(3))
-    store = [0x00B58023]  # sb x11, 0(x11): the page at 2000 is for reading alone
+    store = [0x00B58023]  # sb x11, 0(x11): the page at 2000 is read-only
     (tmp_path / "code").write_bytes(code(*store))
     assert record(tmp_path, *files, "--registers", "registers").counts.startswith("fault cause=7 pc=0000000000001000")
     (tmp_path / "registers").write_text("pc 1000\nx11 3000\n", "ascii")

@@ -77,7 +77,7 @@ def test_window_has_lines_of_its_instruction_numbers(tmp_path: pathlib.Path) -> 
 
 
 def test_log_counts_and_changes_together(tmp_path: pathlib.Path) -> None:
-    """All three records of a run, each as it is alone."""
+    """All three records of a run, each the same as without the others."""
     words, log = write_inputs(tmp_path, MASKED_VECTORS), (HERE / "data/masked_vectors.log").read_text("ascii")
     watch = ["--watch", "2000:4", "--changes", "changes"]
     for more in (["--counts", "counts"], watch, ["--counts", "counts", *watch]):

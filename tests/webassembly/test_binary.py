@@ -34,7 +34,7 @@ def test_imports_and_names_are_read() -> None:
 
 
 def test_only_changed_functions_get_new_bodies() -> None:
-    """g gets its new body, and the function behind it stays."""
+    """g gets its new body, and the function after it is unchanged."""
     changed = module("03 04 03 00 00 00", f"0a 0d 03 {NOP} {NOP} {NOP}", NAMES)
     expected = module("03 04 03 00 00 00", f"0a 0c 03 {EMPTY} {NOP} {NOP}", NAMES)
     assert BINARY.with_bodies(changed, ORIGINAL, ["g"]) == expected

@@ -156,7 +156,7 @@ def check(module: str) -> str:
     """Check a module, and return what was seen. Raises Refusal."""
     calls = read_calls(text_of(module))
     check_recursions(calls)
-    return f"{len(calls)} functions, and {check_allocations(calls)} that can run after Machine::new, none of which allocates memory"
+    return f"{len(calls)} functions, and {check_allocations(calls)} that can run after Machine::new, without allocating memory"
 
 
 def main(modules: list[str]) -> None:

@@ -1,7 +1,7 @@
 """Reads files of functions of whole chunks, and fails if one has a loop, an index or an array: `tools/checks/check_chunks [FILE]`,
 at the top of the repository; without FILE, `src/chunk.rt` of each crate of kernels that has lanes.
 
-A function that has none of these works on vectors alone if the functions that it calls do, which the tool doesn't read. It skips comments,
+A function that has none of these works only on vectors if the functions that it calls do; the tool doesn't read these. It skips comments,
 attributes, texts and characters. It prints each place as `FILE: line NUMBER has WORD`; the exit status is then 1.
 """
 

@@ -1,13 +1,9 @@
-"""Compares figures and names in pages about definitions with the sources: `tools/checks/check_definitions [OUTPUT | --write]`, at the top
-of the repository.
+"""Compares names in pages about definitions with the sources: `tools/checks/check_definitions [OUTPUT]`, at the top of the repository.
 
-With --write it first writes the counts of lines in docs/DEFINITIONS.md (`definition_figures.py`).
-
-In docs/DEFINITIONS.md it compares the lines and files of each row of both tables, and each sum, with the counts of
-`tools/definitions/definitions`. In docs/CONTRACTS.md it looks for each contract that a statement about a crate names, with its clauses, and
-in docs/GUARANTEES.md for the modules of the kit that contracts and definitions cite. If OUTPUT is given, the file with the output of `rt
-ci` that proved `vecmon`, it also compares the kit's crates and the number of C functions that the proof assumes. The exit status is 1 if
-something differs.
+In docs/DEFINITIONS.md it compares the files and crates of each row of both tables with those of `tools/definitions/definitions`. In
+docs/CONTRACTS.md it looks for each contract that a statement about a crate names, with its clauses, and in docs/GUARANTEES.md for the
+modules of the kit that contracts and definitions cite. If OUTPUT is given, the file with the output of `rt ci` that proved `vecmon`, it
+also compares the kit's crates and the number of C functions that the proof assumes. The exit status is 1 if something differs.
 """
 
 import re
@@ -16,71 +12,28 @@ from collections.abc import Iterator
 from pathlib import Path
 
 from tools.definitions import definitions as counted
-from tools.definitions.definition_figures import files_in, with_counts
-from tools.definitions.kit_definitions import report
-
-
-def rows_of(page: str, title: str) -> Iterator[list[str]]:
-    """The cells of the table below a title, without its head."""
-    section = page.partition(f"\n## {title}\n")[2].partition("\n## ")[0]
-    for line in re.findall(r"^\|(.*)\|$", section, re.MULTILINE)[2:]:
-        yield [cell.strip() for cell in line.split("|")]
-
-
-def number(text: str) -> int:
-    return int(text.replace(",", ""))
+from tools.definitions.definition_figures import ALL, HOUR, files_in, hour_files, parts, rows_of
 
 
 def wrong_hour(page: str) -> Iterator[str]:
-    read = {
-        str(path.with_suffix("")).removeprefix("rv_model/specs/"): lines for path, lines in counted.addition().items()
-    }
-    named = list[str]()
-    for _, files, lines in rows_of(page, "An hour: the headline and one vector addition"):
-        named += files_in(files)
-        actual = sum(read.get(it, 0) for it in files_in(files))
-        if number(lines) != actual:
-            yield f"the hour's row of {files} has {actual} lines"
+    """Yield a message for each file of the hour that the page names and doesn't need, or needs and doesn't name."""
+    read = hour_files()
+    named = [name for _, files in rows_of(page, HOUR) for name in files_in(files)]
     for name in sorted(read.keys() ^ set(named)):
         yield f"{name} is {'needed and not named' if name in read else 'named and not needed'} in the hour's table"
-    if f"{sum(read.values())} lines in {len(read)} files" not in page:
-        yield f"the hour has {sum(read.values())} lines in {len(read)} files"
 
 
 def wrong_modules(page: str) -> Iterator[str]:
+    """Yield a message for each row whose files, crates or folders differ from those with definitions."""
     modules = counted.module_files()
-    parts = counted.by_part(counted.files_of(counted.definitions()))
-    rows = list(rows_of(page, "All of them"))
-    apart = {it for name, _, files, *_ in rows if name != "of other crates" for it in re.findall(r"`(\w+)` \(", files)}
-    for name, lines, files, *_ in rows:
-        module = modules.get(name.strip("`"))
-        if module and number(lines) != sum(module.values()):
-            yield f"{name} has {sum(module.values())} lines"
-        if module and (others := {it for it in module if module[it] and it != name.strip("`")} ^ set(files_in(files))):
+    rows = {name: set(files_in(files)) for name, files, *_ in rows_of(page, ALL)}
+    for name, files in rows.items():
+        module = modules.get(name.strip("`"), {})
+        if module and (others := {it for it in module if module[it] and it != name.strip("`")} ^ files):
             yield f"the row of {name} differs in {', '.join(sorted(others))}"
-        if not module:
-            said = dict(re.findall(r"`(\w+)` \((\d+)\)", files))
-            actual = {
-                it: str(count)
-                for it, count in parts.items()
-                if it in said or name == "of other crates" and it not in apart
-            }
-            if said != actual or number(lines) != sum(map(int, actual.values())):
-                yield f"the row {name} has {sum(map(int, actual.values()))} lines: {', '.join(f'`{it}` ({count})' for it, count in actual.items())}"
-    total = f"{counted.total_of(modules, parts):,}"
-    headline = counted.files_of(counted.closure(counted.start_of(counted.HEADLINE)))
-    for what in f"In all {total} lines", f"{sum(headline.values()):,} lines in {len(headline)} files":
-        if what not in page:
-            yield f"the page doesn't say: {what}"
-
-
-def wrong_rest(page: str) -> Iterator[str]:
-    """The types of `src` and the kit's text behind the headline."""
-    for line in report():
-        if counted_lines := re.fullmatch(r" *([\d,]+)  in (\d+) files: .*", line):
-            what = f"{counted_lines[1]} lines in {counted_lines[2]} files of"
-            if what not in re.sub(r"\s+", " ", page):
-                yield f"the page doesn't say: {what}"
+    outside = [it for name, files in rows.items() if name.strip("`") not in modules for it in files]
+    for name in sorted(set(outside) ^ parts().keys()):
+        yield f"{name} is {'named and has no definitions' if name in outside else 'not named'} in the last rows"
 
 
 def wrong_kit(page: str) -> Iterator[str]:
@@ -137,7 +90,7 @@ def wrong_contracts(page: str) -> Iterator[str]:
 
 
 def wrong_axioms(page: str, output: str) -> Iterator[str]:
-    """What is wrong of the C functions and the kit's crates; nothing where `vecmon` wasn't proved anew."""
+    """Yield a message for each wrong number of C functions and each missing crate of the kit; none if `vecmon` wasn't proved anew."""
     proved = output.partition("\nrt: vecmon proved\n")
     report = proved[0].rpartition(" proved\n")[2] if proved[1] else ""
     for crate, reached, all_of_it in re.findall(
@@ -154,13 +107,9 @@ def main() -> int:
     arguments = sys.argv[1:]
     pages = Path("docs/DEFINITIONS.md"), Path("docs/CONTRACTS.md"), Path("docs/GUARANTEES.md")
     guide, contracts, guarantees = (page.read_text(encoding="utf-8") for page in pages)
-    if arguments == ["--write"]:
-        guide = with_counts(guide)
-        pages[0].write_text(guide, encoding="utf-8")
-        arguments = []
     output = Path(arguments[0]).read_text(encoding="utf-8") if arguments else ""
     found = {
-        "DEFINITIONS.md": [*wrong_hour(guide), *wrong_modules(guide), *wrong_rest(guide)],
+        "DEFINITIONS.md": [*wrong_hour(guide), *wrong_modules(guide)],
         "CONTRACTS.md": [*wrong_contracts(contracts)],
         "GUARANTEES.md": [*wrong_kit(guarantees), *wrong_axioms(guarantees, output)],
     }

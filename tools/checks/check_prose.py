@@ -44,6 +44,10 @@ FORMS = {
         "answers": r"^\s*Answers\b",
         "made of": r"\b(made|comes|came|come) of\b",
         "part": r"\bpartings?\b|\bruns part\b",
+        "where, if": r"(?:^|[.;:,(] )[Ww]here (it|that|this|there|no|none|nothing|one)\b",
+        "behind": r"\bbehind (it|them|which|that|this)\b",
+        "alone": r"\balone\b",
+        "of what": r"\bof (what|none)\b|\bwith whether\b|\bin vain\b",
     }.items()
 }
 

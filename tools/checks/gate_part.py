@@ -1,8 +1,8 @@
 """Checks some crates as the gate checks all: `tools/checks/gate_part NAME...`, at the top of the repository.
 
 It copies the crates and all below them to a new folder, without results of earlier checks, and runs `rt ci` and then `tools/try_edits`
-there. So it proves them from nothing, runs the programs and tests among them, and tries the edits that must fail of the NAMEs alone. You
-can change the clone meanwhile. The exit status is that of `rt ci`, or, if that passes, that of `tools/try_edits`.
+there. So it proves them from nothing, runs the programs and tests among them, and tries the edits that must fail, but only those of the
+NAMEs. You can change the clone meanwhile. The exit status is that of `rt ci`, or, if that passes, that of `tools/try_edits`.
 """
 
 import shutil

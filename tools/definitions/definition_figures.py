@@ -1,33 +1,47 @@
-"""The counts of lines in docs/DEFINITIONS.md, for `tools/checks/check_definitions --write`."""
+"""The tables of docs/FIGURES.md that count lines of definitions."""
 
 import re
-from collections.abc import Callable, Mapping
+from collections.abc import Iterator, Mapping
 from pathlib import Path
 
 from tools.definitions import definitions as counted
 from tools.definitions.kit_definitions import report
+from tools.documents.figure_table import Row, Table
 
+GUIDE = Path("docs/DEFINITIONS.md")
 HOUR, ALL = "An hour: the headline and one vector addition", "All of them"
-LINES = r"[\d,]+ lines in \d+ files"
+OUTSIDE = {"lending": "`specs/lending`", "src": "constants of `src`"}
+"""The rows of parts of `rv_model` outside of its modules."""
+REPORTED = re.compile(r" *([\d,]+)  in (\d+) files: (types of src|text of the kit)")
 
 
-def with_counts(page: str) -> str:
-    """Return the page with the counts of its tables and sentences as the sources have them."""
-    page = _with_rows(_with_rows(page, HOUR, _hour_row), ALL, _module_row)
-    page = re.sub(rf"(?<=`one_row`\): ){LINES}", _lines(counted.addition()), page)
-    headline = counted.files_of(counted.closure(counted.start_of(counted.HEADLINE)))
-    page = re.sub(rf"(?<=The headline rests on ){LINES}", _lines(headline), page)
-    total = counted.total_of(counted.module_files(), _parts())
-    page = re.sub(r"(?<=\nIn all )[\d,]+(?= lines)", f"{total:,}", page)
-    for line in report():
-        if found := re.fullmatch(r" *([\d,]+)  in (\d+) files: (types of src|text of the kit)", line):
-            end = r"of\s+types of" if "src" in found[3] else r"of\s+the\s+kit"
-            page = re.sub(rf"{LINES}(?=\s+{end})", f"{found[1]} lines in {found[2]} files", page)
-    return page
+def definition_tables() -> Iterator[Table]:
+    """Yield the tables."""
+    yield Table(
+        "Definitions",
+        "[DEFINITIONS.md](DEFINITIONS.md#all-of-them) has their order. Blank lines, comments and `use` lines aren't counted, nor are "
+        "types of `src`.",
+        ("definitions", "lines"),
+        [*_module_rows()],
+    )
+    yield Table(
+        "Definitions behind the headline",
+        "The hour is the path from the headline to one vector addition, by the rows of [DEFINITIONS.md]"
+        "(DEFINITIONS.md#an-hour-the-headline-and-one-vector-addition).",
+        ("definitions", "lines", "files"),
+        [*_headline_rows(), *_hour_rows()],
+    )
+
+
+def rows_of(page: str, title: str) -> Iterator[list[str]]:
+    """Yield the cells of each row of the table below a title, without its head."""
+    section = page.partition(f"\n## {title}\n")[2].partition("\n## ")[0]
+    for line in re.findall(r"^\|(.*)\|$", section, re.MULTILINE)[2:]:
+        yield [cell.strip() for cell in line.split("|")]
 
 
 def files_in(cell: str) -> list[str]:
-    """The files that a cell names: one without a folder lies in that of the file before it."""
+    """Return the files that a cell names: one without a folder is in that of the file before it."""
     found, folder = list[str](), ""
     for name in re.findall(r"`([\w/]+)`", cell):
         folder = f"{name.rpartition('/')[0]}/" if "/" in name else folder
@@ -35,47 +49,44 @@ def files_in(cell: str) -> list[str]:
     return found
 
 
-def _lines(files: Mapping[Path, int]) -> str:
-    """The text of a number of lines in files."""
-    return f"{sum(files.values()):,} lines in {len(files)} files"
+def hour_files() -> dict[str, int]:
+    """Return the lines of each file of the hour's path, by its name in the page."""
+    return {
+        str(path.with_suffix("")).removeprefix("rv_model/specs/"): lines for path, lines in counted.addition().items()
+    }
 
 
-def _parts() -> dict[str, int]:
-    """The lines outside of `rv_model/specs`, by crate or folder."""
+def parts() -> dict[str, int]:
+    """Return the lines outside of `rv_model/specs`, by crate or folder."""
     return counted.by_part(counted.files_of(counted.definitions()))
 
 
-def _with_rows(page: str, title: str, changed: Callable[[str], str]) -> str:
-    """The page with the rows of the table below a title changed."""
-    before, head, rest = page.partition(f"\n## {title}\n")
-    section, end, after = rest.partition("\n## ")
-    lines = [changed(line) if re.match(r"\| .*\d", line) else line for line in section.split("\n")]
-    return "".join((before, head, "\n".join(lines), end, after))
+def _module_rows() -> Iterator[Row]:
+    """Yield a row for each module of `rv_model`, for each part outside of them, and for all."""
+    modules = counted.module_files()
+    for name, files in modules.items():
+        yield Row(f"the module `{name}`", [sum(files.values())])
+    for name, lines in parts().items():
+        yield Row(OUTSIDE.get(name, f"of the crate `{name}`"), [lines])
+    yield Row("the names of the modules", [counted.lines_of(counted.source_of(counted.MODEL / "Lib.antt"))])
+    yield Row("all", [counted.total_of(modules, parts())])
 
 
-def _hour_row(line: str) -> str:
-    """A row of the hour's table, whose last cell has the lines of its files."""
-    read = {
-        str(path.with_suffix("")).removeprefix("rv_model/specs/"): lines for path, lines in counted.addition().items()
-    }
-    _, _, files, _, _ = line.split("|")
-    number = sum(read.get(name, 0) for name in files_in(files))
-    return re.sub(r"[\d,]+(?= \|$)", f"{number:,}", line)
+def _headline_rows() -> Iterator[Row]:
+    """Yield the rows of the definitions, types and text of the kit that the headline rests on."""
+    yield _row("the headline: definitions", counted.files_of(counted.closure(counted.start_of(counted.HEADLINE))))
+    for found in filter(None, map(REPORTED.fullmatch, report())):
+        yield Row(f"the headline: {found[3]}", [int(found[1].replace(",", "")), int(found[2])])
 
 
-def _module_row(line: str) -> str:
-    """A row of the table of all modules: its second cell has the lines of a module, or of the parts that its third one names."""
-    cells = line.split("|")
-    module = counted.module_files().get(cells[1].strip(" `"))
-    if module:
-        cells[2] = f" {sum(module.values()):,} "
-        return "|".join(cells)
-    parts = _parts()
-    names = [name for name in re.findall(r"`(\w+)` \(", cells[3]) if name in parts]
+def _hour_rows() -> Iterator[Row]:
+    """Yield a row for each row of the hour's table, and for all of them."""
+    read = hour_files()
+    for name, files in rows_of(GUIDE.read_text("utf-8"), HOUR):
+        yield _row(f"the hour: {name}", {file: read.get(file, 0) for file in files_in(files)})
+    yield _row("the hour: all", read)
 
-    def counted_part(found: re.Match[str]) -> str:
-        return f"`{found[1]}` ({parts.get(found[1], 0)})"
 
-    cells[3] = re.sub(r"`(\w+)` \(\d+\)", counted_part, cells[3])
-    cells[2] = f" {sum(parts[name] for name in names):,} "
-    return "|".join(cells)
+def _row(name: str, files: Mapping[Path, int] | Mapping[str, int]) -> Row:
+    """Return a row of lines and files."""
+    return Row(name, [sum(files.values()), len(files)])

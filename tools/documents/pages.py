@@ -5,8 +5,8 @@ of the repository.
 instructions, from which INSTRUCTIONS.md is made; `tools/records/instruction_definitions.py` adds the definitions of each. COMMANDS.md and
 DEBUGGING.md have their tables of commands from `lab/vecmon_lab/tables`. Both programs are built without their proofs
 (`tools/building/unproved_build`); with FOLDER, each NAME is taken from FOLDER/NAME or from FOLDER/NAME/out/NAME, where `rt run` leaves it:
-`tools/documents/pages crates`. `test_assembler` runs as in the gate, on a copy of its data. A page that has changed is written. A stored
-output never is: where one differs, the first lines of the difference are printed, and the status is 1.
+`tools/documents/pages crates`. `test_assembler` runs as in the gate, on a copy of its data. It writes a page that has changed, and
+never a stored output: if one differs, it prints the first lines of the difference, and the status is 1.
 """
 
 import shutil

@@ -16,7 +16,7 @@ from tools.editing.tried_edits import TriedEdits
 
 CRATE = "sums"
 SOURCE = """\
-// Functions, two of which call others.
+// Functions; two of them call others.
 #![tactic(auto)]
 
 ghost use Rattle.std.specs.Prelude.{◌≡◌, ◌≤◌, ◌+◌};

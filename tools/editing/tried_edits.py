@@ -2,7 +2,7 @@
 
 In ~/.cache/vecmon/KIT/tried-edits, or $XDG_CACHE_HOME/vecmon/KIT/tried-edits, each refused edit has a file with the prover's first message.
 Its name is the SHA-256 of all that the try read: the edit, the crate, the bytes of the libraries below it, the kit, and the tools that
-judge. Other results aren't stored. Whoever can write to the folder can pass any edit as refused, so only its owner can (mode 700).
+judge. Other results aren't stored. A program that can write to the folder can pass any edit as refused, so only its owner can (mode 700).
 """
 
 import functools

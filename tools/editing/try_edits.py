@@ -5,11 +5,11 @@
 Run it at the top of the repository, after `tools/building/keep_modules`, which proves the libraries that it needs and stores them. Without
 names it tries the edits of all crates. It asks the prover about the changed functions only, in a copy of a crate with all its edits, and
 without bodies that these don't need (tools/editing/edit_stubs.py). An edit counts as refused if its function is refused for its own lines.
-One that isn't is tried with all bodies, then alone, and then by a check of the whole crate, as `rt must-fail` does. An edit that can't be
-applied, read or compiled fails.
+One that isn't is tried with all bodies, then by itself, and then by a check of the whole crate, as `rt must-fail` does. An edit that
+can't be applied, read or compiled fails.
 
 A refused edit isn't tried again while its crate, the libraries below, the kit and these tools stay the same (tools/editing/tried_edits.py).
-RT_JOBS sets how many crates are checked at a time. Without it they are as many as the processors, and as memory holds.
+RT_JOBS sets how many crates are checked at a time: by default one for each processor, unless memory holds fewer.
 
 The exit status is 0 if each edit is refused, 1 if one isn't, and 2 for a wrong argument or a library that isn't proved.
 """
@@ -80,7 +80,7 @@ def print_plan(files: dict[str, list[Path]], options: Options) -> None:
 
 
 def print_results(trials: list[Trial]) -> int:
-    """Print what each edit came to, and then the counts. Returns the exit status."""
+    """Print the result of each edit, and then the counts. Return the exit status."""
     for it in trials:
         print(f"{it.edit.title}: {it.result.outcome.value}: {it.result.message[:200]}")
     refused = [it for it in trials if it.result.outcome is Outcome.REFUSED]

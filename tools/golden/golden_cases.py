@@ -147,7 +147,7 @@ def kind_of(vector: Vector) -> str:
 
 
 def _choice_of(vector: Vector) -> str:
-    """What a result shows of places in which the standard lets a machine choose or resume; "" if it shows none of them."""
+    """Return the place in a result where the standard lets a machine choose or resume; "" without one."""
     if vector.end == "ran" and vector.accesses_memory and "ff.v" in vector.name and "vl" in vector.after:
         return "shortened"
     if vector.end in ("load", "store") and vector.after.get("vstart", 0) > 0:
@@ -181,7 +181,7 @@ def rows_without_case(vectors: Sequence[Vector]) -> list[str]:
 
 
 def operation_of(vector: Vector) -> str:
-    """The operation that a vector's instruction has: mnemonics of one operation differ in their second source alone."""
+    """The operation that a vector's instruction has: mnemonics of one operation differ only in their second source."""
     name = vector.name
     if vector.end == "ill":
         return f"{rule_of(vector)} {vector.word & 0x7F:#x}"
@@ -205,7 +205,7 @@ def _length_of(vector: Vector) -> str:
 
 
 def access_of(name: str) -> str:
-    """The kind of a load or store: its widths count in those of unit stride and of indices alone."""
+    """Return the kind of a load or store. Its width is part of the kind only if it has unit stride or indices."""
     if "seg" in name or re.match(r"v[ls]se", name):
         return re.sub(r"\d+", "", name)
     return re.sub(r"re\d+", "re", name)

@@ -186,7 +186,7 @@ def check() -> int:
     page = CONTRACTS.read_text(encoding="utf-8")
     unsaid = [row for row in rows_without_case(golden_vectors()) if row not in page.splitlines()]
     for row in unsaid:
-        print(f"{CONTRACTS} lacks this row of what has no case: {row}")
+        print(f"{CONTRACTS} lacks this row of results without a case: {row}")
     cases = sum(map(len, gate_cases(golden_vectors()).values()))
     print(f"{cases} golden theorems, {len(found)} files that aren't current")
     return 1 if found or unsaid else 0

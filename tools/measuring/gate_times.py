@@ -1,8 +1,8 @@
 """Runs a command and prints the time of its proofs, crate by crate: `tools/measuring/gate_times OUT COMMAND...`, say
 `tools/measuring/gate_times /tmp/times bash .ci/run` at the top of a fresh clone.
 
-The file OUT gets a table in seconds of processor: each crate's own proof, with the compilation of a library; the compilation of what was
-proved to a program, by LLVM and by Rattle's own compiler; the proof of its tests; and the checks of its edits that must fail, with the
+The file OUT gets a table in seconds of processor: each crate's own proof, with the compilation of a library; the compilation of each proved
+program, by LLVM and by Rattle's own compiler; the proof of its tests; and the checks of its edits that must fail, with the
 number of these checks. `tools/try_edits` tries several edits in one check. Of the edits in `must-fail`, which `rt ci` tries, the first one
 of a crate takes as long as its proof, since the others use what it proved; the last check is of the crate without an edit. Below the table
 are the seconds of each check of edits, the largest first. The last line has the processor time of the whole command, with its programs,

@@ -206,7 +206,7 @@ def count(kind: Kind, program: str) -> int:
 
 
 def kinds(only: str) -> Iterator[tuple[str, int, str]]:
-    """Those of the kinds whose instruction has a text."""
+    """Yield the text, SEW and LMUL of each kind whose instruction contains `only`."""
     return ((text, sew, lmul) for text, types in KINDS.items() for sew, lmul in types if only in text)
 
 

@@ -56,7 +56,7 @@ def _count(mnemonic: Mnemonic) -> str:
 
 
 def _access(record: Record, mnemonic: Mnemonic) -> str:
-    """What the decoder returns for a load or a store."""
+    """Return the decoder's result for a load or a store."""
     width = WIDTHS[mnemonic.fields[3]]
     variants = record.cells.get("variants", "").split()
     if record.family == "unit_stride":

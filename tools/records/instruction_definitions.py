@@ -41,7 +41,7 @@ OTHERS = " _"
 """The end of a record's `definition` if the line for all other operations counts for it."""
 ROW = re.compile(r"^(\| `(\S+)[^`]*` \| `[01 -]+`) \|$", re.MULTILINE)
 COLUMNS = """
-`Formula` is the definition in `crates/rv_model/specs` of the computation or move; where it has a line for each
+`Formula` is the definition in `crates/rv_model/specs` of the computation or move; if it has a line for each
 operation, that is the one. `Legality` is the shape of the operands (`OperandShapes`), or the definition of their list (`Legality`), and
 further conditions; scalar instructions have none. `Section` is one of the manual, of the V extension for vector instructions.
 """
@@ -146,7 +146,7 @@ def variants_of(name: str) -> frozenset[str]:
 
 @cache
 def rests_on(variants: frozenset[str]) -> dict[str, str]:
-    """All definitions that the last line of a step rests on which is for these variants alone, each with its module."""
+    """Return the definitions, each with its module, that a step of these variants rests on: those of its last line for them only."""
     lines = [it for module, name in STEPS if (it := first(module, name, variants)) and it.variants]
     return {it.name: it.module for it in counted.closure(counted.met(lines[-1].says)) if it.crate == "rv_model"}
 
@@ -173,7 +173,7 @@ def legality(variants: frozenset[str]) -> list[str]:
 
 
 def asks(name: str, variants: frozenset[str]) -> bool:
-    """Whether a definition says `true` of these variants in a line of their own."""
+    """Return whether a definition has a line for these variants that says `true`."""
     line = first("legality.Legality", name, variants)
     return line is not None and bool(line.variants) and line.says.text.strip() == "true"
 
@@ -206,7 +206,7 @@ def without_formula() -> Iterator[str]:
 
 
 def formula_fault(record: InstructionRecord, mnemonic: Mnemonic, definition: str, operations: set[str]) -> str:
-    """What the definitions lack for a name; empty if they have its formula. `operations` are those of its family."""
+    """Return what the definitions lack for a name, or "" if they have its formula. `operations` are those of its family."""
     variants = variants_of(mnemonic.name)
     module = rests_on(variants).get(definition)
     if module is None:

@@ -7,7 +7,7 @@ from pathlib import Path
 from tools.records.instruction_accesses import access_parts
 from tools.records.instruction_commands import command_parts
 from tools.records.instruction_crates import crate_parts
-from tools.records.instruction_figures import figure_parts, output_parts
+from tools.records.instruction_figures import output_parts
 from tools.records.instruction_lists import ListError, list_parts
 from tools.records.instruction_parts import Part, PartError, first_difference, replaced
 from tools.records.instruction_records import Record, RecordError, read_records
@@ -45,8 +45,7 @@ def parts_by_file(records: Sequence[Record]) -> dict[str, list[Part]]:
     """The generated parts of files, by file."""
     found = dict[str, list[Part]]()
     writers = (
-        *(crate_parts, width_parts, access_parts, list_parts, listed_parts, kernel_parts, command_parts),
-        *(output_parts, figure_parts),
+        *(crate_parts, width_parts, access_parts, list_parts, listed_parts, kernel_parts, command_parts, output_parts),
     )
     for part in (part for writer in writers for part in writer(records)):
         found.setdefault(part.path, []).append(part)

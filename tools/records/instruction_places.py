@@ -74,7 +74,7 @@ def golden_names() -> Set[str]:
 
 
 def of_families(encoded: dict[str, int], families: Iterable[str]) -> Set[str]:
-    """The mnemonics of the major opcode OP-V whose families these are, and all mnemonics of other opcodes."""
+    """Return the mnemonics of these families, of the major opcode OP-V, and all mnemonics of other opcodes."""
     found = {*families}
     return {name for name, word in encoded.items() if word & 0x7F != OP_V or family(name) in found}
 

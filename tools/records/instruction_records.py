@@ -121,7 +121,7 @@ class Mnemonic:
 
 @dataclass(frozen=True)
 class Record:
-    """A record; its cells are the keys with their values. Keys of the lab alone are only in the cells."""
+    """A record; its cells are the keys with their values. The cells also have the keys that only the lab reads."""
 
     name: str
     path: Path
@@ -254,7 +254,7 @@ def _check(record: Record) -> None:
     if not record.shapes and record.path.stem != "scalar":
         raise RecordError(f"{record.place} lacks the key shape")
     if "chunk" in cells and (record.family, cells["chunk"]) != ("binary", "none"):
-        raise RecordError(f'{record.place} has the key chunk; it is "none", and of the family binary alone')
+        raise RecordError(f'{record.place} has the key chunk; it is "none", and only the family binary has it')
     if record.family in FIXED and len(record.variants) != len(record.mnemonics):
         raise RecordError(f"{record.place} has {len(record.variants)} variants for {len(record.mnemonics)} names")
     for number, mnemonic in enumerate(record.mnemonics):
@@ -282,7 +282,7 @@ def _check_shape(record: Record, mnemonic: Mnemonic, shape: str) -> None:
 
 
 def _check_word(record: Record, mnemonic: Mnemonic) -> None:
-    """Raise RecordError if the word of a vector operation has other fields for operands than its name has operands."""
+    """Raise RecordError if the encoding of a vector operation has other operand fields than its name has operands."""
     funct7, vs2, vs1, _, vd, _ = mnemonic.fields
     operands = {*re.findall(r"\w+", mnemonic.operands.replace("[, v0.t]", " vm"))}
     for bits, name, names in (

@@ -1,14 +1,16 @@
 """Writes the page of a release, which says what each file is for: tools/releasing/release_page FOLDER VERSION
 
-FOLDER has the files of the release; index.html is written there. Exit status: 1 if the page has no use of a file, or a file is missing.
+FOLDER has the files of the release; index.html is written there. Exit status, with one line: 1 if the page has no use of a file, or a file is
+missing; 2 for wrong arguments, or if FOLDER isn't a folder.
 """
 
 import fnmatch
 import html
 import sys
-from collections.abc import Mapping
+from collections.abc import Mapping, Sequence
 from pathlib import Path
 
+USAGE = "usage: tools/releasing/release_page FOLDER VERSION"
 ADDRESS = ""  # of the folder of releases; empty as long as there is none
 USES = (
     (
@@ -126,8 +128,15 @@ def rows_of(files: Mapping[str, int]) -> list[str]:
     return rows
 
 
-def main(folder: Path, version: str) -> int:
+def main(arguments: Sequence[str]) -> int:
     """Write the page; return the exit status."""
+    if len(arguments) != 2 or arguments[0].startswith("-"):
+        print(f"tools/releasing/release_page: {USAGE}", file=sys.stderr)
+        return 2
+    folder, version = Path(arguments[0]), arguments[1]
+    if not folder.is_dir():
+        print(f"tools/releasing/release_page: {folder} isn't a folder; {USAGE}", file=sys.stderr)
+        return 2
     try:
         rows = rows_of({path.name: path.stat().st_size for path in folder.iterdir()})
     except Refusal as refusal:
@@ -140,4 +149,4 @@ def main(folder: Path, version: str) -> int:
 
 
 if __name__ == "__main__":
-    sys.exit(main(Path(sys.argv[1]), sys.argv[2]))
+    sys.exit(main(sys.argv[1:]))

@@ -1,4 +1,4 @@
-// The search of the book: a part of each page that was found, with the words of the search.
+// The search of the book: a part of each page that was found, with the words that were searched.
 "use strict";
 
 const BEFORE = 60; // characters before the first word

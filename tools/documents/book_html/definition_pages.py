@@ -66,7 +66,7 @@ def write_definition_pages(stage: Path) -> None:
 
 
 def reading_page(page: Page, word: str) -> str:
-    """The page of a word of `tools/definitions/definitions --print`: the clause, and the definitions behind it in reading order."""
+    """The page of a word of `tools/definitions/definitions --print`: the clause, and the definitions that it rests on, in reading order."""
     found = closure_of(word)
     counted = counted_of(found)
     lines, files = sum(lines_of(it.text) for it in counted.values()), len({it.path for it in counted.values()})

@@ -30,7 +30,7 @@ def write_instruction_pages(stage: Path) -> None:
 
 
 def page_of(record: Record) -> str:
-    """The page of a family in Markdown. The navigation of the book lists the index alone: 200 entries on each page cost 40 s."""
+    """The page of a family in Markdown. The navigation of the book lists only the index: 200 entries on each page cost 40 s."""
     return "\n\n".join(["---\norphan: true\n---", f"# {record.name}", record.does, *_parts(record)]) + "\n"
 
 
